@@ -1,5 +1,5 @@
 -- Steps that may fail, and the parser's place
-pub mod OptionSteps
+pub mod Steps
 pub mod Places
 -- Single tokens, and repetition
 pub mod TokenLemmas
@@ -11,3 +11,6 @@ pub mod Shorter
 pub mod StepsFall
 -- What is in the grammar is read
 pub mod Exact
+-- Where faults are
+pub mod StandingLemmas
+pub mod Standing

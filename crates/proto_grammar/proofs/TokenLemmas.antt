@@ -1,31 +1,37 @@
 -- Single tokens: what is read of them, and what tests of them exclude.
-use Rattle.std.proofs.Common.{◌≡◌, ℕ, ◌<◌, ◌==◌, Bool, true, false, not, Some, List, [], ◌∷◌, length, refl, sym, subst}
+use Rattle.std.proofs.Common.{◌≡◌, ℕ, ◌<◌, ◌==◌, Bool, true, false, not, Ok, Err, List, [], ◌∷◌, length, refl, sym}
+use Rattle.std.proofs.Common.{subst}
 use Rattle.std.proofs.Common.{arith, bytes_eq}
 use Rattle.std.proofs.lemmas.Bool.{eqb-true}
 use Rattle.std.proofs.lemmas.Slice.Eq.{bytes_eq-Decides}
 use Rattle.proto_lex.specs.declared.span.Span.{Span}
 use Rattle.proto_lex.specs.declared.token.TokenKind.{TokenKind}
-use Rattle.proto_lex.specs.declared.token.TokenKind.TheVariants.{Identifier}
-use Rattle.proto_grammar.specs.Lexeme.{Lexeme}
-use Rattle.proto_grammar.specs.Terminal.{number_of, is_kind, of_kind, is_word, others, first_is, not_next}
+use Rattle.proto_lex.specs.declared.token.TokenKind.TheVariants.{Identifier, StringLiteral}
+use Rattle.proto_grammar.specs.declared.fault.SyntaxFault.TheVariants.{ImportEscape, Grammar}
+use Rattle.proto_grammar.specs.Lexeme.{Lexeme, Place, place_of}
+use Rattle.proto_grammar.specs.Terminal.{number_of, is_kind, of_kind, is_word, is_plain_literal, others, first_is}
+use Rattle.proto_grammar.specs.Terminal.{not_next}
 use Rattle.proto_grammar.specs.Grammar.Repetition.{One}
 use Rattle.proto_grammar.specs.Grammar.Repetition.One.{one}
-use Rattle.proto_grammar.specs.Reading.Repetition.{token_that}
-use Rattle.std.proofs.lemmas.Option.{same_Some}
-use Rattle.proto_grammar.proofs.OptionSteps.{guard_some, both_true}
+use Rattle.proto_grammar.specs.Reading.Repetition.{token_that, plain_literal_at}
+use Rattle.proto_grammar.proofs.Steps.{read_as, same_ok, guard_ok, chosen, both_true}
 
-pub token_found : {test : Lexeme → Bool} (tokens : List Lexeme) (x : Span × List Lexeme)
-    → token_that test tokens ≡ Some x → One test tokens x.0 x.1
+token_found_by : {test : Lexeme → Bool} (left : List Lexeme) (end : ℕ) (x : Span × Place)
+    → token_that test (place_of end left) ≡ Ok x → One test left x.0 x.1.left
 unfolding token_that
-token_found [] x e = cc
-token_found {test} (t ∷ rest) x e =
-    let g = guard_some (test t) _ x e in
-    subst (λ (y : Span × List Lexeme). One test (t ∷ rest) y.0 y.1) (same_Some _ x g.1) (one g.0)
+token_found_by [] end x e = cc
+token_found_by {test} (t ∷ rest) end x e =
+    let g = guard_ok (test t) _ _ x e in
+    subst (λ (y : Span × Place). One test (t ∷ rest) y.0 y.1.left) (same_ok _ x g.1) (one g.0)
 
-pub token_exact : {test : Lexeme → Bool} {a b : List Lexeme} {span : Span} → One test a span b
-    → token_that test a ≡ Some (span, b)
+pub token_found : {test : Lexeme → Bool} (tokens : Place) (x : Span × Place)
+    → token_that test tokens ≡ Ok x → One test tokens.left x.0 x.1.left
+token_found tokens x e = token_found_by tokens.left tokens.end x e
+
+pub token_exact : {test : Lexeme → Bool} (end : ℕ) {a b : List Lexeme} {span : Span} → One test a span b
+    → token_that test (place_of end a) ≡ Ok (span, place_of end b)
 unfolding token_that
-token_exact (one e) = rw e refl
+token_exact end (one e) = rw e refl
 
 -- a token of which a test is known
 pub next_found : {test : Lexeme → Bool} (tokens : List Lexeme) → first_is test tokens ≡ true
@@ -95,3 +101,24 @@ not_false false e = cc
 
 pub next_of : (kind : TokenKind) (a : List Lexeme) → not_next kind a ≡ false → first_is (of_kind kind) a ≡ true
 next_of kind a e = not_false (first_is (of_kind kind) a) e
+
+-- a literal without a `\\`
+plain_found_by : (left : List Lexeme) (end : ℕ) (x : Span × Place) → plain_literal_at (place_of end left) ≡ Ok x
+    → One is_plain_literal left x.0 x.1.left
+unfolding plain_literal_at
+plain_found_by [] end x e = cc
+plain_found_by (t ∷ rest) end x e =
+    chosen (is_plain_literal t) _ _ (Ok x) e
+    (λ is read. subst (λ (y : Span × Place). One is_plain_literal (t ∷ rest) y.0 y.1.left) (same_ok _ x read) (one is))
+    (λ not_plain read. chosen (of_kind StringLiteral t) _ _ (Ok x) read
+    (λ string escaped. absurd (let no : Err (ImportEscape t.span.start) ≡ read_as x = escaped in cc))
+    (λ no_string other. absurd (let no : Err (Grammar t.span.start) ≡ read_as x = other in cc)))
+
+pub plain_found : (tokens : Place) (x : Span × Place) → plain_literal_at tokens ≡ Ok x
+    → One is_plain_literal tokens.left x.0 x.1.left
+plain_found tokens x e = plain_found_by tokens.left tokens.end x e
+
+pub plain_exact : (end : ℕ) {a b : List Lexeme} {span : Span} → One is_plain_literal a span b
+    → plain_literal_at (place_of end a) ≡ Ok (span, place_of end b)
+unfolding plain_literal_at
+plain_exact end (one e) = rw e refl

@@ -1,180 +1,192 @@
 -- Steps up to where they end: what a loop over them keeps, and what they are in the grammar.
-use Rattle.std.proofs.Common.{◌≡◌, ℕ, zero, suc, ◌<◌, ◌≤◌, Bool, true, false, cond, Option, Some, None, option_to_list}
+use Rattle.std.proofs.Common.{◌≡◌, ℕ, zero, suc, ◌<◌, ◌≤◌, Bool, true, false, cond, Result, Ok, Err, Option}
+use Rattle.std.proofs.Common.{option_to_list}
 use Rattle.std.proofs.Common.{List, ◌++◌, length, refl, sym, ◌∙◌, ap, subst, arith}
 use Rattle.proto_grammar.specs.declared.tree.CustomOptions.{CustomOptions}
 use Rattle.proto_grammar.specs.declared.fault.SyntaxFault.{SyntaxFault}
 use Rattle.proto_grammar.specs.declared.fault.SyntaxFault.TheVariants.{NotProto3, CustomOption, Aggregate, Extend}
 use Rattle.proto_grammar.specs.declared.fault.SyntaxFault.TheVariants.{TwoPackages, ImportEscape, TooDeep, Grammar}
 use Rattle.proto_grammar.specs.declared.fault.SyntaxFault.TheVariants.{Memory}
-use Rattle.proto_grammar.specs.Lexeme.{Lexeme}
+use Rattle.proto_grammar.specs.Lexeme.{Lexeme, Place, place_of}
 use Rattle.proto_grammar.specs.Gives.{Fails}
 use Rattle.proto_grammar.specs.Grammar.Repetition.{Until, Adds, Passes}
 use Rattle.proto_grammar.specs.Grammar.Repetition.Until.{done, more}
 use Rattle.proto_grammar.specs.Grammar.Repetition.Adds.{adds}
 use Rattle.proto_grammar.specs.Grammar.Repetition.Passes.{passes}
 use Rattle.proto_grammar.specs.Reading.Repetition.{◌>>=◌, Read, until_by, until_at, adding, passing, passed}
-use Rattle.std.proofs.lemmas.Option.{same_Some}
-use Rattle.proto_grammar.proofs.OptionSteps.{bind_some, guard_some, chosen}
+use Rattle.proto_grammar.proofs.Steps.{bind_ok, same_ok, chosen}
 
 -- a fault of a part is one of the whole
-pub Fails-of : {Y Z : Type 0} (custom : CustomOptions) (fault : SyntaxFault) (part : Option Y) (whole : Option Z)
-    → (part ≡ None → whole ≡ None) → Fails custom fault part → Fails custom fault whole
-Fails-of custom (NotProto3 offset) part whole none fails = none fails
-Fails-of custom (CustomOption offset) part whole none fails = (fails.0, none fails.1)
-Fails-of custom (Aggregate offset) part whole none fails = (fails.0, none fails.1)
-Fails-of custom (Extend offset) part whole none fails = (fails.0, none fails.1)
-Fails-of custom (TwoPackages offset) part whole none fails = none fails
-Fails-of custom (ImportEscape offset) part whole none fails = none fails
-Fails-of custom (TooDeep offset) part whole none fails = none fails
-Fails-of custom (Grammar offset) part whole none fails = none fails
-Fails-of custom Memory part whole none fails = tt
+pub Fails-of : {Y Z : Type 0} (custom : CustomOptions) (fault : SyntaxFault) (part : Result Y SyntaxFault)
+    (whole : Result Z SyntaxFault)
+    → ((met : SyntaxFault) → part ≡ Err met → whole ≡ Err met) → Fails custom fault part → Fails custom fault whole
+Fails-of custom (NotProto3 offset) part whole stops fails = stops (NotProto3 offset) fails
+Fails-of custom (CustomOption offset) part whole stops fails = (fails.0, stops (CustomOption offset) fails.1)
+Fails-of custom (Aggregate offset) part whole stops fails = (fails.0, stops (Aggregate offset) fails.1)
+Fails-of custom (Extend offset) part whole stops fails = (fails.0, stops (Extend offset) fails.1)
+Fails-of custom (TwoPackages offset) part whole stops fails = stops (TwoPackages offset) fails
+Fails-of custom (ImportEscape offset) part whole stops fails = stops (ImportEscape offset) fails
+Fails-of custom (TooDeep offset) part whole stops fails = stops (TooDeep offset) fails
+Fails-of custom (Grammar offset) part whole stops fails = stops (Grammar offset) fails
+Fails-of custom Memory part whole stops fails = tt
 
 -- each step takes a token
 abbrev pub Falls : {S : Type 0} → (S → Read S) → Type 0
-Falls {S} step = (s : S) (tokens : List Lexeme) (x : S × List Lexeme) → step s tokens ≡ Some x
-    → length x.1 < length tokens
+Falls {S} step = (s : S) (tokens : Place) (x : S × Place) → step s tokens ≡ Ok x
+    → length x.1.left < length tokens.left
 
 module _ {S : Type 0} (ends : List Lexeme → Bool) (step : S → Read S) (falls : Falls step) where
   -- the steps behind the first one
-  abbrev following : ℕ → Option (S × List Lexeme) → Option (S × List Lexeme)
+  abbrev following : ℕ → Result (S × Place) SyntaxFault → Result (S × Place) SyntaxFault
   following n o = o >>= λ x. until_by ends step n x.0 x.1
 
-  none_follow : (s : S) (tokens : List Lexeme) (m : ℕ) (o : Option (S × List Lexeme)) → step s tokens ≡ o
-      → length tokens ≤ 0 → None ≡ following m o
-  none_follow s tokens m None e h = refl
-  none_follow s tokens m (Some x) e h = absurd (omega (arith, falls s tokens x e))
+  -- the first step, where no token is left
+  abbrev no_more : Result (S × Place) SyntaxFault → Result (S × Place) SyntaxFault
+  no_more o = o >>= λ x. Err Memory
 
-  same_follow : (s : S) (tokens : List Lexeme) (n m : ℕ)
-      → ((t : S) (rest : List Lexeme) → length rest < length tokens
+  none_follow : (s : S) (tokens : Place) (m : ℕ) (o : Result (S × Place) SyntaxFault) → step s tokens ≡ o
+      → length tokens.left ≤ 0 → no_more o ≡ following m o
+  none_follow s tokens m (Err fault) e h = refl
+  none_follow s tokens m (Ok x) e h = absurd (omega (arith, falls s tokens x e))
+
+  same_follow : (s : S) (tokens : Place) (n m : ℕ)
+      → ((t : S) (rest : Place) → length rest.left < length tokens.left
       → until_by ends step n t rest ≡ until_by ends step m t rest)
-      → (o : Option (S × List Lexeme)) → step s tokens ≡ o → following n o ≡ following m o
-  same_follow s tokens n m same None e = refl
-  same_follow s tokens n m same (Some x) e = same x.0 x.1 (falls s tokens x e)
+      → (o : Result (S × Place) SyntaxFault) → step s tokens ≡ o → following n o ≡ following m o
+  same_follow s tokens n m same (Err fault) e = refl
+  same_follow s tokens n m same (Ok x) e = same x.0 x.1 (falls s tokens x e)
 
   -- no more steps than tokens
-  enough : (n m : ℕ) (s : S) (tokens : List Lexeme) → length tokens ≤ n → length tokens ≤ m
+  enough : (n m : ℕ) (s : S) (tokens : Place) → length tokens.left ≤ n → length tokens.left ≤ m
       → until_by ends step n s tokens ≡ until_by ends step m s tokens
   enough zero zero s tokens h k = refl
   enough zero (suc m) s tokens h k =
-      ap (λ o. cond (ends tokens) (Some (s, tokens)) o) (none_follow s tokens m (step s tokens) refl h)
+      ap (λ o. cond (ends tokens.left) (Ok (s, tokens)) o) (none_follow s tokens m (step s tokens) refl h)
   enough (suc n) zero s tokens h k =
-      ap (λ o. cond (ends tokens) (Some (s, tokens)) o) (sym (none_follow s tokens n (step s tokens) refl k))
+      ap (λ o. cond (ends tokens.left) (Ok (s, tokens)) o) (sym (none_follow s tokens n (step s tokens) refl k))
   enough (suc n) (suc m) s tokens h k =
-      ap (λ o. cond (ends tokens) (Some (s, tokens)) o)
+      ap (λ o. cond (ends tokens.left) (Ok (s, tokens)) o)
       (same_follow s tokens n m (λ t rest shorter. enough n m t rest (omega arith) (omega arith)) (step s tokens) refl)
 
-  all_follow : (s : S) (tokens : List Lexeme) (o : Option (S × List Lexeme)) → step s tokens ≡ o
-      → following (length tokens) o ≡ (o >>= λ x. until_at ends step x.0 x.1)
+  all_follow : (s : S) (tokens : Place) (o : Result (S × Place) SyntaxFault) → step s tokens ≡ o
+      → following (length tokens.left) o ≡ (o >>= λ x. until_at ends step x.0 x.1)
   unfolding until_at
-  all_follow s tokens None e = refl
-  all_follow s tokens (Some x) e =
-      let shorter : length x.1 < length tokens = falls s tokens x e in
-      enough (length tokens) (length x.1) x.0 x.1 (omega arith) (omega arith)
+  all_follow s tokens (Err fault) e = refl
+  all_follow s tokens (Ok x) e =
+      let shorter : length x.1.left < length tokens.left = falls s tokens x e in
+      enough (length tokens.left) (length x.1.left) x.0 x.1 (omega arith) (omega arith)
 
   -- none, or the first step and all others
-  pub until_at-step : (s : S) (tokens : List Lexeme) → until_at ends step s tokens
-      ≡ cond (ends tokens) (Some (s, tokens)) (step s tokens >>= λ x. until_at ends step x.0 x.1)
+  pub until_at-step : (s : S) (tokens : Place) → until_at ends step s tokens
+      ≡ cond (ends tokens.left) (Ok (s, tokens)) (step s tokens >>= λ x. until_at ends step x.0 x.1)
   unfolding until_at
   until_at-step s tokens =
-      enough (length tokens) (suc (length tokens)) s tokens (omega arith) (omega arith)
-      ∙ ap (λ o. cond (ends tokens) (Some (s, tokens)) o) (all_follow s tokens (step s tokens) refl)
+      enough (length tokens.left) (suc (length tokens.left)) s tokens (omega arith) (omega arith)
+      ∙ ap (λ o. cond (ends tokens.left) (Ok (s, tokens)) o) (all_follow s tokens (step s tokens) refl)
 
   -- at the end the state is what it is
-  pub is_done : (s : S) (tokens : List Lexeme) (whole : Option (S × List Lexeme)) → until_at ends step s tokens ≡ whole
-      → ends tokens ≡ true → whole ≡ Some (s, tokens)
+  pub is_done : (s : S) (tokens : Place) (whole : Result (S × Place) SyntaxFault) → until_at ends step s tokens ≡ whole
+      → ends tokens.left ≡ true → whole ≡ Ok (s, tokens)
   is_done s tokens whole so_far at_end =
-      let none_left : until_at ends step s tokens ≡ Some (s, tokens) = rw (until_at-step s tokens, at_end) refl in
+      let none_left : until_at ends step s tokens ≡ Ok (s, tokens) = rw (until_at-step s tokens, at_end) refl in
       sym so_far ∙ none_left
 
   -- a step more
-  pub goes_on : (s t : S) (tokens rest : List Lexeme) (whole : Option (S × List Lexeme))
-      → until_at ends step s tokens ≡ whole → ends tokens ≡ false → step s tokens ≡ Some (t, rest)
+  pub goes_on : (s t : S) (tokens rest : Place) (whole : Result (S × Place) SyntaxFault)
+      → until_at ends step s tokens ≡ whole → ends tokens.left ≡ false → step s tokens ≡ Ok (t, rest)
       → until_at ends step t rest ≡ whole
   goes_on s t tokens rest whole so_far not_at_end first_step =
       let one_more : until_at ends step s tokens ≡ until_at ends step t rest =
       rw (until_at-step s tokens, not_at_end, first_step) refl in
       sym one_more ∙ so_far
 
-  -- no step where one has to be
-  pub stops : (s : S) (tokens : List Lexeme) (whole : Option (S × List Lexeme)) → until_at ends step s tokens ≡ whole
-      → ends tokens ≡ false → step s tokens ≡ None → whole ≡ None
-  stops s tokens whole so_far not_at_end no_step =
-      let none_read : until_at ends step s tokens ≡ None = rw (until_at-step s tokens, not_at_end, no_step) refl in
+  -- a fault where a step has to be
+  pub stops : (s : S) (tokens : Place) (whole : Result (S × Place) SyntaxFault) → until_at ends step s tokens ≡ whole
+      → ends tokens.left ≡ false → (fault : SyntaxFault) → step s tokens ≡ Err fault → whole ≡ Err fault
+  stops s tokens whole so_far not_at_end fault no_step =
+      let none_read : until_at ends step s tokens ≡ Err fault =
+      rw (until_at-step s tokens, not_at_end, no_step) refl in
       sym so_far ∙ none_read
 
 -- what is read by steps is in the grammar where each step is
 module _ {S : Type 0} (ends : List Lexeme → Bool) (step : S → Read S)
     (Step : S → List Lexeme → S → List Lexeme → Type 0)
-    (found : (s : S) (tokens : List Lexeme) (x : S × List Lexeme) → step s tokens ≡ Some x → Step s tokens x.0 x.1)
+    (found : (s : S) (tokens : Place) (x : S × Place) → step s tokens ≡ Ok x → Step s tokens.left x.0 x.1.left)
   where
-    until_by-found : (n : ℕ) (s : S) (tokens : List Lexeme) (x : S × List Lexeme) → until_by ends step n s tokens ≡ Some x
-        → Until ends Step s tokens x.0 x.1
+    until_by-found : (n : ℕ) (s : S) (tokens : Place) (x : S × Place) → until_by ends step n s tokens ≡ Ok x
+        → Until ends Step s tokens.left x.0 x.1.left
     until_by-found zero s tokens x e =
-        let g = guard_some (ends tokens) _ x e in
-        subst (λ (y : S × List Lexeme). Until ends Step s tokens y.0 y.1) (same_Some _ x g.1) (done g.0)
+        chosen (ends tokens.left) _ _ (Ok x) e
+        (λ at_end read. subst (λ (y : S × Place). Until ends Step s tokens.left y.0 y.1.left) (same_ok _ x read)
+        (done at_end))
+        (λ further read. let t = bind_ok (step s tokens) _ x read in absurd (let no : Err Memory ≡ Ok x = t.2 in cc))
     until_by-found (suc n) s tokens x e =
-        chosen (ends tokens) _ _ (Some x) e
-        (λ at_end read. subst (λ (y : S × List Lexeme). Until ends Step s tokens y.0 y.1) (same_Some _ x read)
+        chosen (ends tokens.left) _ _ (Ok x) e
+        (λ at_end read. subst (λ (y : S × Place). Until ends Step s tokens.left y.0 y.1.left) (same_ok _ x read)
         (done at_end))
         (λ further read.
-        let t = bind_some (step s tokens) _ x read in
+        let t = bind_ok (step s tokens) _ x read in
         more further (found s tokens t.0 t.1) (until_by-found n t.0.0 t.0.1 x t.2))
 
-    pub until_at-found : (s : S) (tokens : List Lexeme) (x : S × List Lexeme) → until_at ends step s tokens ≡ Some x
-        → Until ends Step s tokens x.0 x.1
+    pub until_at-found : (s : S) (tokens : Place) (x : S × Place) → until_at ends step s tokens ≡ Ok x
+        → Until ends Step s tokens.left x.0 x.1.left
     unfolding until_at
-    until_at-found s tokens x e = until_by-found (length tokens) s tokens x e
+    until_at-found s tokens x e = until_by-found (length tokens.left) s tokens x e
 
 -- and the other way round
-module _ {S : Type 0} (ends : List Lexeme → Bool) (step : S → Read S)
+module _ {S : Type 0} (end : ℕ) (ends : List Lexeme → Bool) (step : S → Read S)
     (Step : S → List Lexeme → S → List Lexeme → Type 0) (falls : Falls step)
-    (exact : (s t : S) (a b : List Lexeme) → Step s a t b → step s a ≡ Some (t, b)) where
-  pub until_at-exact : {s t : S} {a b : List Lexeme} → Until ends Step s a t b → until_at ends step s a ≡ Some (t, b)
-  until_at-exact (done {s} {a} at_end) = rw (until_at-step ends step falls s a, at_end) refl
+    (exact : (s t : S) (a b : List Lexeme) → Step s a t b → step s (place_of end a) ≡ Ok (t, place_of end b)) where
+  pub until_at-exact : {s t : S} {a b : List Lexeme} → Until ends Step s a t b
+      → until_at ends step s (place_of end a) ≡ Ok (t, place_of end b)
+  until_at-exact (done {s} {a} at_end) = rw (until_at-step ends step falls s (place_of end a), at_end) refl
   until_at-exact (more {s} {t} {u} {a} {b} {c} further first behind) =
-      rw (until_at-step ends step falls s a, further, exact s t a b first) (until_at-exact behind)
+      rw (until_at-step ends step falls s (place_of end a), further, exact s t a b first) (until_at-exact behind)
 
 -- steps fall where their items do
 pub adding-found : {A : Type 0} (item : Read (Option A)) (Item : List Lexeme → Option A → List Lexeme → Type 0)
-    → ((tokens : List Lexeme) (x : Option A × List Lexeme) → item tokens ≡ Some x → Item tokens x.0 x.1)
-    → (items : List A) (tokens : List Lexeme) (x : List A × List Lexeme) → adding item items tokens ≡ Some x
-    → Adds Item items tokens x.0 x.1
+    → ((tokens : Place) (x : Option A × Place) → item tokens ≡ Ok x → Item tokens.left x.0 x.1.left)
+    → (items : List A) (tokens : Place) (x : List A × Place) → adding item items tokens ≡ Ok x
+    → Adds Item items tokens.left x.0 x.1.left
 adding-found {A} item Item found items tokens x e =
-    let t = bind_some (item tokens) _ x e in
-    subst (λ (y : List A × List Lexeme). Adds Item items tokens y.0 y.1) (same_Some _ x t.2)
+    let t = bind_ok (item tokens) _ x e in
+    subst (λ (y : List A × Place). Adds Item items tokens.left y.0 y.1.left) (same_ok _ x t.2)
     (adds (found tokens t.0 t.1))
 
-pub adding-exact : {A : Type 0} (item : Read (Option A)) (Item : List Lexeme → Option A → List Lexeme → Type 0)
-    → ((a b : List Lexeme) (x : Option A) → Item a x b → item a ≡ Some (x, b))
-    → (items all : List A) (a b : List Lexeme) → Adds Item items a all b → adding item items a ≡ Some (all, b)
-adding-exact item Item exact items all a b (adds {item = x} i) = rw (exact a b x i) refl
+pub adding-exact : {A : Type 0} (end : ℕ) (item : Read (Option A))
+    (Item : List Lexeme → Option A → List Lexeme → Type 0)
+    → ((a b : List Lexeme) (x : Option A) → Item a x b → item (place_of end a) ≡ Ok (x, place_of end b))
+    → (items all : List A) (a b : List Lexeme) → Adds Item items a all b
+    → adding item items (place_of end a) ≡ Ok (all, place_of end b)
+adding-exact end item Item exact items all a b (adds {item = x} i) = rw (exact a b x i) refl
 
 pub passing-found : (item : Read (Unit {0})) (Item : List Lexeme → List Lexeme → Type 0)
-    → ((tokens : List Lexeme) (x : Unit {0} × List Lexeme) → item tokens ≡ Some x → Item tokens x.1)
-    → (s : Unit {0}) (tokens : List Lexeme) (x : Unit {0} × List Lexeme) → passing item s tokens ≡ Some x
-    → Passes Item s tokens x.0 x.1
+    → ((tokens : Place) (x : Unit {0} × Place) → item tokens ≡ Ok x → Item tokens.left x.1.left)
+    → (s : Unit {0}) (tokens : Place) (x : Unit {0} × Place) → passing item s tokens ≡ Ok x
+    → Passes Item s tokens.left x.0 x.1.left
 passing-found item Item found s tokens x e = passes (found tokens x e)
 
-pub passing-exact : (item : Read (Unit {0})) (Item : List Lexeme → List Lexeme → Type 0)
-    → ((a b : List Lexeme) → Item a b → item a ≡ Some (tt, b))
-    → (s t : Unit {0}) (a b : List Lexeme) → Passes Item s a t b → passing item s a ≡ Some (t, b)
-passing-exact item Item exact s t a b (passes i) = exact a b i
+pub passing-exact : (end : ℕ) (item : Read (Unit {0})) (Item : List Lexeme → List Lexeme → Type 0)
+    → ((a b : List Lexeme) → Item a b → item (place_of end a) ≡ Ok (tt, place_of end b))
+    → (s t : Unit {0}) (a b : List Lexeme) → Passes Item s a t b
+    → passing item s (place_of end a) ≡ Ok (t, place_of end b)
+passing-exact end item Item exact s t a b (passes i) = exact a b i
 
-pub adding-step : {A : Type 0} (item : Read (Option A)) (items : List A) (x : Option A) (tokens rest : List Lexeme)
-    → item tokens ≡ Some (x, rest)
-    → adding item items tokens ≡ Some (items ++ option_to_list x, rest)
+pub adding-step : {A : Type 0} (item : Read (Option A)) (items : List A) (x : Option A) (tokens rest : Place)
+    → item tokens ≡ Ok (x, rest)
+    → adding item items tokens ≡ Ok (items ++ option_to_list x, rest)
 adding-step item items x tokens rest e = rw e refl
 
-pub adding-none : {A : Type 0} (item : Read (Option A)) (items : List A) (tokens : List Lexeme) → item tokens ≡ None
-    → adding item items tokens ≡ None
-adding-none item items tokens e = rw e refl
+pub adding-stops : {A : Type 0} (item : Read (Option A)) (items : List A) (tokens : Place) (fault : SyntaxFault)
+    → item tokens ≡ Err fault → adding item items tokens ≡ Err fault
+adding-stops item items tokens fault e = rw e refl
 
 pub adding-falls : {A : Type 0} (item : Read (Option A))
-    → ((tokens : List Lexeme) (x : Option A × List Lexeme) → item tokens ≡ Some x → length x.1 < length tokens)
+    → ((tokens : Place) (x : Option A × Place) → item tokens ≡ Ok x → length x.1.left < length tokens.left)
     → Falls (adding item)
 adding-falls item falls items tokens x e =
-    let t = bind_some (item tokens) _ x e in
-    let left : t.0.1 ≡ x.1 = ap (λ y. y.1) (same_Some _ x t.2) in
+    let t = bind_ok (item tokens) _ x e in
+    let left : t.0.1.left ≡ x.1.left = ap (λ y. y.1.left) (same_ok _ x t.2) in
     rw (← left) (falls tokens t.0 t.1)
 
 -- what a chain of steps leaves is no more than there was
@@ -199,44 +211,52 @@ Passes-shorter Item falls s t a b (passes i) = falls a b i
 -- items that are read and not kept
 module _ {A : Type 0} (ends : List Lexeme → Bool) (item : Read (Option A))
     (Item : List Lexeme → Option A → List Lexeme → Type 0)
-    (found : (tokens : List Lexeme) (x : Option A × List Lexeme) → item tokens ≡ Some x → Item tokens x.0 x.1) where
-  passed_by-found : (n : ℕ) (s : Unit {0}) (items : List A) (tokens : List Lexeme) (x : Unit {0} × List Lexeme)
-      → until_by ends (passing (passed item)) n s tokens ≡ Some x
-      → (all : List A) × Until ends (Adds Item) items tokens all x.1
+    (found : (tokens : Place) (x : Option A × Place) → item tokens ≡ Ok x → Item tokens.left x.0 x.1.left) where
+  passed_by-found : (n : ℕ) (s : Unit {0}) (items : List A) (tokens : Place) (x : Unit {0} × Place)
+      → until_by ends (passing (passed item)) n s tokens ≡ Ok x
+      → (all : List A) × Until ends (Adds Item) items tokens.left all x.1.left
   passed_by-found zero s items tokens x e =
-      let g = guard_some (ends tokens) _ x e in (
-        items,
-        subst (λ (y : Unit {0} × List Lexeme). Until ends (Adds Item) items tokens items y.1) (same_Some _ x g.1)
-            (done g.0),
-      )
-  passed_by-found (suc n) s items tokens x e =
-      chosen (ends tokens) _ _ (Some x) e
+      chosen (ends tokens.left) _ _ (Ok x) e
       (λ at_end read. (
         items,
-        subst (λ (y : Unit {0} × List Lexeme). Until ends (Adds Item) items tokens items y.1)
-            (same_Some _ x read) (done at_end),
+        subst (λ (y : Unit {0} × Place). Until ends (Adds Item) items tokens.left items y.1.left)
+            (same_ok _ x read) (done at_end),
       ))
       (λ further read.
-      let t = bind_some (passed item tokens) _ x read in
-      let i = bind_some (item tokens) _ t.0 t.1 in
-      let left : i.0.1 ≡ t.0.1 = ap (λ y. y.1) (same_Some _ t.0 i.2) in
+      let t = bind_ok (passed item tokens) _ x read in absurd (let no : Err Memory ≡ Ok x = t.2 in cc))
+  passed_by-found (suc n) s items tokens x e =
+      chosen (ends tokens.left) _ _ (Ok x) e
+      (λ at_end read. (
+        items,
+        subst (λ (y : Unit {0} × Place). Until ends (Adds Item) items tokens.left items y.1.left)
+            (same_ok _ x read) (done at_end),
+      ))
+      (λ further read.
+      let t = bind_ok (passed item tokens) _ x read in
+      let i = bind_ok (item tokens) _ t.0 t.1 in
+      let left : i.0.1.left ≡ t.0.1.left = ap (λ y. y.1.left) (same_ok _ t.0 i.2) in
       let behind = passed_by-found n t.0.0 (items ++ option_to_list i.0.0) t.0.1 x t.2 in
-      let first : Adds Item items tokens (items ++ option_to_list i.0.0) t.0.1 =
+      let first : Adds Item items tokens.left (items ++ option_to_list i.0.0) t.0.1.left =
       rw (← left) (adds (found tokens i.0 i.1)) in
       (behind.0, more further first behind.1))
 
-  pub passed-found : (items : List A) (tokens : List Lexeme) (x : Unit {0} × List Lexeme)
-      → until_at ends (passing (passed item)) tt tokens ≡ Some x
-      → (all : List A) × Until ends (Adds Item) items tokens all x.1
+  pub passed-found : (items : List A) (tokens : Place) (x : Unit {0} × Place)
+      → until_at ends (passing (passed item)) tt tokens ≡ Ok x
+      → (all : List A) × Until ends (Adds Item) items tokens.left all x.1.left
   unfolding until_at
-  passed-found items tokens x e = passed_by-found (length tokens) tt items tokens x e
+  passed-found items tokens x e = passed_by-found (length tokens.left) tt items tokens x e
 
-module _ {A : Type 0} (ends : List Lexeme → Bool) (item : Read (Option A))
+module _ {A : Type 0} (end : ℕ) (ends : List Lexeme → Bool) (item : Read (Option A))
     (Item : List Lexeme → Option A → List Lexeme → Type 0)
     (falls : Falls (passing (passed item)))
-    (exact : (a b : List Lexeme) (x : Option A) → Item a x b → item a ≡ Some (x, b)) where
+    (exact : (a b : List Lexeme) (x : Option A) → Item a x b → item (place_of end a) ≡ Ok (x, place_of end b)) where
   pub passed-exact : {items all : List A} {a b : List Lexeme} → Until ends (Adds Item) items a all b
-      → until_at ends (passing (passed item)) tt a ≡ Some (tt, b)
-  passed-exact (done {a = a} at_end) = rw (until_at-step ends (passing (passed item)) falls tt a, at_end) refl
+      → until_at ends (passing (passed item)) tt (place_of end a) ≡ Ok (tt, place_of end b)
+  passed-exact (done {a = a} at_end) =
+      rw (until_at-step ends (passing (passed item)) falls tt (place_of end a), at_end) refl
   passed-exact (more {a = a} {b = b} further (adds {item = x} i) behind) =
-      rw (until_at-step ends (passing (passed item)) falls tt a, further, exact a b x i) (passed-exact behind)
+      rw (
+        until_at-step ends (passing (passed item)) falls tt (place_of end a),
+        further,
+        exact a b x i,
+      ) (passed-exact behind)

@@ -23,6 +23,10 @@ pub record Place : Type 0 where
   pub left : List Lexeme
   pub end : ℕ
 
+-- A place, by where the text ends and the tokens that are left.
+abbrev pub place_of : ℕ → List Lexeme → Place
+place_of end left = record { left = left; end = end }
+
 -- The place before the first token.
 abbrev pub start_of : List ℕ → List Token → Place
-start_of text tokens = record { left = lexemes_of text tokens; end = length text }
+start_of text tokens = place_of (length text) (lexemes_of text tokens)

@@ -100,6 +100,10 @@ others (t ∷ rest) = rest
 abbrev pub offset_at : Place → ℕ
 offset_at place = option_map_or (λ (t : Lexeme). t.span.start) (first place.left) place.end
 
+-- The place behind the next token, if there is one.
+abbrev pub behind : Place → Place
+behind place = record { left = others place.left; end = place.end }
+
 -- Whether the next token passes the test.
 abbrev pub first_is : (Lexeme → Bool) → List Lexeme → Bool
 first_is test tokens = option_map_or test (first tokens) false

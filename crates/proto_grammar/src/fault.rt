@@ -10,8 +10,9 @@ use std::fmt;
 /// Why the tokens of a text derive no tree of the grammar.
 ///
 /// Offsets are byte offsets from the text's start, of the token that can't be at its place, or the text's length if
-/// tokens are missing. Of several faults it is the one that reading from left to right meets first. That a fault
-/// comes only if there is no tree is proved; which one comes, and its offset, tests show.
+/// tokens are missing. Of several faults it is the one that reading from left to right meets first. It is proved that a
+/// fault comes only if there is no tree, and that its offset is that of a token which its kind names, or the text's
+/// length. Which of these tokens it is, tests show.
 #[derive(Clone, Copy, Debug, Drop, PartialEq, Eq)]
 pub enum SyntaxFault {
     /// The first token is not the word `syntax` (its offset), or the syntax statement's literals do not spell `proto3`

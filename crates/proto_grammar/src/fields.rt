@@ -16,7 +16,7 @@ impl<'t> Parser<'t> {
     /// What comes after a field's type, of a field that begins with the first token.
     #[tactic(auto, unfolding(crate::specs::Reading::Fields::numbered_at))]
     fn numbered(&mut self, custom: CustomOptions, first: Span) -> Result<Heading, SyntaxFault>
-        ensures { Gives custom (λ x. x) self.new.left result (numbered_at custom first self.old.left) }
+        ensures { Gives custom (λ x. x) self.new result (numbered_at custom first self.old) }
     {
         let name = self.token(TokenKind::Identifier)?;
         self.token(TokenKind::Equals)?;
@@ -39,7 +39,7 @@ impl<'t> Parser<'t> {
         first: Span,
         label: Option<Label>,
     ) -> Result<Field, SyntaxFault>
-        ensures { Gives custom (λ x. x) self.new.left result (typed_at custom first label self.old.left) }
+        ensures { Gives custom (λ x. x) self.new result (typed_at custom first label self.old) }
     {
         let field_type = self.field_type(alloc)?;
         let heading = self.numbered(custom, first)?;
@@ -53,7 +53,7 @@ impl<'t> Parser<'t> {
     /// The label `required`.
     #[tactic(auto, unfolding(crate::specs::Reading::Fields::required_at))]
     fn required(&mut self) -> Result<Option<Label>, SyntaxFault>
-        ensures { Gives Skip (λ x. x) self.new.left result (required_at self.old.left) }
+        ensures { Gives Skip (λ x. x) self.new result (required_at self.old) }
     {
         self.word("required")?;
         Ok(Some(Label::Required))
@@ -62,7 +62,7 @@ impl<'t> Parser<'t> {
     /// A label. In proto3 there may be none, in proto2 there must be one.
     #[tactic(auto, unfolding(crate::specs::Reading::Fields::label_at))]
     pub fn label(&mut self, syntax: Syntax) -> Result<Option<Label>, SyntaxFault>
-        ensures { Gives Skip (λ x. x) self.new.left result (label_at syntax self.old.left) }
+        ensures { Gives Skip (λ x. x) self.new result (label_at syntax self.old) }
     {
         if self.is_at_word("repeated") {
             self.advance();
@@ -81,7 +81,7 @@ impl<'t> Parser<'t> {
     /// A field of proto3 that isn't kept.
     #[tactic(auto, unfolding(crate::specs::Reading::Fields::pass_field_at))]
     pub fn pass_field(&mut self, custom: CustomOptions) -> Result<(), SyntaxFault>
-        ensures { Gives custom (λ x. x) self.new.left result (pass_field_at custom self.old.left) }
+        ensures { Gives custom (λ x. x) self.new result (pass_field_at custom self.old) }
     {
         let first = self.span()?;
         self.label(Syntax::Proto3(custom))?;
@@ -98,7 +98,7 @@ impl<'t> Parser<'t> {
         first: Span,
         label: Option<Label>,
     ) -> Result<Group, SyntaxFault>
-        ensures { Gives custom (λ x. x) self.new.left result (group_head_at custom first label self.old.left) }
+        ensures { Gives custom (λ x. x) self.new result (group_head_at custom first label self.old) }
     {
         let word = self.word("group")?;
         let name = self.group_name()?;
@@ -124,7 +124,7 @@ impl<'t> Parser<'t> {
         alloc: Global,
         custom: CustomOptions,
     ) -> Result<MapField, SyntaxFault>
-        ensures { Gives custom (λ x. x) self.new.left result (map_field_at custom self.old.left) }
+        ensures { Gives custom (λ x. x) self.new result (map_field_at custom self.old) }
     {
         let first = self.word("map")?;
         self.token(TokenKind::Less)?;

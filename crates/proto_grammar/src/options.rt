@@ -18,7 +18,7 @@ impl<'t> Parser<'t> {
     /// A type's name in parentheses, in an option's name.
     #[tactic(auto, unfolding(crate::specs::Reading::Options::extension_at))]
     fn extension(&mut self, custom: CustomOptions) -> Result<(), SyntaxFault>
-        ensures { Gives custom (λ x. x) self.new.left result (extension_at custom self.old.left) }
+        ensures { Gives custom (λ x. x) self.new result (extension_at custom self.old) }
     {
         if custom == CustomOptions::Refuse {
             return Err(SyntaxFault::CustomOption(self.offset()));
@@ -32,7 +32,7 @@ impl<'t> Parser<'t> {
     /// A part of an option's name.
     #[tactic(auto, unfolding(crate::specs::Reading::Options::part_at))]
     fn part(&mut self, custom: CustomOptions) -> Result<(), SyntaxFault>
-        ensures { Gives custom (λ x. x) self.new.left result (part_at custom self.old.left) }
+        ensures { Gives custom (λ x. x) self.new result (part_at custom self.old) }
     {
         if self.is_at(TokenKind::OpenParenthesis) {
             return self.extension(custom);
@@ -44,7 +44,7 @@ impl<'t> Parser<'t> {
     /// A `.` and a part of an option's name.
     #[tactic(auto, unfolding(crate::specs::Reading::Options::dot_part_at))]
     fn dot_part(&mut self, custom: CustomOptions) -> Result<(), SyntaxFault>
-        ensures { Gives custom (λ x. x) self.new.left result (dot_part_at custom self.old.left) }
+        ensures { Gives custom (λ x. x) self.new result (dot_part_at custom self.old) }
     {
         self.token(TokenKind::Dot)?;
         self.part(custom)
@@ -52,7 +52,7 @@ impl<'t> Parser<'t> {
 
     /// The parts of an option's name after the first one.
     fn dot_parts(&mut self, custom: CustomOptions) -> Result<(), SyntaxFault>
-        ensures { Gives custom (λ x. x) self.new.left result (dot_parts_at custom self.old.left) }
+        ensures { Gives custom (λ x. x) self.new result (dot_parts_at custom self.old) }
     {
         'parts: while self.is_at(TokenKind::Dot) {
             self.dot_part(custom)?;
@@ -63,7 +63,7 @@ impl<'t> Parser<'t> {
     /// An option's name.
     #[tactic(auto, unfolding(crate::specs::Reading::Options::option_name_at))]
     fn option_name(&mut self, custom: CustomOptions) -> Result<(), SyntaxFault>
-        ensures { Gives custom (λ x. x) self.new.left result (option_name_at custom self.old.left) }
+        ensures { Gives custom (λ x. x) self.new result (option_name_at custom self.old) }
     {
         self.part(custom)?;
         self.dot_parts(custom)
@@ -72,7 +72,7 @@ impl<'t> Parser<'t> {
     /// One string literal.
     #[tactic(auto, unfolding(crate::specs::Reading::Options::literal_at))]
     fn literal(&mut self) -> Result<(), SyntaxFault>
-        ensures { Gives Skip (λ x. x) self.new.left result (literal_at self.old.left) }
+        ensures { Gives Skip (λ x. x) self.new result (literal_at self.old) }
     {
         self.token(TokenKind::StringLiteral)?;
         Ok(())
@@ -80,7 +80,7 @@ impl<'t> Parser<'t> {
 
     /// The literals after the first one.
     fn literals(&mut self) -> Result<(), SyntaxFault>
-        ensures { Gives Skip (λ x. x) self.new.left result (literals_at self.old.left) }
+        ensures { Gives Skip (λ x. x) self.new result (literals_at self.old) }
     {
         'literals: while self.is_at(TokenKind::StringLiteral) {
             self.literal()?;
@@ -91,7 +91,7 @@ impl<'t> Parser<'t> {
     /// One literal, or more.
     #[tactic(auto, unfolding(crate::specs::Reading::Options::strings_at))]
     pub(crate) fn strings(&mut self) -> Result<(), SyntaxFault>
-        ensures { Gives Skip (λ x. x) self.new.left result (strings_at self.old.left) }
+        ensures { Gives Skip (λ x. x) self.new result (strings_at self.old) }
     {
         self.literal()?;
         self.literals()
@@ -100,7 +100,7 @@ impl<'t> Parser<'t> {
     /// An aggregate value: braces with any tokens, in which braces are balanced.
     #[tactic(auto, unfolding(crate::specs::Reading::Options::aggregate_at))]
     fn aggregate(&mut self, custom: CustomOptions) -> Result<(), SyntaxFault>
-        ensures { Gives custom (λ x. x) self.new.left result (aggregate_at custom self.old.left) }
+        ensures { Gives custom (λ x. x) self.new result (aggregate_at custom self.old) }
     {
         if custom == CustomOptions::Refuse {
             return Err(SyntaxFault::Aggregate(self.offset()));
@@ -113,7 +113,7 @@ impl<'t> Parser<'t> {
     /// Any tokens, up to and with the one that closes an open brace. Fewer than `left` are left.
     fn closed(&mut self, left: usize) -> Result<(), SyntaxFault>
         requires { length self.old.left < left }
-        ensures { Gives Skip (λ x. x) self.new.left result (closed_at 1 self.old.left) }
+        ensures { Gives Skip (λ x. x) self.new result (closed_at 1 self.old) }
     {
         let mut depth = 1;
         'tokens: while depth > 0 {
@@ -127,7 +127,7 @@ impl<'t> Parser<'t> {
     fn deeper(&mut self, depth: usize, left: usize) -> Result<usize, SyntaxFault>
         requires bounded { depth + length self.old.left ≤ left }
         requires inside { 0 < depth }
-        ensures { Gives Skip (λ x. x) self.new.left result (deeper_at depth self.old.left) }
+        ensures { Gives Skip (λ x. x) self.new result (deeper_at depth self.old) }
     {
         let offset = self.offset();
         let Some(lexeme) = self.next() else {
@@ -145,7 +145,7 @@ impl<'t> Parser<'t> {
     /// An option statement (proto3 specification, "Option").
     #[tactic(auto, unfolding(crate::specs::Reading::Options::option_at))]
     pub fn option(&mut self, custom: CustomOptions) -> Result<(), SyntaxFault>
-        ensures { Gives custom (λ x. x) self.new.left result (option_at custom self.old.left) }
+        ensures { Gives custom (λ x. x) self.new result (option_at custom self.old) }
     {
         self.word("option")?;
         self.setting(custom)?;
@@ -156,7 +156,7 @@ impl<'t> Parser<'t> {
     /// A sign, and what may be after it.
     #[tactic(auto, unfolding(crate::specs::Reading::Options::signed_at))]
     fn signed(&mut self) -> Result<(), SyntaxFault>
-        ensures { Gives Skip (λ x. x) self.new.left result (signed_at self.old.left) }
+        ensures { Gives Skip (λ x. x) self.new result (signed_at self.old) }
     {
         self.sign()?;
         self.number()?;
@@ -166,7 +166,7 @@ impl<'t> Parser<'t> {
     /// The value of an option (proto3 specification, "Constant").
     #[tactic(auto, unfolding(crate::specs::Reading::Options::constant_at))]
     fn constant(&mut self, custom: CustomOptions) -> Result<(), SyntaxFault>
-        ensures { Gives custom (λ x. x) self.new.left result (constant_at custom self.old.left) }
+        ensures { Gives custom (λ x. x) self.new result (constant_at custom self.old) }
     {
         if self.is_at(TokenKind::Identifier) {
             return self.pass_name();
@@ -187,7 +187,7 @@ impl<'t> Parser<'t> {
     /// An option's name, `=` and its value.
     #[tactic(auto, unfolding(crate::specs::Reading::Options::setting_at))]
     fn setting(&mut self, custom: CustomOptions) -> Result<(), SyntaxFault>
-        ensures { Gives custom (λ x. x) self.new.left result (setting_at custom self.old.left) }
+        ensures { Gives custom (λ x. x) self.new result (setting_at custom self.old) }
     {
         self.option_name(custom)?;
         self.token(TokenKind::Equals)?;
@@ -197,7 +197,7 @@ impl<'t> Parser<'t> {
     /// A comma and the setting after it.
     #[tactic(auto, unfolding(crate::specs::Reading::Options::comma_setting_at))]
     fn comma_setting(&mut self, custom: CustomOptions) -> Result<(), SyntaxFault>
-        ensures { Gives custom (λ x. x) self.new.left result (comma_setting_at custom self.old.left) }
+        ensures { Gives custom (λ x. x) self.new result (comma_setting_at custom self.old) }
     {
         self.token(TokenKind::Comma)?;
         self.setting(custom)
@@ -205,7 +205,7 @@ impl<'t> Parser<'t> {
 
     /// The settings after the first one.
     fn comma_settings(&mut self, custom: CustomOptions) -> Result<(), SyntaxFault>
-        ensures { Gives custom (λ x. x) self.new.left result (comma_settings_at custom self.old.left) }
+        ensures { Gives custom (λ x. x) self.new result (comma_settings_at custom self.old) }
     {
         'settings: while self.is_at(TokenKind::Comma) {
             self.comma_setting(custom)?;
@@ -216,7 +216,7 @@ impl<'t> Parser<'t> {
     /// Options in brackets.
     #[tactic(auto, unfolding(crate::specs::Reading::Options::bracketed_at))]
     fn bracketed(&mut self, custom: CustomOptions) -> Result<(), SyntaxFault>
-        ensures { Gives custom (λ x. x) self.new.left result (bracketed_at custom self.old.left) }
+        ensures { Gives custom (λ x. x) self.new result (bracketed_at custom self.old) }
     {
         self.token(TokenKind::OpenBracket)?;
         self.setting(custom)?;
@@ -228,7 +228,7 @@ impl<'t> Parser<'t> {
     /// Options in brackets, if they are next.
     #[tactic(auto, unfolding(crate::specs::Reading::Options::options_at))]
     pub fn options(&mut self, custom: CustomOptions) -> Result<(), SyntaxFault>
-        ensures { Gives custom (λ x. x) self.new.left result (options_at custom self.old.left) }
+        ensures { Gives custom (λ x. x) self.new result (options_at custom self.old) }
     {
         if self.is_at(TokenKind::OpenBracket) {
             return self.bracketed(custom);

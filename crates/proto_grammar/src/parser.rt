@@ -9,8 +9,8 @@ ghost use Rattle.proto_grammar.specs.declared.tree.CustomOptions.TheVariants.{Sk
 ghost use Rattle.proto_grammar.specs.Terminal.{first, others, first_is, of_kind, is_word, key_words, scalar_words};
 ghost use Rattle.proto_grammar.specs.Terminal.{is_scalar, is_key, is_sign, is_numeral, is_number, is_plain_literal};
 ghost use Rattle.proto_grammar.specs.Terminal.{between_quotes, begins_scalar, begins_group, is_capitalized};
-ghost use Rattle.proto_grammar.specs.Terminal.{is_group_name, is_end, offset_at};
-ghost use Rattle.proto_grammar.specs.Reading.Repetition.{token_that, span_at};
+ghost use Rattle.proto_grammar.specs.Terminal.{is_group_name, is_end, offset_at, behind};
+ghost use Rattle.proto_grammar.specs.Reading.Repetition.{token_that, plain_literal_at, span_at};
 ghost use Rattle.proto_grammar.specs.Lexeme.{start_of};
 ghost use Rattle.proto_grammar.specs.View.{lexeme_view};
 
@@ -198,8 +198,7 @@ impl<'t> Parser<'t> {
     /// Takes the next token, if there is one.
     pub fn next(&mut self) -> Option<Lexeme<'t>>
         ensures token { first self.old.left ≡ option_map lexeme_view result }
-        ensures rest { self.new.left ≡ others self.old.left }
-        ensures end { self.new.end ≡ self.old.end }
+        ensures rest { self.new ≡ behind self.old }
     {
         let lexeme = self.peek();
         self.advance();
@@ -209,8 +208,7 @@ impl<'t> Parser<'t> {
     /// Moves past the next token, if there is one.
     #[tactic(auto, using(crate::proofs::Places::others_drop))]
     pub fn advance(&mut self)
-        ensures rest { self.new.left ≡ others self.old.left }
-        ensures end { self.new.end ≡ self.old.end }
+        ensures { self.new ≡ behind self.old }
     {
         if self.next < self.tokens.tokens().len() {
             self.next += 1;
@@ -270,7 +268,7 @@ impl<'t> Parser<'t> {
 
     /// The place after the next token, if there is one.
     fn behind(&self) -> Parser<'t>
-        ensures { result.left ≡ others self.now.left }
+        ensures { result ≡ behind self.now }
     {
         let mut behind = Parser {
             tokens: self.tokens,
@@ -307,7 +305,7 @@ impl<'t> Parser<'t> {
     /// Where the next token is. It isn't taken.
     #[tactic(auto, unfolding(crate::specs::Reading::Repetition::span_at))]
     pub fn span(&self) -> Result<Span, SyntaxFault>
-        ensures { Gives Skip (λ x. x) self.now.left result (span_at self.now.left) }
+        ensures { Gives Skip (λ x. x) self.now result (span_at self.now) }
     {
         match self.peek() {
             Some(lexeme) => Ok(lexeme.span),
@@ -319,7 +317,7 @@ impl<'t> Parser<'t> {
     /// methods that take a part, unless they say otherwise.
     #[tactic(auto, unfolding(crate::specs::Reading::Repetition::token_that))]
     pub fn token(&mut self, kind: TokenKind) -> Result<Span, SyntaxFault>
-        ensures { Gives Skip (λ x. x) self.new.left result (token_that (of_kind kind) self.old.left) }
+        ensures { Gives Skip (λ x. x) self.new result (token_that (of_kind kind) self.old) }
     {
         let offset = self.offset();
         match self.next() {
@@ -331,7 +329,7 @@ impl<'t> Parser<'t> {
     /// Takes the word.
     #[tactic(auto, unfolding(crate::specs::Reading::Repetition::token_that))]
     pub fn word(&mut self, word: &str) -> Result<Span, SyntaxFault>
-        ensures { Gives Skip (λ x. x) self.new.left result (token_that (is_word word.now) self.old.left) }
+        ensures { Gives Skip (λ x. x) self.new result (token_that (is_word word.now) self.old) }
     {
         let offset = self.offset();
         match self.next() {
@@ -343,7 +341,7 @@ impl<'t> Parser<'t> {
     /// Takes a group's name, which begins with a capital letter.
     #[tactic(auto, unfolding(crate::specs::Reading::Repetition::token_that))]
     pub(crate) fn group_name(&mut self) -> Result<Span, SyntaxFault>
-        ensures { Gives Skip (λ x. x) self.new.left result (token_that is_group_name self.old.left) }
+        ensures { Gives Skip (λ x. x) self.new result (token_that is_group_name self.old) }
     {
         let offset = self.offset();
         match self.next() {
@@ -355,7 +353,7 @@ impl<'t> Parser<'t> {
     /// Takes the word of a scalar type.
     #[tactic(auto, unfolding(crate::specs::Reading::Repetition::token_that))]
     pub(crate) fn scalar(&mut self) -> Result<Span, SyntaxFault>
-        ensures { Gives Skip (λ x. x) self.new.left result (token_that is_scalar self.old.left) }
+        ensures { Gives Skip (λ x. x) self.new result (token_that is_scalar self.old) }
     {
         let offset = self.offset();
         match self.next() {
@@ -367,7 +365,7 @@ impl<'t> Parser<'t> {
     /// Takes the word of a scalar type that may be a map's key.
     #[tactic(auto, unfolding(crate::specs::Reading::Repetition::token_that))]
     pub(crate) fn key(&mut self) -> Result<Span, SyntaxFault>
-        ensures { Gives Skip (λ x. x) self.new.left result (token_that is_key self.old.left) }
+        ensures { Gives Skip (λ x. x) self.new result (token_that is_key self.old) }
     {
         let offset = self.offset();
         match self.next() {
@@ -379,7 +377,7 @@ impl<'t> Parser<'t> {
     /// Takes a number without a sign.
     #[tactic(auto, unfolding(crate::specs::Reading::Repetition::token_that))]
     pub(crate) fn numeral(&mut self) -> Result<Span, SyntaxFault>
-        ensures { Gives Skip (λ x. x) self.new.left result (token_that is_numeral self.old.left) }
+        ensures { Gives Skip (λ x. x) self.new result (token_that is_numeral self.old) }
     {
         let offset = self.offset();
         match self.next() {
@@ -391,7 +389,7 @@ impl<'t> Parser<'t> {
     /// Takes what may be after a sign.
     #[tactic(auto, unfolding(crate::specs::Reading::Repetition::token_that))]
     pub(crate) fn number(&mut self) -> Result<Span, SyntaxFault>
-        ensures { Gives Skip (λ x. x) self.new.left result (token_that is_number self.old.left) }
+        ensures { Gives Skip (λ x. x) self.new result (token_that is_number self.old) }
     {
         let offset = self.offset();
         match self.next() {
@@ -403,7 +401,7 @@ impl<'t> Parser<'t> {
     /// Takes a `-` or `+`.
     #[tactic(auto, unfolding(crate::specs::Reading::Repetition::token_that))]
     pub(crate) fn sign(&mut self) -> Result<Span, SyntaxFault>
-        ensures { Gives Skip (λ x. x) self.new.left result (token_that is_sign self.old.left) }
+        ensures { Gives Skip (λ x. x) self.new result (token_that is_sign self.old) }
     {
         let offset = self.offset();
         match self.next() {
@@ -413,9 +411,9 @@ impl<'t> Parser<'t> {
     }
 
     /// Takes a literal of an import's path: ImportEscape if it has a `\`.
-    #[tactic(auto, unfolding(crate::specs::Reading::Repetition::token_that))]
+    #[tactic(auto, unfolding(crate::specs::Reading::Repetition::plain_literal_at))]
     pub fn plain_literal(&mut self) -> Result<Span, SyntaxFault>
-        ensures { Gives Skip (λ x. x) self.new.left result (token_that is_plain_literal self.old.left) }
+        ensures { Gives Skip (λ x. x) self.new result (plain_literal_at self.old) }
     {
         let offset = self.offset();
         match self.next() {

@@ -162,7 +162,8 @@ oneof_item_filled syntax Inner fills a b x (oneofs-option is o) = tt
 oneof_item_filled syntax Inner fills a b x (oneofs-member {item = y} p q (oneof_member {t = t} {rest = rest} i)) =
     labelled_filled syntax Inner fills t.span None (t ∷ rest) b y i
 
-extend_item_filled : (syntax : Syntax) (Inner : List Lexeme → List Item → List Lexeme → Type 0) → Fills FilledItems Inner
+extend_item_filled : (syntax : Syntax) (Inner : List Lexeme → List Item → List Lexeme → Type 0)
+    → Fills FilledItems Inner
     → Fills FilledOption (IsExtendItem syntax Inner)
 extend_item_filled syntax Inner fills a b x (extends-empty s) = tt
 extend_item_filled syntax Inner fills a b x (extends-member {item = y} p m) = member_filled syntax Inner fills a b y m

@@ -1,17 +1,17 @@
 -- The literals of a syntax statement, joined.
-use Rattle.std.proofs.Common.{◌≡◌, ℕ, Bool, true, false, not, Option, Some, None, List, [], ◌∷◌, ◌++◌, length, drop, refl, sym}
+use Rattle.std.proofs.Common.{◌≡◌, ℕ, Bool, true, false, not, Option, Some, None, List, [], ◌∷◌, ◌++◌, length, drop}
+use Rattle.std.proofs.Common.{refl, sym}
 use Rattle.std.proofs.Common.{◌∙◌, ap, bytes_eq, nat_eq}
 use Rattle.std.specs.List.{starts_with}
 use Rattle.std.proofs.lemmas.Slice.Eq.{starts_is, bytes_eq-Decides}
 use Rattle.std.proofs.Math.Seq.{drop-append_seam}
 use Rattle.std.proofs.lemmas.Bool.Decides.{Decides-eqb}
 use Rattle.proto_lex.specs.declared.token.TokenKind.TheVariants.{StringLiteral}
-use Rattle.proto_grammar.specs.declared.tree.Dialect.{Dialect}
-use Rattle.proto_grammar.specs.Lexeme.{Lexeme}
+use Rattle.proto_grammar.specs.Lexeme.{Lexeme, Place, place_of}
 use Rattle.proto_grammar.specs.Terminal.{first, others, first_is, of_kind}
 use Rattle.proto_parse.specs.Grammar.Files.{SpellsJoined}
 use Rattle.proto_parse.specs.Grammar.Files.SpellsJoined.{none, some}
-use Rattle.proto_parse.specs.Reading.Syntax.{stripped_of, is_left, content_of, joined_of, behind_literals, version_at}
+use Rattle.proto_parse.specs.Reading.Syntax.{stripped_of, is_left, content_of, joined_of, behind_literals, past_literals}
 
 pub not_true : (b : Bool) → not b ≡ true → b ≡ false
 not_true true e = cc
@@ -91,8 +91,13 @@ left_further left now content tokens rest b is here behind stripped so_far =
     ∙ ap (is_left left) (sym (joined_further tokens is).0)
     ∙ so_far
 
--- no version where no literal is
-pub no_literal : (dialect : Dialect) (tokens : List Lexeme) → first_is (of_kind StringLiteral) tokens ≡ false
-    → version_at dialect tokens ≡ None
-unfolding version_at
-no_literal dialect tokens is = rw (joined_done tokens is).0 refl
+pub nothing_joined : (left : List Lexeme) → first_is (of_kind StringLiteral) left ≡ false → joined_of left ≡ []
+nothing_joined left is = (joined_done left is).0
+
+-- no literal is passed where none is next
+past_done_by : (left : List Lexeme) (end : ℕ) → first_is (of_kind StringLiteral) left ≡ false
+    → past_literals (place_of end left) ≡ place_of end left
+past_done_by left end is = ap (place_of end) (joined_done left is).1
+
+pub past_done : (p : Place) → first_is (of_kind StringLiteral) p.left ≡ false → past_literals p ≡ p
+past_done p is = past_done_by p.left p.end is

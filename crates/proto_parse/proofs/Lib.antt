@@ -16,3 +16,5 @@ pub mod Walk
 pub mod Filled
 -- What is proto3 is among all sources
 pub mod Widened
+-- Where faults are
+pub mod Standing

@@ -289,4 +289,5 @@ statement_shorter syntax f g a b (statements-message m is i) =
 statement_shorter syntax f g a b (statements-enum is e) = enum_shorter e
 statement_shorter syntax f g a b (statements-service is s) = service_shorter s
 statement_shorter syntax f g a b (statements-extend is e) =
-    extend_statement_shorter syntax (IsInside syntax max_message_depth) (inside_shorter syntax max_message_depth) a b _ e
+    extend_statement_shorter syntax (IsInside syntax max_message_depth) (inside_shorter syntax max_message_depth) a b _
+    e

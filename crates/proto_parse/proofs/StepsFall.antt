@@ -19,30 +19,33 @@ use Rattle.proto_parse.proofs.Shorter.{statement_shorter}
 pub enum_items_fall : (custom : CustomOptions) → Falls (adding (enum_item_at custom))
 enum_items_fall custom =
     adding-falls (enum_item_at custom)
-    (λ tokens x e. enum_item_shorter custom tokens x.1 x.0 (enum_item_found custom tokens x e))
+    (λ tokens x e. enum_item_shorter custom tokens.left x.1.left x.0 (enum_item_found custom tokens x e))
 
 pub passed_items_fall : Falls (passing passed_item_at)
-passed_items_fall s tokens x e = passed_item_shorter tokens x.1 (passed_item_found tokens x e)
+passed_items_fall s tokens x e = passed_item_shorter tokens.left x.1.left (passed_item_found tokens x e)
 
 pub items_fall : (place : Within) (syntax : Syntax) (levels : ℕ)
     → Falls (adding (item_at place syntax (inside_at syntax levels)))
 items_fall place syntax levels =
     adding-falls (item_at place syntax (inside_at syntax levels))
     (λ tokens x e.
-    item_shorter place syntax (IsInside syntax levels) (inside_shorter syntax levels) tokens x.1 x.0
-    (item_found place syntax (inside_at syntax levels) (IsInside syntax levels) (inside_found syntax levels) tokens x e))
+    item_shorter place syntax (IsInside syntax levels) (inside_shorter syntax levels) tokens.left x.1.left x.0
+    (item_found place syntax (inside_at syntax levels) (IsInside syntax levels) (inside_found syntax levels) tokens x
+    e))
 
 pub method_items_fall : (custom : CustomOptions) → Falls (passing (method_item_at custom))
-method_items_fall custom s tokens x e = method_item_shorter custom tokens x.1 (method_item_found custom tokens x e)
+method_items_fall custom s tokens x e = method_item_shorter custom tokens.left x.1.left
+    (method_item_found custom tokens x e)
 
 pub service_items_fall : (custom : CustomOptions) → Falls (adding (service_item_at custom))
 service_items_fall custom =
     adding-falls (service_item_at custom)
-    (λ tokens x e. service_item_shorter custom tokens x.1 x.0 (service_item_found custom tokens x e))
+    (λ tokens x e. service_item_shorter custom tokens.left x.1.left x.0 (service_item_found custom tokens x e))
 
 pub path_literals_fall : Falls (adding path_literal_at)
 path_literals_fall = adding-falls path_literal_at
-    (λ tokens x e. path_literal_shorter tokens x.1 x.0 (path_literal_found tokens x e))
+    (λ tokens x e. path_literal_shorter tokens.left x.1.left x.0 (path_literal_found tokens x e))
 
 pub statements_fall : (syntax : Syntax) → Falls (statement_at syntax)
-statements_fall syntax f tokens x e = statement_shorter syntax f x.0 tokens x.1 (statement_found syntax f tokens x e)
+statements_fall syntax f tokens x e = statement_shorter syntax f x.0 tokens.left x.1.left
+    (statement_found syntax f tokens x e)

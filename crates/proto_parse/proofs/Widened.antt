@@ -78,7 +78,7 @@ use Rattle.proto_parse.specs.Grammar.Files.IsStatement.{enum as statements-enum,
 use Rattle.proto_parse.specs.Grammar.Files.IsStatement.{extend as statements-extend}
 use Rattle.proto_parse.specs.Grammar.Files.IsFile.{file}
 use Rattle.proto_parse.specs.Extends.{HasNoExtend}
-use Rattle.proto_grammar.proofs.OptionSteps.{both_false}
+use Rattle.proto_grammar.proofs.Steps.{both_false}
 use Rattle.proto_parse.proofs.Tails.{IsTail, PassedOver, one_past, joined_past, heading_past, adds_past}
 use Rattle.proto_parse.proofs.Tails.{oneof_item_past, message_item_past, inside_past, statement_past}
 use Rattle.proto_parse.proofs.Tails.IsTail.{here, onward}

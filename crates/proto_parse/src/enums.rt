@@ -13,7 +13,7 @@ use std::alloc::Global;
 /// The declaring word, a name and `{`.
 #[tactic(auto, unfolding(crate::specs::Reading::Messages::heading_at))]
 pub(crate) fn heading(parser: &mut Parser<'_>, word: &str) -> Result<Heading, SyntaxFault>
-    ensures { Gives Skip (λ x. x) parser.new.left result (heading_at word.now parser.old.left) }
+    ensures { Gives Skip (λ x. x) parser.new result (heading_at word.now parser.old) }
 {
     let first = parser.word(word)?;
     let name = parser.token(TokenKind::Identifier)?;
@@ -28,7 +28,7 @@ pub(crate) fn heading(parser: &mut Parser<'_>, word: &str) -> Result<Heading, Sy
 /// An enum's value.
 #[tactic(auto, unfolding(crate::specs::Reading::Messages::value_at))]
 fn value(parser: &mut Parser<'_>, custom: CustomOptions) -> Result<Heading, SyntaxFault>
-    ensures { Gives custom (λ x. x) parser.new.left result (value_at custom parser.old.left) }
+    ensures { Gives custom (λ x. x) parser.new result (value_at custom parser.old) }
 {
     let name = parser.token(TokenKind::Identifier)?;
     parser.token(TokenKind::Equals)?;
@@ -45,7 +45,7 @@ fn value(parser: &mut Parser<'_>, custom: CustomOptions) -> Result<Heading, Synt
 /// What is in an enum, if it is kept.
 #[tactic(auto, unfolding(crate::specs::Reading::Messages::enum_item_at))]
 fn enum_item(parser: &mut Parser<'_>, custom: CustomOptions) -> Result<Option<Heading>, SyntaxFault>
-    ensures { Gives custom (λ x. x) parser.new.left result (enum_item_at custom parser.old.left) }
+    ensures { Gives custom (λ x. x) parser.new result (enum_item_at custom parser.old) }
 {
     if parser.is_at(TokenKind::Semicolon) {
         parser.advance();
@@ -68,7 +68,7 @@ fn enum_items(
     alloc: Global,
     custom: CustomOptions,
 ) -> Result<Sequence<Heading>, SyntaxFault>
-    ensures { Gives custom (λ x. x) parser.new.left result (enum_items_at custom parser.old.left) }
+    ensures { Gives custom (λ x. x) parser.new result (enum_items_at custom parser.old) }
 {
     let mut values = Sequence::new(alloc);
     'items: while !parser.is_at(TokenKind::CloseBrace) {
@@ -85,7 +85,7 @@ pub(crate) fn enumeration(
     alloc: Global,
     custom: CustomOptions,
 ) -> Result<Enum, SyntaxFault>
-    ensures { Gives custom (λ x. x) parser.new.left result (enum_at custom parser.old.left) }
+    ensures { Gives custom (λ x. x) parser.new result (enum_at custom parser.old) }
 {
     let heading = heading(parser, "enum")?;
     let values = enum_items(parser, alloc, custom)?;

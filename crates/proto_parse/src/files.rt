@@ -23,7 +23,7 @@ use std::alloc::Global;
 /// The word `weak` or `public` of an import, if one is next.
 #[tactic(auto, unfolding(crate::specs::Reading::Files::import_kind_at))]
 fn import_kind(parser: &mut Parser<'_>) -> Result<ImportKind, SyntaxFault>
-    ensures { Gives Skip (λ x. x) parser.new.left result (import_kind_at parser.old.left) }
+    ensures { Gives Skip (λ x. x) parser.new result (import_kind_at parser.old) }
 {
     if parser.is_at_word("weak") {
         parser.advance();
@@ -39,7 +39,7 @@ fn import_kind(parser: &mut Parser<'_>) -> Result<ImportKind, SyntaxFault>
 /// One literal of a path, which is kept.
 #[tactic(auto, unfolding(crate::specs::Reading::Files::path_literal_at))]
 fn path_literal(parser: &mut Parser<'_>) -> Result<Option<Span>, SyntaxFault>
-    ensures { Gives Skip (λ x. x) parser.new.left result (path_literal_at parser.old.left) }
+    ensures { Gives Skip (λ x. x) parser.new result (path_literal_at parser.old) }
 {
     Ok(Some(parser.plain_literal()?))
 }
@@ -49,7 +49,7 @@ fn path_literals(
     parser: &mut Parser<'_>,
     mut literals: Sequence<Span>,
 ) -> Result<Sequence<Span>, SyntaxFault>
-    ensures { Gives Skip (λ x. x) parser.new.left result (path_literals_at literals parser.old.left) }
+    ensures { Gives Skip (λ x. x) parser.new result (path_literals_at literals parser.old) }
 {
     'literals: while parser.is_at(TokenKind::StringLiteral) {
         let literal = path_literal(parser)?;
@@ -61,7 +61,7 @@ fn path_literals(
 /// An import (proto3 specification, "Import statement").
 #[tactic(auto, unfolding(crate::specs::Reading::Files::import_at))]
 fn import(parser: &mut Parser<'_>, alloc: Global) -> Result<Import, SyntaxFault>
-    ensures { Gives Skip (λ x. x) parser.new.left result (import_at parser.old.left) }
+    ensures { Gives Skip (λ x. x) parser.new result (import_at parser.old) }
 {
     parser.word("import")?;
     let kind = import_kind(parser)?;
@@ -76,7 +76,7 @@ fn import(parser: &mut Parser<'_>, alloc: Global) -> Result<Import, SyntaxFault>
 /// A package statement's name (proto3 specification, "Package").
 #[tactic(auto, unfolding(crate::specs::Reading::Files::package_at))]
 fn package(parser: &mut Parser<'_>, alloc: Global) -> Result<Sequence<Span>, SyntaxFault>
-    ensures { Gives Skip (λ x. x) parser.new.left result (package_at parser.old.left) }
+    ensures { Gives Skip (λ x. x) parser.new result (package_at parser.old) }
 {
     parser.word("package")?;
     let components = parser.name(alloc)?;
@@ -121,7 +121,7 @@ fn file_statement(parser: &Parser<'_>) -> FileStatement
 /// A package statement, if the file has none yet.
 #[tactic(auto, unfolding(crate::specs::Reading::Files::only_package_at))]
 fn only_package(parser: &mut Parser<'_>, alloc: Global, file: &mut File) -> Result<(), SyntaxFault>
-    ensures { Gives Skip (λ x. file.new) parser.new.left result (only_package_at file.old parser.old.left) }
+    ensures { Gives Skip (λ x. file.new) parser.new result (only_package_at file.old parser.old) }
 {
     if file.package_name.is_some() {
         return Err(SyntaxFault::TwoPackages(parser.offset()));
@@ -138,8 +138,8 @@ fn statement(
     syntax: Syntax,
     file: &mut File,
 ) -> Result<(), SyntaxFault>
-    ensures { Gives (custom_of syntax) (λ x. file.new) parser.new.left result
-        (statement_at syntax file.old parser.old.left) }
+    ensures { Gives (custom_of syntax) (λ x. file.new) parser.new result
+        (statement_at syntax file.old parser.old) }
 {
     let custom = syntax.custom_options();
     match file_statement(parser) {
@@ -175,7 +175,7 @@ fn statement(
 
 /// The statements after the syntax statement, up to the last token.
 fn statements(parser: &mut Parser<'_>, alloc: Global, syntax: Syntax) -> Result<File, SyntaxFault>
-    ensures { Gives (custom_of syntax) (λ x. x) parser.new.left result (statements_at syntax parser.old.left) }
+    ensures { Gives (custom_of syntax) (λ x. x) parser.new result (statements_at syntax parser.old) }
 {
     let mut file = File {
         package_name: None,
@@ -195,7 +195,7 @@ pub(crate) fn file(
     alloc: Global,
     dialect: Dialect,
 ) -> Result<File, SyntaxFault>
-    ensures { Gives (custom_in dialect) (λ x. x) parser.new.left result (file_at dialect parser.old.left) }
+    ensures { Gives (custom_in dialect) (λ x. x) parser.new result (file_at dialect parser.old) }
 {
     let syntax = syntax(parser, dialect)?;
     statements(parser, alloc, syntax)

@@ -61,7 +61,7 @@ fn message_statement(parser: &Parser<'_>, syntax: Syntax) -> MessageStatement
 /// The ranges of a message's extensions. Only proto2 has them.
 #[tactic(auto, unfolding(crate::specs::Reading::Messages::ranges_at))]
 fn ranges(parser: &mut Parser<'_>, syntax: Syntax) -> Result<Option<Item>, SyntaxFault>
-    ensures { Gives (custom_of syntax) (λ x. x) parser.new.left result (ranges_at syntax parser.old.left) }
+    ensures { Gives (custom_of syntax) (λ x. x) parser.new result (ranges_at syntax parser.old) }
 {
     if !syntax.is_proto2() {
         return Err(SyntaxFault::Grammar(parser.offset()));
@@ -73,15 +73,15 @@ fn ranges(parser: &mut Parser<'_>, syntax: Syntax) -> Result<Option<Item>, Synta
 /// A message. It and what is in it take up at most `levels` levels, of which each message and each group takes up one
 /// (proto3 specification, "Message definition").
 #[cycle(parser)]
-#[tactic(auto, using(crate::proofs::Stops::no_message), unfolding(crate::specs::Reading::Messages::message_at))]
+#[tactic(auto, using(crate::proofs::Stops::no_message, crate::proofs::Stops::some_message))]
 pub(crate) fn message(
     parser: &mut Parser<'_>,
     alloc: Global,
     syntax: Syntax,
     levels: usize,
 ) -> Result<Block, SyntaxFault>
-    ensures { Gives (custom_of syntax) (λ x. x) parser.new.left result
-        (message_at (inside_at syntax levels) parser.old.left) }
+    ensures { Gives (custom_of syntax) (λ x. x) parser.new result
+        (message_at (inside_at syntax levels) parser.old) }
 {
     if levels == 0 {
         return Err(SyntaxFault::TooDeep(parser.offset()));
@@ -97,7 +97,7 @@ pub(crate) fn message(
 /// A group from behind its label on, with this first token and label. It and what is in it take up at most `levels`
 /// levels (proto2 specification, "Group field").
 #[cycle(parser)]
-#[tactic(auto, using(crate::proofs::Stops::no_group), unfolding(crate::specs::Reading::Messages::group_at))]
+#[tactic(auto, using(crate::proofs::Stops::no_group, crate::proofs::Stops::some_group))]
 fn group(
     parser: &mut Parser<'_>,
     alloc: Global,
@@ -106,8 +106,8 @@ fn group(
     first: Span,
     label: Option<Label>,
 ) -> Result<Block, SyntaxFault>
-    ensures { Gives (custom_of syntax) (λ x. x) parser.new.left result
-        (group_at (custom_of syntax) (inside_at syntax levels) first label parser.old.left) }
+    ensures { Gives (custom_of syntax) (λ x. x) parser.new result
+        (group_at (custom_of syntax) (inside_at syntax levels) first label parser.old) }
 {
     if levels == 0 {
         return Err(SyntaxFault::TooDeep(first.start));
@@ -131,8 +131,8 @@ fn labelled(
     first: Span,
     label: Option<Label>,
 ) -> Result<Item, SyntaxFault>
-    ensures { Gives (custom_of syntax) (λ x. x) parser.new.left result
-        (labelled_at syntax (inside_at syntax levels) first label parser.old.left) }
+    ensures { Gives (custom_of syntax) (λ x. x) parser.new result
+        (labelled_at syntax (inside_at syntax levels) first label parser.old) }
 {
     if syntax.is_proto2() && parser.is_at_group() {
         return Ok(Item::Block(group(parser, alloc, syntax, levels, first, label)?));
@@ -150,8 +150,8 @@ fn member(
     syntax: Syntax,
     levels: usize,
 ) -> Result<Item, SyntaxFault>
-    ensures { Gives (custom_of syntax) (λ x. x) parser.new.left result
-        (member_at syntax (inside_at syntax levels) parser.old.left) }
+    ensures { Gives (custom_of syntax) (λ x. x) parser.new result
+        (member_at syntax (inside_at syntax levels) parser.old) }
 {
     let first = parser.span()?;
     let label = parser.label(syntax)?;
@@ -167,8 +167,8 @@ fn oneof_member(
     syntax: Syntax,
     levels: usize,
 ) -> Result<Item, SyntaxFault>
-    ensures { Gives (custom_of syntax) (λ x. x) parser.new.left result
-        (oneof_member_at syntax (inside_at syntax levels) parser.old.left) }
+    ensures { Gives (custom_of syntax) (λ x. x) parser.new result
+        (oneof_member_at syntax (inside_at syntax levels) parser.old) }
 {
     let first = parser.span()?;
     labelled(parser, alloc, syntax, levels, first, None)
@@ -183,8 +183,8 @@ fn oneof_item(
     syntax: Syntax,
     levels: usize,
 ) -> Result<Option<Item>, SyntaxFault>
-    ensures { Gives (custom_of syntax) (λ x. x) parser.new.left result
-        (oneof_item_at syntax (inside_at syntax levels) parser.old.left) }
+    ensures { Gives (custom_of syntax) (λ x. x) parser.new result
+        (oneof_item_at syntax (inside_at syntax levels) parser.old) }
 {
     if parser.is_at(TokenKind::Semicolon) {
         parser.advance();
@@ -206,8 +206,8 @@ fn extend_item(
     syntax: Syntax,
     levels: usize,
 ) -> Result<Option<Item>, SyntaxFault>
-    ensures { Gives (custom_of syntax) (λ x. x) parser.new.left result
-        (extend_item_at syntax (inside_at syntax levels) parser.old.left) }
+    ensures { Gives (custom_of syntax) (λ x. x) parser.new result
+        (extend_item_at syntax (inside_at syntax levels) parser.old) }
 {
     if parser.is_at(TokenKind::Semicolon) {
         parser.advance();
@@ -225,8 +225,8 @@ fn oneof(
     syntax: Syntax,
     levels: usize,
 ) -> Result<Block, SyntaxFault>
-    ensures { Gives (custom_of syntax) (λ x. x) parser.new.left result
-        (oneof_at syntax (inside_at syntax levels) parser.old.left) }
+    ensures { Gives (custom_of syntax) (λ x. x) parser.new result
+        (oneof_at syntax (inside_at syntax levels) parser.old) }
 {
     let heading = heading(parser, "oneof")?;
     let items = braced(parser, alloc, syntax, levels, Within::Oneof)?;
@@ -245,8 +245,8 @@ fn extend(
     syntax: Syntax,
     levels: usize,
 ) -> Result<Block, SyntaxFault>
-    ensures { Gives (custom_of syntax) (λ x. x) parser.new.left result
-        (extend_at syntax (inside_at syntax levels) parser.old.left) }
+    ensures { Gives (custom_of syntax) (λ x. x) parser.new result
+        (extend_at syntax (inside_at syntax levels) parser.old) }
 {
     parser.word("extend")?;
     let extended = parser.named_type(alloc)?;
@@ -267,8 +267,8 @@ pub(crate) fn extend_statement(
     syntax: Syntax,
     levels: usize,
 ) -> Result<Option<Block>, SyntaxFault>
-    ensures { Gives (custom_of syntax) (λ x. x) parser.new.left result
-        (extend_statement_at syntax (inside_at syntax levels) parser.old.left) }
+    ensures { Gives (custom_of syntax) (λ x. x) parser.new result
+        (extend_statement_at syntax (inside_at syntax levels) parser.old) }
 {
     match syntax {
         Syntax::Proto3(custom) => {
@@ -288,8 +288,8 @@ fn message_item(
     syntax: Syntax,
     levels: usize,
 ) -> Result<Option<Item>, SyntaxFault>
-    ensures { Gives (custom_of syntax) (λ x. x) parser.new.left result
-        (message_item_at syntax (inside_at syntax levels) parser.old.left) }
+    ensures { Gives (custom_of syntax) (λ x. x) parser.new result
+        (message_item_at syntax (inside_at syntax levels) parser.old) }
 {
     let custom = syntax.custom_options();
     match message_statement(parser, syntax) {
@@ -332,8 +332,8 @@ fn item(
     levels: usize,
     within: Within,
 ) -> Result<Option<Item>, SyntaxFault>
-    ensures { Gives (custom_of syntax) (λ x. x) parser.new.left result
-        (item_at within syntax (inside_at syntax levels) parser.old.left) }
+    ensures { Gives (custom_of syntax) (λ x. x) parser.new result
+        (item_at within syntax (inside_at syntax levels) parser.old) }
 {
     match within {
         Within::Message => message_item(parser, alloc, syntax, levels),
@@ -351,8 +351,8 @@ fn items(
     levels: usize,
     within: Within,
 ) -> Result<Vec<Item>, SyntaxFault>
-    ensures { Gives (custom_of syntax) (λ x. x.items) parser.new.left result
-        (until_at closes (adding (item_at within syntax (inside_at syntax levels))) [] parser.old.left) }
+    ensures { Gives (custom_of syntax) (λ x. x.items) parser.new result
+        (until_at closes (adding (item_at within syntax (inside_at syntax levels))) [] parser.old) }
 {
     let mut items = Vec::new(alloc);
     'items: while !parser.is_at(TokenKind::CloseBrace) {
@@ -373,8 +373,8 @@ fn braced(
     levels: usize,
     within: Within,
 ) -> Result<Vec<Item>, SyntaxFault>
-    ensures { Gives (custom_of syntax) (λ x. x.items) parser.new.left result
-        (braced_at (item_at within syntax (inside_at syntax levels)) parser.old.left) }
+    ensures { Gives (custom_of syntax) (λ x. x.items) parser.new result
+        (braced_at (item_at within syntax (inside_at syntax levels)) parser.old) }
 {
     let items = items(parser, alloc, syntax, levels, within)?;
     parser.token(TokenKind::CloseBrace)?;

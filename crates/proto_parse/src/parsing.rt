@@ -3,6 +3,8 @@
 ghost use Rattle.std.specs.Prelude.{◌≡◌, false, IfOk, IfErr, MatchResult};
 ghost use Rattle.proto_parse.specs.Derives.{Derives};
 ghost use Rattle.proto_parse.specs.Faults.{is_of_custom_options};
+ghost use Rattle.proto_grammar.specs.FaultStands.{FaultStands};
+ghost use Rattle.proto_grammar.specs.Lexeme.{start_of};
 ghost use Rattle.proto_grammar.specs.Syntax.{custom_in};
 ghost use Rattle.proto_grammar.specs.declared.tree.File.{File};
 ghost use Rattle.proto_grammar.specs.declared.tree.CustomOptions.TheVariants.{Refuse, Skip};
@@ -16,12 +18,13 @@ use std::alloc::Global;
 
 /// The tree that the tokens derive where only proto3 is accepted and custom options are refused.
 ///
-/// It is Ok exactly where they derive one, but for want of memory. Otherwise the fault is the one
-/// that reading from left to right meets first: which one that is, and its offset, tests show.
+/// It is Ok exactly where they derive one, but for want of memory. Otherwise the fault is the one that reading from
+/// left to right meets first (tests show which). It is at a token that its kind names, or at the text's length.
 pub fn parse(alloc: Global, tokens: &Tokens<'_, '_>) -> Result<File, SyntaxFault>
     ensures found { IfOk result (λ file. Derives (Proto3 Refuse) tokens.now.text tokens.now.tokens file) }
     ensures only { (file : File) → Derives (Proto3 Refuse) tokens.now.text tokens.now.tokens file
         → MatchResult result (λ found. found ≡ file) (λ fault. fault ≡ Memory) }
+    ensures fault { IfErr result (λ fault. FaultStands (start_of tokens.now.text tokens.now.tokens) fault) }
 {
     parse_with(alloc, tokens, Dialect::Proto3(CustomOptions::Refuse))
 }
@@ -40,6 +43,7 @@ pub fn parse_with(
     ensures only { (file : File) → Derives dialect tokens.now.text tokens.now.tokens file
         → MatchResult result (λ found. found ≡ file) (λ fault. fault ≡ Memory) }
     ensures skipped { custom_in dialect ≡ Skip → IfErr result (λ fault. is_of_custom_options fault ≡ false) }
+    ensures fault { IfErr result (λ fault. FaultStands (start_of tokens.now.text tokens.now.tokens) fault) }
 {
     file(&mut Parser::new(tokens), alloc, dialect)
 }

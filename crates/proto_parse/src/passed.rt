@@ -11,7 +11,7 @@ use proto_lex::TokenKind;
 /// What is in an extend that is read past: a lone `;` or a field.
 #[tactic(auto, unfolding(crate::specs::Reading::Messages::passed_item_at))]
 fn passed_item(parser: &mut Parser<'_>) -> Result<(), SyntaxFault>
-    ensures { Gives Skip (λ x. x) parser.new.left result (passed_item_at parser.old.left) }
+    ensures { Gives Skip (λ x. x) parser.new result (passed_item_at parser.old) }
 {
     if parser.is_at(TokenKind::Semicolon) {
         parser.advance();
@@ -22,7 +22,7 @@ fn passed_item(parser: &mut Parser<'_>) -> Result<(), SyntaxFault>
 
 /// What comes before an extend's closing brace.
 fn passed_items(parser: &mut Parser<'_>) -> Result<(), SyntaxFault>
-    ensures { Gives Skip (λ x. x) parser.new.left result (passed_items_at parser.old.left) }
+    ensures { Gives Skip (λ x. x) parser.new result (passed_items_at parser.old) }
 {
     'items: while !parser.is_at(TokenKind::CloseBrace) {
         passed_item(parser)?;
@@ -36,7 +36,7 @@ pub(crate) fn passed_extend(
     parser: &mut Parser<'_>,
     custom: CustomOptions,
 ) -> Result<(), SyntaxFault>
-    ensures { Gives custom (λ x. x) parser.new.left result (passed_extend_at custom parser.old.left) }
+    ensures { Gives custom (λ x. x) parser.new result (passed_extend_at custom parser.old) }
 {
     if custom == CustomOptions::Refuse {
         return Err(SyntaxFault::Extend(parser.offset()));

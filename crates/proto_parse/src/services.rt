@@ -16,7 +16,7 @@ use std::alloc::Global;
 /// The marker `stream`, if it is next.
 #[tactic(auto, unfolding(crate::specs::Reading::Services::stream_at))]
 fn stream(parser: &mut Parser<'_>) -> Result<(), SyntaxFault>
-    ensures { Gives Skip (λ x. x) parser.new.left result (stream_at parser.old.left) }
+    ensures { Gives Skip (λ x. x) parser.new result (stream_at parser.old) }
 {
     if parser.is_at_word("stream") {
         parser.advance();
@@ -27,7 +27,7 @@ fn stream(parser: &mut Parser<'_>) -> Result<(), SyntaxFault>
 /// One of a method's two types.
 #[tactic(auto, unfolding(crate::specs::Reading::Services::method_type_at))]
 fn method_type(parser: &mut Parser<'_>, alloc: Global) -> Result<TypeName, SyntaxFault>
-    ensures { Gives Skip (λ x. x) parser.new.left result (method_type_at parser.old.left) }
+    ensures { Gives Skip (λ x. x) parser.new result (method_type_at parser.old) }
 {
     parser.token(TokenKind::OpenParenthesis)?;
     stream(parser)?;
@@ -39,7 +39,7 @@ fn method_type(parser: &mut Parser<'_>, alloc: Global) -> Result<TypeName, Synta
 /// What is in a method's body: a lone `;` or an option.
 #[tactic(auto, unfolding(crate::specs::Reading::Services::method_item_at))]
 fn method_item(parser: &mut Parser<'_>, custom: CustomOptions) -> Result<(), SyntaxFault>
-    ensures { Gives custom (λ x. x) parser.new.left result (method_item_at custom parser.old.left) }
+    ensures { Gives custom (λ x. x) parser.new result (method_item_at custom parser.old) }
 {
     if parser.is_at(TokenKind::Semicolon) {
         parser.advance();
@@ -50,7 +50,7 @@ fn method_item(parser: &mut Parser<'_>, custom: CustomOptions) -> Result<(), Syn
 
 /// What comes before the closing brace of a method's body.
 fn method_items(parser: &mut Parser<'_>, custom: CustomOptions) -> Result<(), SyntaxFault>
-    ensures { Gives custom (λ x. x) parser.new.left result (method_items_at custom parser.old.left) }
+    ensures { Gives custom (λ x. x) parser.new result (method_items_at custom parser.old) }
 {
     'items: while !parser.is_at(TokenKind::CloseBrace) {
         method_item(parser, custom)?;
@@ -61,7 +61,7 @@ fn method_items(parser: &mut Parser<'_>, custom: CustomOptions) -> Result<(), Sy
 /// A method's body. Gives its `{`.
 #[tactic(auto, unfolding(crate::specs::Reading::Services::method_body_at))]
 fn method_body(parser: &mut Parser<'_>, custom: CustomOptions) -> Result<Span, SyntaxFault>
-    ensures { Gives custom (λ x. x) parser.new.left result (method_body_at custom parser.old.left) }
+    ensures { Gives custom (λ x. x) parser.new result (method_body_at custom parser.old) }
 {
     let open_brace = parser.token(TokenKind::OpenBrace)?;
     method_items(parser, custom)?;
@@ -72,7 +72,7 @@ fn method_body(parser: &mut Parser<'_>, custom: CustomOptions) -> Result<Span, S
 /// What comes after a method's result type. Gives its first token.
 #[tactic(auto, unfolding(crate::specs::Reading::Services::method_end_at))]
 fn method_end(parser: &mut Parser<'_>, custom: CustomOptions) -> Result<Span, SyntaxFault>
-    ensures { Gives custom (λ x. x) parser.new.left result (method_end_at custom parser.old.left) }
+    ensures { Gives custom (λ x. x) parser.new result (method_end_at custom parser.old) }
 {
     if parser.is_at(TokenKind::Semicolon) {
         return parser.token(TokenKind::Semicolon);
@@ -87,7 +87,7 @@ fn method(
     alloc: Global,
     custom: CustomOptions,
 ) -> Result<Method, SyntaxFault>
-    ensures { Gives custom (λ x. x) parser.new.left result (method_at custom parser.old.left) }
+    ensures { Gives custom (λ x. x) parser.new result (method_at custom parser.old) }
 {
     let first = parser.word("rpc")?;
     let name = parser.token(TokenKind::Identifier)?;
@@ -114,7 +114,7 @@ fn service_item(
     alloc: Global,
     custom: CustomOptions,
 ) -> Result<Option<Method>, SyntaxFault>
-    ensures { Gives custom (λ x. x) parser.new.left result (service_item_at custom parser.old.left) }
+    ensures { Gives custom (λ x. x) parser.new result (service_item_at custom parser.old) }
 {
     if parser.is_at(TokenKind::Semicolon) {
         parser.advance();
@@ -133,7 +133,7 @@ fn service_items(
     alloc: Global,
     custom: CustomOptions,
 ) -> Result<Sequence<Method>, SyntaxFault>
-    ensures { Gives custom (λ x. x) parser.new.left result (service_items_at custom parser.old.left) }
+    ensures { Gives custom (λ x. x) parser.new result (service_items_at custom parser.old) }
 {
     let mut methods = Sequence::new(alloc);
     'items: while !parser.is_at(TokenKind::CloseBrace) {
@@ -150,7 +150,7 @@ pub(crate) fn service(
     alloc: Global,
     custom: CustomOptions,
 ) -> Result<Service, SyntaxFault>
-    ensures { Gives custom (λ x. x) parser.new.left result (service_at custom parser.old.left) }
+    ensures { Gives custom (λ x. x) parser.new result (service_at custom parser.old) }
 {
     let heading = heading(parser, "service")?;
     let methods = service_items(parser, alloc, custom)?;

@@ -3,10 +3,10 @@
 ghost use Rattle.std.specs.Prelude.{◌≡◌, ℕ, [], option_map, IfOk};
 ghost use Rattle.proto_parse.specs.Choice.{version_of};
 ghost use Rattle.proto_grammar.specs.Gives.{Gives};
-ghost use Rattle.proto_grammar.specs.Terminal.{first, others};
+ghost use Rattle.proto_grammar.specs.Terminal.{first, behind};
 ghost use Rattle.proto_grammar.specs.Syntax.{custom_of, custom_in, proto3_in};
 ghost use Rattle.proto_grammar.specs.declared.tree.CustomOptions.TheVariants.{Skip};
-ghost use Rattle.proto_parse.specs.Reading.Syntax.{stripped_of, is_left, content_of, joined_of, behind_literals};
+ghost use Rattle.proto_parse.specs.Reading.Syntax.{stripped_of, is_left, content_of, joined_of, past_literals};
 ghost use Rattle.proto_parse.specs.Reading.Syntax.{version_at, syntax_statement_at, syntax_at};
 
 use crate::statement::Version;
@@ -33,7 +33,7 @@ fn is_spelled(left: Option<&[u8]>) -> bool
 /// Takes the next token, and gives what is between its quotes.
 fn content<'t>(parser: &mut Parser<'t>) -> &'t [u8]
     ensures content { result.now ≡ content_of (first parser.old.left) }
-    ensures rest { parser.new.left ≡ others parser.old.left }
+    ensures rest { parser.new ≡ behind parser.old }
 {
     match parser.next() {
         Some(lexeme) => lexeme.between_quotes(),
@@ -42,9 +42,10 @@ fn content<'t>(parser: &mut Parser<'t>) -> &'t [u8]
 }
 
 /// Which version the literals that are next spell when joined.
+#[tactic(auto, using(crate::proofs::Joined::nothing_joined, crate::proofs::Joined::past_done))]
 fn version(parser: &mut Parser<'_>) -> Version
     ensures version { result ≡ version_of (joined_of parser.old.left) }
-    ensures rest { parser.new.left ≡ behind_literals parser.old.left }
+    ensures rest { parser.new ≡ past_literals parser.old }
 {
     let mut proto3: Option<&[u8]> = Some(b"proto3");
     let mut proto2: Option<&[u8]> = Some(b"proto2");
@@ -73,9 +74,9 @@ fn proto3_in(dialect: Dialect) -> Syntax
 }
 
 /// Literals that name a version that is accepted.
-#[tactic(auto, using(crate::proofs::Joined::no_literal), unfolding(crate::specs::Reading::Syntax::version_at))]
+#[tactic(auto, unfolding(crate::specs::Reading::Syntax::version_at))]
 fn accepted(parser: &mut Parser<'_>, dialect: Dialect) -> Result<Syntax, SyntaxFault>
-    ensures { Gives Skip (λ x. x) parser.new.left result (version_at dialect parser.old.left) }
+    ensures { Gives Skip (λ x. x) parser.new result (version_at dialect parser.old) }
 {
     let start = parser.offset();
     if !parser.is_at(TokenKind::StringLiteral) {
@@ -91,7 +92,7 @@ fn accepted(parser: &mut Parser<'_>, dialect: Dialect) -> Result<Syntax, SyntaxF
 /// A syntax statement (proto3 specification, "Syntax").
 #[tactic(auto, unfolding(crate::specs::Reading::Syntax::syntax_statement_at))]
 fn syntax_statement(parser: &mut Parser<'_>, dialect: Dialect) -> Result<Syntax, SyntaxFault>
-    ensures { Gives Skip (λ x. x) parser.new.left result (syntax_statement_at dialect parser.old.left) }
+    ensures { Gives Skip (λ x. x) parser.new result (syntax_statement_at dialect parser.old) }
 {
     parser.word("syntax")?;
     parser.token(TokenKind::Equals)?;
@@ -103,7 +104,7 @@ fn syntax_statement(parser: &mut Parser<'_>, dialect: Dialect) -> Result<Syntax,
 /// A file's grammar, by its syntax statement. A file without one is proto2.
 #[tactic(auto, unfolding(crate::specs::Reading::Syntax::syntax_at))]
 pub(crate) fn syntax(parser: &mut Parser<'_>, dialect: Dialect) -> Result<Syntax, SyntaxFault>
-    ensures { Gives Skip (λ x. x) parser.new.left result (syntax_at dialect parser.old.left) }
+    ensures { Gives Skip (λ x. x) parser.new result (syntax_at dialect parser.old) }
 {
     if parser.is_at_word("syntax") {
         return syntax_statement(parser, dialect);

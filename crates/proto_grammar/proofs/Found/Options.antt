@@ -1,5 +1,5 @@
 -- What is read is in the grammar: options.
-use Rattle.std.proofs.Common.{◌≡◌, ℕ, zero, suc, ◌==◌, false, Some, None, List, [], ◌∷◌, refl, sym, ◌∙◌, subst, codes}
+use Rattle.std.proofs.Common.{◌≡◌, ℕ, zero, suc, ◌==◌, false, Some, List, [], ◌∷◌, refl, sym, ◌∙◌, subst, codes}
 use Rattle.std.proofs.Common.{arith}
 use Rattle.std.proofs.lemmas.Bool.Decides.{nat_tests}
 use Rattle.proto_lex.specs.declared.token.TokenKind.TheVariants.{Identifier, StringLiteral, Semicolon, Equals}
@@ -31,64 +31,70 @@ use Rattle.proto_grammar.specs.Reading.Options.{extension_at, part_at, dot_part_
 use Rattle.proto_grammar.specs.Reading.Options.{literal_at, literals_at, strings_at, depth_behind, closed_at}
 use Rattle.proto_grammar.specs.Reading.Options.{aggregate_at, signed_at, constant_at, setting_at, comma_setting_at}
 use Rattle.proto_grammar.specs.Reading.Options.{comma_settings_at, option_at, bracketed_at, options_at}
-use Rattle.proto_grammar.proofs.OptionSteps.{bind_some, chosen}
+use Rattle.std.proofs.Common.{ap}
+use Rattle.proto_grammar.proofs.Steps.{read_as, same_ok, bind_ok, chosen}
 use Rattle.proto_grammar.proofs.TokenLemmas.{token_found}
 use Rattle.proto_grammar.proofs.UntilLemmas.{until_at-found, passing-found}
 use Rattle.proto_grammar.proofs.Found.Names.{pass_name_found, pass_type_name_found}
+use Rattle.std.proofs.Common.{Ok, Err}
+use Rattle.proto_grammar.specs.declared.fault.SyntaxFault.TheVariants.{CustomOption, Grammar}
+use Rattle.proto_grammar.specs.Reading.Options.{closed_by}
+use Rattle.proto_grammar.specs.Terminal.{offset_at}
+use Rattle.proto_grammar.specs.Lexeme.{Place}
 
 -- what is left behind a value that is read
-pub left_of : {A B : Type 0} {a : A} {rest : B} (x : A × B) → Some (a, rest) ≡ Some x → rest ≡ x.1
-left_of x e = cc
+pub left_of : {A B : Type 0} {a : A} {rest : B} (x : A × B) → read_as (a, rest) ≡ read_as x → rest ≡ x.1
+left_of x e = ap (λ y. y.1) (same_ok _ x e)
 
-pub part_found : (custom : CustomOptions) (tokens : List Lexeme) (x : Unit {0} × List Lexeme)
-    → part_at custom tokens ≡ Some x → IsOptionPart custom tokens x.1
+pub part_found : (custom : CustomOptions) (tokens : Place) (x : Unit {0} × Place)
+    → part_at custom tokens ≡ Ok x → IsOptionPart custom tokens.left x.1.left
 unfolding part_at extension_at
 part_found Refuse tokens x e =
-    chosen (first_is (of_kind OpenParenthesis) tokens) _ _ (Some x) e
-    (λ _ read. absurd (let no : None ≡ Some x = read in cc))
+    chosen (first_is (of_kind OpenParenthesis) tokens.left) _ _ (Ok x) e
+    (λ _ read. absurd (let no : Err (CustomOption (offset_at tokens)) ≡ Ok x = read in cc))
     (λ _ read.
-    let n = bind_some (token_that (of_kind Identifier) tokens) _ x read in
-    subst (λ (y : List Lexeme). IsOptionPart Refuse tokens y) (left_of x n.2) (plain (token_found _ _ n.1)))
+    let n = bind_ok (token_that (of_kind Identifier) tokens) _ x read in
+    subst (λ (y : Place). IsOptionPart Refuse tokens.left y.left) (left_of x n.2) (plain (token_found _ _ n.1)))
 part_found Skip tokens x e =
-    chosen (first_is (of_kind OpenParenthesis) tokens) _ _ (Some x) e
+    chosen (first_is (of_kind OpenParenthesis) tokens.left) _ _ (Ok x) e
     (λ _ read.
-    let o = bind_some (token_that (of_kind OpenParenthesis) tokens) _ x read in
-    let n = bind_some (pass_type_name_at o.0.1) _ x o.2 in
-    let c = bind_some (token_that (of_kind CloseParenthesis) n.0.1) _ x n.2 in
-    subst (λ (y : List Lexeme). IsOptionPart Skip tokens y) (left_of x c.2)
+    let o = bind_ok (token_that (of_kind OpenParenthesis) tokens) _ x read in
+    let n = bind_ok (pass_type_name_at o.0.1) _ x o.2 in
+    let c = bind_ok (token_that (of_kind CloseParenthesis) n.0.1) _ x n.2 in
+    subst (λ (y : Place). IsOptionPart Skip tokens.left y.left) (left_of x c.2)
     (extension (token_found _ _ o.1) (pass_type_name_found _ _ n.1).1 (token_found _ _ c.1)))
     (λ _ read.
-    let n = bind_some (token_that (of_kind Identifier) tokens) _ x read in
-    subst (λ (y : List Lexeme). IsOptionPart Skip tokens y) (left_of x n.2) (plain (token_found _ _ n.1)))
+    let n = bind_ok (token_that (of_kind Identifier) tokens) _ x read in
+    subst (λ (y : Place). IsOptionPart Skip tokens.left y.left) (left_of x n.2) (plain (token_found _ _ n.1)))
 
-pub dot_part_found : (custom : CustomOptions) (tokens : List Lexeme) (x : Unit {0} × List Lexeme)
-    → dot_part_at custom tokens ≡ Some x → IsDotPart custom tokens x.1
+pub dot_part_found : (custom : CustomOptions) (tokens : Place) (x : Unit {0} × Place)
+    → dot_part_at custom tokens ≡ Ok x → IsDotPart custom tokens.left x.1.left
 unfolding dot_part_at
 dot_part_found custom tokens x e =
-    let d = bind_some (token_that (of_kind Dot) tokens) _ x e in
+    let d = bind_ok (token_that (of_kind Dot) tokens) _ x e in
     dot_part (token_found _ _ d.1) (part_found custom _ _ d.2)
 
-pub option_name_found : (custom : CustomOptions) (tokens : List Lexeme) (x : Unit {0} × List Lexeme)
-    → option_name_at custom tokens ≡ Some x → IsOptionName custom tokens x.1
+pub option_name_found : (custom : CustomOptions) (tokens : Place) (x : Unit {0} × Place)
+    → option_name_at custom tokens ≡ Ok x → IsOptionName custom tokens.left x.1.left
 unfolding option_name_at dot_parts_at
 option_name_found custom tokens x e =
-    let p = bind_some (part_at custom tokens) _ x e in
+    let p = bind_ok (part_at custom tokens) _ x e in
     option_name (part_found custom _ _ p.1)
     (until_at-found (not_next Dot) (passing (dot_part_at custom)) (Passes (IsDotPart custom))
     (passing-found (dot_part_at custom) (IsDotPart custom) (dot_part_found custom)) tt p.0.1 x p.2)
 
-pub literal_found : (tokens : List Lexeme) (x : Unit {0} × List Lexeme) → literal_at tokens ≡ Some x
-    → IsLiteral tokens x.1
+pub literal_found : (tokens : Place) (x : Unit {0} × Place) → literal_at tokens ≡ Ok x
+    → IsLiteral tokens.left x.1.left
 unfolding literal_at
 literal_found tokens x e =
-    let t = bind_some (token_that (of_kind StringLiteral) tokens) _ x e in
-    subst (λ (y : List Lexeme). IsLiteral tokens y) (left_of x t.2) (literal (token_found _ _ t.1))
+    let t = bind_ok (token_that (of_kind StringLiteral) tokens) _ x e in
+    subst (λ (y : Place). IsLiteral tokens.left y.left) (left_of x t.2) (literal (token_found _ _ t.1))
 
-pub strings_found : (tokens : List Lexeme) (x : Unit {0} × List Lexeme) → strings_at tokens ≡ Some x
-    → IsStrings tokens x.1
+pub strings_found : (tokens : Place) (x : Unit {0} × Place) → strings_at tokens ≡ Ok x
+    → IsStrings tokens.left x.1.left
 unfolding strings_at literals_at
 strings_found tokens x e =
-    let t = bind_some (literal_at tokens) _ x e in
+    let t = bind_ok (literal_at tokens) _ x e in
     strings (literal_found _ _ t.1)
     (until_at-found (not_next StringLiteral) (passing literal_at) (Passes IsLiteral)
     (passing-found literal_at IsLiteral literal_found) tt t.0.1 x t.2)
@@ -96,91 +102,95 @@ strings_found tokens x e =
 not_zero : (depth : ℕ) → (suc depth == 0) ≡ false
 not_zero depth = grind (arith, nat_tests)
 
-closed_found : (depth : ℕ) (tokens : List Lexeme) (x : Unit {0} × List Lexeme) → closed_at depth tokens ≡ Some x
-    → IsClosed depth tokens x.1
-unfolding closed_at
-closed_found zero [] x e = subst (λ (y : List Lexeme). IsClosed zero [] y) (left_of x e) closed
-closed_found zero (t ∷ rest) x e = subst (λ (y : List Lexeme). IsClosed zero (t ∷ rest) y) (left_of x e) closed
-closed_found (suc depth) [] x e = absurd (let none : None ≡ Some x = rw (not_zero depth) at e in cc)
-closed_found (suc depth) (t ∷ rest) x e' =
-    let e : closed_at (depth_behind t (suc depth)) rest ≡ Some x = rw (not_zero depth) at e' in
+closed_by_found : (depth : ℕ) (tokens : List Lexeme) (end : ℕ) (x : Unit {0} × Place)
+    → closed_by depth tokens end ≡ Ok x → IsClosed depth tokens x.1.left
+closed_by_found zero [] end x e = subst (λ (y : Place). IsClosed zero [] y.left) (left_of x e) closed
+closed_by_found zero (t ∷ rest) end x e = subst (λ (y : Place). IsClosed zero (t ∷ rest) y.left) (left_of x e) closed
+closed_by_found (suc depth) [] end x e = absurd (let none : Err (Grammar end) ≡ Ok x = rw (not_zero depth) at e in cc)
+closed_by_found (suc depth) (t ∷ rest) end x e' =
+    let e : closed_by (depth_behind t (suc depth)) rest end ≡ Ok x = rw (not_zero depth) at e' in
     chosen (of_kind OpenBrace t) _ _ (depth_behind t (suc depth)) refl
     (λ opens deeper.
     let d : depth_behind t (suc depth) ≡ suc (suc depth) = sym deeper ∙ omega arith in
-    open_brace (one opens) (closed_found (suc (suc depth)) rest x (rw d at e)))
+    open_brace (one opens) (closed_by_found (suc (suc depth)) rest end x (rw d at e)))
     (λ no_open behind. chosen (of_kind CloseBrace t) _ _ (depth_behind t (suc depth)) behind
     (λ closes less.
     let d : depth_behind t (suc depth) ≡ depth = sym less ∙ omega arith in
-    close_brace (one closes) (closed_found depth rest x (rw d at e)))
+    close_brace (one closes) (closed_by_found depth rest end x (rw d at e)))
     (λ no_close same.
-    other no_open no_close (one refl) (closed_found (suc depth) rest x (rw (← same) at e))))
+    other no_open no_close (one refl) (closed_by_found (suc depth) rest end x (rw (← same) at e))))
 
-aggregate_found : (custom : CustomOptions) (tokens : List Lexeme) (x : Unit {0} × List Lexeme)
-    → aggregate_at custom tokens ≡ Some x → IsConstant custom tokens x.1
+closed_found : (depth : ℕ) (tokens : Place) (x : Unit {0} × Place) → closed_at depth tokens ≡ Ok x
+    → IsClosed depth tokens.left x.1.left
+unfolding closed_at
+closed_found depth tokens x e = closed_by_found depth tokens.left tokens.end x e
+
+aggregate_found : (custom : CustomOptions) (tokens : Place) (x : Unit {0} × Place)
+    → aggregate_at custom tokens ≡ Ok x → IsConstant custom tokens.left x.1.left
 unfolding aggregate_at
 aggregate_found Refuse tokens x e = cc
 aggregate_found Skip tokens x e =
-    let o = bind_some (token_that (of_kind OpenBrace) tokens) _ x e in
+    let o = bind_ok (token_that (of_kind OpenBrace) tokens) _ x e in
     aggregate (token_found _ _ o.1) (closed_found 1 _ _ o.2)
 
-pub constant_found : (custom : CustomOptions) (tokens : List Lexeme) (x : Unit {0} × List Lexeme)
-    → constant_at custom tokens ≡ Some x → IsConstant custom tokens x.1
+pub constant_found : (custom : CustomOptions) (tokens : Place) (x : Unit {0} × Place)
+    → constant_at custom tokens ≡ Ok x → IsConstant custom tokens.left x.1.left
 unfolding constant_at signed_at
 constant_found custom tokens x e =
-    chosen (first_is (of_kind Identifier) tokens) _ _ (Some x) e
+    chosen (first_is (of_kind Identifier) tokens.left) _ _ (Ok x) e
     (λ _ read. a_name (pass_name_found _ _ read).1)
-    (λ _ read. chosen (first_is is_sign tokens) _ _ (Some x) read
+    (λ _ read. chosen (first_is is_sign tokens.left) _ _ (Ok x) read
     (λ _ read.
-    let s = bind_some (token_that is_sign tokens) _ x read in
-    let n = bind_some (token_that is_number s.0.1) _ x s.2 in
-    subst (λ (y : List Lexeme). IsConstant custom tokens y) (left_of x n.2)
+    let s = bind_ok (token_that is_sign tokens) _ x read in
+    let n = bind_ok (token_that is_number s.0.1) _ x s.2 in
+    subst (λ (y : Place). IsConstant custom tokens.left y.left) (left_of x n.2)
     (signed (token_found _ _ s.1) (token_found _ _ n.1)))
-    (λ _ read. chosen (first_is (of_kind StringLiteral) tokens) _ _ (Some x) read
+    (λ _ read. chosen (first_is (of_kind StringLiteral) tokens.left) _ _ (Ok x) read
     (λ _ read. some_strings (strings_found _ _ read))
-    (λ _ read. chosen (first_is (of_kind OpenBrace) tokens) _ _ (Some x) read
+    (λ _ read. chosen (first_is (of_kind OpenBrace) tokens.left) _ _ (Ok x) read
     (λ _ read. aggregate_found custom tokens x read)
     (λ _ read.
-    let n = bind_some (token_that is_numeral tokens) _ x read in
-    subst (λ (y : List Lexeme). IsConstant custom tokens y) (left_of x n.2) (unsigned (token_found _ _ n.1))))))
+    let n = bind_ok (token_that is_numeral tokens) _ x read in
+    subst (λ (y : Place). IsConstant custom tokens.left y.left) (left_of x n.2) (unsigned (token_found _ _ n.1))))))
 
-pub setting_found : (custom : CustomOptions) (tokens : List Lexeme) (x : Unit {0} × List Lexeme)
-    → setting_at custom tokens ≡ Some x → IsSetting custom tokens x.1
+pub setting_found : (custom : CustomOptions) (tokens : Place) (x : Unit {0} × Place)
+    → setting_at custom tokens ≡ Ok x → IsSetting custom tokens.left x.1.left
 unfolding setting_at
 setting_found custom tokens x e =
-    let n = bind_some (option_name_at custom tokens) _ x e in
-    let q = bind_some (token_that (of_kind Equals) n.0.1) _ x n.2 in
+    let n = bind_ok (option_name_at custom tokens) _ x e in
+    let q = bind_ok (token_that (of_kind Equals) n.0.1) _ x n.2 in
     setting (option_name_found custom _ _ n.1) (token_found _ _ q.1) (constant_found custom _ _ q.2)
 
-pub comma_setting_found : (custom : CustomOptions) (tokens : List Lexeme) (x : Unit {0} × List Lexeme)
-    → comma_setting_at custom tokens ≡ Some x → IsCommaSetting custom tokens x.1
+pub comma_setting_found : (custom : CustomOptions) (tokens : Place) (x : Unit {0} × Place)
+    → comma_setting_at custom tokens ≡ Ok x → IsCommaSetting custom tokens.left x.1.left
 unfolding comma_setting_at
 comma_setting_found custom tokens x e =
-    let c = bind_some (token_that (of_kind Comma) tokens) _ x e in
+    let c = bind_ok (token_that (of_kind Comma) tokens) _ x e in
     comma_setting (token_found _ _ c.1) (setting_found custom _ _ c.2)
 
-pub option_found : (custom : CustomOptions) (tokens : List Lexeme) (x : Unit {0} × List Lexeme)
-    → option_at custom tokens ≡ Some x → IsOption custom tokens x.1
+pub option_found : (custom : CustomOptions) (tokens : Place) (x : Unit {0} × Place)
+    → option_at custom tokens ≡ Ok x → IsOption custom tokens.left x.1.left
 unfolding option_at
 option_found custom tokens x e =
-    let k = bind_some (token_that (is_word (codes "option")) tokens) _ x e in
-    let v = bind_some (setting_at custom k.0.1) _ x k.2 in
-    let s = bind_some (token_that (of_kind Semicolon) v.0.1) _ x v.2 in
-    subst (λ (y : List Lexeme). IsOption custom tokens y) (left_of x s.2)
+    let k = bind_ok (token_that (is_word (codes "option")) tokens) _ x e in
+    let v = bind_ok (setting_at custom k.0.1) _ x k.2 in
+    let s = bind_ok (token_that (of_kind Semicolon) v.0.1) _ x v.2 in
+    subst (λ (y : Place). IsOption custom tokens.left y.left) (left_of x s.2)
     (option (token_found _ _ k.1) (setting_found custom _ _ v.1) (token_found _ _ s.1))
 
-pub options_found : (custom : CustomOptions) (tokens : List Lexeme) (x : Unit {0} × List Lexeme)
-    → options_at custom tokens ≡ Some x → IsOptions custom tokens x.1
+pub options_found : (custom : CustomOptions) (tokens : Place) (x : Unit {0} × Place)
+    → options_at custom tokens ≡ Ok x → IsOptions custom tokens.left x.1.left
 unfolding options_at bracketed_at comma_settings_at
 options_found custom tokens x e =
-    chosen (first_is (of_kind OpenBracket) tokens) _ _ (Some x) e
+    chosen (first_is (of_kind OpenBracket) tokens.left) _ _ (Ok x) e
     (λ _ read.
-    let o = bind_some (token_that (of_kind OpenBracket) tokens) _ x read in
-    let v = bind_some (setting_at custom o.0.1) _ x o.2 in
-    let m = bind_some (until_at (not_next Comma) (passing (comma_setting_at custom)) tt v.0.1) _ x v.2 in
-    let c = bind_some (token_that (of_kind CloseBracket) m.0.1) _ x m.2 in
-    subst (λ (y : List Lexeme). IsOptions custom tokens y) (left_of x c.2)
+    let o = bind_ok (token_that (of_kind OpenBracket) tokens) _ x read in
+    let v = bind_ok (setting_at custom o.0.1) _ x o.2 in
+    let m = bind_ok (until_at (not_next Comma) (passing (comma_setting_at custom)) tt v.0.1) _ x v.2 in
+    let c = bind_ok (token_that (of_kind CloseBracket) m.0.1) _ x m.2 in
+    subst (λ (y : Place). IsOptions custom tokens.left y.left) (left_of x c.2)
     (some (token_found _ _ o.1) (setting_found custom _ _ v.1)
     (until_at-found (not_next Comma) (passing (comma_setting_at custom)) (Passes (IsCommaSetting custom))
     (passing-found (comma_setting_at custom) (IsCommaSetting custom) (comma_setting_found custom)) tt v.0.1 m.0 m.1)
     (token_found _ _ c.1)))
-    (λ no read. subst (λ (y : List Lexeme). IsOptions custom tokens y) (left_of x read) (none no))
+    (λ no read. subst (λ (y : Place). IsOptions custom tokens.left y.left) (left_of x read) (none no))

@@ -1,5 +1,5 @@
 -- What is in the grammar is read: files.
-use Rattle.std.proofs.Common.{◌≡◌, ℕ, Option, Some, List, refl, sym, ◌∙◌, ap, subst, codes}
+use Rattle.std.proofs.Common.{◌≡◌, ℕ, true, Option, Some, List, refl, sym, ◌∙◌, ap, subst, codes}
 use Rattle.std.specs.Prelude.{Result, Ok, Err, MatchResult}
 use Rattle.proto_lex.specs.declared.span.Span.{Span}
 use Rattle.proto_lex.specs.declared.token.TokenKind.TheVariants.{StringLiteral}
@@ -27,6 +27,7 @@ use Rattle.proto_grammar.specs.Grammar.Repetition.{Adds}
 use Rattle.proto_parse.specs.Grammar.Messages.{IsInside}
 use Rattle.proto_parse.specs.Grammar.Files.{SpellsJoined, IsSyntax, IsImportKind, IsPathLiteral, IsImport, IsPackage}
 use Rattle.proto_parse.specs.Grammar.Files.{IsStatement, IsFile}
+use Rattle.proto_parse.specs.Grammar.Files.SpellsJoined.{none, some}
 use Rattle.proto_parse.specs.Grammar.Files.IsSyntax.{proto3, proto2, no_statement}
 use Rattle.proto_parse.specs.Grammar.Files.IsImportKind.{weak, public, neither}
 use Rattle.proto_parse.specs.Grammar.Files.IsPathLiteral.{path_literal}
@@ -43,7 +44,6 @@ use Rattle.proto_parse.specs.Reading.Messages.{inside_at}
 use Rattle.proto_parse.specs.Reading.Syntax.{syntax_by, version_at, syntax_statement_at, syntax_at}
 use Rattle.proto_parse.specs.Reading.Files.{import_kind_at, path_literal_at, path_literals_at, import_at, package_at}
 use Rattle.proto_parse.specs.Reading.Files.{only_package_at, statement_by, statement_at, statements_at, file_at}
-use Rattle.std.proofs.lemmas.Option.{same_Some}
 use Rattle.proto_grammar.proofs.TokenLemmas.{token_exact, one_next, one_others, next_other_word}
 use Rattle.proto_grammar.proofs.UntilLemmas.{until_at-exact, adding-exact}
 use Rattle.proto_parse.proofs.Joined.{joined_exact}
@@ -52,125 +52,145 @@ use Rattle.proto_grammar.proofs.Exact.Names.{name_exact}
 use Rattle.proto_grammar.proofs.Exact.Options.{option_exact}
 use Rattle.proto_parse.proofs.Exact.Messages.{enum_exact, extend_statement_exact, inside_exact, message_exact}
 use Rattle.proto_parse.proofs.Exact.Messages.{service_exact}
+use Rattle.std.proofs.Common.{None}
+use Rattle.proto_grammar.proofs.TokenLemmas.{plain_exact}
+use Rattle.proto_grammar.proofs.Steps.{same_ok}
+use Rattle.proto_grammar.specs.Terminal.{first_is, of_kind}
+use Rattle.proto_grammar.specs.Lexeme.{Place, place_of}
 
-version_exact : (dialect : Dialect) (syntax : Syntax) (version : Version) {a b : List Lexeme} {text : List ℕ}
-    → version_of text ≡ version → syntax_by version dialect ≡ Some syntax → SpellsJoined a text b
-    → version_at dialect a ≡ Some (syntax, b)
-unfolding version_at
-version_exact dialect syntax version named accepted spelled =
-    let joined = joined_exact spelled in
-    rw (joined.0, joined.1, named, accepted) refl
+module _ (end : ℕ) where
+  -- a text that names a version has literals
+  literal_first : (dialect : Dialect) (syntax : Syntax) {a b : List Lexeme} {text : List ℕ}
+      → syntax_by (version_of text) dialect ≡ Some syntax → SpellsJoined a text b
+      → first_is (of_kind StringLiteral) a ≡ true
+  literal_first dialect syntax accepted (none past) = absurd (let no : None ≡ Some syntax = accepted in cc)
+  literal_first dialect syntax accepted (some is behind) = is
 
-syntax_exact : {dialect : Dialect} {a b : List Lexeme} {x : Syntax} → IsSyntax dialect a x b
-    → syntax_at dialect a ≡ Some (x, b)
-unfolding syntax_at syntax_statement_at
-syntax_exact {dialect = dialect} (proto3 k q t s) =
-    rw (
-      one_next k,
-      token_exact k,
-      token_exact q,
-      version_exact dialect (proto3_in dialect) version.Proto3 refl refl t,
-      token_exact s,
-    ) refl
-syntax_exact (proto2 k q t s) =
-    rw (
-      one_next k,
-      token_exact k,
-      token_exact q,
-      version_exact All Proto2 version.Proto2 refl refl t,
-      token_exact s,
-    ) refl
-syntax_exact (no_statement p q) = rw (p, q) refl
+  version_exact : (dialect : Dialect) (syntax : Syntax) (version : Version) {a b : List Lexeme} {text : List ℕ}
+      → version_of text ≡ version → syntax_by version dialect ≡ Some syntax → SpellsJoined a text b
+      → version_at dialect (place_of end a) ≡ Ok (syntax, place_of end b)
+  unfolding version_at
+  version_exact dialect syntax version named accepted spelled =
+      let joined = joined_exact spelled in
+      let first = literal_first dialect syntax (rw named accepted) spelled in
+      rw (first, joined.0, joined.1, named, accepted) refl
 
-import_kind_exact : {a b : List Lexeme} {x : ImportKind} → IsImportKind a x b → import_kind_at a ≡ Some (x, b)
-unfolding import_kind_at
-import_kind_exact (weak w) = rw (one_next w, one_others w) refl
-import_kind_exact (public {a} w) =
-    rw (next_other_word (codes "public") (codes "weak") a refl (one_next w), one_next w, one_others w) refl
-import_kind_exact (neither p q) = rw (p, q) refl
+  syntax_exact : {dialect : Dialect} {a b : List Lexeme} {x : Syntax} → IsSyntax dialect a x b
+      → syntax_at dialect (place_of end a) ≡ Ok (x, place_of end b)
+  unfolding syntax_at syntax_statement_at
+  syntax_exact {dialect = dialect} (proto3 k q t s) =
+      rw (
+        one_next k,
+        token_exact end k,
+        token_exact end q,
+        version_exact dialect (proto3_in dialect) version.Proto3 refl refl t,
+        token_exact end s,
+      ) refl
+  syntax_exact (proto2 k q t s) =
+      rw (
+        one_next k,
+        token_exact end k,
+        token_exact end q,
+        version_exact All Proto2 version.Proto2 refl refl t,
+        token_exact end s,
+      ) refl
+  syntax_exact (no_statement p q) = rw (p, q) refl
 
-path_literal_exact : (a b : List Lexeme) (x : Option Span) → IsPathLiteral a x b → path_literal_at a ≡ Some (x, b)
-unfolding path_literal_at
-path_literal_exact a b x (path_literal l) = rw (token_exact l) refl
+  import_kind_exact : {a b : List Lexeme} {x : ImportKind} → IsImportKind a x b
+      → import_kind_at (place_of end a) ≡ Ok (x, place_of end b)
+  unfolding import_kind_at
+  import_kind_exact (weak w) = rw (one_next w, one_others w) refl
+  import_kind_exact (public {a} w) =
+      rw (next_other_word (codes "public") (codes "weak") a refl (one_next w), one_next w, one_others w) refl
+  import_kind_exact (neither p q) = rw (p, q) refl
 
-import_exact : {a b : List Lexeme} {x : Import} → IsImport a x b → import_at a ≡ Some (x, b)
-unfolding import_at path_literals_at
-import_exact (import k i l u s) =
-    rw (
-      token_exact k,
-      import_kind_exact i,
-      token_exact l,
-      until_at-exact (not_next StringLiteral) (adding path_literal_at) (Adds IsPathLiteral) path_literals_fall
-          (adding-exact path_literal_at IsPathLiteral path_literal_exact) u,
-      token_exact s,
-    ) refl
+  path_literal_exact : (a b : List Lexeme) (x : Option Span) → IsPathLiteral a x b
+      → path_literal_at (place_of end a) ≡ Ok (x, place_of end b)
+  unfolding path_literal_at
+  path_literal_exact a b x (path_literal l) = rw (plain_exact end l) refl
 
-package_exact : {a b : List Lexeme} {x : List Span} → IsPackage a x b → package_at a ≡ Some (x, b)
-unfolding package_at
-package_exact (package_statement k n s) = rw (token_exact k, name_exact n, token_exact s) refl
+  import_exact : {a b : List Lexeme} {x : Import} → IsImport a x b → import_at (place_of end a) ≡ Ok (x, place_of end b)
+  unfolding import_at path_literals_at
+  import_exact (import k i l u s) =
+      rw (
+        token_exact end k,
+        import_kind_exact i,
+        plain_exact end l,
+        until_at-exact end (not_next StringLiteral) (adding path_literal_at) (Adds IsPathLiteral) path_literals_fall
+            (adding-exact end path_literal_at IsPathLiteral path_literal_exact) u,
+        token_exact end s,
+      ) refl
 
--- the statement that is chosen
-by_choice : (syntax : Syntax) (f g : File) (a b : List Lexeme) (statement : FileStatement)
-    → file_statement_of a ≡ statement
-    → statement_by statement syntax f a ≡ Some (g, b) → statement_at syntax f a ≡ Some (g, b)
-unfolding statement_at
-by_choice syntax f g a b statement is read = subst (λ s. statement_by s syntax f a ≡ Some (g, b)) (sym is) read
+  package_exact : {a b : List Lexeme} {x : List Span} → IsPackage a x b
+      → package_at (place_of end a) ≡ Ok (x, place_of end b)
+  unfolding package_at
+  package_exact (package_statement k n s) = rw (token_exact end k, name_exact end n, token_exact end s) refl
 
-statement_exact : (syntax : Syntax) (f g : File) (a b : List Lexeme) → IsStatement syntax f a g b
-    → statement_at syntax f a ≡ Some (g, b)
-unfolding only_package_at
-statement_exact syntax f g a b (statements-empty is s) = by_choice syntax f g a b _ is (rw (token_exact s) refl)
-statement_exact syntax f g a b (statements-import is i) = by_choice syntax f g a b _ is (rw (import_exact i) refl)
-statement_exact syntax f g a b (statements-package_statement is none_yet p) =
-    by_choice syntax f g a b _ is (rw (none_yet, package_exact p) refl)
-statement_exact syntax f g a b (statements-option is o) = by_choice syntax f g a b _ is (rw (option_exact o) refl)
-statement_exact syntax f g a b (statements-message m is i) =
-    by_choice syntax f g a b _ is
-    (rw (message_exact (inside_at syntax max_message_depth) (IsInside syntax max_message_depth)
-    (inside_exact syntax max_message_depth) a b m i) refl)
-statement_exact syntax f g a b (statements-enum is e) = by_choice syntax f g a b _ is (rw (enum_exact e) refl)
-statement_exact syntax f g a b (statements-service is s) = by_choice syntax f g a b _ is (rw (service_exact s) refl)
-statement_exact syntax f g a b (statements-extend {extend = x} is e) =
-    by_choice syntax f g a b _ is
-    (rw (extend_statement_exact syntax (inside_at syntax max_message_depth) (IsInside syntax max_message_depth)
-    (inside_exact syntax max_message_depth) (λ place. items_fall place syntax max_message_depth) a b x e) refl)
+  -- the statement that is chosen
+  by_choice : (syntax : Syntax) (f g : File) (a b : List Lexeme) (statement : FileStatement)
+      → file_statement_of a ≡ statement
+      → statement_by statement syntax f (place_of end a) ≡ Ok (g, place_of end b)
+      → statement_at syntax f (place_of end a) ≡ Ok (g, place_of end b)
+  unfolding statement_at
+  by_choice syntax f g a b statement is read = subst
+      (λ s. statement_by s syntax f (place_of end a) ≡ Ok (g, place_of end b)) (sym is) read
 
--- what is left behind the last statement
-pub file_exact : {dialect : Dialect} {a : List Lexeme} {x : File} → IsFile dialect a x
-    → (b : List Lexeme) × (file_at dialect a ≡ Some (x, b))
-unfolding file_at statements_at
-file_exact {dialect} {a} {x} (file {c = c} {syntax = syntax} s u) =
-    let read : file_at dialect a ≡ Some (x, c) =
-    rw (syntax_exact s) (until_at-exact is_end (statement_at syntax) (IsStatement syntax) (statements_fall syntax)
-    (statement_exact syntax) u) in
-    (c, read)
+  statement_exact : (syntax : Syntax) (f g : File) (a b : List Lexeme) → IsStatement syntax f a g b
+      → statement_at syntax f (place_of end a) ≡ Ok (g, place_of end b)
+  unfolding only_package_at
+  statement_exact syntax f g a b (statements-empty is s) = by_choice syntax f g a b _ is (rw (token_exact end s) refl)
+  statement_exact syntax f g a b (statements-import is i) = by_choice syntax f g a b _ is (rw (import_exact i) refl)
+  statement_exact syntax f g a b (statements-package_statement is none_yet p) =
+      by_choice syntax f g a b _ is (rw (none_yet, package_exact p) refl)
+  statement_exact syntax f g a b (statements-option is o) = by_choice syntax f g a b _ is (rw (option_exact end o) refl)
+  statement_exact syntax f g a b (statements-message m is i) =
+      by_choice syntax f g a b _ is
+      (rw (message_exact end (inside_at syntax max_message_depth) (IsInside syntax max_message_depth)
+      (inside_exact end syntax max_message_depth) a b m i) refl)
+  statement_exact syntax f g a b (statements-enum is e) = by_choice syntax f g a b _ is (rw (enum_exact end e) refl)
+  statement_exact syntax f g a b (statements-service is s) = by_choice syntax f g a b _ is
+      (rw (service_exact end s) refl)
+  statement_exact syntax f g a b (statements-extend {extend = x} is e) =
+      by_choice syntax f g a b _ is
+      (rw (extend_statement_exact end syntax (inside_at syntax max_message_depth) (IsInside syntax max_message_depth)
+      (inside_exact end syntax max_message_depth) (λ place. items_fall place syntax max_message_depth) a b x e) refl)
+
+  -- what is left behind the last statement
+  pub file_exact : {dialect : Dialect} {a : List Lexeme} {x : File} → IsFile dialect a x
+      → (b : List Lexeme) × (file_at dialect (place_of end a) ≡ Ok (x, place_of end b))
+  unfolding file_at statements_at
+  file_exact {dialect} {a} {x} (file {c = c} {syntax = syntax} s u) =
+      let read : file_at dialect (place_of end a) ≡ Ok (x, place_of end c) =
+      rw (syntax_exact s) (until_at-exact end is_end (statement_at syntax) (IsStatement syntax) (statements_fall syntax)
+      (statement_exact syntax) u) in
+      (c, read)
 
 -- tokens derive at most one tree
 pub same_tree : {dialect : Dialect} {a : List Lexeme} (tree other : File) → IsFile dialect a tree
     → IsFile dialect a other → tree ≡ other
 same_tree tree other d e =
-    let x = file_exact d in
-    let y = file_exact e in
-    ap (λ (z : File × List Lexeme). z.0) (same_Some (tree, x.0) (other, y.0) (sym x.1 ∙ y.1))
+    let x = file_exact 0 d in
+    let y = file_exact 0 e in
+    ap (λ (z : File × Place). z.0) (same_ok (tree, place_of 0 x.0) (other, place_of 0 y.0) (sym x.1 ∙ y.1))
 
 -- where a tree derives, a fault is want of memory
-pub only_memory : {dialect : Dialect} {a : List Lexeme} {tree : File} → (fault : SyntaxFault)
-    → Fails (custom_in dialect) fault (file_at dialect a) → IsFile dialect a tree → fault ≡ Memory
-only_memory (NotProto3 offset) fails d = let read = (file_exact d).1 in cc
-only_memory (CustomOption offset) fails d = let read = (file_exact d).1 in cc
-only_memory (Aggregate offset) fails d = let read = (file_exact d).1 in cc
-only_memory (Extend offset) fails d = let read = (file_exact d).1 in cc
-only_memory (TwoPackages offset) fails d = let read = (file_exact d).1 in cc
-only_memory (ImportEscape offset) fails d = let read = (file_exact d).1 in cc
-only_memory (TooDeep offset) fails d = let read = (file_exact d).1 in cc
-only_memory (Grammar offset) fails d = let read = (file_exact d).1 in cc
-only_memory Memory fails d = refl
+pub only_memory : (end : ℕ) {dialect : Dialect} {a : List Lexeme} {tree : File} → (fault : SyntaxFault)
+    → Fails (custom_in dialect) fault (file_at dialect (place_of end a)) → IsFile dialect a tree → fault ≡ Memory
+only_memory end (NotProto3 offset) fails d = let read = (file_exact end d).1 in cc
+only_memory end (CustomOption offset) fails d = let read = (file_exact end d).1 in cc
+only_memory end (Aggregate offset) fails d = let read = (file_exact end d).1 in cc
+only_memory end (Extend offset) fails d = let read = (file_exact end d).1 in cc
+only_memory end (TwoPackages offset) fails d = let read = (file_exact end d).1 in cc
+only_memory end (ImportEscape offset) fails d = let read = (file_exact end d).1 in cc
+only_memory end (TooDeep offset) fails d = let read = (file_exact end d).1 in cc
+only_memory end (Grammar offset) fails d = let read = (file_exact end d).1 in cc
+only_memory end Memory fails d = refl
 
 -- of what the parser gives
-pub file_of_exact : (dialect : Dialect) (tokens rest : List Lexeme) (result : Result File SyntaxFault)
+pub file_of_exact : (dialect : Dialect) (tokens rest : Place) (result : Result File SyntaxFault)
     → Gives (custom_in dialect) (λ x. x) rest result (file_at dialect tokens)
-    → (tree : File) → IsFile dialect tokens tree → MatchResult result (λ f. f ≡ tree) (λ fault. fault ≡ Memory)
+    → (tree : File) → IsFile dialect tokens.left tree → MatchResult result (λ f. f ≡ tree) (λ fault. fault ≡ Memory)
 file_of_exact dialect tokens rest (Ok f) e tree d =
-    let read = file_exact d in
-    ap (λ (z : File × List Lexeme). z.0) (same_Some (f, rest) (tree, read.0) (sym e ∙ read.1))
-file_of_exact dialect tokens rest (Err fault) e tree d = only_memory fault e d
+    let read = file_exact tokens.end d in
+    ap (λ (z : File × Place). z.0) (same_ok (f, rest) (tree, place_of tokens.end read.0) (sym e ∙ read.1))
+file_of_exact dialect tokens rest (Err fault) e tree d = only_memory tokens.end fault e d

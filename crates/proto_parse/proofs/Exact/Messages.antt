@@ -77,257 +77,298 @@ use Rattle.proto_grammar.proofs.Exact.Names.{named_type_exact, pass_type_name_ex
 use Rattle.proto_grammar.proofs.Exact.Options.{option_exact, options_exact}
 use Rattle.proto_grammar.proofs.Exact.Fields.{typed_exact, label_exact, group_head_exact, map_field_exact}
 use Rattle.proto_grammar.proofs.Exact.Fields.{pass_field_exact, integer_exact, reserved_exact, extensions_exact}
+use Rattle.proto_parse.specs.Reading.Messages.{Inside}
+use Rattle.std.proofs.Common.{Ok}
+use Rattle.proto_grammar.specs.Lexeme.{place_of}
 
-heading_exact : {word : List ℕ} {a b : List Lexeme} {x : Heading} → IsHeading word a x b
-    → heading_at word a ≡ Some (x, b)
-unfolding heading_at
-heading_exact (heading f n c) = rw (token_exact f, token_exact n, token_exact c) refl
+module _ (end : ℕ) where
+  heading_exact : {word : List ℕ} {a b : List Lexeme} {x : Heading} → IsHeading word a x b
+      → heading_at word (place_of end a) ≡ Ok (x, place_of end b)
+  unfolding heading_at
+  heading_exact (heading f n c) = rw (token_exact end f, token_exact end n, token_exact end c) refl
 
-value_exact : {custom : CustomOptions} {a b : List Lexeme} {x : Heading} → IsValue custom a x b
-    → value_at custom a ≡ Some (x, b)
-unfolding value_at
-value_exact (value n q i o s) = rw (token_exact n, token_exact q, integer_exact i, options_exact o, token_exact s) refl
+  value_exact : {custom : CustomOptions} {a b : List Lexeme} {x : Heading} → IsValue custom a x b
+      → value_at custom (place_of end a) ≡ Ok (x, place_of end b)
+  unfolding value_at
+  value_exact (value n q i o s) = rw (
+    token_exact end n,
+    token_exact end q,
+    integer_exact end i,
+    options_exact end o,
+    token_exact end s,
+  ) refl
 
--- a word is no `;`
-word_no_semicolon : (word : List ℕ) (a : List Lexeme) → first_is (is_word word) a ≡ true
-    → first_is (of_kind Semicolon) a ≡ false
-word_no_semicolon word a is = next_other_kind Identifier Semicolon a refl (next_word_kind word a is)
+  -- a word is no `;`
+  word_no_semicolon : (word : List ℕ) (a : List Lexeme) → first_is (is_word word) a ≡ true
+      → first_is (of_kind Semicolon) a ≡ false
+  word_no_semicolon word a is = next_other_kind Identifier Semicolon a refl (next_word_kind word a is)
 
-enum_item_exact : (custom : CustomOptions) (a b : List Lexeme) (x : Option Heading) → IsEnumItem custom a x b
-    → enum_item_at custom a ≡ Some (x, b)
-unfolding enum_item_at
-enum_item_exact custom a b x (enums-empty s) = rw (one_next s, one_others s) refl
-enum_item_exact custom a b x (enums-option is o) = rw (word_no_semicolon (codes "option") a is, is, option_exact o) refl
-enum_item_exact custom a b x (enums-reserved is r) =
-    rw (
-      word_no_semicolon (codes "reserved") a is,
-      next_other_word (codes "reserved") (codes "option") a refl is,
-      is,
-      reserved_exact r,
-    ) refl
-enum_item_exact custom a b x (enums-value p q r v) = rw (p, q, r, value_exact v) refl
+  enum_item_exact : (custom : CustomOptions) (a b : List Lexeme) (x : Option Heading) → IsEnumItem custom a x b
+      → enum_item_at custom (place_of end a) ≡ Ok (x, place_of end b)
+  unfolding enum_item_at
+  enum_item_exact custom a b x (enums-empty s) = rw (one_next s, one_others s) refl
+  enum_item_exact custom a b x (enums-option is o) = rw
+      (word_no_semicolon (codes "option") a is, is, option_exact end o) refl
+  enum_item_exact custom a b x (enums-reserved is r) =
+      rw (
+        word_no_semicolon (codes "reserved") a is,
+        next_other_word (codes "reserved") (codes "option") a refl is,
+        is,
+        reserved_exact end r,
+      ) refl
+  enum_item_exact custom a b x (enums-value p q r v) = rw (p, q, r, value_exact v) refl
 
-pub enum_exact : {custom : CustomOptions} {a b : List Lexeme} {x : Enum} → IsEnum custom a x b
-    → enum_at custom a ≡ Some (x, b)
-unfolding enum_at enum_items_at
-enum_exact {custom} (enum h u c) =
-    rw (
-      heading_exact h,
-      until_at-exact closes (adding (enum_item_at custom)) (Adds (IsEnumItem custom)) (enum_items_fall custom)
-          (adding-exact (enum_item_at custom) (IsEnumItem custom) (enum_item_exact custom)) u,
-      token_exact c,
-    ) refl
+  pub enum_exact : {custom : CustomOptions} {a b : List Lexeme} {x : Enum} → IsEnum custom a x b
+      → enum_at custom (place_of end a) ≡ Ok (x, place_of end b)
+  unfolding enum_at enum_items_at
+  enum_exact {custom} (enum h u c) =
+      rw (
+        heading_exact h,
+        until_at-exact end closes (adding (enum_item_at custom)) (Adds (IsEnumItem custom)) (enum_items_fall custom)
+            (adding-exact end (enum_item_at custom) (IsEnumItem custom) (enum_item_exact custom)) u,
+        token_exact end c,
+      ) refl
 
--- what is inside is read
-abbrev pub Reads : {A : Type 0} → Read A → (List Lexeme → A → List Lexeme → Type 0) → Type 0
-Reads {A} read Is = (a b : List Lexeme) (x : A) → Is a x b → read a ≡ Some (x, b)
+  -- what is inside is read
+  abbrev pub Reads : {A : Type 0} → Read A → (List Lexeme → A → List Lexeme → Type 0) → Type 0
+  Reads {A} read Is = (a b : List Lexeme) (x : A) → Is a x b → read (place_of end a) ≡ Ok (x, place_of end b)
 
-braced_exact : (item : Read (Option Item)) (Is : List Lexeme → Option Item → List Lexeme → Type 0) → Reads item Is
-    → Falls (adding item) → Reads (braced_at item) (IsBraced Is)
-unfolding braced_at
-braced_exact item Is reads falls a b x (braced u c) =
-    rw (until_at-exact closes (adding item) (Adds Is) falls (adding-exact item Is reads) u, token_exact c) refl
+  -- the same of what is in a message or a group
+  abbrev pub ReadsInside : Inside → (List Lexeme → List Item → List Lexeme → Type 0) → Type 0
+  ReadsInside None Inner = (a b : List Lexeme) (x : List Item) → Inner a x b → ⊥
+  ReadsInside (Some read) Inner = Reads read Inner
 
-group_exact : (custom : CustomOptions) (inner : Read (List Item))
-    (Inner : List Lexeme → List Item → List Lexeme → Type 0) → Reads inner Inner → (first : Span) (label : Option Label)
-    → Reads (group_at custom inner first label) (IsGroup custom Inner first label)
-unfolding group_at
-group_exact custom inner Inner reads first label a c x (group {b = b} {items = items} g i) =
-    rw (group_head_exact g, reads b c items i) refl
+  braced_exact : (item : Read (Option Item)) (Is : List Lexeme → Option Item → List Lexeme → Type 0) → Reads item Is
+      → Falls (adding item) → Reads (braced_at item) (IsBraced Is)
+  unfolding braced_at
+  braced_exact item Is reads falls a b x (braced u c) =
+      rw (
+        until_at-exact end closes (adding item) (Adds Is) falls (adding-exact end item Is reads) u,
+        token_exact end
+            c,
+      ) refl
 
-labelled_exact : (syntax : Syntax) (inner : Read (List Item)) (Inner : List Lexeme → List Item → List Lexeme → Type 0)
-    → Reads inner Inner → (first : Span) (label : Option Label)
-    → Reads (labelled_at syntax inner first label) (IsLabelled syntax Inner first label)
-unfolding labelled_at
-labelled_exact syntax inner Inner reads first label a b x (labelled-field is f) = rw (is, typed_exact f) refl
-labelled_exact syntax inner Inner reads first label a b x (labelled-group {group = g} is i) =
-    rw (is, group_exact (custom_of syntax) inner Inner reads first label a b g i) refl
+  group_exact : (custom : CustomOptions) (inner : Inside)
+      (Inner : List Lexeme → List Item → List Lexeme → Type 0) → ReadsInside inner Inner → (first : Span)
+      (label : Option Label)
+      → Reads (group_at custom inner first label) (IsGroup custom Inner first label)
+  unfolding group_at
+  group_exact custom None Inner reads first label a c x (group {b = b} {items = items} g i) =
+      absurd (reads b c items i)
+  group_exact custom (Some inner) Inner reads first label a c x (group {b = b} {items = items} g i) =
+      rw (group_head_exact end g, reads b c items i) refl
 
-member_exact : (syntax : Syntax) (inner : Read (List Item)) (Inner : List Lexeme → List Item → List Lexeme → Type 0)
-    → Reads inner Inner → Reads (member_at syntax inner) (IsMember syntax Inner)
-unfolding member_at span_at
-member_exact syntax inner Inner reads a c x (member {t = t} {b = b} {label = label} l i) =
-    rw (label_exact l) (labelled_exact syntax inner Inner reads t.span label b c x i)
+  labelled_exact : (syntax : Syntax) (inner : Inside) (Inner : List Lexeme → List Item → List Lexeme → Type 0)
+      → ReadsInside inner Inner → (first : Span) (label : Option Label)
+      → Reads (labelled_at syntax inner first label) (IsLabelled syntax Inner first label)
+  unfolding labelled_at
+  labelled_exact syntax inner Inner reads first label a b x (labelled-field is f) = rw (is, typed_exact end f) refl
+  labelled_exact syntax inner Inner reads first label a b x (labelled-group {group = g} is i) =
+      rw (is, group_exact (custom_of syntax) inner Inner reads first label a b g i) refl
 
-oneof_member_exact : (syntax : Syntax) (inner : Read (List Item))
-    (Inner : List Lexeme → List Item → List Lexeme → Type 0)
-    → Reads inner Inner → Reads (oneof_member_at syntax inner) (IsOneofMember syntax Inner)
-unfolding oneof_member_at span_at
-oneof_member_exact syntax inner Inner reads a b x (oneof_member {t = t} {rest = rest} i) =
-    labelled_exact syntax inner Inner reads t.span None (t ∷ rest) b x i
+  member_exact : (syntax : Syntax) (inner : Inside) (Inner : List Lexeme → List Item → List Lexeme → Type 0)
+      → ReadsInside inner Inner → Reads (member_at syntax inner) (IsMember syntax Inner)
+  unfolding member_at span_at
+  member_exact syntax inner Inner reads a c x (member {t = t} {b = b} {label = label} l i) =
+      rw (label_exact end l) (labelled_exact syntax inner Inner reads t.span label b c x i)
 
-oneof_item_exact : (syntax : Syntax) (inner : Read (List Item)) (Inner : List Lexeme → List Item → List Lexeme → Type 0)
-    → Reads inner Inner → Reads (oneof_item_at syntax inner) (IsOneofItem syntax Inner)
-unfolding oneof_item_at
-oneof_item_exact syntax inner Inner reads a b x (oneofs-empty s) = rw (one_next s, one_others s) refl
-oneof_item_exact syntax inner Inner reads a b x (oneofs-option is o) =
-    rw (word_no_semicolon (codes "option") a is, is, option_exact o) refl
-oneof_item_exact syntax inner Inner reads a b x (oneofs-member {item = i} p q m) =
-    rw (p, q, oneof_member_exact syntax inner Inner reads a b i m) refl
+  oneof_member_exact : (syntax : Syntax) (inner : Inside)
+      (Inner : List Lexeme → List Item → List Lexeme → Type 0)
+      → ReadsInside inner Inner → Reads (oneof_member_at syntax inner) (IsOneofMember syntax Inner)
+  unfolding oneof_member_at span_at
+  oneof_member_exact syntax inner Inner reads a b x (oneof_member {t = t} {rest = rest} i) =
+      labelled_exact syntax inner Inner reads t.span None (t ∷ rest) b x i
 
-extend_item_exact : (syntax : Syntax) (inner : Read (List Item))
-    (Inner : List Lexeme → List Item → List Lexeme → Type 0)
-    → Reads inner Inner → Reads (extend_item_at syntax inner) (IsExtendItem syntax Inner)
-unfolding extend_item_at
-extend_item_exact syntax inner Inner reads a b x (extends-empty s) = rw (one_next s, one_others s) refl
-extend_item_exact syntax inner Inner reads a b x (extends-member {item = i} p m) =
-    rw (p, member_exact syntax inner Inner reads a b i m) refl
+  oneof_item_exact : (syntax : Syntax) (inner : Inside) (Inner : List Lexeme → List Item → List Lexeme → Type 0)
+      → ReadsInside inner Inner → Reads (oneof_item_at syntax inner) (IsOneofItem syntax Inner)
+  unfolding oneof_item_at
+  oneof_item_exact syntax inner Inner reads a b x (oneofs-empty s) = rw (one_next s, one_others s) refl
+  oneof_item_exact syntax inner Inner reads a b x (oneofs-option is o) =
+      rw (word_no_semicolon (codes "option") a is, is, option_exact end o) refl
+  oneof_item_exact syntax inner Inner reads a b x (oneofs-member {item = i} p q m) =
+      rw (p, q, oneof_member_exact syntax inner Inner reads a b i m) refl
 
--- what is read falls between the braces of oneofs and extends
-abbrev AllFall : Syntax → Read (List Item) → Type 0
-AllFall syntax inner = (place : Within) → Falls (adding (item_at place syntax inner))
+  extend_item_exact : (syntax : Syntax) (inner : Inside)
+      (Inner : List Lexeme → List Item → List Lexeme → Type 0)
+      → ReadsInside inner Inner → Reads (extend_item_at syntax inner) (IsExtendItem syntax Inner)
+  unfolding extend_item_at
+  extend_item_exact syntax inner Inner reads a b x (extends-empty s) = rw (one_next s, one_others s) refl
+  extend_item_exact syntax inner Inner reads a b x (extends-member {item = i} p m) =
+      rw (p, member_exact syntax inner Inner reads a b i m) refl
 
-oneof_exact : (syntax : Syntax) (inner : Read (List Item)) (Inner : List Lexeme → List Item → List Lexeme → Type 0)
-    → Reads inner Inner → AllFall syntax inner → Reads (oneof_at syntax inner) (IsOneof syntax Inner)
-unfolding oneof_at
-oneof_exact syntax inner Inner reads fall a c x (oneof {b = b} {items = items} h i) =
-    rw (
-      heading_exact h,
-      braced_exact (oneof_item_at syntax inner) (IsOneofItem syntax Inner)
-          (oneof_item_exact syntax inner Inner reads) (fall within.Oneof) b c items i,
-    ) refl
+  -- what is read falls between the braces of oneofs and extends
+  abbrev AllFall : Syntax → Inside → Type 0
+  AllFall syntax inner = (place : Within) → Falls (adding (item_at place syntax inner))
 
-extend_exact : (syntax : Syntax) (inner : Read (List Item)) (Inner : List Lexeme → List Item → List Lexeme → Type 0)
-    → Reads inner Inner → AllFall syntax inner → Reads (extend_at syntax inner) (IsExtend syntax Inner)
-unfolding extend_at
-extend_exact syntax inner Inner reads fall a e x (extend {d = d} {items = items} k not n o i) =
-    rw (
-      token_exact k,
-      named_type_exact not n,
-      token_exact o,
-      braced_exact (extend_item_at syntax inner) (IsExtendItem syntax Inner)
-          (extend_item_exact syntax inner Inner reads) (fall within.Extend) d e items i,
-    ) refl
+  oneof_exact : (syntax : Syntax) (inner : Inside) (Inner : List Lexeme → List Item → List Lexeme → Type 0)
+      → ReadsInside inner Inner → AllFall syntax inner → Reads (oneof_at syntax inner) (IsOneof syntax Inner)
+  unfolding oneof_at
+  oneof_exact syntax inner Inner reads fall a c x (oneof {b = b} {items = items} h i) =
+      rw (
+        heading_exact h,
+        braced_exact (oneof_item_at syntax inner) (IsOneofItem syntax Inner)
+            (oneof_item_exact syntax inner Inner reads) (fall within.Oneof) b c items i,
+      ) refl
 
-passed_item_exact : (a b : List Lexeme) → IsPassedItem a b → passed_item_at a ≡ Some (tt, b)
-unfolding passed_item_at
-passed_item_exact a b (passes-empty s) = rw (one_next s, one_others s) refl
-passed_item_exact a b (passes-field p f) = rw p (pass_field_exact f)
+  extend_exact : (syntax : Syntax) (inner : Inside) (Inner : List Lexeme → List Item → List Lexeme → Type 0)
+      → ReadsInside inner Inner → AllFall syntax inner → Reads (extend_at syntax inner) (IsExtend syntax Inner)
+  unfolding extend_at
+  extend_exact syntax inner Inner reads fall a e x (extend {d = d} {items = items} k not n o i) =
+      rw (
+        token_exact end k,
+        named_type_exact end not n,
+        token_exact end o,
+        braced_exact (extend_item_at syntax inner) (IsExtendItem syntax Inner)
+            (extend_item_exact syntax inner Inner reads) (fall within.Extend) d e items i,
+      ) refl
 
-passed_extend_exact : {custom : CustomOptions} {a b : List Lexeme} → IsPassedExtend custom a b
-    → passed_extend_at custom a ≡ Some (tt, b)
-unfolding passed_extend_at passed_items_at
-passed_extend_exact (passed_extend k n o u c) =
-    rw (
-      token_exact k,
-      pass_type_name_exact n,
-      token_exact o,
-      until_at-exact closes (passing passed_item_at) (Passes IsPassedItem) passed_items_fall
-          (passing-exact passed_item_at IsPassedItem passed_item_exact) u,
-      token_exact c,
-    ) refl
+  passed_item_exact : (a b : List Lexeme) → IsPassedItem a b → passed_item_at (place_of end a) ≡ Ok (tt, place_of end b)
+  unfolding passed_item_at
+  passed_item_exact a b (passes-empty s) = rw (one_next s, one_others s) refl
+  passed_item_exact a b (passes-field p f) = rw p (pass_field_exact end f)
 
-pub extend_statement_exact : (syntax : Syntax) (inner : Read (List Item))
-    (Inner : List Lexeme → List Item → List Lexeme → Type 0) → Reads inner Inner → AllFall syntax inner
-    → Reads (extend_statement_at syntax inner) (IsExtendStatement Inner syntax)
-unfolding extend_statement_at
-extend_statement_exact (Proto3 custom) inner Inner reads fall a b x (kept is e) = cc
-extend_statement_exact Extended inner Inner reads fall a b x (kept {extend = y} is e) =
-    rw (extend_exact Extended inner Inner reads fall a b y e) refl
-extend_statement_exact Proto2 inner Inner reads fall a b x (kept {extend = y} is e) =
-    rw (extend_exact Proto2 inner Inner reads fall a b y e) refl
-extend_statement_exact (Proto3 custom) inner Inner reads fall a b x (passed e) = rw (passed_extend_exact e) refl
+  passed_extend_exact : {custom : CustomOptions} {a b : List Lexeme} → IsPassedExtend custom a b
+      → passed_extend_at custom (place_of end a) ≡ Ok (tt, place_of end b)
+  unfolding passed_extend_at passed_items_at
+  passed_extend_exact (passed_extend k n o u c) =
+      rw (
+        token_exact end k,
+        pass_type_name_exact end n,
+        token_exact end o,
+        until_at-exact end closes (passing passed_item_at) (Passes IsPassedItem) passed_items_fall
+            (passing-exact end passed_item_at IsPassedItem passed_item_exact) u,
+        token_exact end c,
+      ) refl
 
-pub message_exact : (inner : Read (List Item)) (Inner : List Lexeme → List Item → List Lexeme → Type 0)
-    → Reads inner Inner → Reads (message_at inner) (IsMessage Inner)
-unfolding message_at
-message_exact inner Inner reads a c x (message {b = b} {items = items} h i) =
-    rw (heading_exact h, reads b c items i) refl
+  pub extend_statement_exact : (syntax : Syntax) (inner : Inside)
+      (Inner : List Lexeme → List Item → List Lexeme → Type 0) → ReadsInside inner Inner → AllFall syntax inner
+      → Reads (extend_statement_at syntax inner) (IsExtendStatement Inner syntax)
+  unfolding extend_statement_at
+  extend_statement_exact (Proto3 custom) inner Inner reads fall a b x (kept is e) = cc
+  extend_statement_exact Extended inner Inner reads fall a b x (kept {extend = y} is e) =
+      rw (extend_exact Extended inner Inner reads fall a b y e) refl
+  extend_statement_exact Proto2 inner Inner reads fall a b x (kept {extend = y} is e) =
+      rw (extend_exact Proto2 inner Inner reads fall a b y e) refl
+  extend_statement_exact (Proto3 custom) inner Inner reads fall a b x (passed e) = rw (passed_extend_exact e) refl
 
--- the item that is chosen
-by_choice : (syntax : Syntax) (inner : Read (List Item)) (a b : List Lexeme) (x : Option Item)
-    (statement : MessageStatement) → message_statement_of syntax a ≡ statement
-    → message_item_by statement syntax inner a ≡ Some (x, b) → message_item_at syntax inner a ≡ Some (x, b)
-unfolding message_item_at
-by_choice syntax inner a b x statement is read =
-    subst (λ s. message_item_by s syntax inner a ≡ Some (x, b)) (sym is) read
+  pub message_exact : (inner : Inside) (Inner : List Lexeme → List Item → List Lexeme → Type 0)
+      → ReadsInside inner Inner → Reads (message_at inner) (IsMessage Inner)
+  unfolding message_at
+  message_exact None Inner reads a c x (message {b = b} {items = items} h i) = absurd (reads b c items i)
+  message_exact (Some inner) Inner reads a c x (message {b = b} {items = items} h i) =
+      rw (heading_exact h, reads b c items i) refl
 
-message_item_exact : (syntax : Syntax) (inner : Read (List Item))
-    (Inner : List Lexeme → List Item → List Lexeme → Type 0) → Reads inner Inner → AllFall syntax inner
-    → Reads (message_item_at syntax inner) (IsMessageItem syntax Inner)
-unfolding ranges_at
-message_item_exact syntax inner Inner reads fall a b x (items-empty is s) =
-    by_choice syntax inner a b x _ is (rw (token_exact s) refl)
-message_item_exact syntax inner Inner reads fall a b x (items-message {message = m} is i) =
-    by_choice syntax inner a b x _ is (rw (message_exact inner Inner reads a b m i) refl)
-message_item_exact syntax inner Inner reads fall a b x (items-enum is e) =
-    by_choice syntax inner a b x _ is (rw (enum_exact e) refl)
-message_item_exact syntax inner Inner reads fall a b x (items-option is o) =
-    by_choice syntax inner a b x _ is (rw (option_exact o) refl)
-message_item_exact syntax inner Inner reads fall a b x (items-oneof {oneof = y} is o) =
-    by_choice syntax inner a b x _ is (rw (oneof_exact syntax inner Inner reads fall a b y o) refl)
-message_item_exact syntax inner Inner reads fall a b x (items-map_field is f) =
-    by_choice syntax inner a b x _ is (rw (map_field_exact f) refl)
-message_item_exact syntax inner Inner reads fall a b x (items-reserved is r) =
-    by_choice syntax inner a b x _ is (rw (reserved_exact r) refl)
-message_item_exact syntax inner Inner reads fall a b x (items-extend {extend = y} is e) =
-    by_choice syntax inner a b x _ is (rw (extend_statement_exact syntax inner Inner reads fall a b y e) refl)
-message_item_exact syntax inner Inner reads fall a b x (items-extensions is proto2 r) =
-    by_choice syntax inner a b x _ is (rw (proto2, extensions_exact r) refl)
-message_item_exact syntax inner Inner reads fall a b x (items-member {item = y} is m) =
-    by_choice syntax inner a b x _ is (rw (member_exact syntax inner Inner reads a b y m) refl)
+  -- the item that is chosen
+  by_choice : (syntax : Syntax) (inner : Inside) (a b : List Lexeme) (x : Option Item)
+      (statement : MessageStatement) → message_statement_of syntax a ≡ statement
+      → message_item_by statement syntax inner (place_of end a) ≡ Ok (x, place_of end b)
+      → message_item_at syntax inner (place_of end a) ≡ Ok (x, place_of end b)
+  unfolding message_item_at
+  by_choice syntax inner a b x statement is read =
+      subst (λ s. message_item_by s syntax inner (place_of end a) ≡ Ok (x, place_of end b)) (sym is) read
 
-pub inside_exact : (syntax : Syntax) (levels : ℕ) → Reads (inside_at syntax levels) (IsInside syntax levels)
-unfolding inside_at IsInside
-inside_exact syntax zero a b x i = absurd i
-inside_exact syntax (suc levels) a b x i =
-    braced_exact (message_item_at syntax (inside_at syntax levels))
-    (IsMessageItem syntax (IsInside syntax levels))
-    (message_item_exact syntax (inside_at syntax levels) (IsInside syntax levels) (inside_exact syntax levels)
-    (λ place. items_fall place syntax levels)) (items_fall within.Message syntax levels) a b x i
+  message_item_exact : (syntax : Syntax) (inner : Inside)
+      (Inner : List Lexeme → List Item → List Lexeme → Type 0) → ReadsInside inner Inner → AllFall syntax inner
+      → Reads (message_item_at syntax inner) (IsMessageItem syntax Inner)
+  unfolding ranges_at
+  message_item_exact syntax inner Inner reads fall a b x (items-empty is s) =
+      by_choice syntax inner a b x _ is (rw (token_exact end s) refl)
+  message_item_exact syntax inner Inner reads fall a b x (items-message {message = m} is i) =
+      by_choice syntax inner a b x _ is (rw (message_exact inner Inner reads a b m i) refl)
+  message_item_exact syntax inner Inner reads fall a b x (items-enum is e) =
+      by_choice syntax inner a b x _ is (rw (enum_exact e) refl)
+  message_item_exact syntax inner Inner reads fall a b x (items-option is o) =
+      by_choice syntax inner a b x _ is (rw (option_exact end o) refl)
+  message_item_exact syntax inner Inner reads fall a b x (items-oneof {oneof = y} is o) =
+      by_choice syntax inner a b x _ is (rw (oneof_exact syntax inner Inner reads fall a b y o) refl)
+  message_item_exact syntax inner Inner reads fall a b x (items-map_field is f) =
+      by_choice syntax inner a b x _ is (rw (map_field_exact end f) refl)
+  message_item_exact syntax inner Inner reads fall a b x (items-reserved is r) =
+      by_choice syntax inner a b x _ is (rw (reserved_exact end r) refl)
+  message_item_exact syntax inner Inner reads fall a b x (items-extend {extend = y} is e) =
+      by_choice syntax inner a b x _ is (rw (extend_statement_exact syntax inner Inner reads fall a b y e) refl)
+  message_item_exact syntax inner Inner reads fall a b x (items-extensions is proto2 r) =
+      by_choice syntax inner a b x _ is (rw (proto2, extensions_exact end r) refl)
+  message_item_exact syntax inner Inner reads fall a b x (items-member {item = y} is m) =
+      by_choice syntax inner a b x _ is (rw (member_exact syntax inner Inner reads a b y m) refl)
 
-stream_exact : {a b : List Lexeme} → IsStream a b → stream_at a ≡ Some (tt, b)
-unfolding stream_at
-stream_exact (stream w) = rw (one_next w, one_others w) refl
-stream_exact (no_stream none_next) = rw none_next refl
+  pub inside_exact : (syntax : Syntax) (levels : ℕ) → ReadsInside (inside_at syntax levels) (IsInside syntax levels)
+  unfolding inside_at IsInside
+  inside_exact syntax zero = λ a b x i. absurd i
+  inside_exact syntax (suc levels) =
+      braced_exact (message_item_at syntax (inside_at syntax levels))
+      (IsMessageItem syntax (IsInside syntax levels))
+      (message_item_exact syntax (inside_at syntax levels) (IsInside syntax levels) (inside_exact syntax levels)
+      (λ place. items_fall place syntax levels)) (items_fall within.Message syntax levels)
 
-method_type_exact : {a b : List Lexeme} {x : TypeName} → IsMethodType a x b → method_type_at a ≡ Some (x, b)
-unfolding method_type_at
-method_type_exact (method_type o s not n c) =
-    rw (token_exact o, stream_exact s, named_type_exact not n, token_exact c) refl
+  stream_exact : {a b : List Lexeme} → IsStream a b → stream_at (place_of end a) ≡ Ok (tt, place_of end b)
+  unfolding stream_at
+  stream_exact (stream w) = rw (one_next w, one_others w) refl
+  stream_exact (no_stream none_next) = rw none_next refl
 
-method_item_exact : (custom : CustomOptions) (a b : List Lexeme) → IsMethodItem custom a b
-    → method_item_at custom a ≡ Some (tt, b)
-unfolding method_item_at
-method_item_exact custom a b (method_items-empty s) = rw (one_next s, one_others s) refl
-method_item_exact custom a b (method_items-option is o) = rw (word_no_semicolon (codes "option") a is) (option_exact o)
+  method_type_exact : {a b : List Lexeme} {x : TypeName} → IsMethodType a x b
+      → method_type_at (place_of end a) ≡ Ok (x, place_of end b)
+  unfolding method_type_at
+  method_type_exact (method_type o s not n c) =
+      rw (token_exact end o, stream_exact s, named_type_exact end not n, token_exact end c) refl
 
-method_end_exact : {custom : CustomOptions} {a b : List Lexeme} {x : Span} → IsMethodEnd custom a x b
-    → method_end_at custom a ≡ Some (x, b)
-unfolding method_end_at method_body_at method_items_at
-method_end_exact (semicolon s) = rw (one_next s) (token_exact s)
-method_end_exact {custom} (body {a} o u c) =
-    rw (
-      next_other_kind OpenBrace Semicolon a refl (one_next o),
-      token_exact o,
-      until_at-exact closes (passing (method_item_at custom)) (Passes (IsMethodItem custom)) (method_items_fall custom)
-          (passing-exact (method_item_at custom) (IsMethodItem custom) (method_item_exact custom)) u,
-      token_exact c,
-    ) refl
+  method_item_exact : (custom : CustomOptions) (a b : List Lexeme) → IsMethodItem custom a b
+      → method_item_at custom (place_of end a) ≡ Ok (tt, place_of end b)
+  unfolding method_item_at
+  method_item_exact custom a b (method_items-empty s) = rw (one_next s, one_others s) refl
+  method_item_exact custom a b (method_items-option is o) = rw (word_no_semicolon (codes "option") a is)
+      (option_exact end o)
 
-method_exact : {custom : CustomOptions} {a b : List Lexeme} {x : Method} → IsMethod custom a x b
-    → method_at custom a ≡ Some (x, b)
-unfolding method_at
-method_exact (method f n i r o c) =
-    rw (token_exact f, token_exact n, method_type_exact i, token_exact r, method_type_exact o, method_end_exact c) refl
+  method_end_exact : {custom : CustomOptions} {a b : List Lexeme} {x : Span} → IsMethodEnd custom a x b
+      → method_end_at custom (place_of end a) ≡ Ok (x, place_of end b)
+  unfolding method_end_at method_body_at method_items_at
+  method_end_exact (semicolon s) = rw (one_next s) (token_exact end s)
+  method_end_exact {custom} (body {a} o u c) =
+      rw (
+        next_other_kind OpenBrace Semicolon a refl (one_next o),
+        token_exact end o,
+        until_at-exact end closes (passing (method_item_at custom)) (Passes (IsMethodItem custom))
+            (method_items_fall custom)
+            (passing-exact end (method_item_at custom) (IsMethodItem custom) (method_item_exact custom)) u,
+        token_exact end c,
+      ) refl
 
-service_item_exact : (custom : CustomOptions) (a b : List Lexeme) (x : Option Method) → IsServiceItem custom a x b
-    → service_item_at custom a ≡ Some (x, b)
-unfolding service_item_at
-service_item_exact custom a b x (services-empty s) = rw (one_next s, one_others s) refl
-service_item_exact custom a b x (services-option is o) =
-    rw (word_no_semicolon (codes "option") a is, is, option_exact o) refl
-service_item_exact custom a b x (services-method is m) =
-    rw (word_no_semicolon (codes "rpc") a is, next_other_word (codes "rpc") (codes "option") a refl is, method_exact m)
-    refl
+  method_exact : {custom : CustomOptions} {a b : List Lexeme} {x : Method} → IsMethod custom a x b
+      → method_at custom (place_of end a) ≡ Ok (x, place_of end b)
+  unfolding method_at
+  method_exact (method f n i r o c) =
+      rw (
+        token_exact end f,
+        token_exact end n,
+        method_type_exact i,
+        token_exact end r,
+        method_type_exact o,
+        method_end_exact c,
+      ) refl
 
-pub service_exact : {custom : CustomOptions} {a b : List Lexeme} {x : Service} → IsService custom a x b
-    → service_at custom a ≡ Some (x, b)
-unfolding service_at service_items_at
-service_exact {custom} (service h u c) =
-    rw (
-      heading_exact h,
-      until_at-exact closes (adding (service_item_at custom)) (Adds (IsServiceItem custom)) (service_items_fall custom)
-          (adding-exact (service_item_at custom) (IsServiceItem custom) (service_item_exact custom)) u,
-      token_exact c,
-    ) refl
+  service_item_exact : (custom : CustomOptions) (a b : List Lexeme) (x : Option Method) → IsServiceItem custom a x b
+      → service_item_at custom (place_of end a) ≡ Ok (x, place_of end b)
+  unfolding service_item_at
+  service_item_exact custom a b x (services-empty s) = rw (one_next s, one_others s) refl
+  service_item_exact custom a b x (services-option is o) =
+      rw (word_no_semicolon (codes "option") a is, is, option_exact end o) refl
+  service_item_exact custom a b x (services-method is m) =
+      rw (
+        word_no_semicolon (codes "rpc") a is,
+        next_other_word (codes "rpc") (codes "option") a refl is,
+        method_exact
+            m,
+      )
+      refl
+
+  pub service_exact : {custom : CustomOptions} {a b : List Lexeme} {x : Service} → IsService custom a x b
+      → service_at custom (place_of end a) ≡ Ok (x, place_of end b)
+  unfolding service_at service_items_at
+  service_exact {custom} (service h u c) =
+      rw (
+        heading_exact h,
+        until_at-exact end closes (adding (service_item_at custom)) (Adds (IsServiceItem custom))
+            (service_items_fall custom)
+            (adding-exact end (service_item_at custom) (IsServiceItem custom) (service_item_exact custom)) u,
+        token_exact end c,
+      ) refl

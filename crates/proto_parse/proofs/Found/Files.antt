@@ -24,7 +24,7 @@ use Rattle.proto_parse.specs.declared.statement.FileStatement.{FileStatement}
 use Rattle.proto_parse.specs.declared.statement.FileStatement.TheVariants as choice
 use Rattle.proto_parse.specs.declared.statement.Version.TheVariants as version
 use Rattle.proto_grammar.specs.Lexeme.{Lexeme}
-use Rattle.proto_grammar.specs.Terminal.{first_is, of_kind, is_word, is_plain_literal, not_next, is_end}
+use Rattle.proto_grammar.specs.Terminal.{first_is, of_kind, is_word, not_next, is_end}
 use Rattle.proto_grammar.specs.Syntax.{custom_of, custom_in, proto3_in, is_all}
 use Rattle.proto_parse.specs.Choice.{file_statement_of, version_of}
 use Rattle.proto_parse.specs.Limits.{max_message_depth}
@@ -52,8 +52,7 @@ use Rattle.proto_parse.specs.Reading.Syntax.{joined_of, behind_literals, syntax_
 use Rattle.proto_parse.specs.Reading.Syntax.{syntax_at}
 use Rattle.proto_parse.specs.Reading.Files.{import_kind_at, path_literal_at, path_literals_at, import_at, package_at}
 use Rattle.proto_parse.specs.Reading.Files.{only_package_at, statement_by, statement_at, statements_at, file_at}
-use Rattle.std.proofs.lemmas.Option.{same_Some}
-use Rattle.proto_grammar.proofs.OptionSteps.{bind_some, guard_some, kept_some, chosen}
+use Rattle.proto_grammar.proofs.Steps.{same_ok, bind_ok, guard_ok, kept_ok, chosen}
 use Rattle.proto_grammar.proofs.TokenLemmas.{token_found, next_found}
 use Rattle.proto_grammar.proofs.UntilLemmas.{until_at-found, adding-found}
 use Rattle.proto_grammar.proofs.Found.Names.{name_found}
@@ -61,6 +60,14 @@ use Rattle.proto_grammar.proofs.Found.Options.{option_found}
 use Rattle.proto_parse.proofs.Found.Messages.{enum_found, extend_statement_found, inside_found, message_found}
 use Rattle.proto_parse.proofs.Found.Messages.{service_found}
 use Rattle.proto_parse.proofs.Joined.{joined_found, not_true}
+use Rattle.std.proofs.lemmas.Option.{same_Some}
+use Rattle.proto_parse.specs.Reading.Syntax.{past_literals}
+use Rattle.std.specs.Option.{option_map_or}
+use Rattle.proto_grammar.proofs.TokenLemmas.{plain_found}
+use Rattle.proto_grammar.proofs.Steps.{read_as}
+use Rattle.proto_grammar.specs.Reading.Repetition.{plain_literal_at}
+use Rattle.proto_grammar.specs.Terminal.{offset_at}
+use Rattle.proto_grammar.specs.Lexeme.{Place}
 
 -- the version that a text names
 version_text : {P : Type 0} (text : List ℕ) → (text ≡ codes "proto3" → version_of text ≡ version.Proto3 → P)
@@ -82,36 +89,51 @@ proto2_accepted : (dialect : Dialect) (syntax : Syntax) → cond (is_all dialect
 proto2_accepted (Proto3 custom) syntax e = cc
 proto2_accepted All syntax e = (refl, sym (same_Some Proto2 syntax e))
 
-version_found : (dialect : Dialect) (tokens : List Lexeme) (x : Syntax × List Lexeme)
-    → version_at dialect tokens ≡ Some x → IsVersion dialect tokens x.0 x.1
+accepted_some : (o : Option Syntax) (tokens : Place) (x : Syntax × Place)
+    → option_map_or (λ syntax. Ok (syntax, past_literals tokens)) o (Err (NotProto3 (offset_at tokens))) ≡ read_as x
+    → (syntax : Syntax) × (o ≡ Some syntax) × (read_as (syntax, past_literals tokens) ≡ read_as x)
+accepted_some None tokens x e = absurd (let no : Err (NotProto3 (offset_at tokens)) ≡ read_as x = e in cc)
+accepted_some (Some syntax) tokens x e = (syntax, refl, e)
+
+version_found : (dialect : Dialect) (tokens : Place) (x : Syntax × Place)
+    → version_at dialect tokens ≡ Ok x → IsVersion dialect tokens.left x.0 x.1.left
 unfolding version_at
 version_found dialect tokens x e =
-    let v = bind_some (syntax_by (version_of (joined_of tokens)) dialect) _ x e in
-    subst (λ (y : Syntax × List Lexeme). IsVersion dialect tokens y.0 y.1) (same_Some _ x v.2)
-    (version_text (joined_of tokens)
+    chosen (first_is (of_kind StringLiteral) tokens.left) _ _ (Ok x) e
+    (λ _ read.
+    let v = accepted_some (syntax_by (version_of (joined_of tokens.left)) dialect) tokens x read in
+    subst (λ (y : Syntax × Place). IsVersion dialect tokens.left y.0 y.1.left) (same_ok _ x v.2)
+    (version_text (joined_of tokens.left)
     (λ text named.
     let given : Some (proto3_in dialect) ≡ Some v.0 =
     subst (λ n. syntax_by n dialect ≡ Some v.0) named v.1 in
     inl (
       sym (same_Some (proto3_in dialect) v.0 given),
-      subst (λ t. SpellsJoined tokens t (behind_literals tokens)) text (joined_found tokens),
+      subst (λ t. SpellsJoined tokens.left t (behind_literals tokens.left)) text (joined_found tokens.left),
     ))
     (λ text named.
     let given = proto2_accepted dialect v.0 (subst (λ n. syntax_by n dialect ≡ Some v.0) named v.1) in
-    inr (given.0, (given.1, subst (λ t. SpellsJoined tokens t (behind_literals tokens)) text (joined_found tokens))))
+    inr (
+      given.0,
+      (
+        given.1,
+        subst (λ t. SpellsJoined tokens.left t (behind_literals tokens.left)) text (joined_found tokens.left),
+      ),
+    ))
     (λ named.
     let given : None ≡ Some v.0 = subst (λ n. syntax_by n dialect ≡ Some v.0) named v.1 in
-    absurd cc))
+    absurd cc)))
+    (λ _ read. absurd (let no : Err (Grammar (offset_at tokens)) ≡ read_as x = read in cc))
 
-syntax_statement_found : (dialect : Dialect) (tokens : List Lexeme) (x : Syntax × List Lexeme)
-    → syntax_statement_at dialect tokens ≡ Some x → IsSyntax dialect tokens x.0 x.1
+syntax_statement_found : (dialect : Dialect) (tokens : Place) (x : Syntax × Place)
+    → syntax_statement_at dialect tokens ≡ Ok x → IsSyntax dialect tokens.left x.0 x.1.left
 unfolding syntax_statement_at
 syntax_statement_found dialect tokens x e =
-    let k = bind_some (token_that (is_word (codes "syntax")) tokens) _ x e in
-    let q = bind_some (token_that (of_kind Equals) k.0.1) _ x k.2 in
-    let v = bind_some (version_at dialect q.0.1) _ x q.2 in
-    let s = bind_some (token_that (of_kind Semicolon) v.0.1) _ x v.2 in
-    subst (λ (y : Syntax × List Lexeme). IsSyntax dialect tokens y.0 y.1) (same_Some _ x s.2)
+    let k = bind_ok (token_that (is_word (codes "syntax")) tokens) _ x e in
+    let q = bind_ok (token_that (of_kind Equals) k.0.1) _ x k.2 in
+    let v = bind_ok (version_at dialect q.0.1) _ x q.2 in
+    let s = bind_ok (token_that (of_kind Semicolon) v.0.1) _ x v.2 in
+    subst (λ (y : Syntax × Place). IsSyntax dialect tokens.left y.0 y.1.left) (same_ok _ x s.2)
     (by_version dialect v.0.0 (token_found _ _ k.1) (token_found _ _ q.1) (version_found dialect _ _ v.1)
     (token_found _ _ s.1))
   where
@@ -121,23 +143,25 @@ syntax_statement_found dialect tokens x e =
     by_version dialect syntax k q (inl (is, text)) s = rw is (proto3 k q text s)
     by_version dialect syntax k q (inr (all, (is, text))) s = rw (all, is) (proto2 k q text s)
 
-pub syntax_found : (dialect : Dialect) (tokens : List Lexeme) (x : Syntax × List Lexeme) → syntax_at dialect tokens ≡ Some x
-    → IsSyntax dialect tokens x.0 x.1
+pub syntax_found : (dialect : Dialect) (tokens : Place) (x : Syntax × Place) → syntax_at dialect tokens ≡ Ok x
+    → IsSyntax dialect tokens.left x.0 x.1.left
 unfolding syntax_at
 syntax_found dialect tokens x e =
-    chosen (first_is (is_word (codes "syntax")) tokens) _ _ (Some x) e
+    chosen (first_is (is_word (codes "syntax")) tokens.left) _ _ (Ok x) e
     (λ is read. syntax_statement_found dialect tokens x read)
     (λ no_syntax read. without dialect no_syntax read)
   where
-    without : (dialect : Dialect) → first_is (is_word (codes "syntax")) tokens ≡ false
-        → cond (is_all dialect && not (first_is (is_word (codes "edition")) tokens)) (Some (Proto2, tokens)) None
-        ≡ Some x
-        → IsSyntax dialect tokens x.0 x.1
-    without (Proto3 custom) no_syntax read = cc
+    without : (dialect : Dialect) → first_is (is_word (codes "syntax")) tokens.left ≡ false
+        → cond (is_all dialect && not (first_is (is_word (codes "edition")) tokens.left)) (Ok (Proto2, tokens))
+        (Err (NotProto3 (offset_at tokens)))
+        ≡ Ok x
+        → IsSyntax dialect tokens.left x.0 x.1.left
+    without (Proto3 custom) no_syntax read =
+        absurd (let no : Err (NotProto3 (offset_at tokens)) ≡ read_as x = read in cc)
     without All no_syntax read =
-        let g = guard_some (not (first_is (is_word (codes "edition")) tokens)) _ x read in
-        subst (λ (y : Syntax × List Lexeme). IsSyntax All tokens y.0 y.1) (same_Some _ x g.1)
-        (no_statement no_syntax (not_true (first_is (is_word (codes "edition")) tokens) g.0))
+        let g = guard_ok (not (first_is (is_word (codes "edition")) tokens.left)) _ _ x read in
+        subst (λ (y : Syntax × Place). IsSyntax All tokens.left y.0 y.1.left) (same_ok _ x g.1)
+        (no_statement no_syntax (not_true (first_is (is_word (codes "edition")) tokens.left) g.0))
 
 -- by the dialect, custom options are refused or read past
 pub syntax_custom : {dialect : Dialect} {a b : List Lexeme} {x : Syntax} → IsSyntax dialect a x b
@@ -147,129 +171,132 @@ syntax_custom {dialect = All} (proto3 k q t s) = refl
 syntax_custom (proto2 k q t s) = refl
 syntax_custom (no_statement p q) = refl
 
-import_kind_found : (tokens : List Lexeme) (x : ImportKind × List Lexeme) → import_kind_at tokens ≡ Some x
-    → IsImportKind tokens x.0 x.1
+import_kind_found : (tokens : Place) (x : ImportKind × Place) → import_kind_at tokens ≡ Ok x
+    → IsImportKind tokens.left x.0 x.1.left
 unfolding import_kind_at
 import_kind_found tokens x e =
-    chosen (first_is (is_word (codes "weak")) tokens) _ _ (Some x) e
-    (λ is read. subst (λ (y : ImportKind × List Lexeme). IsImportKind tokens y.0 y.1) (same_Some _ x read)
-    (weak (next_found tokens is).1))
-    (λ no_weak read. chosen (first_is (is_word (codes "public")) tokens) _ _ (Some x) read
-    (λ is read. subst (λ (y : ImportKind × List Lexeme). IsImportKind tokens y.0 y.1) (same_Some _ x read)
-    (public (next_found tokens is).1))
-    (λ no_public read. subst (λ (y : ImportKind × List Lexeme). IsImportKind tokens y.0 y.1) (same_Some _ x read)
+    chosen (first_is (is_word (codes "weak")) tokens.left) _ _ (Ok x) e
+    (λ is read. subst (λ (y : ImportKind × Place). IsImportKind tokens.left y.0 y.1.left) (same_ok _ x read)
+    (weak (next_found tokens.left is).1))
+    (λ no_weak read. chosen (first_is (is_word (codes "public")) tokens.left) _ _ (Ok x) read
+    (λ is read. subst (λ (y : ImportKind × Place). IsImportKind tokens.left y.0 y.1.left) (same_ok _ x read)
+    (public (next_found tokens.left is).1))
+    (λ no_public read. subst (λ (y : ImportKind × Place). IsImportKind tokens.left y.0 y.1.left) (same_ok _ x read)
     (neither no_weak no_public)))
 
-pub path_literal_found : (tokens : List Lexeme) (x : Option Span × List Lexeme) → path_literal_at tokens ≡ Some x
-    → IsPathLiteral tokens x.0 x.1
+pub path_literal_found : (tokens : Place) (x : Option Span × Place) → path_literal_at tokens ≡ Ok x
+    → IsPathLiteral tokens.left x.0 x.1.left
 unfolding path_literal_at
 path_literal_found tokens x e =
-    let l = bind_some (token_that is_plain_literal tokens) _ x e in
-    subst (λ (y : Option Span × List Lexeme). IsPathLiteral tokens y.0 y.1) (same_Some _ x l.2)
-    (path_literal (token_found _ _ l.1))
+    let l = bind_ok (plain_literal_at tokens) _ x e in
+    subst (λ (y : Option Span × Place). IsPathLiteral tokens.left y.0 y.1.left) (same_ok _ x l.2)
+    (path_literal (plain_found _ _ l.1))
 
-pub import_found : (tokens : List Lexeme) (x : Import × List Lexeme) → import_at tokens ≡ Some x
-    → IsImport tokens x.0 x.1
+pub import_found : (tokens : Place) (x : Import × Place) → import_at tokens ≡ Ok x
+    → IsImport tokens.left x.0 x.1.left
 unfolding import_at path_literals_at
 import_found tokens x e =
-    let k = bind_some (token_that (is_word (codes "import")) tokens) _ x e in
-    let i = bind_some (import_kind_at k.0.1) _ x k.2 in
-    let l = bind_some (token_that is_plain_literal i.0.1) _ x i.2 in
-    let m = bind_some (until_at (not_next StringLiteral) (adding path_literal_at) (l.0.0 ∷ []) l.0.1) _ x l.2 in
-    let s = bind_some (token_that (of_kind Semicolon) m.0.1) _ x m.2 in
-    subst (λ (y : Import × List Lexeme). IsImport tokens y.0 y.1) (same_Some _ x s.2)
-    (import (token_found _ _ k.1) (import_kind_found _ _ i.1) (token_found _ _ l.1)
+    let k = bind_ok (token_that (is_word (codes "import")) tokens) _ x e in
+    let i = bind_ok (import_kind_at k.0.1) _ x k.2 in
+    let l = bind_ok (plain_literal_at i.0.1) _ x i.2 in
+    let m = bind_ok (until_at (not_next StringLiteral) (adding path_literal_at) (l.0.0 ∷ []) l.0.1) _ x l.2 in
+    let s = bind_ok (token_that (of_kind Semicolon) m.0.1) _ x m.2 in
+    subst (λ (y : Import × Place). IsImport tokens.left y.0 y.1.left) (same_ok _ x s.2)
+    (import (token_found _ _ k.1) (import_kind_found _ _ i.1) (plain_found _ _ l.1)
     (until_at-found (not_next StringLiteral) (adding path_literal_at) (Adds IsPathLiteral)
     (adding-found path_literal_at IsPathLiteral path_literal_found) (l.0.0 ∷ []) l.0.1 m.0 m.1)
     (token_found _ _ s.1))
 
-pub package_found : (tokens : List Lexeme) (x : List Span × List Lexeme) → package_at tokens ≡ Some x
-    → IsPackage tokens x.0 x.1
+pub package_found : (tokens : Place) (x : List Span × Place) → package_at tokens ≡ Ok x
+    → IsPackage tokens.left x.0 x.1.left
 unfolding package_at
 package_found tokens x e =
-    let k = bind_some (token_that (is_word (codes "package")) tokens) _ x e in
-    let n = bind_some (name_at k.0.1) _ x k.2 in
-    let s = bind_some (token_that (of_kind Semicolon) n.0.1) _ x n.2 in
-    subst (λ (y : List Span × List Lexeme). IsPackage tokens y.0 y.1) (same_Some _ x s.2)
+    let k = bind_ok (token_that (is_word (codes "package")) tokens) _ x e in
+    let n = bind_ok (name_at k.0.1) _ x k.2 in
+    let s = bind_ok (token_that (of_kind Semicolon) n.0.1) _ x n.2 in
+    subst (λ (y : List Span × Place). IsPackage tokens.left y.0 y.1.left) (same_ok _ x s.2)
     (package_statement (token_found _ _ k.1) (name_found _ _ n.1) (token_found _ _ s.1))
 
 -- nothing where there is none
 no_some : {A : Type 0} (o : Option A) → is_some o ≡ false → o ≡ None
 no_some None e = refl
-no_some (Some x) e = cc
+no_some (Ok x) e = cc
 
-statement_by_found : (syntax : Syntax) (f : File) (tokens : List Lexeme) (x : File × List Lexeme)
-    (statement : FileStatement) → file_statement_of tokens ≡ statement
-    → statement_by statement syntax f tokens ≡ Some x → IsStatement syntax f tokens x.0 x.1
+statement_by_found : (syntax : Syntax) (f : File) (tokens : Place) (x : File × Place)
+    (statement : FileStatement) → file_statement_of tokens.left ≡ statement
+    → statement_by statement syntax f tokens ≡ Ok x → IsStatement syntax f tokens.left x.0 x.1.left
 unfolding only_package_at
 statement_by_found syntax f tokens x choice.Empty is e =
-    let m = bind_some (token_that (of_kind Semicolon) tokens) _ x e in
-    subst (λ (y : File × List Lexeme). IsStatement syntax f tokens y.0 y.1) (same_Some _ x m.2)
+    let m = bind_ok (token_that (of_kind Semicolon) tokens) _ x e in
+    subst (λ (y : File × Place). IsStatement syntax f tokens.left y.0 y.1.left) (same_ok _ x m.2)
     (statements-empty is (token_found _ _ m.1))
 statement_by_found syntax f tokens x choice.Import is e =
-    let m = bind_some (import_at tokens) _ x e in
-    subst (λ (y : File × List Lexeme). IsStatement syntax f tokens y.0 y.1) (same_Some _ x m.2)
+    let m = bind_ok (import_at tokens) _ x e in
+    subst (λ (y : File × Place). IsStatement syntax f tokens.left y.0 y.1.left) (same_ok _ x m.2)
     (statements-import is (import_found _ _ m.1))
 statement_by_found syntax f tokens x choice.Package is e =
-    let k = kept_some (is_some f.package_name) _ x e in
-    let m = bind_some (package_at tokens) _ x k.1 in
-    subst (λ (y : File × List Lexeme). IsStatement syntax f tokens y.0 y.1) (same_Some _ x m.2)
+    let k = kept_ok (is_some f.package_name) _ _ x e in
+    let m = bind_ok (package_at tokens) _ x k.1 in
+    subst (λ (y : File × Place). IsStatement syntax f tokens.left y.0 y.1.left) (same_ok _ x m.2)
     (statements-package_statement is (no_some f.package_name k.0) (package_found _ _ m.1))
 statement_by_found syntax f tokens x choice.Option is e =
-    let m = bind_some (option_at (custom_of syntax) tokens) _ x e in
-    subst (λ (y : File × List Lexeme). IsStatement syntax f tokens y.0 y.1) (same_Some _ x m.2)
+    let m = bind_ok (option_at (custom_of syntax) tokens) _ x e in
+    subst (λ (y : File × Place). IsStatement syntax f tokens.left y.0 y.1.left) (same_ok _ x m.2)
     (statements-option is (option_found (custom_of syntax) _ _ m.1))
 statement_by_found syntax f tokens x choice.Message is e =
-    let m = bind_some (message_at (inside_at syntax max_message_depth) tokens) _ x e in
-    subst (λ (y : File × List Lexeme). IsStatement syntax f tokens y.0 y.1) (same_Some _ x m.2)
+    let m = bind_ok (message_at (inside_at syntax max_message_depth) tokens) _ x e in
+    subst (λ (y : File × Place). IsStatement syntax f tokens.left y.0 y.1.left) (same_ok _ x m.2)
     (statements-message m.0.0 is (message_found (inside_at syntax max_message_depth) (IsInside syntax max_message_depth)
     (inside_found syntax max_message_depth) _ _ m.1))
 statement_by_found syntax f tokens x choice.Enum is e =
-    let m = bind_some (enum_at (custom_of syntax) tokens) _ x e in
-    subst (λ (y : File × List Lexeme). IsStatement syntax f tokens y.0 y.1) (same_Some _ x m.2)
+    let m = bind_ok (enum_at (custom_of syntax) tokens) _ x e in
+    subst (λ (y : File × Place). IsStatement syntax f tokens.left y.0 y.1.left) (same_ok _ x m.2)
     (statements-enum is (enum_found (custom_of syntax) _ _ m.1))
 statement_by_found syntax f tokens x choice.Service is e =
-    let m = bind_some (service_at (custom_of syntax) tokens) _ x e in
-    subst (λ (y : File × List Lexeme). IsStatement syntax f tokens y.0 y.1) (same_Some _ x m.2)
+    let m = bind_ok (service_at (custom_of syntax) tokens) _ x e in
+    subst (λ (y : File × Place). IsStatement syntax f tokens.left y.0 y.1.left) (same_ok _ x m.2)
     (statements-service is (service_found (custom_of syntax) _ _ m.1))
 statement_by_found syntax f tokens x choice.Extend is e =
-    let m = bind_some (extend_statement_at syntax (inside_at syntax max_message_depth) tokens) _ x e in
-    subst (λ (y : File × List Lexeme). IsStatement syntax f tokens y.0 y.1) (same_Some _ x m.2)
+    let m = bind_ok (extend_statement_at syntax (inside_at syntax max_message_depth) tokens) _ x e in
+    subst (λ (y : File × Place). IsStatement syntax f tokens.left y.0 y.1.left) (same_ok _ x m.2)
     (statements-extend is (extend_statement_found syntax (inside_at syntax max_message_depth)
     (IsInside syntax max_message_depth) (inside_found syntax max_message_depth) _ _ m.1))
-statement_by_found syntax f tokens x choice.Other is e = cc
+statement_by_found syntax f tokens x choice.Other is e =
+    absurd (let no : Err (Grammar (offset_at tokens)) ≡ read_as x = e in cc)
 
-pub statement_found : (syntax : Syntax) (f : File) (tokens : List Lexeme) (x : File × List Lexeme)
-    → statement_at syntax f tokens ≡ Some x → IsStatement syntax f tokens x.0 x.1
+pub statement_found : (syntax : Syntax) (f : File) (tokens : Place) (x : File × Place)
+    → statement_at syntax f tokens ≡ Ok x → IsStatement syntax f tokens.left x.0 x.1.left
 unfolding statement_at
-statement_found syntax f tokens x e = statement_by_found syntax f tokens x (file_statement_of tokens) refl e
+statement_found syntax f tokens x e = statement_by_found syntax f tokens x (file_statement_of tokens.left) refl e
 
-pub file_found : (dialect : Dialect) (tokens : List Lexeme) (x : File × List Lexeme)
-    → file_at dialect tokens ≡ Some x → IsFile dialect tokens x.0
+pub file_found : (dialect : Dialect) (tokens : Place) (x : File × Place)
+    → file_at dialect tokens ≡ Ok x → IsFile dialect tokens.left x.0
 unfolding file_at statements_at
 file_found dialect tokens x e =
-    let s = bind_some (syntax_at dialect tokens) _ x e in
+    let s = bind_ok (syntax_at dialect tokens) _ x e in
     file (syntax_found dialect _ _ s.1)
     (until_at-found is_end (statement_at s.0.0) (IsStatement s.0.0)
     (statement_found s.0.0) empty_file s.0.1 x s.2)
 
 -- of what the parser gives
-pub file_of_found : (dialect : Dialect) (tokens rest : List Lexeme) (result : Result File SyntaxFault)
+pub file_of_found : (dialect : Dialect) (tokens rest : Place) (result : Result File SyntaxFault)
     → Gives (custom_in dialect) (λ x. x) rest result (file_at dialect tokens)
-    → IfOk result (λ f. IsFile dialect tokens f)
+    → IfOk result (λ f. IsFile dialect tokens.left f)
 file_of_found dialect tokens rest (Ok f) e = file_found dialect tokens (f, rest) e
 file_of_found dialect tokens rest (Err fault) e = tt
 
 only_where_refused : (custom : CustomOptions) → custom ≡ Refuse → custom ≡ Skip → true ≡ false
 only_where_refused custom refused skipped = let same : Refuse ≡ Skip = sym refused ∙ skipped in cc
 
-pub file_of_skipped : (dialect : Dialect) (tokens rest : List Lexeme) (result : Result File SyntaxFault)
+pub file_of_skipped : (dialect : Dialect) (tokens rest : Place) (result : Result File SyntaxFault)
     → Gives (custom_in dialect) (λ x. x) rest result (file_at dialect tokens)
     → custom_in dialect ≡ Skip → IfErr result (λ fault. is_of_custom_options fault ≡ false)
 file_of_skipped dialect tokens rest (Ok f) e skipped = tt
 file_of_skipped dialect tokens rest (Err (NotProto3 offset)) e skipped = refl
-file_of_skipped dialect tokens rest (Err (CustomOption offset)) e skipped = only_where_refused (custom_in dialect) e.0 skipped
-file_of_skipped dialect tokens rest (Err (Aggregate offset)) e skipped = only_where_refused (custom_in dialect) e.0 skipped
+file_of_skipped dialect tokens rest (Err (CustomOption offset)) e skipped = only_where_refused (custom_in dialect) e.0
+    skipped
+file_of_skipped dialect tokens rest (Err (Aggregate offset)) e skipped = only_where_refused (custom_in dialect) e.0
+    skipped
 file_of_skipped dialect tokens rest (Err (Extend offset)) e skipped = only_where_refused (custom_in dialect) e.0 skipped
 file_of_skipped dialect tokens rest (Err (TwoPackages offset)) e skipped = refl
 file_of_skipped dialect tokens rest (Err (ImportEscape offset)) e skipped = refl

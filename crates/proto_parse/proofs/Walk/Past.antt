@@ -17,7 +17,7 @@ use Rattle.proto_parse.specs.Walk.Among.{skip, first as at_first, name as at_nam
 use Rattle.proto_parse.specs.Walk.Among.{other as at_other}
 use Rattle.proto_grammar.specs.Grammar.Repetition.{One}
 use Rattle.proto_grammar.specs.Grammar.Repetition.One.{one}
-use Rattle.proto_grammar.proofs.OptionSteps.{both_true}
+use Rattle.proto_grammar.proofs.Steps.{both_true}
 use Rattle.proto_parse.proofs.Tails.{IsTail}
 use Rattle.proto_parse.proofs.Tails.IsTail.{here, onward}
 

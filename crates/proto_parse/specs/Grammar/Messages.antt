@@ -198,7 +198,8 @@ pub data IsMessageItem (syntax : Syntax) (Inner : List Lexeme → List Item → 
       → message_statement_of syntax a ≡ chosen.Extend → IsExtendStatement Inner syntax a extend b
       → IsMessageItem syntax Inner a (option_map Block extend) b
   extensions : {a b : List Lexeme}
-      → message_statement_of syntax a ≡ chosen.Extensions → is_proto2 syntax ≡ true → IsExtensions (custom_of syntax) a b
+      → message_statement_of syntax a ≡ chosen.Extensions → is_proto2 syntax ≡ true
+      → IsExtensions (custom_of syntax) a b
       → IsMessageItem syntax Inner a None b
   member : {a b : List Lexeme} {item : Item}
       → message_statement_of syntax a ≡ chosen.Member → IsMember syntax Inner a item b

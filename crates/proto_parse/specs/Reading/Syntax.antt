@@ -1,5 +1,6 @@
 -- Syntax statements.
-use Rattle.std.specs.Prelude.{ℕ, Bool, false, ◌&&◌, not, cond, Option, Some, None, List, [], ◌∷◌, ◌++◌, length, drop}
+use Rattle.std.specs.Prelude.{ℕ, Bool, false, ◌&&◌, not, cond, Ok, Err, Option, Some, None, List, [], ◌∷◌, ◌++◌, length}
+use Rattle.std.specs.Prelude.{drop}
 use Rattle.std.specs.Prelude.{bytes_eq, nat_eq, codes}
 use Rattle.std.specs.List.{starts_with}
 use Rattle.proto_lex.specs.declared.token.TokenKind.TheVariants.{StringLiteral, Semicolon, Equals}
@@ -8,11 +9,13 @@ use Rattle.proto_grammar.specs.declared.tree.Syntax.{Syntax}
 use Rattle.proto_grammar.specs.declared.tree.Syntax.TheVariants.{Proto2}
 use Rattle.proto_parse.specs.declared.statement.Version.{Version}
 use Rattle.proto_parse.specs.declared.statement.Version.TheVariants as version
-use Rattle.proto_grammar.specs.Lexeme.{Lexeme}
-use Rattle.proto_grammar.specs.Terminal.{first_is, of_kind, is_word, between_quotes}
+use Rattle.proto_grammar.specs.Lexeme.{Lexeme, Place}
+use Rattle.proto_grammar.specs.Terminal.{first_is, of_kind, is_word, between_quotes, offset_at}
 use Rattle.proto_grammar.specs.Syntax.{proto3_in, is_all}
 use Rattle.proto_parse.specs.Choice.{version_of}
-use Rattle.proto_grammar.specs.Reading.Repetition.{◌>>=◌, Read, token_that}
+use Rattle.proto_grammar.specs.Reading.Repetition.{◌>>=◌, Read, misplaced, token_that}
+use Rattle.std.specs.Option.{option_map_or}
+use Rattle.proto_grammar.specs.declared.fault.SyntaxFault.TheVariants.{NotProto3}
 
 -- What is left of a text behind what it begins with.
 abbrev pub stripped_of : Option (List ℕ) → List ℕ → Option (List ℕ)
@@ -37,6 +40,10 @@ abbrev pub behind_literals : List Lexeme → List Lexeme
 behind_literals [] = []
 behind_literals (t ∷ rest) = cond (of_kind StringLiteral t) (behind_literals rest) (t ∷ rest)
 
+-- The place behind the literals that are next.
+abbrev pub past_literals : Place → Place
+past_literals place = record { left = behind_literals place.left; end = place.end }
+
 abbrev pub syntax_by : Version → Dialect → Option Syntax
 syntax_by version.Proto3 dialect = Some (proto3_in dialect)
 syntax_by version.Proto2 dialect = cond (is_all dialect) (Some Proto2) None
@@ -44,7 +51,11 @@ syntax_by version.Other dialect = None
 
 unfoldable pub version_at : Dialect → Read Syntax
 version_at dialect tokens =
-    syntax_by (version_of (joined_of tokens)) dialect >>= λ syntax. Some (syntax, behind_literals tokens)
+    cond (first_is (of_kind StringLiteral) tokens.left)
+    (option_map_or (λ syntax. Ok (syntax, past_literals tokens))
+    (syntax_by (version_of (joined_of tokens.left)) dialect)
+    (Err (NotProto3 (offset_at tokens))))
+    (misplaced tokens)
 
 unfoldable pub syntax_statement_at : Dialect → Read Syntax
 syntax_statement_at dialect tokens = do
@@ -52,9 +63,10 @@ syntax_statement_at dialect tokens = do
   equals ← token_that (of_kind Equals) keyword.1
   syntax ← version_at dialect equals.1
   semicolon ← token_that (of_kind Semicolon) syntax.1
-  Some (syntax.0, semicolon.1)
+  Ok (syntax.0, semicolon.1)
 
 unfoldable pub syntax_at : Dialect → Read Syntax
 syntax_at dialect tokens =
-    cond (first_is (is_word (codes "syntax")) tokens) (syntax_statement_at dialect tokens)
-    (cond (is_all dialect && not (first_is (is_word (codes "edition")) tokens)) (Some (Proto2, tokens)) None)
+    cond (first_is (is_word (codes "syntax")) tokens.left) (syntax_statement_at dialect tokens)
+    (cond (is_all dialect && not (first_is (is_word (codes "edition")) tokens.left)) (Ok (Proto2, tokens))
+    (Err (NotProto3 (offset_at tokens))))

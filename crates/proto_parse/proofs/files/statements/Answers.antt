@@ -7,14 +7,14 @@ use Rattle.proto_parse.proofs.StepsFall.{statements_fall}
 use Rattle.proto_parse.proofs.files.statements.Goals as goal
 
 pub statements-smaller : goal.statements-smaller
-statements-smaller c = statements_fall c.args.syntax c.statements.file c.statements.parser.left
-    (_, c.statement.new.parser.left) c.in_ok-statement.ensures
+statements-smaller c = statements_fall c.args.syntax c.statements.file c.statements.parser
+    (_, c.statement.new.parser) c.in_ok-statement.ensures
 
 pub statements-preserved : goal.statements-preserved
 statements-preserved c =
     let further : is_end c.statements.parser.left ≡ false = cc in
     goes_on is_end (statement_at c.args.syntax)
-    (statements_fall c.args.syntax) c.statements.file _ c.statements.parser.left c.statement.new.parser.left _
+    (statements_fall c.args.syntax) c.statements.file _ c.statements.parser c.statement.new.parser _
     c.statements.invariant further c.in_ok-statement.ensures
 
 pub returns-in_err-statement : goal.returns-in_err-statement
@@ -23,9 +23,9 @@ returns-in_err-statement c =
     let further : is_end c.statements.parser.left ≡ false = cc in
     let p = err_from_is_err_and c.from_residual.result c.from_residual.ensures.1 in
     rw (p.1, p.2)
-    (Fails-of _ _ (statement_at c.args.syntax c.statements.file c.statements.parser.left) _
+    (Fails-of _ _ (statement_at c.args.syntax c.statements.file c.statements.parser) _
     (stops is_end (statement_at c.args.syntax)
-    (statements_fall c.args.syntax) c.statements.file c.statements.parser.left _ c.statements.invariant further)
+    (statements_fall c.args.syntax) c.statements.file c.statements.parser _ c.statements.invariant further)
     c.in_err-statement.ensures)
 
 pub returns : goal.returns
@@ -33,4 +33,4 @@ unfolding statements_at
 returns c =
     let past : is_end c.statements.parser.left ≡ true = cc in
     is_done is_end (statement_at c.args.syntax)
-    (statements_fall c.args.syntax) c.statements.file c.statements.parser.left _ c.statements.invariant past
+    (statements_fall c.args.syntax) c.statements.file c.statements.parser _ c.statements.invariant past

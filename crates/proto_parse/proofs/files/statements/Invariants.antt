@@ -7,8 +7,8 @@ use Rattle.proto_parse.proofs.files.statements.Given as goal
 
 abbrev pub invariant-statements : goal.invariant-statements
 invariant-statements l =
-    until_at is_end (statement_at l.syntax) l.file l.parser.left
-    ≡ until_at is_end (statement_at l.syntax) empty_file l.initial.parser.left
+    until_at is_end (statement_at l.syntax) l.file l.parser
+    ≡ until_at is_end (statement_at l.syntax) empty_file l.initial.parser
 
 abbrev pub decreases-statements : goal.decreases-statements
 decreases-statements l = length l.parser.left

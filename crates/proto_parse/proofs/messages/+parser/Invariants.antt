@@ -56,8 +56,8 @@ decreases-message_item l = 13 * l.levels + 9
 
 abbrev pub invariant-items-items : goal.invariant-items-items
 invariant-items-items l =
-    until_at closes (adding (item_at l.within l.syntax (inside_at l.syntax l.levels))) l.items.items l.parser.left
-    ≡ until_at closes (adding (item_at l.within l.syntax (inside_at l.syntax l.levels))) [] l.initial.parser.left
+    until_at closes (adding (item_at l.within l.syntax (inside_at l.syntax l.levels))) l.items.items l.parser
+    ≡ until_at closes (adding (item_at l.within l.syntax (inside_at l.syntax l.levels))) [] l.initial.parser
 
 abbrev pub decreases-items-items : goal.decreases-items-items
 decreases-items-items l = length l.parser.left

@@ -2,19 +2,24 @@ use Rattle.std.proofs.Common.{◌≡◌, ap}
 use Rattle.proto_grammar.specs.Lexeme.{Place, lexemes_of}
 use Rattle.proto_parse.proofs.Found.Files.{file_of_found, file_of_skipped}
 use Rattle.proto_parse.proofs.Exact.Files.{file_of_exact}
+use Rattle.proto_parse.proofs.Standing.Files.{file_of_right}
 use Rattle.proto_parse.proofs.parsing.parse_with.Goals as goal
 
 pub returns-clause-found : goal.returns-clause-found
 returns-clause-found c =
     let left : c.new.result.left ≡ lexemes_of c.args.tokens.now.text c.args.tokens.now.tokens =
     ap (λ (place : Place). place.left) c.new.ensures in
-    rw (← left) (file_of_found c.args.dialect c.new.result.left c.file.new.parser.left _ c.file.ensures)
+    rw (← left) (file_of_found c.args.dialect c.new.result c.file.new.parser _ c.file.ensures)
 
 pub returns-clause-only : goal.returns-clause-only
 returns-clause-only c =
     let left : c.new.result.left ≡ lexemes_of c.args.tokens.now.text c.args.tokens.now.tokens =
     ap (λ (place : Place). place.left) c.new.ensures in
-    rw (← left) (file_of_exact c.args.dialect c.new.result.left c.file.new.parser.left _ c.file.ensures)
+    rw (← left) (file_of_exact c.args.dialect c.new.result c.file.new.parser _ c.file.ensures)
 
 pub returns-clause-skipped : goal.returns-clause-skipped
-returns-clause-skipped c = file_of_skipped c.args.dialect c.new.result.left c.file.new.parser.left _ c.file.ensures
+returns-clause-skipped c = file_of_skipped c.args.dialect c.new.result c.file.new.parser _ c.file.ensures
+
+pub returns-clause-fault : goal.returns-clause-fault
+returns-clause-fault c =
+    rw (← c.new.ensures) (file_of_right c.args.dialect c.new.result c.file.new.parser _ c.file.ensures)

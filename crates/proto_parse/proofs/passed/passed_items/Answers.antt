@@ -8,13 +8,13 @@ use Rattle.proto_parse.proofs.StepsFall.{passed_items_fall}
 use Rattle.proto_parse.proofs.passed.passed_items.Goals as goal
 
 pub items-smaller : goal.items-smaller
-items-smaller c = passed_items_fall tt c.items.parser.left (tt, c.passed_item.new.parser.left)
+items-smaller c = passed_items_fall tt c.items.parser (tt, c.passed_item.new.parser)
     c.in_ok-passed_item.ensures
 
 pub items-preserved : goal.items-preserved
 items-preserved c =
     let further : closes c.items.parser.left ≡ false = cc in
-    goes_on closes (passing passed_item_at) passed_items_fall tt tt c.items.parser.left c.passed_item.new.parser.left _
+    goes_on closes (passing passed_item_at) passed_items_fall tt tt c.items.parser c.passed_item.new.parser _
     c.items.invariant further c.in_ok-passed_item.ensures
 
 pub returns-in_err-passed_item : goal.returns-in_err-passed_item
@@ -23,12 +23,12 @@ returns-in_err-passed_item c =
     let further : closes c.items.parser.left ≡ false = cc in
     let p = err_from_is_err_and c.from_residual.result c.from_residual.ensures.1 in
     rw (p.1, p.2)
-    (Fails-of _ _ (passing passed_item_at tt c.items.parser.left) _
-    (stops closes (passing passed_item_at) passed_items_fall tt c.items.parser.left _ c.items.invariant further)
+    (Fails-of _ _ (passing passed_item_at tt c.items.parser) _
+    (stops closes (passing passed_item_at) passed_items_fall tt c.items.parser _ c.items.invariant further)
     c.in_err-passed_item.ensures)
 
 pub returns : goal.returns
 unfolding passed_items_at
 returns c =
     let past : closes c.items.parser.left ≡ true = cc in
-    is_done closes (passing passed_item_at) passed_items_fall tt c.items.parser.left _ c.items.invariant past
+    is_done closes (passing passed_item_at) passed_items_fall tt c.items.parser _ c.items.invariant past

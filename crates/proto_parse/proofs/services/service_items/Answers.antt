@@ -3,25 +3,25 @@ use Rattle.std.proofs.lemmas.Result.{err_from_is_err_and}
 use Rattle.proto_grammar.specs.Terminal.{closes}
 use Rattle.proto_grammar.specs.Reading.Repetition.{adding}
 use Rattle.proto_parse.specs.Reading.Services.{service_item_at, service_items_at}
-use Rattle.proto_grammar.proofs.UntilLemmas.{Fails-of, goes_on, is_done, stops, adding-step, adding-none}
+use Rattle.proto_grammar.proofs.UntilLemmas.{Fails-of, goes_on, is_done, stops, adding-step, adding-stops}
 use Rattle.proto_parse.proofs.StepsFall.{service_items_fall}
 use Rattle.proto_parse.proofs.services.service_items.Goals as goal
 
 pub items-smaller : goal.items-smaller
-items-smaller c = service_items_fall c.args.custom c.items.methods c.items.parser.left
-    (_, c.service_item.new.parser.left)
-    (adding-step (service_item_at c.args.custom) c.items.methods c.in_ok-item.item c.items.parser.left
-    c.service_item.new.parser.left c.in_ok-item.ensures)
+items-smaller c = service_items_fall c.args.custom c.items.methods c.items.parser
+    (_, c.service_item.new.parser)
+    (adding-step (service_item_at c.args.custom) c.items.methods c.in_ok-item.item c.items.parser
+    c.service_item.new.parser c.in_ok-item.ensures)
 
 pub items-preserved : goal.items-preserved
 items-preserved c =
     let further : closes c.items.parser.left ≡ false = cc in
     rw c.in_ok-keep.ensures
     (goes_on closes (adding (service_item_at c.args.custom))
-    (service_items_fall c.args.custom) c.items.methods _ c.items.parser.left c.service_item.new.parser.left _
+    (service_items_fall c.args.custom) c.items.methods _ c.items.parser c.service_item.new.parser _
     c.items.invariant further
-    (adding-step (service_item_at c.args.custom) c.items.methods c.in_ok-item.item c.items.parser.left
-    c.service_item.new.parser.left c.in_ok-item.ensures))
+    (adding-step (service_item_at c.args.custom) c.items.methods c.in_ok-item.item c.items.parser
+    c.service_item.new.parser c.in_ok-item.ensures))
 
 pub returns-in_err-item : goal.returns-in_err-item
 unfolding service_items_at
@@ -29,14 +29,14 @@ returns-in_err-item c =
     let further : closes c.items.parser.left ≡ false = cc in
     let p = err_from_is_err_and c.from_residual.result c.from_residual.ensures.1 in
     rw (p.1, p.2)
-    (Fails-of _ _ ((service_item_at c.args.custom) c.items.parser.left) _
-    (λ none. stops closes (adding (service_item_at c.args.custom))
-    (service_items_fall c.args.custom) c.items.methods c.items.parser.left _ c.items.invariant further
-    (adding-none (service_item_at c.args.custom) c.items.methods c.items.parser.left none)) c.in_err-item.ensures)
+    (Fails-of _ _ ((service_item_at c.args.custom) c.items.parser) _
+    (λ fault none. stops closes (adding (service_item_at c.args.custom))
+    (service_items_fall c.args.custom) c.items.methods c.items.parser _ c.items.invariant further fault
+    (adding-stops (service_item_at c.args.custom) c.items.methods c.items.parser fault none)) c.in_err-item.ensures)
 
 pub returns : goal.returns
 unfolding service_items_at
 returns c =
     let past : closes c.items.parser.left ≡ true = cc in
     is_done closes (adding (service_item_at c.args.custom))
-    (service_items_fall c.args.custom) c.items.methods c.items.parser.left _ c.items.invariant past
+    (service_items_fall c.args.custom) c.items.methods c.items.parser _ c.items.invariant past

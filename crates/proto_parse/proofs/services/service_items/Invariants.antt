@@ -5,8 +5,8 @@ use Rattle.proto_parse.specs.Reading.Services.{service_item_at}
 use Rattle.proto_parse.proofs.services.service_items.Given as goal
 
 abbrev pub invariant-items : goal.invariant-items
-invariant-items l = until_at closes (adding (service_item_at l.custom)) l.methods l.parser.left
-    ≡ until_at closes (adding (service_item_at l.custom)) [] l.initial.parser.left
+invariant-items l = until_at closes (adding (service_item_at l.custom)) l.methods l.parser
+    ≡ until_at closes (adding (service_item_at l.custom)) [] l.initial.parser
 
 abbrev pub decreases-items : goal.decreases-items
 decreases-items l = length l.parser.left

@@ -1,5 +1,5 @@
 use Rattle.std.proofs.Common.{◌≡◌, Some, length, codes, option_map}
-use Rattle.proto_parse.specs.Reading.Syntax.{is_left, joined_of, behind_literals}
+use Rattle.proto_parse.specs.Reading.Syntax.{is_left, joined_of, past_literals}
 use Rattle.proto_parse.proofs.syntax.version.Given as goal
 
 abbrev pub invariant-literals : goal.invariant-literals
@@ -8,7 +8,7 @@ invariant-literals l = record {
       ≡ is_left (Some (codes "proto3")) (joined_of l.initial.parser.left);
   proto2 : is_left (option_map (λ t. t.now) l.proto2) (joined_of l.parser.left)
       ≡ is_left (Some (codes "proto2")) (joined_of l.initial.parser.left);
-  behind : behind_literals l.parser.left ≡ behind_literals l.initial.parser.left;
+  behind : past_literals l.parser ≡ past_literals l.initial.parser;
 }
 
 abbrev pub decreases-literals : goal.decreases-literals

@@ -5,5 +5,5 @@ use Rattle.proto_grammar.proofs.parser.Parser.aggregate.Goals as goal
 pub closed-requires : goal.closed-requires
 closed-requires c =
     let shorter : length c.token.new.self.left < length c.args.self.now.left =
-    one_shorter (token_found c.args.self.now.left (_, c.token.new.self.left) c.in_ok-token.ensures) in
+    one_shorter (token_found c.args.self.now (_, c.token.new.self) c.in_ok-token.ensures) in
     omega (arith, c.left-left.ensures)

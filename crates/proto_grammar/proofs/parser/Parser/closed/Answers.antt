@@ -7,15 +7,15 @@ use Rattle.proto_grammar.proofs.ClosedLemmas.{deeper_shorter}
 use Rattle.proto_grammar.proofs.parser.Parser.closed.Goals as goal
 
 pub tokens-smaller : goal.tokens-smaller
-tokens-smaller c = deeper_shorter c.tokens.depth c.tokens.self.left _ _ c.in_ok-depth.ensures
+tokens-smaller c = deeper_shorter c.tokens.depth c.tokens.self _ _ c.in_ok-depth.ensures
 
 pub tokens-preserved : goal.tokens-preserved
 tokens-preserved c =
     let inside : 0 < c.tokens.depth = omega arith in
     record {
-      same = sym (closed_goes_on c.tokens.depth c.tokens.self.left _ _ inside c.in_ok-depth.ensures)
+      same = sym (closed_goes_on c.tokens.depth c.tokens.self _ _ inside c.in_ok-depth.ensures)
           ∙ c.tokens.invariant.same;
-      bounded = deeper_bounded c.tokens.depth c.tokens.self.left _ _ _ c.in_ok-depth.ensures c.tokens.invariant.bounded;
+      bounded = deeper_bounded c.tokens.depth c.tokens.self _ _ _ c.in_ok-depth.ensures c.tokens.invariant.bounded;
     }
 
 pub returns-in_err-depth : goal.returns-in_err-depth
@@ -23,11 +23,11 @@ returns-in_err-depth c =
     let inside : 0 < c.tokens.depth = omega arith in
     let p = err_from_is_err_and c.from_residual.result c.from_residual.ensures.1 in
     rw (p.1, p.2)
-    (Fails-of _ _ (deeper_at c.tokens.depth c.tokens.self.left) _
-    (λ none. sym c.tokens.invariant.same ∙ closed_stops c.tokens.depth c.tokens.self.left inside none)
+    (Fails-of _ _ (deeper_at c.tokens.depth c.tokens.self) _
+    (λ fault none. sym c.tokens.invariant.same ∙ closed_stops c.tokens.depth c.tokens.self inside fault none)
     c.in_err-depth.ensures)
 
 pub returns : goal.returns
 returns c =
     let nothing : c.tokens.depth ≡ 0 = omega arith in
-    sym c.tokens.invariant.same ∙ closed_is_done c.tokens.depth c.tokens.self.left nothing
+    sym c.tokens.invariant.same ∙ closed_is_done c.tokens.depth c.tokens.self nothing

@@ -4,7 +4,7 @@ use Rattle.proto_grammar.proofs.parser.Parser.closed.Given as goal
 
 abbrev pub invariant-tokens : goal.invariant-tokens
 invariant-tokens l = record {
-  same : closed_at l.depth l.self.left ≡ closed_at 1 l.initial.self.left;
+  same : closed_at l.depth l.self ≡ closed_at 1 l.initial.self;
   bounded : l.depth + length l.self.left ≤ l.left;
 }
 

@@ -9,15 +9,15 @@ use Rattle.proto_grammar.proofs.StepsFall.{comma_items_fall}
 use Rattle.proto_grammar.proofs.parser.Parser.comma_items.Goals as goal
 
 pub items-smaller : goal.items-smaller
-items-smaller c = comma_items_fall c.args.negative c.args.names tt c.items.self.left
-    (tt, c.comma_item.new.self.left) c.in_ok-comma_item.ensures
+items-smaller c = comma_items_fall c.args.negative c.args.names tt c.items.self
+    (tt, c.comma_item.new.self) c.in_ok-comma_item.ensures
 
 pub items-preserved : goal.items-preserved
 items-preserved c =
     let is : first_is (of_kind Comma) c.items.self.left ≡ true = cc in
     let further : not_next Comma c.items.self.left ≡ false = rw is refl in
     goes_on (not_next Comma) (passing (comma_item_at c.args.negative c.args.names))
-    (comma_items_fall c.args.negative c.args.names) tt tt c.items.self.left c.comma_item.new.self.left _
+    (comma_items_fall c.args.negative c.args.names) tt tt c.items.self c.comma_item.new.self _
     c.items.invariant
     further c.in_ok-comma_item.ensures
 
@@ -28,9 +28,9 @@ returns-in_err-comma_item c =
     let further : not_next Comma c.items.self.left ≡ false = rw is refl in
     let p = err_from_is_err_and c.from_residual.result c.from_residual.ensures.1 in
     rw (p.1, p.2)
-    (Fails-of _ _ (passing (comma_item_at c.args.negative c.args.names) tt c.items.self.left) _
+    (Fails-of _ _ (passing (comma_item_at c.args.negative c.args.names) tt c.items.self) _
     (stops (not_next Comma) (passing (comma_item_at c.args.negative c.args.names))
-    (comma_items_fall c.args.negative c.args.names) tt c.items.self.left _ c.items.invariant further)
+    (comma_items_fall c.args.negative c.args.names) tt c.items.self _ c.items.invariant further)
     c.in_err-comma_item.ensures)
 
 pub returns : goal.returns
@@ -39,4 +39,4 @@ returns c =
     let is : first_is (of_kind Comma) c.items.self.left ≡ false = cc in
     let past : not_next Comma c.items.self.left ≡ true = rw is refl in
     is_done (not_next Comma) (passing (comma_item_at c.args.negative c.args.names))
-    (comma_items_fall c.args.negative c.args.names) tt c.items.self.left _ c.items.invariant past
+    (comma_items_fall c.args.negative c.args.names) tt c.items.self _ c.items.invariant past

@@ -4,13 +4,13 @@ use Rattle.proto_lex.specs.declared.token.TokenKind.TheVariants.{Dot}
 use Rattle.proto_grammar.specs.Terminal.{first_is, of_kind, not_next}
 use Rattle.proto_grammar.specs.Reading.Repetition.{adding}
 use Rattle.proto_grammar.specs.Reading.Names.{dot_name_at, dot_names_at}
-use Rattle.proto_grammar.proofs.UntilLemmas.{Fails-of, goes_on, is_done, stops, adding-step, adding-none}
+use Rattle.proto_grammar.proofs.UntilLemmas.{Fails-of, goes_on, is_done, stops, adding-step, adding-stops}
 use Rattle.proto_grammar.proofs.StepsFall.{dot_names_fall}
 use Rattle.proto_grammar.proofs.parser.Parser.dot_names.Goals as goal
 
 pub names-smaller : goal.names-smaller
-names-smaller c = dot_names_fall c.names.components c.names.self.left (_, c.dot_name.new.self.left)
-    (adding-step dot_name_at c.names.components c.in_ok-name.name c.names.self.left c.dot_name.new.self.left
+names-smaller c = dot_names_fall c.names.components c.names.self (_, c.dot_name.new.self)
+    (adding-step dot_name_at c.names.components c.in_ok-name.name c.names.self c.dot_name.new.self
     c.in_ok-name.ensures)
 
 pub names-preserved : goal.names-preserved
@@ -18,10 +18,10 @@ names-preserved c =
     let is : first_is (of_kind Dot) c.names.self.left ≡ true = cc in
     let further : not_next Dot c.names.self.left ≡ false = rw is refl in
     rw c.in_ok-keep.ensures
-    (goes_on (not_next Dot) (adding dot_name_at) dot_names_fall c.names.components _ c.names.self.left
-    c.dot_name.new.self.left _
+    (goes_on (not_next Dot) (adding dot_name_at) dot_names_fall c.names.components _ c.names.self
+    c.dot_name.new.self _
     c.names.invariant further
-    (adding-step dot_name_at c.names.components c.in_ok-name.name c.names.self.left c.dot_name.new.self.left
+    (adding-step dot_name_at c.names.components c.in_ok-name.name c.names.self c.dot_name.new.self
     c.in_ok-name.ensures))
 
 pub returns-in_err-name : goal.returns-in_err-name
@@ -31,15 +31,15 @@ returns-in_err-name c =
     let further : not_next Dot c.names.self.left ≡ false = rw is refl in
     let p = err_from_is_err_and c.from_residual.result c.from_residual.ensures.1 in
     rw (p.1, p.2)
-    (Fails-of _ _ (dot_name_at c.names.self.left) _
-    (λ none. stops (not_next Dot)
-    (adding dot_name_at) dot_names_fall c.names.components c.names.self.left _ c.names.invariant further
-    (adding-none dot_name_at c.names.components c.names.self.left none)) c.in_err-name.ensures)
+    (Fails-of _ _ (dot_name_at c.names.self) _
+    (λ fault none. stops (not_next Dot)
+    (adding dot_name_at) dot_names_fall c.names.components c.names.self _ c.names.invariant further fault
+    (adding-stops dot_name_at c.names.components c.names.self fault none)) c.in_err-name.ensures)
 
 pub returns : goal.returns
 unfolding dot_names_at
 returns c =
     let is : first_is (of_kind Dot) c.names.self.left ≡ false = cc in
     let past : not_next Dot c.names.self.left ≡ true = rw is refl in
-    is_done (not_next Dot) (adding dot_name_at) dot_names_fall c.names.components c.names.self.left _ c.names.invariant
+    is_done (not_next Dot) (adding dot_name_at) dot_names_fall c.names.components c.names.self _ c.names.invariant
     past

@@ -6,8 +6,8 @@ use Rattle.proto_grammar.specs.Reading.Names.{dot_name_at}
 use Rattle.proto_grammar.proofs.parser.Parser.dot_names.Given as goal
 
 abbrev pub invariant-names : goal.invariant-names
-invariant-names l = until_at (not_next Dot) (adding dot_name_at) l.components l.self.left
-    ≡ until_at (not_next Dot) (adding dot_name_at) l.initial.components l.initial.self.left
+invariant-names l = until_at (not_next Dot) (adding dot_name_at) l.components l.self
+    ≡ until_at (not_next Dot) (adding dot_name_at) l.initial.components l.initial.self
 
 abbrev pub decreases-names : goal.decreases-names
 decreases-names l = length l.self.left

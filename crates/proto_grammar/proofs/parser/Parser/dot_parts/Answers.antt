@@ -9,7 +9,7 @@ use Rattle.proto_grammar.proofs.StepsFall.{dot_parts_fall}
 use Rattle.proto_grammar.proofs.parser.Parser.dot_parts.Goals as goal
 
 pub parts-smaller : goal.parts-smaller
-parts-smaller c = dot_parts_fall c.args.custom tt c.parts.self.left (tt, c.dot_part.new.self.left)
+parts-smaller c = dot_parts_fall c.args.custom tt c.parts.self (tt, c.dot_part.new.self)
     c.in_ok-dot_part.ensures
 
 pub parts-preserved : goal.parts-preserved
@@ -17,7 +17,7 @@ parts-preserved c =
     let is : first_is (of_kind Dot) c.parts.self.left ≡ true = cc in
     let further : not_next Dot c.parts.self.left ≡ false = rw is refl in
     goes_on (not_next Dot) (passing (dot_part_at c.args.custom))
-    (dot_parts_fall c.args.custom) tt tt c.parts.self.left c.dot_part.new.self.left _ c.parts.invariant further
+    (dot_parts_fall c.args.custom) tt tt c.parts.self c.dot_part.new.self _ c.parts.invariant further
     c.in_ok-dot_part.ensures
 
 pub returns-in_err-dot_part : goal.returns-in_err-dot_part
@@ -27,9 +27,9 @@ returns-in_err-dot_part c =
     let further : not_next Dot c.parts.self.left ≡ false = rw is refl in
     let p = err_from_is_err_and c.from_residual.result c.from_residual.ensures.1 in
     rw (p.1, p.2)
-    (Fails-of _ _ (passing (dot_part_at c.args.custom) tt c.parts.self.left) _
+    (Fails-of _ _ (passing (dot_part_at c.args.custom) tt c.parts.self) _
     (stops (not_next Dot) (passing (dot_part_at c.args.custom))
-    (dot_parts_fall c.args.custom) tt c.parts.self.left _ c.parts.invariant further) c.in_err-dot_part.ensures)
+    (dot_parts_fall c.args.custom) tt c.parts.self _ c.parts.invariant further) c.in_err-dot_part.ensures)
 
 pub returns : goal.returns
 unfolding dot_parts_at
@@ -37,4 +37,4 @@ returns c =
     let is : first_is (of_kind Dot) c.parts.self.left ≡ false = cc in
     let past : not_next Dot c.parts.self.left ≡ true = rw is refl in
     is_done (not_next Dot) (passing (dot_part_at c.args.custom))
-    (dot_parts_fall c.args.custom) tt c.parts.self.left _ c.parts.invariant past
+    (dot_parts_fall c.args.custom) tt c.parts.self _ c.parts.invariant past

@@ -6,8 +6,8 @@ use Rattle.proto_grammar.specs.Reading.Options.{dot_part_at}
 use Rattle.proto_grammar.proofs.parser.Parser.dot_parts.Given as goal
 
 abbrev pub invariant-parts : goal.invariant-parts
-invariant-parts l = until_at (not_next Dot) (passing (dot_part_at l.custom)) tt l.self.left
-    ≡ until_at (not_next Dot) (passing (dot_part_at l.custom)) tt l.initial.self.left
+invariant-parts l = until_at (not_next Dot) (passing (dot_part_at l.custom)) tt l.self
+    ≡ until_at (not_next Dot) (passing (dot_part_at l.custom)) tt l.initial.self
 
 abbrev pub decreases-parts : goal.decreases-parts
 decreases-parts l = length l.self.left

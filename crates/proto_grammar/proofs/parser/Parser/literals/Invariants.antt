@@ -6,8 +6,8 @@ use Rattle.proto_grammar.specs.Reading.Options.{literal_at}
 use Rattle.proto_grammar.proofs.parser.Parser.literals.Given as goal
 
 abbrev pub invariant-literals : goal.invariant-literals
-invariant-literals l = until_at (not_next StringLiteral) (passing literal_at) tt l.self.left
-    ≡ until_at (not_next StringLiteral) (passing literal_at) tt l.initial.self.left
+invariant-literals l = until_at (not_next StringLiteral) (passing literal_at) tt l.self
+    ≡ until_at (not_next StringLiteral) (passing literal_at) tt l.initial.self
 
 abbrev pub decreases-literals : goal.decreases-literals
 decreases-literals l = length l.self.left

@@ -6,8 +6,8 @@ use Rattle.proto_grammar.specs.Reading.Names.{pass_dot_name_at}
 use Rattle.proto_grammar.proofs.parser.Parser.pass_dot_names.Given as goal
 
 abbrev pub invariant-names : goal.invariant-names
-invariant-names l = until_at (not_next Dot) (passing pass_dot_name_at) tt l.self.left
-    ≡ until_at (not_next Dot) (passing pass_dot_name_at) tt l.initial.self.left
+invariant-names l = until_at (not_next Dot) (passing pass_dot_name_at) tt l.self
+    ≡ until_at (not_next Dot) (passing pass_dot_name_at) tt l.initial.self
 
 abbrev pub decreases-names : goal.decreases-names
 decreases-names l = length l.self.left

@@ -159,13 +159,13 @@ ranges_at syntax tokens =
 
 abbrev pub message_item_by : MessageStatement → Syntax → Inside → Read (Option Item)
 message_item_by chosen.Empty syntax inner tokens = token_that (of_kind Semicolon) tokens >>= λ x. Ok (None, x.1)
-message_item_by chosen.Message syntax inner tokens = message_at inner tokens >>= λ x. Ok (Ok (Block x.0), x.1)
+message_item_by chosen.Message syntax inner tokens = message_at inner tokens >>= λ x. Ok (Some (Block x.0), x.1)
 message_item_by chosen.Enum syntax inner tokens =
-    enum_at (custom_of syntax) tokens >>= λ x. Ok (Ok (Leaf (leaf.Enum x.0)), x.1)
+    enum_at (custom_of syntax) tokens >>= λ x. Ok (Some (Leaf (leaf.Enum x.0)), x.1)
 message_item_by chosen.Option syntax inner tokens = option_at (custom_of syntax) tokens >>= λ x. Ok (None, x.1)
-message_item_by chosen.Oneof syntax inner tokens = oneof_at syntax inner tokens >>= λ x. Ok (Ok (Block x.0), x.1)
+message_item_by chosen.Oneof syntax inner tokens = oneof_at syntax inner tokens >>= λ x. Ok (Some (Block x.0), x.1)
 message_item_by chosen.Map syntax inner tokens =
-    map_field_at (custom_of syntax) tokens >>= λ x. Ok (Ok (Leaf (leaf.MapField x.0)), x.1)
+    map_field_at (custom_of syntax) tokens >>= λ x. Ok (Some (Leaf (leaf.MapField x.0)), x.1)
 message_item_by chosen.Reserved syntax inner tokens = reserved_at false tokens >>= λ x. Ok (None, x.1)
 message_item_by chosen.Extend syntax inner tokens =
     extend_statement_at syntax inner tokens >>= λ x. Ok (option_map Block x.0, x.1)

@@ -220,7 +220,7 @@ package_found tokens x e =
 -- nothing where there is none
 no_some : {A : Type 0} (o : Option A) → is_some o ≡ false → o ≡ None
 no_some None e = refl
-no_some (Ok x) e = cc
+no_some (Some x) e = cc
 
 statement_by_found : (syntax : Syntax) (f : File) (tokens : Place) (x : File × Place)
     (statement : FileStatement) → file_statement_of tokens.left ≡ statement

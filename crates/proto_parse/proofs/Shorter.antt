@@ -278,7 +278,8 @@ import_shorter (import k i l u s) =
 package_shorter : {a b : List Lexeme} {x : List Span} → IsPackage a x b → length b < length a
 package_shorter (package_statement k n s) = omega (arith, one_shorter k, name_shorter n, one_shorter s)
 
-pub statement_shorter : (syntax : Syntax) (f g : File) (a b : List Lexeme) → IsStatement syntax f a g b
+pub statement_shorter : (syntax : Syntax) (f g : File) (a b : List Lexeme)
+    → IsStatement max_message_depth syntax f a g b
     → length b < length a
 statement_shorter syntax f g a b (statements-empty is s) = one_shorter s
 statement_shorter syntax f g a b (statements-import is i) = import_shorter i

@@ -68,7 +68,7 @@ use Rattle.proto_parse.specs.Grammar.Files.IsStatement.{package_statement as sta
 use Rattle.proto_parse.specs.Grammar.Files.IsStatement.{option as statements-option, message as statements-message}
 use Rattle.proto_parse.specs.Grammar.Files.IsStatement.{enum as statements-enum, service as statements-service}
 use Rattle.proto_parse.specs.Grammar.Files.IsStatement.{extend as statements-extend}
-use Rattle.proto_parse.specs.Grammar.Files.IsFile.{file}
+use Rattle.proto_parse.specs.Grammar.Files.IsFileWithin.{file}
 
 -- repetition
 until_wide : {S : Type 0} {ends : List Lexeme → Bool} {Step Wide : S → List Lexeme → S → List Lexeme → Type 0}
@@ -211,7 +211,8 @@ service_wide : {a b : List Lexeme} {x : Service} → IsService Refuse a x b → 
 service_wide (service h u c) = service h (until_wide (adds_wide service_item_wide) u) c
 
 -- files
-statement_wide : (f g : File) (a b : List Lexeme) → IsStatement (Proto3 Refuse) f a g b → IsStatement Extended f a g b
+statement_wide : (f g : File) (a b : List Lexeme) → IsStatement max_message_depth (Proto3 Refuse) f a g b
+    → IsStatement max_message_depth Extended f a g b
 statement_wide f g a b (statements-empty is s) = statements-empty is s
 statement_wide f g a b (statements-import is i) = statements-import is i
 statement_wide f g a b (statements-package_statement is none_yet p) = statements-package_statement is none_yet p

@@ -38,7 +38,7 @@ use Rattle.proto_parse.specs.Grammar.Files.IsStatement.{package_statement as sta
 use Rattle.proto_parse.specs.Grammar.Files.IsStatement.{option as statements-option, message as statements-message}
 use Rattle.proto_parse.specs.Grammar.Files.IsStatement.{enum as statements-enum, service as statements-service}
 use Rattle.proto_parse.specs.Grammar.Files.IsStatement.{extend as statements-extend}
-use Rattle.proto_parse.specs.Grammar.Files.IsFile.{file}
+use Rattle.proto_parse.specs.Grammar.Files.IsFileWithin.{file}
 use Rattle.proto_grammar.specs.Reading.Repetition.{adding}
 use Rattle.proto_parse.specs.Reading.Messages.{inside_at}
 use Rattle.proto_parse.specs.Reading.Syntax.{syntax_by, version_at, syntax_statement_at, syntax_at}
@@ -135,7 +135,7 @@ module _ (end : ℕ) where
   by_choice syntax f g a b statement is read = subst
       (λ s. statement_by s syntax f (place_of end a) ≡ Ok (g, place_of end b)) (sym is) read
 
-  statement_exact : (syntax : Syntax) (f g : File) (a b : List Lexeme) → IsStatement syntax f a g b
+  statement_exact : (syntax : Syntax) (f g : File) (a b : List Lexeme) → IsStatement max_message_depth syntax f a g b
       → statement_at syntax f (place_of end a) ≡ Ok (g, place_of end b)
   unfolding only_package_at
   statement_exact syntax f g a b (statements-empty is s) = by_choice syntax f g a b _ is (rw (token_exact end s) refl)
@@ -161,7 +161,8 @@ module _ (end : ℕ) where
   unfolding file_at statements_at
   file_exact {dialect} {a} {x} (file {c = c} {syntax = syntax} s u) =
       let read : file_at dialect (place_of end a) ≡ Ok (x, place_of end c) =
-      rw (syntax_exact s) (until_at-exact end is_end (statement_at syntax) (IsStatement syntax) (statements_fall syntax)
+      rw (syntax_exact s) (until_at-exact end is_end (statement_at syntax) (IsStatement max_message_depth syntax)
+      (statements_fall syntax)
       (statement_exact syntax) u) in
       (c, read)
 

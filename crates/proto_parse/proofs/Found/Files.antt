@@ -42,7 +42,7 @@ use Rattle.proto_parse.specs.Grammar.Files.IsStatement.{package_statement as sta
 use Rattle.proto_parse.specs.Grammar.Files.IsStatement.{option as statements-option, message as statements-message}
 use Rattle.proto_parse.specs.Grammar.Files.IsStatement.{enum as statements-enum, service as statements-service}
 use Rattle.proto_parse.specs.Grammar.Files.IsStatement.{extend as statements-extend}
-use Rattle.proto_parse.specs.Grammar.Files.IsFile.{file}
+use Rattle.proto_parse.specs.Grammar.Files.IsFileWithin.{file}
 use Rattle.proto_grammar.specs.Reading.Repetition.{token_that, adding, until_at}
 use Rattle.proto_grammar.specs.Reading.Names.{name_at}
 use Rattle.proto_grammar.specs.Reading.Options.{option_at}
@@ -224,48 +224,48 @@ no_some (Ok x) e = cc
 
 statement_by_found : (syntax : Syntax) (f : File) (tokens : Place) (x : File × Place)
     (statement : FileStatement) → file_statement_of tokens.left ≡ statement
-    → statement_by statement syntax f tokens ≡ Ok x → IsStatement syntax f tokens.left x.0 x.1.left
+    → statement_by statement syntax f tokens ≡ Ok x → IsStatement max_message_depth syntax f tokens.left x.0 x.1.left
 unfolding only_package_at
 statement_by_found syntax f tokens x choice.Empty is e =
     let m = bind_ok (token_that (of_kind Semicolon) tokens) _ x e in
-    subst (λ (y : File × Place). IsStatement syntax f tokens.left y.0 y.1.left) (same_ok _ x m.2)
+    subst (λ (y : File × Place). IsStatement max_message_depth syntax f tokens.left y.0 y.1.left) (same_ok _ x m.2)
     (statements-empty is (token_found _ _ m.1))
 statement_by_found syntax f tokens x choice.Import is e =
     let m = bind_ok (import_at tokens) _ x e in
-    subst (λ (y : File × Place). IsStatement syntax f tokens.left y.0 y.1.left) (same_ok _ x m.2)
+    subst (λ (y : File × Place). IsStatement max_message_depth syntax f tokens.left y.0 y.1.left) (same_ok _ x m.2)
     (statements-import is (import_found _ _ m.1))
 statement_by_found syntax f tokens x choice.Package is e =
     let k = kept_ok (is_some f.package_name) _ _ x e in
     let m = bind_ok (package_at tokens) _ x k.1 in
-    subst (λ (y : File × Place). IsStatement syntax f tokens.left y.0 y.1.left) (same_ok _ x m.2)
+    subst (λ (y : File × Place). IsStatement max_message_depth syntax f tokens.left y.0 y.1.left) (same_ok _ x m.2)
     (statements-package_statement is (no_some f.package_name k.0) (package_found _ _ m.1))
 statement_by_found syntax f tokens x choice.Option is e =
     let m = bind_ok (option_at (custom_of syntax) tokens) _ x e in
-    subst (λ (y : File × Place). IsStatement syntax f tokens.left y.0 y.1.left) (same_ok _ x m.2)
+    subst (λ (y : File × Place). IsStatement max_message_depth syntax f tokens.left y.0 y.1.left) (same_ok _ x m.2)
     (statements-option is (option_found (custom_of syntax) _ _ m.1))
 statement_by_found syntax f tokens x choice.Message is e =
     let m = bind_ok (message_at (inside_at syntax max_message_depth) tokens) _ x e in
-    subst (λ (y : File × Place). IsStatement syntax f tokens.left y.0 y.1.left) (same_ok _ x m.2)
+    subst (λ (y : File × Place). IsStatement max_message_depth syntax f tokens.left y.0 y.1.left) (same_ok _ x m.2)
     (statements-message m.0.0 is (message_found (inside_at syntax max_message_depth) (IsInside syntax max_message_depth)
     (inside_found syntax max_message_depth) _ _ m.1))
 statement_by_found syntax f tokens x choice.Enum is e =
     let m = bind_ok (enum_at (custom_of syntax) tokens) _ x e in
-    subst (λ (y : File × Place). IsStatement syntax f tokens.left y.0 y.1.left) (same_ok _ x m.2)
+    subst (λ (y : File × Place). IsStatement max_message_depth syntax f tokens.left y.0 y.1.left) (same_ok _ x m.2)
     (statements-enum is (enum_found (custom_of syntax) _ _ m.1))
 statement_by_found syntax f tokens x choice.Service is e =
     let m = bind_ok (service_at (custom_of syntax) tokens) _ x e in
-    subst (λ (y : File × Place). IsStatement syntax f tokens.left y.0 y.1.left) (same_ok _ x m.2)
+    subst (λ (y : File × Place). IsStatement max_message_depth syntax f tokens.left y.0 y.1.left) (same_ok _ x m.2)
     (statements-service is (service_found (custom_of syntax) _ _ m.1))
 statement_by_found syntax f tokens x choice.Extend is e =
     let m = bind_ok (extend_statement_at syntax (inside_at syntax max_message_depth) tokens) _ x e in
-    subst (λ (y : File × Place). IsStatement syntax f tokens.left y.0 y.1.left) (same_ok _ x m.2)
+    subst (λ (y : File × Place). IsStatement max_message_depth syntax f tokens.left y.0 y.1.left) (same_ok _ x m.2)
     (statements-extend is (extend_statement_found syntax (inside_at syntax max_message_depth)
     (IsInside syntax max_message_depth) (inside_found syntax max_message_depth) _ _ m.1))
 statement_by_found syntax f tokens x choice.Other is e =
     absurd (let no : Err (Grammar (offset_at tokens)) ≡ read_as x = e in cc)
 
 pub statement_found : (syntax : Syntax) (f : File) (tokens : Place) (x : File × Place)
-    → statement_at syntax f tokens ≡ Ok x → IsStatement syntax f tokens.left x.0 x.1.left
+    → statement_at syntax f tokens ≡ Ok x → IsStatement max_message_depth syntax f tokens.left x.0 x.1.left
 unfolding statement_at
 statement_found syntax f tokens x e = statement_by_found syntax f tokens x (file_statement_of tokens.left) refl e
 
@@ -275,7 +275,7 @@ unfolding file_at statements_at
 file_found dialect tokens x e =
     let s = bind_ok (syntax_at dialect tokens) _ x e in
     file (syntax_found dialect _ _ s.1)
-    (until_at-found is_end (statement_at s.0.0) (IsStatement s.0.0)
+    (until_at-found is_end (statement_at s.0.0) (IsStatement max_message_depth s.0.0)
     (statement_found s.0.0) empty_file s.0.1 x s.2)
 
 -- of what the parser gives

@@ -16,3 +16,5 @@ pub mod Filled
 pub mod Widened
 -- Where faults are
 pub mod Standing
+-- Which fault tokens have
+pub mod RefusedLemmas

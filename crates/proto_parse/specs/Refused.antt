@@ -1,6 +1,6 @@
 -- Why tokens derive no tree: which fault they have, and at which token. No reading is spoken of: the fault is at the
 -- first token with which what is in front of it can't be finished to a file any more.
-use Rattle.std.specs.Prelude.{◌≡◌, ℕ, suc, Bool, true, false, ◌||◌, is_some, List, [], ◌∷◌, ◌++◌, codes}
+use Rattle.std.specs.Prelude.{◌≡◌, ℕ, suc, Bool, true, false, cond, ◌||◌, is_some, List, [], ◌∷◌, ◌++◌, codes}
 use Rattle.proto_lex.specs.declared.token.TokenKind.TheVariants.{StringLiteral, Equals, OpenBrace, OpenParenthesis, Dot}
 use Rattle.proto_grammar.specs.declared.fault.SyntaxFault.{SyntaxFault}
 use Rattle.proto_grammar.specs.declared.fault.SyntaxFault.TheVariants.{NotProto3, CustomOption, Aggregate, Extend}
@@ -15,9 +15,10 @@ use Rattle.proto_grammar.specs.Terminal.{first_is, of_kind, is_word, is_plain_li
 use Rattle.proto_parse.specs.Limits.{max_message_depth}
 use Rattle.proto_parse.specs.Grammar.Files.{SpellsJoined, IsFileWithin, IsFile}
 
--- The front can be finished: some tokens behind it make a file, in which at most `levels` messages and groups are inside
--- one another. If no `.` is next in the text, it can be finished without one next: only a `.` can come after a scalar
--- word as the type of a method, or of an extend that is kept. So such a word is itself at fault if no `.` follows.
+-- The front can be finished: some tokens behind it make a file, in which at most `levels` messages and groups are
+-- inside one another. If no `.` is next in the text, it can be finished without one next: only a `.` can come after a
+-- scalar word as the type of a method, or of an extend that is kept. So such a word is itself at fault if no `.`
+-- follows.
 pub record GoesOn (levels : ℕ) (dialect : Dialect) (front behind : List Lexeme) : Type 0 where
   pub more : List Lexeme
   pub tree : File
@@ -51,14 +52,14 @@ abbrev pub is_label : Lexeme → Bool
 is_label t =
     is_word (codes "repeated") t || (is_word (codes "optional") t || is_word (codes "required") t)
 
-abbrev pub ends_in_label : List Lexeme → Bool
-ends_in_label [] = false
-ends_in_label (t ∷ []) = is_label t
-ends_in_label (t ∷ (u ∷ rest)) = ends_in_label (u ∷ rest)
+-- Where a group begins that has its word at `t`: at the label in front of it, if there is one.
+abbrev pub group_start : List Lexeme → Lexeme → ℕ
+group_start [] t = t.span.start
+group_start (l ∷ []) t = cond (is_label l) l.span.start t.span.start
+group_start (l ∷ (u ∷ rest)) t = group_start (u ∷ rest) t
 
 -- What would go on with the wrong token if more were accepted: custom options; a second package; in an import a literal
--- with a `\`, for which one without stands; a level more. A group is told at its first token, which is its label if it
--- has one.
+-- with a `\`, for which one without stands; a level more. A group is told at its first token.
 pub data WouldGoOn (dialect : Dialect) (front : List Lexeme) (t : Lexeme) (behind : List Lexeme) : SyntaxFault → Type 0
   where
     custom_option : dialect ≡ Proto3 Refuse → of_kind OpenParenthesis t ≡ true
@@ -78,13 +79,9 @@ pub data WouldGoOn (dialect : Dialect) (front : List Lexeme) (t : Lexeme) (behin
     too_deep : is_word (codes "message") t ≡ true
         → GoesOn (suc max_message_depth) dialect (front ++ t ∷ []) behind
         → WouldGoOn dialect front t behind (TooDeep t.span.start)
-    group_too_deep : is_word (codes "group") t ≡ true → ends_in_label front ≡ false
+    group_too_deep : is_word (codes "group") t ≡ true
         → GoesOn (suc max_message_depth) dialect (front ++ t ∷ []) behind
-        → WouldGoOn dialect front t behind (TooDeep t.span.start)
-    labelled_too_deep : {before : List Lexeme} {label : Lexeme} → is_word (codes "group") t ≡ true
-        → front ≡ before ++ label ∷ [] → is_label label ≡ true
-        → GoesOn (suc max_message_depth) dialect (front ++ t ∷ []) behind
-        → WouldGoOn dialect front t behind (TooDeep label.span.start)
+        → WouldGoOn dialect front t behind (TooDeep (group_start front t))
 
 -- The tokens of a text that ends at `end` have the fault. That no version is named goes before all others.
 pub data IsRefused (dialect : Dialect) (tokens : List Lexeme) (end : ℕ) : SyntaxFault → Type 0 where

@@ -10,7 +10,6 @@ use Rattle.proto_grammar.specs.Lexeme.{Lexeme}
 use Rattle.proto_grammar.specs.Terminal.{first, first_is, of_kind, is_word, is_scalar, is_key, is_sign, is_numeral}
 use Rattle.proto_grammar.specs.Terminal.{is_number, is_group_name, is_plain_literal}
 use Rattle.proto_grammar.specs.Reading.Options.{depth_behind}
-
 pub mod Reads
 pub mod Finishing
 pub mod Wide

@@ -2,24 +2,28 @@
 use Rattle.std.proofs.Common.{◌≡◌, ℕ, zero, suc, ◌<◌, ◌≤◌, ◌==◌, Bool, true, false, cond, ◌&&◌, not, Result, Ok, Err}
 use Rattle.std.proofs.Common.{List, [], ◌∷◌, ◌++◌, length, refl, sym, ◌∙◌, ap, subst, append_assoc, arith, codes}
 use Rattle.proto_lex.specs.declared.span.Span.{Span}
-use Rattle.proto_lex.specs.declared.token.TokenKind.TheVariants.{StringLiteral, CloseBrace}
+use Rattle.proto_lex.specs.declared.token.TokenKind.TheVariants.{StringLiteral, CloseBrace, Dot}
 use Rattle.proto_grammar.specs.declared.fault.SyntaxFault.{SyntaxFault}
 use Rattle.proto_grammar.specs.declared.fault.SyntaxFault.TheVariants as fault
 use Rattle.proto_grammar.specs.Lexeme.{Lexeme, Place, place_of}
-use Rattle.proto_grammar.specs.Terminal.{first_is, of_kind, is_word, is_plain_literal, not_next, closes, offset_at, behind}
+use Rattle.proto_grammar.specs.Terminal.{first_is, of_kind, is_plain_literal, not_next, closes, offset_at}
+use Rattle.proto_grammar.specs.Terminal.{behind, others}
 use Rattle.proto_grammar.specs.Reading.Repetition.{and_then, Read, misplaced, token_that, plain_literal_at, until_at}
 use Rattle.proto_grammar.specs.Reading.Options.{depth_behind, closed_by, closed_at}
 use Rattle.proto_grammar.proofs.StandingLemmas.{Behind, behind_here, behind_one}
 use Rattle.proto_grammar.proofs.UntilLemmas.{Falls, until_at-step}
 use Rattle.proto_parse.specs.Refused.{is_label}
-use Rattle.proto_parse.proofs.Machine.{Test, test_of, passes, Refusal, Why, Step, Outcome, machine, all_ended}
+use Rattle.proto_parse.proofs.Machine.{Test, test_of, passes, Refusal, Why, Step, Outcome, machine, dots}
 use Rattle.proto_parse.proofs.Machine.{machine_done, machine_then, machine_token, machine_no_token, machine_if_true}
 use Rattle.proto_parse.proofs.Machine.{machine_if_false, machine_ban_true, machine_ban_false, machine_many_true}
-use Rattle.proto_parse.proofs.Machine.{machine_many_false, machine_block_true, machine_block_false}
+use Rattle.proto_parse.proofs.Machine.{machine_many_false, machine_block_true, machine_block_false, machine_lone_false}
+use Rattle.proto_parse.proofs.Machine.{machine_lone_dotted, machine_lone_alone, machine_fork_false}
+use Rattle.proto_parse.proofs.Machine.{machine_fork_dotted, machine_fork_alone}
 use Rattle.proto_parse.proofs.Machine.Test.{OfKind}
 use Rattle.proto_parse.proofs.Machine.Refusal.{CustomOptionNext, AggregateNext, ExtendNext, MessageNext, GroupNext}
 use Rattle.proto_parse.proofs.Machine.Refusal.{LabelledGroupNext, RangesNext, ScalarNext}
-use Rattle.proto_parse.proofs.Machine.Step.{Done, Token, Plain, Plains, Then, If, Ban, Many, Block, Closed}
+use Rattle.proto_parse.proofs.Machine.Step.{Done, Token, Plain, Plains, Then, If, Ban, Lone, Fork, Many, Block}
+use Rattle.proto_parse.proofs.Machine.Step.{Closed}
 use Rattle.proto_parse.proofs.Machine.Why.{Misplaced, Escaped, Refused}
 use Rattle.proto_parse.proofs.Machine.Outcome.{Whole, Missing, Stuck, Twice}
 
@@ -162,7 +166,7 @@ module _ (statement : Step) where
   fol_token test p = token_by test p.left p.end
 
   -- a token that is next, and what is behind it
-  token_then : (test : Test) (a : Step) (t : Lexeme) (rest : List Lexeme) (k : List Step) (seen : Bool)
+  pub token_then : (test : Test) (a : Step) (t : Lexeme) (rest : List Lexeme) (k : List Step) (seen : Bool)
       → passes test t ≡ true
       → machine statement (t ∷ rest) (Then (Token test) a ∷ k) seen ≡ machine statement rest (a ∷ k) seen
   token_then test a t rest k seen is =
@@ -195,7 +199,7 @@ module _ (statement : Step) where
   fol_further test a p r is fol = further_by test a p.left p.end r is fol
 
   -- choices
-  if_as : (test : Test) (a b : Step) (l : List Lexeme) (k : List Step) (seen : Bool) → first_is (passes test) l ≡ true
+  pub if_as : (test : Test) (a b : Step) (l : List Lexeme) (k : List Step) (seen : Bool) → first_is (passes test) l ≡ true
       → machine statement l (If test a b ∷ k) seen ≡ machine statement l (Then (Token test) a ∷ k) seen
   if_as test a b [] k seen is = absurd cc
   if_as test a b (t ∷ rest) k seen is =
@@ -212,6 +216,16 @@ module _ (statement : Step) where
           fol_as (If test a b) (Then (Token test) a) p x (λ k seen. if_as test a b p.left k seen is) (yes is)
       by_test false is =
           fol_as (If test a b) b p y (λ k seen. machine_if_false statement test p.left a b k seen is) (no is)
+
+  pub fol_if_true : {A : Type 0} (test : Test) (a b : Step) (p : Place) (r : Result (A × Place) SyntaxFault)
+      → first_is (passes test) p.left ≡ true → Fol (Then (Token test) a) p r → Fol (If test a b) p r
+  fol_if_true test a b p r is fol =
+      fol_as (If test a b) (Then (Token test) a) p r (λ k seen. if_as test a b p.left k seen is) fol
+
+  pub fol_if_false : {A : Type 0} (test : Test) (a b : Step) (p : Place) (r : Result (A × Place) SyntaxFault)
+      → first_is (passes test) p.left ≡ false → Fol b p r → Fol (If test a b) p r
+  fol_if_false test a b p r no fol =
+      fol_as (If test a b) b p r (λ k seen. machine_if_false statement test p.left a b k seen no) fol
 
   ban_stuck : (r : Refusal) (b : Step) (l : List Lexeme) (k : List Step) (seen : Bool)
       → first_is (passes (test_of r)) l ≡ true → machine statement l (Ban r b ∷ k) seen ≡ Stuck (Refused r) l
@@ -376,3 +390,109 @@ module _ (statement : Step) where
   pub fol_closed : (depth : ℕ) (p : Place) → Fol (Closed depth) p (closed_at depth p)
   unfolding closed_at
   fol_closed depth p = closed_by_fol depth p.left p.end
+
+  -- one of two results
+  pub fol_cond : {A : Type 0} (s : Step) (p : Place) (b : Bool) (x y : Result (A × Place) SyntaxFault)
+      → (b ≡ true → Fol s p x) → (b ≡ false → Fol s p y) → Fol s p (cond b x y)
+  fol_cond s p true x y yes no = yes refl
+  fol_cond s p false x y yes no = no refl
+
+  -- a chain whose first part is a chain
+  pub fol_rebind : {A B C : Type 0} (s : Step) (p : Place) (o : Result (A × Place) SyntaxFault)
+      (f : A × Place → Result (B × Place) SyntaxFault) (g : B × Place → Result (C × Place) SyntaxFault)
+      → Fol s p (and_then o (λ x. and_then (f x) g)) → Fol s p (and_then (and_then o f) g)
+  fol_rebind s p (Ok x) f g fol = fol
+  fol_rebind s p (Err fault) f g fol = fol
+
+  -- nothing is left of a step
+  pub fol_last : {A : Type 0} (a : Step) (p : Place) (r : Result (A × Place) SyntaxFault) → Fol a p r
+      → Fol (Then a Done) p r
+  fol_last a p r fol k seen =
+      subst (λ o. Agrees p k seen o r) (sym (machine_then statement p.left a Done k seen))
+      (by_result r (fol (Done ∷ k) seen))
+    where
+      by_result : (r : Result (A × Place) SyntaxFault)
+          → Agrees p (Done ∷ k) seen (machine statement p.left (a ∷ (Done ∷ k)) seen) r
+          → Agrees p k seen (machine statement p.left (a ∷ (Done ∷ k)) seen) r
+      by_result (Ok x) agrees = (agrees.0, agrees.1 ∙ machine_done statement x.1.left k seen)
+      by_result (Err fault) agrees = agrees
+
+  -- seen from a place further in front: a word that no `.` follows is refused, or what is behind it is read
+  pub fol_lone : {A : Type 0} (r : Refusal) (dotted b : Step) (p : Place) (left : List Lexeme) (end : ℕ)
+      (fault : SyntaxFault) (y : Result (A × Place) SyntaxFault) → Behind p (place_of end left)
+      → Tells p (Stuck (Refused r) left) fault → Fol b (place_of end left) y
+      → ((t : Lexeme) (rest : List Lexeme) (k : List Step) (seen : Bool) → passes (test_of r) t ≡ true
+      → machine statement (t ∷ rest) (b ∷ k) seen ≡ machine statement rest (dotted ∷ k) seen)
+      → (k : List Step) (seen : Bool) → Agrees p k seen (machine statement left (Lone r dotted b ∷ k) seen)
+      (cond (first_is (passes (test_of r)) left && not_next Dot (others left)) (Err fault) y)
+  fol_lone r dotted b p [] end fault y front tells fol same k seen =
+      subst (λ o. Agrees p k seen o y) (sym (machine_lone_false statement r [] dotted b k seen refl))
+      (agrees_behind p (place_of end []) k seen (machine statement [] (b ∷ k) seen) y front (fol k seen))
+  fol_lone {A} r dotted b p (t ∷ rest) end fault y front tells fol same k seen =
+      by_tests (passes (test_of r) t) (dots rest) refl refl
+    where
+      other : Agrees p k seen (machine statement (t ∷ rest) (b ∷ k) seen) y
+      other = agrees_behind p (place_of end (t ∷ rest)) k seen (machine statement (t ∷ rest) (b ∷ k) seen) y front
+          (fol k seen)
+
+      by_tests : (c d : Bool) → passes (test_of r) t ≡ c → dots rest ≡ d
+          → Agrees p k seen (machine statement (t ∷ rest) (Lone r dotted b ∷ k) seen) (cond (c && not d) (Err fault) y)
+      by_tests true true is dot =
+          subst (λ o. Agrees p k seen o y)
+          (same t rest k seen is ∙ sym (machine_lone_dotted statement r t rest dotted b k seen is dot)) other
+      by_tests true false is dot =
+          subst (λ o. Tells p o fault) (sym (machine_lone_alone statement r t rest dotted b k seen is dot)) tells
+      by_tests false d is dot =
+          subst (λ o. Agrees p k seen o y) (sym (machine_lone_false statement r (t ∷ rest) dotted b k seen is)) other
+
+  pub fol_fork : {A : Type 0} (word : Test) (a dotted b : Step) (left : List Lexeme) (end : ℕ)
+      (x y : Result (A × Place) SyntaxFault)
+      → (first_is (passes word) left ≡ true → Fol (Then (Token word) a) (place_of end left) x)
+      → Fol b (place_of end left) y
+      → ((t : Lexeme) (rest : List Lexeme) (k : List Step) (seen : Bool) → passes word t ≡ true
+      → machine statement (t ∷ rest) (b ∷ k) seen ≡ machine statement rest (dotted ∷ k) seen)
+      → Fol (Fork word a dotted b) (place_of end left)
+      (cond (first_is (passes word) left && not_next Dot (others left)) x y)
+  fol_fork word a dotted b [] end x y first fol same =
+      fol_as (Fork word a dotted b) b (place_of end []) y
+      (λ k seen. machine_fork_false statement word [] a dotted b k seen refl) fol
+  fol_fork {A} word a dotted b (t ∷ rest) end x y first fol same =
+      by_tests (passes word t) (dots rest) refl refl
+    where
+      by_tests : (c d : Bool) → passes word t ≡ c → dots rest ≡ d
+          → Fol (Fork word a dotted b) (place_of end (t ∷ rest)) (cond (c && not d) x y)
+      by_tests true true is dot =
+          fol_as (Fork word a dotted b) b (place_of end (t ∷ rest)) y
+          (λ k seen. machine_fork_dotted statement word t rest a dotted b k seen is dot ∙ sym (same t rest k seen is))
+          fol
+      by_tests true false is dot =
+          fol_as (Fork word a dotted b) (Then (Token word) a) (place_of end (t ∷ rest)) x
+          (λ k seen. machine_fork_alone statement word t rest a dotted b k seen is dot
+          ∙ sym (token_then word a t rest k seen is)) (first is)
+      by_tests false d is dot =
+          fol_as (Fork word a dotted b) b (place_of end (t ∷ rest)) y
+          (λ k seen. machine_fork_false statement word (t ∷ rest) a dotted b k seen is) fol
+
+  -- what is chosen
+  pub fol_choose : {A X : Type 0} (read : X → Result (A × Place) SyntaxFault) (test : Test) (a b : Step) (p : Place)
+      (x y : X) → (first_is (passes test) p.left ≡ true → Fol (Then (Token test) a) p (read x))
+      → (first_is (passes test) p.left ≡ false → Fol b p (read y))
+      → Fol (If test a b) p (read (cond (first_is (passes test) p.left) x y))
+  fol_choose {A} {X} read test a b p x y yes no = by_test (first_is (passes test) p.left) refl
+    where
+      by_test : (c : Bool) → first_is (passes test) p.left ≡ c → Fol (If test a b) p (read (cond c x y))
+      by_test true is = fol_if_true test a b p (read x) is (yes is)
+      by_test false is = fol_if_false test a b p (read y) is (no is)
+
+  pub fol_choose_ban : {A X : Type 0} (read : X → Result (A × Place) SyntaxFault) (r : Refusal) (b : Step) (p : Place)
+      (fault : SyntaxFault) (x y : X) → read x ≡ Err fault → Says (Refused r) [] p.left p.end fault
+      → (first_is (passes (test_of r)) p.left ≡ false → Fol b p (read y))
+      → Fol (Ban r b) p (read (cond (first_is (passes (test_of r)) p.left) x y))
+  fol_choose_ban {A} {X} read r b p fault x y stops says no = by_test (first_is (passes (test_of r)) p.left) refl
+    where
+      by_test : (c : Bool) → first_is (passes (test_of r)) p.left ≡ c → Fol (Ban r b) p (read (cond c x y))
+      by_test true is k seen =
+          subst (λ o. Agrees p k seen (machine statement p.left (Ban r b ∷ k) seen) o) (sym stops)
+          (subst (λ o. Tells p o fault) (sym (ban_stuck r b p.left k seen is)) ([], refl, says))
+      by_test false is =
+          fol_as (Ban r b) b p (read y) (λ k seen. machine_ban_false statement r p.left b k seen is) (no is)

@@ -1,5 +1,6 @@
 -- Where what is read leaves off, and where faults are: enums, messages, groups, oneofs and extends.
-use Rattle.std.proofs.Common.{◌≡◌, inl, ℕ, zero, suc, Bool, true, false, cond, ◌&&◌, ◌||◌, Ok, Option, Some, None, List, []}
+use Rattle.std.proofs.Common.{◌≡◌, inl, ℕ, zero, suc, Bool, true, false, cond, ◌&&◌, ◌||◌, Ok, Option, Some, None, List}
+use Rattle.std.proofs.Common.{[]}
 use Rattle.std.proofs.Common.{◌∷◌}
 use Rattle.std.proofs.Common.{refl, codes}
 use Rattle.proto_lex.specs.declared.span.Span.{Span}

@@ -23,3 +23,6 @@ pub mod Machine
 pub mod Parts
 -- Which fault tokens have
 pub mod RefusedLemmas
+-- The fault that is met is theirs
+pub mod Told
+pub mod Versions

@@ -221,7 +221,7 @@ module _ (statement : Step) where
 
   pub machine_no_token : (test : Test) (t : Lexeme) (rest : List Lexeme) (k : List Step) (seen : Bool)
       → passes test t ≡ false → machine (t ∷ rest) (Token test ∷ k) seen ≡ Stuck Misplaced (t ∷ rest)
-  machine_no_token test t rest k seen no = rw no refl
+  machine_no_token test t rest k seen off = rw off refl
 
   pub machine_if_true : (test : Test) (t : Lexeme) (rest : List Lexeme) (a b : Step) (k : List Step) (seen : Bool)
       → passes test t ≡ true → machine (t ∷ rest) (If test a b ∷ k) seen ≡ machine rest (a ∷ k) seen
@@ -229,8 +229,8 @@ module _ (statement : Step) where
 
   pub machine_if_false : (test : Test) (l : List Lexeme) (a b : Step) (k : List Step) (seen : Bool)
       → first_is (passes test) l ≡ false → machine l (If test a b ∷ k) seen ≡ machine l (b ∷ k) seen
-  machine_if_false test [] a b k seen no = refl
-  machine_if_false test (t ∷ rest) a b k seen no = rw no refl
+  machine_if_false test [] a b k seen off = refl
+  machine_if_false test (t ∷ rest) a b k seen off = rw off refl
 
   pub machine_ban_true : (r : Refusal) (t : Lexeme) (rest : List Lexeme) (b : Step) (k : List Step) (seen : Bool)
       → passes (test_of r) t ≡ true → machine (t ∷ rest) (Ban r b ∷ k) seen ≡ Stuck (Refused r) (t ∷ rest)
@@ -238,13 +238,13 @@ module _ (statement : Step) where
 
   pub machine_ban_false : (r : Refusal) (l : List Lexeme) (b : Step) (k : List Step) (seen : Bool)
       → first_is (passes (test_of r)) l ≡ false → machine l (Ban r b ∷ k) seen ≡ machine l (b ∷ k) seen
-  machine_ban_false r [] b k seen no = refl
-  machine_ban_false r (t ∷ rest) b k seen no = rw no refl
+  machine_ban_false r [] b k seen off = refl
+  machine_ban_false r (t ∷ rest) b k seen off = rw off refl
 
   pub machine_lone_false : (r : Refusal) (l : List Lexeme) (dotted b : Step) (k : List Step) (seen : Bool)
       → first_is (passes (test_of r)) l ≡ false → machine l (Lone r dotted b ∷ k) seen ≡ machine l (b ∷ k) seen
-  machine_lone_false r [] dotted b k seen no = refl
-  machine_lone_false r (t ∷ rest) dotted b k seen no = rw no refl
+  machine_lone_false r [] dotted b k seen off = refl
+  machine_lone_false r (t ∷ rest) dotted b k seen off = rw off refl
 
   pub machine_lone_dotted : (r : Refusal) (t : Lexeme) (rest : List Lexeme) (dotted b : Step) (k : List Step)
       (seen : Bool) → passes (test_of r) t ≡ true → dots rest ≡ true
@@ -258,8 +258,8 @@ module _ (statement : Step) where
 
   pub machine_fork_false : (word : Test) (l : List Lexeme) (alone dotted b : Step) (k : List Step) (seen : Bool)
       → first_is (passes word) l ≡ false → machine l (Fork word alone dotted b ∷ k) seen ≡ machine l (b ∷ k) seen
-  machine_fork_false word [] alone dotted b k seen no = refl
-  machine_fork_false word (t ∷ rest) alone dotted b k seen no = rw no refl
+  machine_fork_false word [] alone dotted b k seen off = refl
+  machine_fork_false word (t ∷ rest) alone dotted b k seen off = rw off refl
 
   pub machine_fork_dotted : (word : Test) (t : Lexeme) (rest : List Lexeme) (alone dotted b : Step) (k : List Step)
       (seen : Bool) → passes word t ≡ true → dots rest ≡ true
@@ -278,8 +278,8 @@ module _ (statement : Step) where
 
   pub machine_many_false : (test : Test) (l : List Lexeme) (a : Step) (k : List Step) (seen : Bool)
       → first_is (passes test) l ≡ false → machine l (Many test a ∷ k) seen ≡ machine l k seen
-  machine_many_false test [] a k seen no = refl
-  machine_many_false test (t ∷ rest) a k seen no = rw no refl
+  machine_many_false test [] a k seen off = refl
+  machine_many_false test (t ∷ rest) a k seen off = rw off refl
 
   pub machine_block_true : (l : List Lexeme) (a : Step) (k : List Step) (seen : Bool)
       → first_is (of_kind CloseBrace) l ≡ true → machine l (Block a ∷ k) seen ≡ machine l k seen
@@ -299,9 +299,9 @@ module _ (statement : Step) where
   pub machine_block_false : (l : List Lexeme) (a : Step) (k : List Step) (seen : Bool)
       → first_is (of_kind CloseBrace) l ≡ false
       → machine l (Block a ∷ k) seen ≡ machine l (a ∷ (Block a ∷ k)) seen
-  machine_block_false [] a k seen no = ap (λ e. cond e (Whole seen) Missing) (sym (no_block (ended a) (all_ended k)))
-  machine_block_false (t ∷ rest) a k seen no =
-      rw no (ap (λ f. going f (λ next now. machine rest next now) (t ∷ rest))
+  machine_block_false [] a k seen off = ap (λ e. cond e (Whole seen) Missing) (sym (no_block (ended a) (all_ended k)))
+  machine_block_false (t ∷ rest) a k seen off =
+      rw off (ap (λ f. going f (λ next now. machine rest next now) (t ∷ rest))
       (sym (block_fed (take_by a (Block a ∷ k) t (dots rest)) seen (feed k seen t (dots rest)))))
 
   pub machine_closed : (l : List Lexeme) (k : List Step) (seen : Bool)

@@ -120,7 +120,7 @@ version_once (other_version {keyword = k} is r l s x y) (edition p) e =
     ∙ other_word (codes "syntax") (codes "edition") k refl is in cc)
 
 -- what names a version doesn't name none
-version_named : {dialect : Dialect} {f a b : List Lexeme} {x : Syntax} → NamesNoVersion dialect f a
+pub version_named : {dialect : Dialect} {f a b : List Lexeme} {x : Syntax} → NamesNoVersion dialect f a
     → IsSyntax dialect (f ++ a) x b → ⊥
 version_named (no_statement p) (proto3 k q t s) = let no : true ≡ false = sym (one_next k) ∙ p in cc
 version_named (edition {a = a} p) (proto3 k q t s) =
@@ -137,7 +137,7 @@ version_named (other_version is r l spelled no3 no2) (no_syntax p q) = let no : 
 -- ---- kinds
 
 -- which fault it is, by the token
-kind_of : List Lexeme → Lexeme → SyntaxFault
+abbrev kind_of : List Lexeme → Lexeme → SyntaxFault
 kind_of front t =
     cond (of_kind OpenParenthesis t) (CustomOption t.span.start)
     (cond (of_kind OpenBrace t) (Aggregate t.span.start)
@@ -155,7 +155,7 @@ kind_is : (dialect : Dialect) (front : List Lexeme) (t : Lexeme) (behind : List 
     → WouldGoOn dialect front t behind fault → fault ≡ kind_of front t
 kind_is dialect front t behind (custom_option d is on) = rw is refl
 kind_is dialect front t behind (aggregate d is on) = rw (other_kind OpenBrace OpenParenthesis t refl is, is) refl
-kind_is dialect front t behind (import_escape is no p on) =
+kind_is dialect front t behind (import_escape plain is escaped p on) =
     rw (
       other_kind StringLiteral OpenParenthesis t refl is,
       other_kind StringLiteral OpenBrace t refl is,
@@ -249,7 +249,7 @@ begins dialect tokens f t b tree d e = record {
 
 pub no_fault : {dialect : Dialect} {tokens : List Lexeme} {end : ℕ} {fault : SyntaxFault} (tree : File)
     → IsFile dialect tokens tree → IsRefused dialect tokens end fault → ⊥
-no_fault {dialect} tree (file {syntax = x} {b = b} s u) (not_proto3 e n) =
+no_fault {dialect} tree (file {b = b} {syntax = x} s u) (not_proto3 e n) =
     version_named n (subst (λ all. IsSyntax dialect all x b) e s)
 no_fault {dialect} {tokens} tree d (would_go_on v e w g) = w.here (begins dialect tokens _ _ _ tree d e)
 no_fault {dialect} {tokens} tree d (wrong v e w none) = w.here (begins dialect tokens _ _ _ tree d e)

@@ -73,7 +73,7 @@ pub data WouldGoOn (dialect : Dialect) (front : List Lexeme) (t : Lexeme) (behin
         → WouldGoOn dialect front t behind (Extend t.span.start)
     two_packages : {tree : File} → is_word (codes "package") t ≡ true → IsFile dialect front tree
         → is_some tree.package_name ≡ true → WouldGoOn dialect front t behind (TwoPackages t.span.start)
-    import_escape : {plain : Lexeme} → of_kind StringLiteral t ≡ true → is_plain_literal t ≡ false
+    import_escape : (plain : Lexeme) → of_kind StringLiteral t ≡ true → is_plain_literal t ≡ false
         → is_plain_literal plain ≡ true → GoesOn max_message_depth dialect (front ++ plain ∷ []) behind
         → WouldGoOn dialect front t behind (ImportEscape t.span.start)
     too_deep : is_word (codes "message") t ≡ true

@@ -75,7 +75,7 @@ module _ (end : ℕ) where
       let first = literal_first dialect syntax (rw named accepted) spelled in
       rw (first, joined.0, joined.1, named, accepted) refl
 
-  syntax_exact : {dialect : Dialect} {a b : List Lexeme} {x : Syntax} → IsSyntax dialect a x b
+  pub syntax_exact : {dialect : Dialect} {a b : List Lexeme} {x : Syntax} → IsSyntax dialect a x b
       → syntax_at dialect (place_of end a) ≡ Ok (x, place_of end b)
   unfolding syntax_at syntax_statement_at
   syntax_exact {dialect = dialect} (proto3 k q t s) =

@@ -1,6 +1,8 @@
 -- Tokens with which steps are finished.
 use Rattle.std.proofs.Common.{◌≡◌, ℕ, zero, suc, ◌-◌, ◌==◌, Bool, true, false, cond, ◌&&◌, ◌||◌, not, Option, Some, None}
-use Rattle.std.proofs.Common.{List, [], ◌∷◌, ◌++◌, refl, sym, ◌∙◌, ap, subst, codes, arith, append_assoc}
+use Rattle.std.proofs.Common.{List, [], ◌∷◌, ◌++◌, refl, sym, ◌∙◌, ap, subst, codes, arith}
+use Rattle.std.proofs.lemmas.Bool.Decides.{nat_tests}
+use Rattle.std.proofs.Common.{append_assoc}
 use Rattle.std.proofs.lemmas.Bool.{eq-eqb}
 use Rattle.std.proofs.lemmas.Slice.Eq.{bytes_eq-Decides}
 use Rattle.proto_lex.specs.declared.span.Span.{Span}
@@ -142,7 +144,7 @@ machine_braces : (statement : Step) (depth : ℕ) (l : List Lexeme) (k : List St
     → machine statement (braces depth ++ l) (Closed depth ∷ k) seen ≡ machine statement l k seen
 machine_braces statement zero l k seen = machine_closed statement l k seen
 machine_braces statement (suc n) l k seen =
-    let none : (suc n == 0) ≡ false = refl in
+    let none : (suc n == 0) ≡ false = grind (arith, nat_tests) in
     let one : suc n - 1 ≡ n = omega arith in
     rw (none, one) (machine_braces statement n l k seen)
 
@@ -156,8 +158,8 @@ machine_example statement Plains l k seen has = no_literal l has
   where
     no_literal : (l : List Lexeme) → first_is (of_kind StringLiteral) l ≡ false
         → machine statement l (Plains ∷ k) seen ≡ machine statement l k seen
-    no_literal [] no = refl
-    no_literal (t ∷ rest) no = rw no refl
+    no_literal [] off = refl
+    no_literal (t ∷ rest) off = rw off refl
 machine_example statement Never l k seen has = absurd has
 machine_example statement (Then a b) l k seen has =
     machine_then statement (example (Then a b) ++ l) a b k seen
@@ -193,8 +195,8 @@ machine_finish statement (s ∷ k) seen fits =
 
 -- what finishes them begins with no `.`
 undotted_then : (e l : List Lexeme) → dots e ≡ false → dots l ≡ false → dots (e ++ l) ≡ false
-undotted_then [] l no none = none
-undotted_then (t ∷ e) l no none = no
+undotted_then [] l off none = none
+undotted_then (t ∷ e) l off none = off
 
 pub finish_undotted : (k : List Step) → Fits k → dots (finish k) ≡ false
 finish_undotted [] fits = refl
@@ -207,8 +209,8 @@ same_took e = cc
 
 pub took_true : (b : Bool) (x y : Taken) (k : List Step) (P : Type 0) → cond b x y ≡ Took k
     → (b ≡ true → x ≡ Took k → P) → (b ≡ false → y ≡ Took k → P) → P
-took_true true x y k P e yes no = yes refl e
-took_true false x y k P e yes no = no refl e
+took_true true x y k P e on off = on refl e
+took_true false x y k P e on off = off refl e
 
 no_stop : {why : Why} {k : List Step} {P : Type 0} → Stopped why ≡ Took k → P
 no_stop e = cc
@@ -230,14 +232,14 @@ pub take_fits : (s : Step) (k next : List Step) (t : Lexeme) (d : Bool) → Fit 
     → take_by s k t d ≡ Took next → Fits next
 take_fits Done k next t d fit fits e = no_pass e
 take_fits (Token test) k next t d fit fits e =
-    took_true (passes test t) _ _ next (Fits next) e (λ is f. fits_as k next f fits) (λ no f. no_stop f)
+    took_true (passes test t) _ _ next (Fits next) e (λ is f. fits_as k next f fits) (λ off f. no_stop f)
 take_fits Plain k next t d fit fits e =
     took_true (is_plain_literal t) _ _ next (Fits next) e (λ is f. fits_as k next f fits)
-    (λ no f. took_true (of_kind StringLiteral t) _ _ next (Fits next) f (λ is g. no_stop g) (λ no g. no_stop g))
+    (λ off f. took_true (of_kind StringLiteral t) _ _ next (Fits next) f (λ is g. no_stop g) (λ off g. no_stop g))
 take_fits Plains k next t d fit fits e =
     took_true (is_plain_literal t) _ _ next (Fits next) e
     (λ is f. fits_as (Plains ∷ k) next f ((refl, fit, fit), fits))
-    (λ no f. took_true (of_kind StringLiteral t) _ _ next (Fits next) f (λ is g. no_stop g) (λ no g. no_pass g))
+    (λ off f. took_true (of_kind StringLiteral t) _ _ next (Fits next) f (λ is g. no_stop g) (λ off g. no_pass g))
 take_fits Never k next t d fit fits e = no_stop e
 take_fits (Then a b) k next t d fit fits e =
     then_took (take_by a (b ∷ k) t d) (take_by b k t d) next (Fits next) e
@@ -246,30 +248,30 @@ take_fits (Then a b) k next t d fit fits e =
     (λ f. take_fits b k next t d fit.3 fits f)
 take_fits (If test a b) k next t d fit fits e =
     took_true (passes test t) _ _ next (Fits next) e
-    (λ is f. fits_as (a ∷ k) next f (fit.0, fits)) (λ no f. take_fits b k next t d fit.1 fits f)
+    (λ is f. fits_as (a ∷ k) next f (fit.0, fits)) (λ off f. take_fits b k next t d fit.1 fits f)
 take_fits (Ban r b) k next t d fit fits e =
     took_true (passes (test_of r) t) _ _ next (Fits next) e (λ is f. no_stop f)
-    (λ no f. take_fits b k next t d fit.1 fits f)
+    (λ off f. take_fits b k next t d fit.1 fits f)
 take_fits (Lone r dotted b) k next t d fit fits e =
     took_true (passes (test_of r) t) _ _ next (Fits next) e
     (λ is f. took_true d _ _ next (Fits next) f (λ dot g. fits_as (dotted ∷ k) next g (fit.2, fits))
     (λ none g. no_stop g))
-    (λ no f. take_fits b k next t d fit.3 fits f)
+    (λ off f. take_fits b k next t d fit.3 fits f)
 take_fits (Fork word alone dotted b) k next t d fit fits e =
     took_true (passes word t) _ _ next (Fits next) e
     (λ is f. took_true d _ _ next (Fits next) f (λ dot g. fits_as (dotted ∷ k) next g (fit.2, fits))
     (λ none g. fits_as (alone ∷ k) next g (fit.1, fits)))
-    (λ no f. take_fits b k next t d fit.3 fits f)
+    (λ off f. take_fits b k next t d fit.3 fits f)
 take_fits (Many test a) k next t d fit fits e =
     took_true (passes test t) _ _ next (Fits next) e
     (λ is f. fits_as (a ∷ (Many test a ∷ k)) next f ((fit.1, fit.2, fit.3), ((refl, fit.0, fit), fits)))
-    (λ no f. no_pass f)
+    (λ off f. no_pass f)
 take_fits (Block a) k next t d fit fits e =
     took_true (of_kind CloseBrace t) _ _ next (Fits next) e (λ is f. no_pass f)
-    (λ no f. take_fits a (Block a ∷ k) next t d fit.2 ((refl, fit.0, fit), fits) f)
+    (λ off f. take_fits a (Block a ∷ k) next t d fit.2 ((refl, fit.0, fit), fits) f)
 take_fits (Closed depth) k next t d fit fits e =
     took_true (depth == 0) _ _ next (Fits next) e (λ is f. no_pass f)
-    (λ no f. fits_as (Closed (depth_behind t depth) ∷ k) next f
+    (λ off f. fits_as (Closed (depth_behind t depth) ∷ k) next f
     ((undotted_braces (depth_behind t depth), tt, tt), fits))
   where
     undotted_braces : (depth : ℕ) → dots (braces depth) ≡ false
@@ -285,17 +287,17 @@ pub fed_went : (statement : Step) (o : Taken) (seen : Bool) (rest : Fed) (next :
 fed_went statement (Took k) seen rest next now P e took passed = took (went_took e)
 fed_went statement Passed seen rest next now P e took passed = passed e
 fed_went statement (Stopped why) seen rest next now P e took passed =
-    absurd (let no : Halted why ≡ Went next now = e in cc)
+    absurd (let off : Halted why ≡ Went next now = e in cc)
 
 begun_went : (statement : Step) (o : Taken) (seen : Bool) (next : List Step) (now : Bool) (P : Type 0)
     → begun statement o seen ≡ Went next now → (o ≡ Took next → P) → P
 begun_went statement (Took k) seen next now P e took = took (went_took e)
-begun_went statement Passed seen next now P e took = absurd (let no : Halted Misplaced ≡ Went next now = e in cc)
-begun_went statement (Stopped why) seen next now P e took = absurd (let no : Halted why ≡ Went next now = e in cc)
+begun_went statement Passed seen next now P e took = absurd (let off : Halted Misplaced ≡ Went next now = e in cc)
+begun_went statement (Stopped why) seen next now P e took = absurd (let off : Halted why ≡ Went next now = e in cc)
 
 pub base_went : (statement : Step) (b : Bool) (o : Taken) (seen : Bool) (next : List Step) (now : Bool) (P : Type 0)
     → cond b SecondPackage (begun statement o seen) ≡ Went next now → (o ≡ Took next → P) → P
-base_went statement true o seen next now P e took = absurd (let no : SecondPackage ≡ Went next now = e in cc)
+base_went statement true o seen next now P e took = absurd (let off : SecondPackage ≡ Went next now = e in cc)
 base_went statement false o seen next now P e took = begun_went statement o seen next now P e took
 
 pub feed_fits : (statement : Step) → Fit statement None → (k next : List Step) (seen now : Bool) (t : Lexeme)

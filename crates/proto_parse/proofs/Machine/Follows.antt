@@ -4,7 +4,7 @@ use Rattle.std.proofs.Common.{List, [], ◌∷◌, ◌++◌, length, refl, sym, 
 use Rattle.proto_lex.specs.declared.span.Span.{Span}
 use Rattle.proto_lex.specs.declared.token.TokenKind.TheVariants.{StringLiteral, CloseBrace, Dot}
 use Rattle.proto_grammar.specs.declared.fault.SyntaxFault.{SyntaxFault}
-use Rattle.proto_grammar.specs.declared.fault.SyntaxFault.TheVariants as fault
+use Rattle.proto_grammar.specs.declared.fault.SyntaxFault.TheVariants as variant
 use Rattle.proto_grammar.specs.Lexeme.{Lexeme, Place, place_of}
 use Rattle.proto_grammar.specs.Terminal.{first_is, of_kind, is_plain_literal, not_next, closes, offset_at}
 use Rattle.proto_grammar.specs.Terminal.{behind, others}
@@ -29,16 +29,16 @@ use Rattle.proto_parse.proofs.Machine.Outcome.{Whole, Missing, Stuck, Twice}
 
 -- the fault that is told where nothing is taken, by its offset
 abbrev pub fault_of : Why → ℕ → SyntaxFault
-fault_of Misplaced offset = fault.Grammar offset
-fault_of Escaped offset = fault.ImportEscape offset
-fault_of (Refused CustomOptionNext) offset = fault.CustomOption offset
-fault_of (Refused AggregateNext) offset = fault.Aggregate offset
-fault_of (Refused ExtendNext) offset = fault.Extend offset
-fault_of (Refused MessageNext) offset = fault.TooDeep offset
-fault_of (Refused GroupNext) offset = fault.TooDeep offset
-fault_of (Refused LabelledGroupNext) offset = fault.TooDeep offset
-fault_of (Refused RangesNext) offset = fault.Grammar offset
-fault_of (Refused ScalarNext) offset = fault.Grammar offset
+fault_of Misplaced offset = variant.Grammar offset
+fault_of Escaped offset = variant.ImportEscape offset
+fault_of (Refused CustomOptionNext) offset = variant.CustomOption offset
+fault_of (Refused AggregateNext) offset = variant.Aggregate offset
+fault_of (Refused ExtendNext) offset = variant.Extend offset
+fault_of (Refused MessageNext) offset = variant.TooDeep offset
+fault_of (Refused GroupNext) offset = variant.TooDeep offset
+fault_of (Refused LabelledGroupNext) offset = variant.TooDeep offset
+fault_of (Refused RangesNext) offset = variant.Grammar offset
+fault_of (Refused ScalarNext) offset = variant.Grammar offset
 
 -- a group is told at its label
 abbrev pub has_label : Why → Bool
@@ -68,11 +68,11 @@ Says why = SaysAt (has_label why) (fault_of why)
 -- the fault is that at which the machine stops
 abbrev pub Tells : Place → Outcome → SyntaxFault → Type 0
 Tells p (Whole seen) fault = ⊥
-Tells p Missing fault = fault ≡ fault.Grammar p.end
+Tells p Missing fault = fault ≡ variant.Grammar p.end
 Tells p (Stuck why left) fault = (front : List Lexeme) × (p.left ≡ front ++ left) × Says why front left p.end fault
 Tells p (Twice left) fault =
     (front : List Lexeme) × (p.left ≡ front ++ left)
-    × (fault ≡ fault.TwoPackages (offset_at (place_of p.end left)))
+    × (fault ≡ variant.TwoPackages (offset_at (place_of p.end left)))
 
 says_behind : (b : Bool) (told : ℕ → SyntaxFault) (more front left : List Lexeme) (end other : ℕ)
     (fault : SyntaxFault) → other ≡ end → SaysAt b told front left other fault
@@ -85,9 +85,9 @@ says_behind true told more front left end other fault same (offset, is, (before,
   (more ++ before, l, ap (λ x. more ++ x) e ∙ sym (append_assoc more before (l ∷ [])), label, starts),
 )
 
-tells_behind : (p q : Place) (o : Outcome) (fault : SyntaxFault) → Behind p q → Tells q o fault → Tells p o fault
+pub tells_behind : (p q : Place) (o : Outcome) (fault : SyntaxFault) → Behind p q → Tells q o fault → Tells p o fault
 tells_behind p q (Whole seen) fault b tells = absurd tells
-tells_behind p q Missing fault b tells = tells ∙ ap fault.Grammar b.2
+tells_behind p q Missing fault b tells = tells ∙ ap variant.Grammar b.2
 tells_behind p q (Stuck why left) fault b tells = (
   b.0 ++ tells.0,
   b.1 ∙ ap (λ l. b.0 ++ l) tells.1 ∙ sym (append_assoc b.0 tells.0 left),
@@ -96,10 +96,10 @@ tells_behind p q (Stuck why left) fault b tells = (
 tells_behind p q (Twice left) fault b tells = (
   b.0 ++ tells.0,
   b.1 ∙ ap (λ l. b.0 ++ l) tells.1 ∙ sym (append_assoc b.0 tells.0 left),
-  subst (λ n. fault ≡ fault.TwoPackages (offset_at (place_of n left))) b.2 tells.2,
+  subst (λ n. fault ≡ variant.TwoPackages (offset_at (place_of n left))) b.2 tells.2,
 )
 
-behind_both : (p q r : Place) → Behind p q → Behind q r → Behind p r
+pub behind_both : (p q r : Place) → Behind p q → Behind q r → Behind p r
 behind_both p q r (front, e, f) (back, g, h) =
     (front ++ back, e ∙ ap (λ left. front ++ left) g ∙ sym (append_assoc front back r.left), h ∙ f)
 
@@ -145,8 +145,10 @@ module _ (statement : Step) where
   fol_value a p (Ok x) f fol = fol
   fol_value a p (Err fault) f fol = fol
 
-  pub fol_done : {A : Type 0} (p : Place) (x : A) → Fol Done p (Ok (x, p))
-  fol_done p x k seen = (behind_here p, machine_done statement p.left k seen)
+  -- what is read here follows it, whatever its value
+  pub fol_done : (p : Place) (k : List Step) (seen : Bool)
+      → Behind p p × (machine statement p.left (Done ∷ k) seen ≡ machine statement p.left k seen)
+  fol_done p k seen = (behind_here p, machine_done statement p.left k seen)
 
   token_by : (test : Test) (left : List Lexeme) (end : ℕ)
       → Fol (Token test) (place_of end left) (token_that (passes test) (place_of end left))
@@ -156,10 +158,10 @@ module _ (statement : Step) where
     where
       by_test : (b : Bool) → passes test t ≡ b
           → Agrees (place_of end (t ∷ left)) k seen (machine statement (t ∷ left) (Token test ∷ k) seen)
-          (cond b (Ok (t.span, place_of end left)) (Err (fault.Grammar t.span.start)))
+          (cond b (Ok (t.span, place_of end left)) (Err (variant.Grammar t.span.start)))
       by_test true is = (behind_one (place_of end (t ∷ left)), machine_token statement test t left k seen is)
       by_test false is =
-          subst (λ o. Tells (place_of end (t ∷ left)) o (fault.Grammar t.span.start))
+          subst (λ o. Tells (place_of end (t ∷ left)) o (variant.Grammar t.span.start))
           (sym (machine_no_token statement test t left k seen is)) ([], refl, refl)
 
   pub fol_token : (test : Test) (p : Place) → Fol (Token test) p (token_that (passes test) p)
@@ -172,23 +174,26 @@ module _ (statement : Step) where
   token_then test a t rest k seen is =
       machine_then statement (t ∷ rest) (Token test) a k seen ∙ machine_token statement test t rest (a ∷ k) seen is
 
-  taken_by : {A : Type 0} (test : Test) (left : List Lexeme) (end : ℕ) (x : A) → first_is (passes test) left ≡ true
-      → Fol (Then (Token test) Done) (place_of end left) (Ok (x, behind (place_of end left)))
-  taken_by test [] end x is = absurd cc
-  taken_by test (t ∷ left) end x is k seen = (
+  taken_by : (test : Test) (left : List Lexeme) (end : ℕ) → first_is (passes test) left ≡ true
+      → (k : List Step) (seen : Bool) → Behind (place_of end left) (behind (place_of end left))
+      × (machine statement left (Then (Token test) Done ∷ k) seen
+      ≡ machine statement (behind (place_of end left)).left k seen)
+  taken_by test [] end is k seen = absurd cc
+  taken_by test (t ∷ left) end is k seen = (
     behind_one (place_of end (t ∷ left)),
     token_then test Done t left k seen is ∙ machine_done statement left k seen,
   )
 
-  pub fol_taken : {A : Type 0} (test : Test) (p : Place) (x : A) → first_is (passes test) p.left ≡ true
-      → Fol (Then (Token test) Done) p (Ok (x, behind p))
-  fol_taken test p x is = taken_by test p.left p.end x is
+  pub fol_taken : (test : Test) (p : Place) → first_is (passes test) p.left ≡ true
+      → (k : List Step) (seen : Bool) → Behind p (behind p)
+      × (machine statement p.left (Then (Token test) Done ∷ k) seen ≡ machine statement (behind p).left k seen)
+  fol_taken test p is = taken_by test p.left p.end is
 
   -- what is read behind a token that is next
   further_by : {A : Type 0} (test : Test) (a : Step) (left : List Lexeme) (end : ℕ)
       (r : Result (A × Place) SyntaxFault) → first_is (passes test) left ≡ true
       → Fol a (behind (place_of end left)) r → Fol (Then (Token test) a) (place_of end left) r
-  further_by test a [] end r is fol = absurd cc
+  further_by test a [] end r is fol k seen = absurd cc
   further_by test a (t ∷ left) end r is fol k seen =
       subst (λ o. Agrees (place_of end (t ∷ left)) k seen o r) (sym (token_then test a t left k seen is))
       (agrees_behind (place_of end (t ∷ left)) (place_of end left) k seen (machine statement left (a ∷ k) seen) r
@@ -209,13 +214,13 @@ module _ (statement : Step) where
       → (first_is (passes test) p.left ≡ true → Fol (Then (Token test) a) p x)
       → (first_is (passes test) p.left ≡ false → Fol b p y)
       → Fol (If test a b) p (cond (first_is (passes test) p.left) x y)
-  fol_if {A} test a b p x y yes no = by_test (first_is (passes test) p.left) refl
+  fol_if {A} test a b p x y on off = by_test (first_is (passes test) p.left) refl
     where
       by_test : (c : Bool) → first_is (passes test) p.left ≡ c → Fol (If test a b) p (cond c x y)
       by_test true is =
-          fol_as (If test a b) (Then (Token test) a) p x (λ k seen. if_as test a b p.left k seen is) (yes is)
+          fol_as (If test a b) (Then (Token test) a) p x (λ k seen. if_as test a b p.left k seen is) (on is)
       by_test false is =
-          fol_as (If test a b) b p y (λ k seen. machine_if_false statement test p.left a b k seen is) (no is)
+          fol_as (If test a b) b p y (λ k seen. machine_if_false statement test p.left a b k seen is) (off is)
 
   pub fol_if_true : {A : Type 0} (test : Test) (a b : Step) (p : Place) (r : Result (A × Place) SyntaxFault)
       → first_is (passes test) p.left ≡ true → Fol (Then (Token test) a) p r → Fol (If test a b) p r
@@ -224,8 +229,8 @@ module _ (statement : Step) where
 
   pub fol_if_false : {A : Type 0} (test : Test) (a b : Step) (p : Place) (r : Result (A × Place) SyntaxFault)
       → first_is (passes test) p.left ≡ false → Fol b p r → Fol (If test a b) p r
-  fol_if_false test a b p r no fol =
-      fol_as (If test a b) b p r (λ k seen. machine_if_false statement test p.left a b k seen no) fol
+  fol_if_false test a b p r off fol =
+      fol_as (If test a b) b p r (λ k seen. machine_if_false statement test p.left a b k seen off) fol
 
   ban_stuck : (r : Refusal) (b : Step) (l : List Lexeme) (k : List Step) (seen : Bool)
       → first_is (passes (test_of r)) l ≡ true → machine statement l (Ban r b ∷ k) seen ≡ Stuck (Refused r) l
@@ -236,13 +241,13 @@ module _ (statement : Step) where
       (y : Result (A × Place) SyntaxFault) → Says (Refused r) [] p.left p.end fault
       → (first_is (passes (test_of r)) p.left ≡ false → Fol b p y)
       → Fol (Ban r b) p (cond (first_is (passes (test_of r)) p.left) (Err fault) y)
-  fol_ban {A} r b p fault y says no = by_test (first_is (passes (test_of r)) p.left) refl
+  fol_ban {A} r b p fault y says off = by_test (first_is (passes (test_of r)) p.left) refl
     where
       by_test : (c : Bool) → first_is (passes (test_of r)) p.left ≡ c → Fol (Ban r b) p (cond c (Err fault) y)
-      by_test true is k seen =
+      by_test true is = λ k seen.
           subst (λ o. Tells p o fault) (sym (ban_stuck r b p.left k seen is)) ([], refl, says)
       by_test false is =
-          fol_as (Ban r b) b p y (λ k seen. machine_ban_false statement r p.left b k seen is) (no is)
+          fol_as (Ban r b) b p y (λ k seen. machine_ban_false statement r p.left b k seen is) (off is)
 
   -- the steps of a loop, each of which takes a token
   module _ {S : Type 0} (loop a : Step) (ends : List Lexeme → Bool) (step : S → Read S) (falls : Falls step)
@@ -285,8 +290,8 @@ module _ (statement : Step) where
   many_past : (test : Test) (a : Step) (l : List Lexeme) (k : List Step) (seen : Bool)
       → not (first_is (passes test) l) ≡ true
       → machine statement l (Many test a ∷ k) seen ≡ machine statement l k seen
-  many_past test a l k seen no =
-      machine_many_false statement test l a k seen (not_true (first_is (passes test) l) no)
+  many_past test a l k seen off =
+      machine_many_false statement test l a k seen (not_true (first_is (passes test) l) off)
 
   many_onward : (test : Test) (a : Step) (l : List Lexeme) (k : List Step) (seen : Bool)
       → not (first_is (passes test) l) ≡ false
@@ -294,8 +299,8 @@ module _ (statement : Step) where
       ≡ machine statement l (Then (Token test) a ∷ (Many test a ∷ k)) seen
   many_onward test a [] k seen is = absurd cc
   many_onward test a (t ∷ rest) k seen is =
-      let yes : passes test t ≡ true = not_false (passes test t) is in
-      machine_many_true statement test t rest a k seen yes ∙ sym (token_then test a t rest (Many test a ∷ k) seen yes)
+      let on : passes test t ≡ true = not_false (passes test t) is in
+      machine_many_true statement test t rest a k seen on ∙ sym (token_then test a t rest (Many test a ∷ k) seen on)
 
   pub fol_many : {S : Type 0} (test : Test) (a : Step) (ends : List Lexeme → Bool) (step : S → Read S) → Falls step
       → ((l : List Lexeme) → ends l ≡ not (first_is (passes test) l))
@@ -321,23 +326,23 @@ module _ (statement : Step) where
       by_tests : (b c : Bool) → is_plain_literal t ≡ b → of_kind StringLiteral t ≡ c
           → Agrees (place_of end (t ∷ left)) k seen (machine statement (t ∷ left) (Plain ∷ k) seen)
           (cond b (Ok (t.span, place_of end left))
-          (cond c (Err (fault.ImportEscape t.span.start)) (Err (fault.Grammar t.span.start))))
+          (cond c (Err (variant.ImportEscape t.span.start)) (Err (variant.Grammar t.span.start))))
       by_tests true c is literal = (behind_one (place_of end (t ∷ left)), rw is refl)
-      by_tests false true no literal =
-          let out : machine statement (t ∷ left) (Plain ∷ k) seen ≡ Stuck Escaped (t ∷ left) = rw (no, literal) refl in
-          subst (λ o. Tells (place_of end (t ∷ left)) o (fault.ImportEscape t.span.start)) (sym out) ([], refl, refl)
-      by_tests false false no other =
-          let out : machine statement (t ∷ left) (Plain ∷ k) seen ≡ Stuck Misplaced (t ∷ left) = rw (no, other) refl in
-          subst (λ o. Tells (place_of end (t ∷ left)) o (fault.Grammar t.span.start)) (sym out) ([], refl, refl)
+      by_tests false true off literal =
+          let out : machine statement (t ∷ left) (Plain ∷ k) seen ≡ Stuck Escaped (t ∷ left) = rw (off, literal) refl in
+          subst (λ o. Tells (place_of end (t ∷ left)) o (variant.ImportEscape t.span.start)) (sym out) ([], refl, refl)
+      by_tests false false off other =
+          let out : machine statement (t ∷ left) (Plain ∷ k) seen ≡ Stuck Misplaced (t ∷ left) = rw (off, other) refl in
+          subst (λ o. Tells (place_of end (t ∷ left)) o (variant.Grammar t.span.start)) (sym out) ([], refl, refl)
 
   pub fol_plain : (p : Place) → Fol Plain p (plain_literal_at p)
   fol_plain p = plain_by p.left p.end
 
   plains_past : (l : List Lexeme) (k : List Step) (seen : Bool) → not_next StringLiteral l ≡ true
       → machine statement l (Plains ∷ k) seen ≡ machine statement l k seen
-  plains_past [] k seen no = refl
-  plains_past (t ∷ rest) k seen no =
-      let other : of_kind StringLiteral t ≡ false = not_true (of_kind StringLiteral t) no in
+  plains_past [] k seen off = refl
+  plains_past (t ∷ rest) k seen off =
+      let other : of_kind StringLiteral t ≡ false = not_true (of_kind StringLiteral t) off in
       let not_plain : is_plain_literal t ≡ false = rw other refl in
       rw (not_plain, other) refl
 
@@ -351,7 +356,7 @@ module _ (statement : Step) where
       by_plain : (b : Bool) → is_plain_literal t ≡ b → of_kind StringLiteral t ≡ true
           → machine statement (t ∷ rest) (Plains ∷ k) seen ≡ machine statement (t ∷ rest) (Plain ∷ (Plains ∷ k)) seen
       by_plain true plain literal = rw plain refl
-      by_plain false no literal = rw (no, literal) refl
+      by_plain false off literal = rw (off, literal) refl
 
   pub fol_plains : {S : Type 0} (step : S → Read S) → Falls step → ((s : S) (p : Place) → Fol Plain p (step s p))
       → (s : S) (p : Place) → Fol Plains p (until_at (not_next StringLiteral) step s p)
@@ -359,17 +364,20 @@ module _ (statement : Step) where
       fol_until Plains Plain (not_next StringLiteral) step falls plains_past plains_onward fol s p
 
   -- any tokens up to a closing brace
+  abbrev the_unit : Unit {0}
+  the_unit = tt
+
   closed_by_fol : (depth : ℕ) (left : List Lexeme) (end : ℕ)
       → Fol (Closed depth) (place_of end left) (closed_by depth left end)
   closed_by_fol depth [] end k seen = by_depth (depth == 0) refl
     where
       by_depth : (b : Bool) → (depth == 0) ≡ b
           → Agrees (place_of end []) k seen (machine statement [] (Closed depth ∷ k) seen)
-          (cond b (Ok (tt, place_of end [])) (Err (fault.Grammar end)))
+          (cond b (Ok (the_unit, place_of end [])) (Err (variant.Grammar end)))
       by_depth true is = (behind_here (place_of end []), rw is refl)
       by_depth false is =
           let out : machine statement [] (Closed depth ∷ k) seen ≡ Missing = rw is refl in
-          subst (λ o. Tells (place_of end []) o (fault.Grammar end)) (sym out) refl
+          subst (λ o. Tells (place_of end []) o (variant.Grammar end)) (sym out) refl
   closed_by_fol depth (t ∷ left) end k seen =
       by_depth (depth == 0) refl (closed_by_fol (depth_behind t depth) left end k seen)
     where
@@ -377,7 +385,7 @@ module _ (statement : Step) where
           → Agrees (place_of end left) k seen (machine statement left (Closed (depth_behind t depth) ∷ k) seen)
           (closed_by (depth_behind t depth) left end)
           → Agrees (place_of end (t ∷ left)) k seen (machine statement (t ∷ left) (Closed depth ∷ k) seen)
-          (cond b (Ok (tt, place_of end (t ∷ left))) (closed_by (depth_behind t depth) left end))
+          (cond b (Ok (the_unit, place_of end (t ∷ left))) (closed_by (depth_behind t depth) left end))
       by_depth true is further = (behind_here (place_of end (t ∷ left)), rw is refl)
       by_depth false is further =
           let out : machine statement (t ∷ left) (Closed depth ∷ k) seen
@@ -394,8 +402,8 @@ module _ (statement : Step) where
   -- one of two results
   pub fol_cond : {A : Type 0} (s : Step) (p : Place) (b : Bool) (x y : Result (A × Place) SyntaxFault)
       → (b ≡ true → Fol s p x) → (b ≡ false → Fol s p y) → Fol s p (cond b x y)
-  fol_cond s p true x y yes no = yes refl
-  fol_cond s p false x y yes no = no refl
+  fol_cond s p true x y on off = on refl
+  fol_cond s p false x y on off = off refl
 
   -- a chain whose first part is a chain
   pub fol_rebind : {A B C : Type 0} (s : Step) (p : Place) (o : Result (A × Place) SyntaxFault)
@@ -407,7 +415,7 @@ module _ (statement : Step) where
   -- nothing is left of a step
   pub fol_last : {A : Type 0} (a : Step) (p : Place) (r : Result (A × Place) SyntaxFault) → Fol a p r
       → Fol (Then a Done) p r
-  fol_last a p r fol k seen =
+  fol_last {A} a p r fol k seen =
       subst (λ o. Agrees p k seen o r) (sym (machine_then statement p.left a Done k seen))
       (by_result r (fol (Done ∷ k) seen))
     where
@@ -478,21 +486,21 @@ module _ (statement : Step) where
       (x y : X) → (first_is (passes test) p.left ≡ true → Fol (Then (Token test) a) p (read x))
       → (first_is (passes test) p.left ≡ false → Fol b p (read y))
       → Fol (If test a b) p (read (cond (first_is (passes test) p.left) x y))
-  fol_choose {A} {X} read test a b p x y yes no = by_test (first_is (passes test) p.left) refl
+  fol_choose {A} {X} read test a b p x y on off = by_test (first_is (passes test) p.left) refl
     where
       by_test : (c : Bool) → first_is (passes test) p.left ≡ c → Fol (If test a b) p (read (cond c x y))
-      by_test true is = fol_if_true test a b p (read x) is (yes is)
-      by_test false is = fol_if_false test a b p (read y) is (no is)
+      by_test true is = fol_if_true test a b p (read x) is (on is)
+      by_test false is = fol_if_false test a b p (read y) is (off is)
 
   pub fol_choose_ban : {A X : Type 0} (read : X → Result (A × Place) SyntaxFault) (r : Refusal) (b : Step) (p : Place)
       (fault : SyntaxFault) (x y : X) → read x ≡ Err fault → Says (Refused r) [] p.left p.end fault
       → (first_is (passes (test_of r)) p.left ≡ false → Fol b p (read y))
       → Fol (Ban r b) p (read (cond (first_is (passes (test_of r)) p.left) x y))
-  fol_choose_ban {A} {X} read r b p fault x y stops says no = by_test (first_is (passes (test_of r)) p.left) refl
+  fol_choose_ban {A} {X} read r b p fault x y stops says off = by_test (first_is (passes (test_of r)) p.left) refl
     where
       by_test : (c : Bool) → first_is (passes (test_of r)) p.left ≡ c → Fol (Ban r b) p (read (cond c x y))
-      by_test true is k seen =
+      by_test true is = λ k seen.
           subst (λ o. Agrees p k seen (machine statement p.left (Ban r b ∷ k) seen) o) (sym stops)
           (subst (λ o. Tells p o fault) (sym (ban_stuck r b p.left k seen is)) ([], refl, says))
       by_test false is =
-          fol_as (Ban r b) b p (read y) (λ k seen. machine_ban_false statement r p.left b k seen is) (no is)
+          fol_as (Ban r b) b p (read y) (λ k seen. machine_ban_false statement r p.left b k seen is) (off is)

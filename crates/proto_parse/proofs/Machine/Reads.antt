@@ -13,7 +13,8 @@ use Rattle.proto_parse.proofs.Machine.Why.{Misplaced, Escaped, Refused}
 use Rattle.proto_parse.proofs.Machine.Taken.{Took, Passed, Stopped}
 use Rattle.proto_parse.proofs.Machine.Fed.{Went, Halted, SecondPackage}
 use Rattle.proto_parse.proofs.Machine.Outcome.{Whole, Missing, Stuck, Twice}
-use Rattle.proto_parse.proofs.Machine.Finishing.{Fit, Fits, TakesDot, example, head_is, finish, feed_fits, take_fits}
+use Rattle.proto_parse.proofs.Machine.Finishing.{Fit, Fits, TakesDot, example, head_is, finish, feed_fits}
+use Rattle.proto_parse.proofs.Machine.Finishing.{finish_undotted, machine_finish}
 use Rattle.proto_parse.proofs.Machine.Finishing.{then_took, took_true, fed_went, base_went}
 
 -- whether a `.` is next, if the tokens are followed by what begins with one or not
@@ -112,16 +113,16 @@ stuck_by statement t l k seen why left further (Halted other) f e =
     subst (λ rest. StopsAt statement (t ∷ l) k seen rest (Halted why)) same.1
     (stops_here statement t l k seen (Halted why) (f ∙ same.0))
 stuck_by statement t l k seen why left further SecondPackage f e =
-    absurd (let no : Twice (t ∷ l) ≡ Stuck why left = e in cc)
+    absurd (let off : Twice (t ∷ l) ≡ Stuck why left = e in cc)
 
-no_stuck : (b : Bool) {seen : Bool} {why : Why} {left : List Lexeme} {P : Type 0}
+no_stuck : (b seen : Bool) {why : Why} {left : List Lexeme} {P : Type 0}
     → cond b (Whole seen) Missing ≡ Stuck why left → P
-no_stuck true e = absurd cc
-no_stuck false e = absurd cc
+no_stuck true seen e = absurd cc
+no_stuck false seen e = absurd cc
 
 pub stuck_at : (statement : Step) (l : List Lexeme) (k : List Step) (seen : Bool) (why : Why) (left : List Lexeme)
     → machine statement l k seen ≡ Stuck why left → StopsAt statement l k seen left (Halted why)
-stuck_at statement [] k seen why left e = no_stuck (all_ended k) e
+stuck_at statement [] k seen why left e = no_stuck (all_ended k) seen e
 stuck_at statement (t ∷ l) k seen why left e =
     stuck_by statement t l k seen why left (λ next now f. stuck_at statement l next now why left f)
     (feed statement k seen t (dots l)) refl e
@@ -135,18 +136,18 @@ twice_by : (statement : Step) (t : Lexeme) (l : List Lexeme) (k : List Step) (se
 twice_by statement t l k seen left further (Went next now) f e =
     stops_onward statement t l k next seen now left SecondPackage f (further next now e)
 twice_by statement t l k seen left further (Halted other) f e =
-    absurd (let no : Stuck other (t ∷ l) ≡ Twice left = e in cc)
+    absurd (let off : Stuck other (t ∷ l) ≡ Twice left = e in cc)
 twice_by statement t l k seen left further SecondPackage f e =
     subst (λ rest. StopsAt statement (t ∷ l) k seen rest SecondPackage) (same_twice e)
     (stops_here statement t l k seen SecondPackage f)
 
-no_twice : (b : Bool) {seen : Bool} {left : List Lexeme} {P : Type 0} → cond b (Whole seen) Missing ≡ Twice left → P
-no_twice true e = absurd cc
-no_twice false e = absurd cc
+no_twice : (b seen : Bool) {left : List Lexeme} {P : Type 0} → cond b (Whole seen) Missing ≡ Twice left → P
+no_twice true seen e = absurd cc
+no_twice false seen e = absurd cc
 
 pub twice_at : (statement : Step) (l : List Lexeme) (k : List Step) (seen : Bool) (left : List Lexeme)
     → machine statement l k seen ≡ Twice left → StopsAt statement l k seen left SecondPackage
-twice_at statement [] k seen left e = no_twice (all_ended k) e
+twice_at statement [] k seen left e = no_twice (all_ended k) seen e
 twice_at statement (t ∷ l) k seen left e =
     twice_by statement t l k seen left (λ next now f. twice_at statement l next now left f)
     (feed statement k seen t (dots l)) refl e
@@ -284,9 +285,9 @@ IsHalt (Halted why) = Unit {0}
 IsHalt SecondPackage = Unit {0}
 
 as_halt : (fed other : Fed) → IsHalt fed → FedAsWithout fed other → other ≡ fed
-as_halt (Went k seen) other halt as = absurd halt
-as_halt (Halted why) other halt as = as
-as_halt SecondPackage other halt as = as
+as_halt (Went k seen) other halt alike = absurd halt
+as_halt (Halted why) other halt alike = alike
+as_halt SecondPackage other halt alike = alike
 
 -- the same for a token that the text has no `.` behind, or the other tokens have none
 pub halts_so : (statement : Step) (k : List Step) (seen : Bool) (t : Lexeme) (d e : Bool) (fed : Fed) → IsHalt fed
@@ -296,7 +297,7 @@ halts_so statement k seen t false false fed halt halts so = halts
 halts_so statement k seen t true false fed halt halts so =
     as_halt fed (feed statement k seen t false) halt
     (subst (λ f. FedAsWithout f (feed statement k seen t false)) halts (fed_without_dot statement k seen t))
-halts_so statement k seen t false true fed halt halts so = absurd (let no : true ≡ false = so refl in cc)
+halts_so statement k seen t false true fed halt halts so = absurd (let off : true ≡ false = so refl in cc)
 
 -- ---- a step that was taken with a `.` behind it, where that `.` isn't taken
 
@@ -325,10 +326,10 @@ taken_next p r next (inr f) = inr f
 dotless_then : (o p q r : Taken) (next : List Step) → AsWithout o p
     → (o ≡ Took next → (p ≡ Took next) ⊎ HeadTakesDot next) → (q ≡ Took next → (r ≡ Took next) ⊎ HeadTakesDot next)
     → or_next o q ≡ Took next → (or_next p r ≡ Took next) ⊎ HeadTakesDot next
-dotless_then (Took k) p q r next as first second e = taken_next p r next (first e)
-dotless_then Passed p q r next as first second e =
-    subst (λ x. (or_next x r ≡ Took next) ⊎ HeadTakesDot next) (sym as) (second e)
-dotless_then (Stopped why) p q r next as first second e = absurd (let no : Stopped why ≡ Took next = e in cc)
+dotless_then (Took k) p q r next alike first second e = taken_next p r next (first e)
+dotless_then Passed p q r next alike first second e =
+    subst (λ x. (or_next x r ≡ Took next) ⊎ HeadTakesDot next) (sym alike) (second e)
+dotless_then (Stopped why) p q r next alike first second e = absurd (let off : Stopped why ≡ Took next = e in cc)
 
 pub took_dotless : (s : Step) (k next : List Step) (t : Lexeme) → Fit s (first (finish k))
     → take_by s k t true ≡ Took next → Dotless s k t next
@@ -371,31 +372,31 @@ fed_dotless_by : (statement : Step) (o p : Taken) (seen : Bool) (f g : Fed) (nex
     → AsWithout o p → (o ≡ Took next → (p ≡ Took next) ⊎ HeadTakesDot next)
     → (f ≡ Went next now → (g ≡ Went next now) ⊎ HeadTakesDot next) → fed_by statement o seen f ≡ Went next now
     → (fed_by statement p seen g ≡ Went next now) ⊎ HeadTakesDot next
-fed_dotless_by statement (Took k) p seen f g next now as first second e =
+fed_dotless_by statement (Took k) p seen f g next now alike first second e =
     took (first (ap Took (went_same e)))
   where
     took : (p ≡ Took next) ⊎ HeadTakesDot next → (fed_by statement p seen g ≡ Went next now) ⊎ HeadTakesDot next
     took (inl is) = inl (ap (λ x. fed_by statement x seen g) is ∙ ap (λ x. Went x seen) (sym (went_same e)) ∙ e)
     took (inr dot) = inr dot
-fed_dotless_by statement Passed p seen f g next now as first second e =
-    subst (λ x. (fed_by statement x seen g ≡ Went next now) ⊎ HeadTakesDot next) (sym as) (second e)
-fed_dotless_by statement (Stopped why) p seen f g next now as first second e =
-    absurd (let no : Halted why ≡ Went next now = e in cc)
+fed_dotless_by statement Passed p seen f g next now alike first second e =
+    subst (λ x. (fed_by statement x seen g ≡ Went next now) ⊎ HeadTakesDot next) (sym alike) (second e)
+fed_dotless_by statement (Stopped why) p seen f g next now alike first second e =
+    absurd (let off : Halted why ≡ Went next now = e in cc)
 
 begun_dotless_by : (statement : Step) (b : Bool) (o p : Taken) (seen : Bool) (next : List Step) (now : Bool)
     → AsWithout o p → (o ≡ Took next → (p ≡ Took next) ⊎ HeadTakesDot next)
     → cond b SecondPackage (begun statement o seen) ≡ Went next now
     → (cond b SecondPackage (begun statement p seen) ≡ Went next now) ⊎ HeadTakesDot next
-begun_dotless_by statement true o p seen next now as first e = inl e
-begun_dotless_by statement false (Took k) p seen next now as first e = took (first (ap Took (went_same e)))
+begun_dotless_by statement true o p seen next now alike first e = inl e
+begun_dotless_by statement false (Took k) p seen next now alike first e = took (first (ap Took (went_same e)))
   where
     took : (p ≡ Took next) ⊎ HeadTakesDot next → (begun statement p seen ≡ Went next now) ⊎ HeadTakesDot next
     took (inl is) = inl (ap (λ x. begun statement x seen) is ∙ ap (λ x. Went x seen) (sym (went_same e)) ∙ e)
     took (inr dot) = inr dot
-begun_dotless_by statement false Passed p seen next now as first e =
-    absurd (let no : Halted Misplaced ≡ Went next now = e in cc)
-begun_dotless_by statement false (Stopped why) p seen next now as first e =
-    absurd (let no : Halted why ≡ Went next now = e in cc)
+begun_dotless_by statement false Passed p seen next now alike first e =
+    absurd (let off : Halted Misplaced ≡ Went next now = e in cc)
+begun_dotless_by statement false (Stopped why) p seen next now alike first e =
+    absurd (let off : Halted why ≡ Went next now = e in cc)
 
 fed_dotless : (statement : Step) → Fit statement None → (k next : List Step) (seen now : Bool) (t : Lexeme) → Fits k
     → feed statement k seen t true ≡ Went next now
@@ -411,17 +412,17 @@ fed_dotless statement base (s ∷ k) next seen now t fits e =
 pub reads_dotless : {statement : Step} {k last : List Step} {seen later : Bool} {front : List Lexeme}
     → Fit statement None → Fits k → Reads statement k seen front true last later → (HeadTakesDot last → ⊥)
     → Reads statement k seen front false last later
-reads_dotless base fits here no = here
-reads_dotless {statement} {k} {seen = seen} base fits (onward {next = next} {now = now} {t = t} f here) no =
+reads_dotless base fits here off = here
+reads_dotless {statement} {k} {seen = seen} base fits (onward {next = next} {now = now} {t = t} f here) off =
     last_token (fed_dotless statement base k next seen now t fits f)
   where
     last_token : (feed statement k seen t false ≡ Went next now) ⊎ HeadTakesDot next
         → Reads statement k seen (t ∷ []) false next now
     last_token (inl g) = onward g here
-    last_token (inr dot) = absurd (no dot)
+    last_token (inr dot) = absurd (off dot)
 reads_dotless {statement} {k} {seen = seen} base fits
-    (onward {next = next} {now = now} {t = t} f (onward {t = u} {front = front} g r)) no =
-    onward f (reads_dotless base (feed_fits statement base k next seen now t (of_kind Dot u) fits f) (onward g r) no)
+    (onward {next = next} {now = now} {t = t} f (onward {t = u} {front = front} g r)) off =
+    onward f (reads_dotless base (feed_fits statement base k next seen now t (of_kind Dot u) fits f) (onward g r) off)
 
 -- ---- what stands in front of the token at which the machine stops can be finished
 
@@ -451,8 +452,7 @@ pub front_finished : (statement : Step) (l : List Lexeme) (k : List Step) (seen 
     → (machine statement (s.front ++ finish s.next) k seen ≡ Whole s.now) × (dots (finish s.next) ≡ false)
 front_finished statement l k seen left fed base fits halt s =
     let reads = reads_on statement l k seen left fed base fits halt s in
-    let later = reads_fits base reads fits in
-    (
+    let later = reads_fits base reads fits in (
       reads_machine reads (finish s.next) (finish_undotted s.next later)
           ∙ machine_finish statement s.next s.now later,
       finish_undotted s.next later,

@@ -101,11 +101,11 @@ take_swaps (Block x) k t u d a b =
     swaps_cond (of_kind CloseBrace t) (of_kind CloseBrace u) Passed (take_by x (Block x ∷ k) t d) Passed
     (take_by x (Block x ∷ k) u d) (same_test (OfKind CloseBrace) t u a (plain_literal u b)) refl
     (take_swaps x (Block x ∷ k) t u d a b)
-take_swaps (Closed depth) k t u d a b = by_depth (depth == 0)
+take_swaps (Closed depth) k t u d a b = by_depth (depth == 0) _ _
   where
-    by_depth : (c : Bool) {x y : List Step} → Swaps (cond c Passed (Took x)) (cond c Passed (Took y))
-    by_depth true = refl
-    by_depth false = tt
+    by_depth : (c : Bool) (x y : List Step) → Swaps (cond c Passed (Took x)) (cond c Passed (Took y))
+    by_depth true x y = refl
+    by_depth false x y = tt
 
 abbrev pub FedSwaps : Fed → Fed → Type 0
 FedSwaps (Went k seen) g = Unit {0}
@@ -172,26 +172,26 @@ stops_next (Stopped why) p t a b = a
 
 take_stops : (s : Step) (k : List Step) (t : Lexeme) (d : Bool) → StopsAtToken (take_by s k t d) t
 take_stops Done k t d = tt
-take_stops (Token test) k t d = stops_cond (passes test t) _ _ t (λ is. tt) (λ no. tt)
+take_stops (Token test) k t d = stops_cond (passes test t) _ _ t (λ is. tt) (λ off. tt)
 take_stops Plain k t d =
     stops_cond (is_plain_literal t) _ _ t (λ is. tt)
-    (λ no. stops_cond (of_kind StringLiteral t) _ _ t (λ is. (is, no)) (λ other. tt))
+    (λ off. stops_cond (of_kind StringLiteral t) _ _ t (λ is. (is, off)) (λ other. tt))
 take_stops Plains k t d =
     stops_cond (is_plain_literal t) _ _ t (λ is. tt)
-    (λ no. stops_cond (of_kind StringLiteral t) _ _ t (λ is. (is, no)) (λ other. tt))
+    (λ off. stops_cond (of_kind StringLiteral t) _ _ t (λ is. (is, off)) (λ other. tt))
 take_stops Never k t d = tt
 take_stops (Then a b) k t d =
     stops_next (take_by a (b ∷ k) t d) (take_by b k t d) t (take_stops a (b ∷ k) t d) (take_stops b k t d)
-take_stops (If test a b) k t d = stops_cond (passes test t) _ _ t (λ is. tt) (λ no. take_stops b k t d)
-take_stops (Ban r b) k t d = stops_cond (passes (test_of r) t) _ _ t (λ is. is) (λ no. take_stops b k t d)
+take_stops (If test a b) k t d = stops_cond (passes test t) _ _ t (λ is. tt) (λ off. take_stops b k t d)
+take_stops (Ban r b) k t d = stops_cond (passes (test_of r) t) _ _ t (λ is. is) (λ off. take_stops b k t d)
 take_stops (Lone r dotted b) k t d =
     stops_cond (passes (test_of r) t) _ _ t (λ is. stops_cond d _ _ t (λ dot. tt) (λ none. is))
-    (λ no. take_stops b k t d)
+    (λ off. take_stops b k t d)
 take_stops (Fork word a dotted b) k t d =
-    stops_cond (passes word t) _ _ t (λ is. stops_cond d _ _ t (λ dot. tt) (λ none. tt)) (λ no. take_stops b k t d)
-take_stops (Many test a) k t d = stops_cond (passes test t) _ _ t (λ is. tt) (λ no. tt)
-take_stops (Block a) k t d = stops_cond (of_kind CloseBrace t) _ _ t (λ is. tt) (λ no. take_stops a (Block a ∷ k) t d)
-take_stops (Closed depth) k t d = stops_cond (depth == 0) _ _ t (λ is. tt) (λ no. tt)
+    stops_cond (passes word t) _ _ t (λ is. stops_cond d _ _ t (λ dot. tt) (λ none. tt)) (λ off. take_stops b k t d)
+take_stops (Many test a) k t d = stops_cond (passes test t) _ _ t (λ is. tt) (λ off. tt)
+take_stops (Block a) k t d = stops_cond (of_kind CloseBrace t) _ _ t (λ is. tt) (λ off. take_stops a (Block a ∷ k) t d)
+take_stops (Closed depth) k t d = stops_cond (depth == 0) _ _ t (λ is. tt) (λ off. tt)
 
 abbrev FedStops : Fed → Lexeme → Type 0
 FedStops (Went k seen) t = Unit {0}

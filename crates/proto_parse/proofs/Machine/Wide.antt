@@ -219,7 +219,7 @@ halts_wide {opens} {statement} {other} {k} {l} seen t d why base w shut e =
     (feed_wide seen t d base w))
   where
     by_other : (g : Fed) → WideFed opens (Halted why) g → g ≡ Halted why
-    by_other (Went k now) v = absurd (let no : true ≡ false = sym v ∙ shut in cc)
+    by_other (Went k now) v = absurd (let off : true ≡ false = sym v ∙ shut in cc)
     by_other (Halted also) v = ap Halted (sym v.0)
     by_other SecondPackage v = absurd v
 
@@ -227,15 +227,15 @@ halts_wide {opens} {statement} {other} {k} {l} seen t d why base w shut e =
 pub opens_wide : {opens : Refusal → Bool} {statement other : Step} {k l : List Step} (seen : Bool) (t : Lexeme)
     (d : Bool) (why : Why) → Wide opens statement other → AllWide opens k l → opens_why opens why ≡ true
     → feed statement k seen t d ≡ Halted why
-    → (next : List Step) (now : Bool) × (feed other l seen t d ≡ Went next now)
+    → (next : List Step) × (now : Bool) × (feed other l seen t d ≡ Went next now)
 opens_wide {opens} {statement} {other} {k} {l} seen t d why base w open_ e =
     by_other (feed other l seen t d) refl (subst (λ f. WideFed opens f (feed other l seen t d)) e
     (feed_wide seen t d base w))
   where
     by_other : (g : Fed) → feed other l seen t d ≡ g → WideFed opens (Halted why) g
-        → (next : List Step) (now : Bool) × (feed other l seen t d ≡ Went next now)
+        → (next : List Step) × (now : Bool) × (feed other l seen t d ≡ Went next now)
     by_other (Went next now) is v = (next, now, is)
-    by_other (Halted also) is v = absurd (let no : true ≡ false = sym open_ ∙ v.1 in cc)
+    by_other (Halted also) is v = absurd (let off : true ≡ false = sym open_ ∙ v.1 in cc)
     by_other SecondPackage is v = absurd v
 
 -- a second package is one of both

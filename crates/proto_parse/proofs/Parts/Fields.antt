@@ -1,5 +1,5 @@
 -- What is read follows the parts: fields, what is before a group's body, reserved statements and extension ranges.
-use Rattle.std.proofs.Common.{◌≡◌, ℕ, Bool, true, false, ◌&&◌, Ok, Option, List, [], ◌∷◌, refl, codes}
+use Rattle.std.proofs.Common.{◌≡◌, ℕ, Bool, true, false, ◌&&◌, Ok, Option, List, [], ◌∷◌, refl, sym, ◌∙◌, codes}
 use Rattle.proto_lex.specs.declared.span.Span.{Span}
 use Rattle.proto_lex.specs.declared.token.TokenKind.TheVariants.{Identifier, Integer, StringLiteral, Semicolon, Equals}
 use Rattle.proto_lex.specs.declared.token.TokenKind.TheVariants.{OpenBrace, Less, Greater, Comma, Minus}
@@ -15,6 +15,7 @@ use Rattle.proto_grammar.specs.Reading.Repetition.{◌>>=◌, token_that, passin
 use Rattle.proto_grammar.specs.Reading.Options.{literal_at, literals_at, strings_at}
 use Rattle.proto_grammar.specs.Reading.Fields.{numbered_at, typed_at, required_at, label_at, pass_field_at}
 use Rattle.proto_grammar.specs.Reading.Fields.{group_head_at, map_field_at}
+use Rattle.proto_grammar.specs.Reading.Names.{pass_type_name_at}
 use Rattle.proto_grammar.specs.Reading.Reserved.{plain_integer_at, integer_at, range_end_at, range_at, reserved_item_at}
 use Rattle.proto_grammar.specs.Reading.Reserved.{comma_item_at, comma_items_at, reserved_at, extensions_at}
 use Rattle.proto_grammar.proofs.StepsFall.{comma_items_fall}
@@ -22,12 +23,16 @@ use Rattle.proto_parse.proofs.Machine.{Step}
 use Rattle.proto_parse.proofs.Machine.Test.{OfKind, Word, Key, GroupName}
 use Rattle.proto_parse.proofs.Machine.Step.{Done, Token, Then, If, Many}
 use Rattle.proto_parse.proofs.Machine.Follows.{Fol, fol_then, fol_value, fol_done, fol_token, fol_if, fol_many}
-use Rattle.proto_parse.proofs.Machine.Follows.{fol_taken, fol_further, fol_if_true, fol_if_false, fol_rebind}
+use Rattle.proto_parse.proofs.Machine.Follows.{fol_taken, fol_further, fol_if_true, fol_if_false, fol_rebind, fol_cond}
 use Rattle.proto_parse.proofs.Parts.{type_name_step, strings_rest, strings_step, options_step, numbered_step, typed_step}
 use Rattle.proto_parse.proofs.Parts.{label_step, needed_label_step, pass_field_step, group_rest, map_rest, integer_step}
 use Rattle.proto_parse.proofs.Parts.{range_step, ranges_rest, reserved_rest, extensions_rest}
 use Rattle.proto_parse.proofs.Parts.Names.{type_follows, pass_type_name_follows}
 use Rattle.proto_parse.proofs.Parts.Options.{options_follow, strings_follow, literal_follows, literals_follow}
+
+-- what isn't kept
+abbrev nothing : Unit {0}
+nothing = tt
 
 module _ (st : Step) where
   pub numbered_follows : (custom : CustomOptions) (first : Span) (p : Place)
@@ -52,18 +57,26 @@ module _ (st : Step) where
       → Fol st label_step p (label_at syntax p)
   unfolding label_at
   free_label_follows syntax p no_proto2 =
-      fol_if st (Word (codes "repeated")) Done _ p _ _ (λ is. fol_taken st (Word (codes "repeated")) p _ is)
-      (λ no. fol_if st (Word (codes "optional")) Done _ p _ _ (λ is. fol_taken st (Word (codes "optional")) p _ is)
-      (λ no. rw no_proto2 (fol_done st p _)))
+      fol_if st (Word (codes "repeated")) Done _ p _ _ (λ is. fol_taken st (Word (codes "repeated")) p is)
+      (λ off. fol_if st (Word (codes "optional")) Done _ p _ _ (λ is. fol_taken st (Word (codes "optional")) p is)
+      (λ off. fol_cond st Done p (is_proto2 syntax) _ _
+      (λ two. absurd (let never : true ≡ false = sym two ∙ no_proto2 in cc)) (λ free. fol_done st p)))
 
   pub pass_field_follows : (left : List Lexeme) (end : ℕ)
       → Fol st (pass_field_step Skip) (place_of end left) (pass_field_at Skip (place_of end left))
   unfolding pass_field_at span_at
   pass_field_follows [] end k seen = refl
-  pass_field_follows (t ∷ left) end =
-      fol_then st _ _ (place_of end (t ∷ left)) _ _ (free_label_follows (Proto3 Skip) (place_of end (t ∷ left)) refl)
-      (λ label. fol_then st _ _ label.1 _ _ (pass_type_name_follows st label.1)
-      (λ type. fol_value st _ type.1 _ _ (numbered_follows Skip t.span type.1)))
+  pass_field_follows (t ∷ left) end k seen =
+      fol_then st label_step (typed_step Skip) (place_of end (t ∷ left))
+      (label_at (Proto3 Skip) (place_of end (t ∷ left)))
+      (λ label. pass_type_name_at label.1 >>= λ type. numbered_at Skip t.span type.1 >>= λ heading.
+      Ok (nothing, heading.1))
+      (free_label_follows (Proto3 Skip) (place_of end (t ∷ left)) refl)
+      (λ label. fol_then st type_name_step (numbered_step Skip) label.1 (pass_type_name_at label.1)
+      (λ type. numbered_at Skip t.span type.1 >>= λ heading. Ok (nothing, heading.1))
+      (pass_type_name_follows st label.1)
+      (λ type. fol_value st (numbered_step Skip) type.1 (numbered_at Skip t.span type.1) (λ heading. nothing)
+      (numbered_follows Skip t.span type.1))) k seen
 
   -- behind `map <`
   pub map_rest_follows : (custom : CustomOptions) (p : Place)
@@ -88,7 +101,7 @@ module _ (st : Step) where
   integer_follows true p =
       fol_if st (OfKind Minus) (Token (OfKind Integer)) (Token (OfKind Integer)) p _ _
       (λ is. fol_further st (OfKind Minus) (Token (OfKind Integer)) p _ is (plain_integer_follows (behind p)))
-      (λ no. plain_integer_follows p)
+      (λ off. plain_integer_follows p)
   integer_follows false p = plain_integer_follows p
 
   range_end_follows : (negative : Bool) (p : Place)
@@ -96,7 +109,7 @@ module _ (st : Step) where
   unfolding range_end_at
   range_end_follows negative p =
       fol_if st (Word (codes "max")) Done (integer_step negative) p _ _
-      (λ is. fol_taken st (Word (codes "max")) p _ is) (λ no. integer_follows negative p)
+      (λ is. fol_taken st (Word (codes "max")) p is) (λ off. integer_follows negative p)
 
   range_follows : (negative : Bool) (p : Place) → Fol st (range_step negative) p (range_at negative p)
   unfolding range_at
@@ -104,7 +117,7 @@ module _ (st : Step) where
       fol_then st _ _ p _ _ (integer_follows negative p)
       (λ number. fol_if st (Word (codes "to")) _ Done number.1 _ _
       (λ is. fol_further st (Word (codes "to")) _ number.1 _ is (range_end_follows negative (behind number.1)))
-      (λ no. fol_done st number.1 _))
+      (λ off. fol_done st number.1))
 
   -- names, or ranges
   names_follow : (negative : Bool) (p : Place) → Fol st strings_step p (reserved_item_at negative true p)
@@ -115,36 +128,37 @@ module _ (st : Step) where
   unfolding reserved_item_at
   numbers_follow negative p = range_follows negative p
 
+  comma_name_follows : (negative : Bool) (p : Place)
+      → Fol st (Then (Token (OfKind Comma)) strings_step) p (comma_item_at negative true p)
+  unfolding comma_item_at
+  comma_name_follows negative p =
+      fol_then st _ _ p _ _ (fol_token st (OfKind Comma) p) (λ comma. names_follow negative comma.1)
+
   comma_names_follow : (negative : Bool) (p : Place)
       → Fol st (Many (OfKind Comma) strings_step) p (comma_items_at negative true p)
   unfolding comma_items_at
   comma_names_follow negative p =
       fol_many st (OfKind Comma) strings_step (not_next Comma) (passing (comma_item_at negative true))
-      (comma_items_fall negative true) (λ l. refl) (λ s q. comma_name q) tt p
-    where
-      comma_name : (q : Place) → Fol st (Then (Token (OfKind Comma)) strings_step) q (comma_item_at negative true q)
-      unfolding comma_item_at
-      comma_name q =
-          fol_then st _ _ q _ _ (fol_token st (OfKind Comma) q) (λ comma. names_follow negative comma.1)
+      (comma_items_fall negative true) (λ l. refl) (λ s q. comma_name_follows negative q) tt p
+
+  comma_number_follows : (negative : Bool) (p : Place)
+      → Fol st (Then (Token (OfKind Comma)) (range_step negative)) p (comma_item_at negative false p)
+  unfolding comma_item_at
+  comma_number_follows negative p =
+      fol_then st _ _ p _ _ (fol_token st (OfKind Comma) p) (λ comma. numbers_follow negative comma.1)
 
   comma_numbers_follow : (negative : Bool) (p : Place)
       → Fol st (ranges_rest negative) p (comma_items_at negative false p)
   unfolding comma_items_at
   comma_numbers_follow negative p =
       fol_many st (OfKind Comma) (range_step negative) (not_next Comma) (passing (comma_item_at negative false))
-      (comma_items_fall negative false) (λ l. refl) (λ s q. comma_number q) tt p
-    where
-      comma_number : (q : Place)
-          → Fol st (Then (Token (OfKind Comma)) (range_step negative)) q (comma_item_at negative false q)
-      unfolding comma_item_at
-      comma_number q =
-          fol_then st _ _ q _ _ (fol_token st (OfKind Comma) q) (λ comma. numbers_follow negative comma.1)
+      (comma_items_fall negative false) (λ l. refl) (λ s q. comma_number_follows negative q) tt p
 
   -- behind the word
   reserved_by : (negative names : Bool) (q : Place) → first_is (of_kind StringLiteral) q.left ≡ names
       → Fol st (reserved_rest negative) q
       (reserved_item_at negative names q >>= λ item. comma_items_at negative names item.1 >>= λ items.
-      token_that (of_kind Semicolon) items.1 >>= λ semicolon. Ok (tt, semicolon.1))
+      token_that (of_kind Semicolon) items.1 >>= λ semicolon. Ok (nothing, semicolon.1))
   unfolding reserved_item_at strings_at
   reserved_by negative true q is =
       fol_if_true st (OfKind StringLiteral) _ _ q _ is

@@ -4,7 +4,7 @@ use Rattle.std.proofs.Common.{Some, None, List, [], ◌∷◌, ◌++◌, length,
 use Rattle.proto_lex.specs.declared.span.Span.{Span}
 use Rattle.proto_lex.specs.declared.token.TokenKind.TheVariants.{Identifier, Semicolon}
 use Rattle.proto_grammar.specs.declared.fault.SyntaxFault.{SyntaxFault}
-use Rattle.proto_grammar.specs.declared.fault.SyntaxFault.TheVariants as fault
+use Rattle.proto_grammar.specs.declared.fault.SyntaxFault.TheVariants as variant
 use Rattle.proto_grammar.specs.declared.tree.Syntax.{Syntax}
 use Rattle.proto_grammar.specs.declared.tree.File.{File}
 use Rattle.proto_parse.specs.declared.statement.FileStatement.{FileStatement}
@@ -26,16 +26,19 @@ use Rattle.proto_grammar.proofs.StandingLemmas.{Behind}
 use Rattle.proto_grammar.proofs.UntilLemmas.{until_at-step}
 use Rattle.proto_grammar.proofs.TokenLemmas.{other_word, word_kind, other_kind, next_no_word, next_other_word}
 use Rattle.proto_parse.proofs.StepsFall.{path_literals_fall, items_fall, statements_fall}
-use Rattle.proto_parse.proofs.Machine.{Why, Step, Taken, Fed, take_by, begun, fed_by, feed, going, is_package, dots, Outcome, machine}
+use Rattle.proto_parse.proofs.Machine.{Test, Refusal, test_of, passes, Why, Step, Taken, Fed, take_by, begun, fed_by, feed, going, is_package, dots, Outcome, machine}
 use Rattle.proto_parse.proofs.Machine.Test.{OfKind, Word}
-use Rattle.proto_parse.proofs.Machine.Step.{Done, Never, Token, Then, If, Plain, Plains}
+use Rattle.proto_parse.proofs.Machine.Step.{Done, Never, Token, Then, If, Ban, Plain}
+use Rattle.proto_parse.proofs.Machine.Why.{Misplaced, Refused}
+use Rattle.proto_parse.proofs.Machine.Refusal.{MessageNext, ExtendNext}
 use Rattle.proto_parse.proofs.Machine.Taken.{Took, Passed, Stopped}
 use Rattle.proto_parse.proofs.Machine.Fed.{Went, Halted, SecondPackage}
 use Rattle.proto_parse.proofs.Machine.Outcome.{Whole, Missing, Stuck, Twice}
 use Rattle.proto_parse.proofs.Machine.Follows.{Agrees, Tells, Fol, fol_then, fol_value, fol_done, fol_token, fol_if, fol_last}
+use Rattle.proto_parse.proofs.Machine.Follows.{fol_cond}
 use Rattle.proto_parse.proofs.Machine.Follows.{fol_taken, fol_plain, fol_plains, fol_choose, tells_behind, behind_both}
 use Rattle.proto_parse.proofs.Parts.{import_rest, package_rest, option_rest, enum_rest, service_rest, inside_step}
-use Rattle.proto_parse.proofs.Parts.{extend_or, message_or, statement_step}
+use Rattle.proto_parse.proofs.Parts.{extend_or, extend_rest, passed_extend_rest, heading_rest, message_or, statement_step}
 use Rattle.proto_parse.proofs.Parts.Names.{name_follows}
 use Rattle.proto_parse.proofs.Parts.Options.{option_follows}
 use Rattle.proto_parse.proofs.Parts.Messages.{enum_follows, extend_chosen, message_chosen, inside_follows}
@@ -46,9 +49,9 @@ module _ (st : Step) where
       → Fol st (If (Word (codes "weak")) Done (If (Word (codes "public")) Done Done)) p (import_kind_at p)
   unfolding import_kind_at
   import_kind_follows p =
-      fol_if st (Word (codes "weak")) Done _ p _ _ (λ is. fol_taken st (Word (codes "weak")) p _ is)
-      (λ no. fol_if st (Word (codes "public")) Done Done p _ _ (λ is. fol_taken st (Word (codes "public")) p _ is)
-      (λ no. fol_done st p _))
+      fol_if st (Word (codes "weak")) Done _ p _ _ (λ is. fol_taken st (Word (codes "weak")) p is)
+      (λ off. fol_if st (Word (codes "public")) Done Done p _ _ (λ is. fol_taken st (Word (codes "public")) p is)
+      (λ off. fol_done st p))
 
   path_literal_follows : (s : List Span) (p : Place) → Fol st Plain p (adding path_literal_at s p)
   unfolding path_literal_at
@@ -71,12 +74,13 @@ module _ (st : Step) where
       (λ keyword. fol_then st _ _ keyword.1 _ _ (name_follows st keyword.1)
       (λ components. fol_value st _ components.1 _ _ (fol_token st (OfKind Semicolon) components.1)))
 
-  never_follows : {A : Type 0} (p : Place) → Fol st Never p (misplaced {A = A} p)
+  never_follows : (p : Place) (k : List Step) (seen : Bool)
+      → Tells p (machine st p.left (Never ∷ k) seen) (variant.Grammar (offset_at p))
   never_follows p k seen = never_by p.left p.end
     where
       never_by : (left : List Lexeme) (end : ℕ)
           → Tells (place_of end left) (machine st left (Never ∷ k) seen)
-          (fault.Grammar (offset_at (place_of end left)))
+          (variant.Grammar (offset_at (place_of end left)))
       never_by [] end = refl
       never_by (t ∷ left) end = ([], refl, refl)
 
@@ -86,29 +90,30 @@ module _ (st : Step) where
       → Fol st (statement_step levels syntax) p (statement_at levels syntax f p)
   unfolding statement_at only_package_at
   statement_follows levels syntax f p one =
-      let fall = λ place. items_fall place syntax levels in
-      let follow = inside_follows st syntax levels in
       fol_choose st (λ s. statement_by levels s syntax f p) (OfKind Semicolon) Done _ p choice.Empty _
       (λ is. fol_value st _ p _ _ (fol_last st (Token (OfKind Semicolon)) p _ (fol_token st (OfKind Semicolon) p)))
-      (λ no. fol_choose st (λ s. statement_by levels s syntax f p) (Word (codes "import")) import_rest _ p choice.Import _
+      (λ off. fol_choose st (λ s. statement_by levels s syntax f p) (Word (codes "import")) import_rest _ p choice.Import _
       (λ is. fol_value st _ p _ _ (import_follows p))
-      (λ no. fol_choose st (λ s. statement_by levels s syntax f p) (Word (codes "package")) package_rest _ p
+      (λ off. fol_choose st (λ s. statement_by levels s syntax f p) (Word (codes "package")) package_rest _ p
       choice.Package _
-      (λ is. rw (no_package is) (fol_value st _ p _ _ (package_follows p)))
-      (λ no. fol_choose st (λ s. statement_by levels s syntax f p) (Word (codes "option")) (option_rest (custom_of syntax))
+      (λ is. fol_cond st _ p (is_some f.package_name) _ _
+      (λ some. absurd (let never : true ≡ false = sym some ∙ no_package is in cc))
+      (λ none. fol_value st _ p _ _ (package_follows p)))
+      (λ off. fol_choose st (λ s. statement_by levels s syntax f p) (Word (codes "option")) (option_rest (custom_of syntax))
       _ p choice.Option _
       (λ is. fol_value st _ p _ _ (option_follows st (custom_of syntax) p))
-      (λ no. message_chosen st (λ s. statement_by levels s syntax f p) (inside_step syntax levels)
-      (inside_at syntax levels) follow _ p _ choice.Message _ refl
-      (λ no. fol_choose st (λ s. statement_by levels s syntax f p) (Word (codes "enum")) (enum_rest (custom_of syntax)) _ p
+      (λ off. message_chosen st (λ s. statement_by levels s syntax f p) (inside_step syntax levels)
+      (inside_at syntax levels) (inside_follows st syntax levels) _ p _ choice.Message _ refl
+      (λ off. fol_choose st (λ s. statement_by levels s syntax f p) (Word (codes "enum")) (enum_rest (custom_of syntax)) _ p
       choice.Enum _
       (λ is. fol_value st _ p _ _ (enum_follows st (custom_of syntax) p))
-      (λ no. fol_choose st (λ s. statement_by levels s syntax f p) (Word (codes "service"))
+      (λ off. fol_choose st (λ s. statement_by levels s syntax f p) (Word (codes "service"))
       (service_rest (custom_of syntax)) _ p choice.Service _
       (λ is. fol_value st _ p _ _ (service_follows st (custom_of syntax) p))
-      (λ no. extend_chosen st (λ s. statement_by levels s syntax f p) syntax (inside_step syntax levels)
-      (inside_at syntax levels) follow fall Never p _ choice.Extend choice.Other refl
-      (λ no. never_follows p))))))))
+      (λ off. extend_chosen st (λ s. statement_by levels s syntax f p) syntax (inside_step syntax levels)
+      (inside_at syntax levels) (inside_follows st syntax levels) (λ place. items_fall place syntax levels) Never p _
+      choice.Extend choice.Other refl
+      (λ off. never_follows p))))))))
     where
       no_package : first_is (is_word (codes "package")) p.left ≡ true → is_some f.package_name ≡ false
       no_package is = by_flag (is_some f.package_name) (first_is (is_word (codes "package")) p.left) one is
@@ -146,12 +151,12 @@ module _ (levels : ℕ) (syntax : Syntax) (f : File) (p : Place) where
 
   flag_chosen : (b : Bool) (x y : FileStatement) → (b ≡ true → Flagged x) → (b ≡ false → Flagged y)
       → Flagged (cond b x y)
-  flag_chosen true x y yes no = yes refl
-  flag_chosen false x y yes no = no refl
+  flag_chosen true x y on off = on refl
+  flag_chosen false x y on off = off refl
 
-  no_flag : next_package ≡ false → {x : File × Place} → is_some x.0.package_name ≡ is_some f.package_name
+  no_flag : next_package ≡ false → (x : File × Place) → is_some x.0.package_name ≡ is_some f.package_name
       → is_some x.0.package_name ≡ (is_some f.package_name || next_package)
-  no_flag no e = e ∙ sym (or_false (is_some f.package_name)) ∙ ap (λ b. is_some f.package_name || b) (sym no)
+  no_flag off x e = e ∙ sym (or_false (is_some f.package_name)) ∙ ap (λ b. is_some f.package_name || b) (sym off)
 
   flag_package : next_package ≡ true → Flagged choice.Package
   unfolding only_package_at
@@ -164,23 +169,23 @@ module _ (levels : ℕ) (syntax : Syntax) (f : File) (p : Place) where
   pub flagged : Flagged (file_statement_of p.left)
   flagged =
       flag_chosen (first_is (of_kind Semicolon) p.left) choice.Empty _
-      (λ is x e. no_flag (next_no_word Semicolon (codes "package") p.left refl is)
+      (λ is x e. no_flag (next_no_word Semicolon (codes "package") p.left refl is) x
       (kept_flag f (token_that (of_kind Semicolon) p) (λ z. f) x e (λ z. refl)))
-      (λ no. flag_chosen (first_is (is_word (codes "import")) p.left) choice.Import _
-      (λ is x e. no_flag (next_other_word (codes "import") (codes "package") p.left refl is)
+      (λ off. flag_chosen (first_is (is_word (codes "import")) p.left) choice.Import _
+      (λ is x e. no_flag (next_other_word (codes "import") (codes "package") p.left refl is) x
       (kept_flag f (import_at p) _ x e (λ z. refl)))
-      (λ no. flag_chosen next_package choice.Package _ (λ is. flag_package is)
+      (λ off. flag_chosen next_package choice.Package _ (λ is. flag_package is)
       (λ none. flag_chosen (first_is (is_word (codes "option")) p.left) choice.Option _
-      (λ is x e. no_flag none (kept_flag f (option_at (custom_of syntax) p) (λ z. f) x e (λ z. refl)))
-      (λ no. flag_chosen (first_is (is_word (codes "message")) p.left) choice.Message _
-      (λ is x e. no_flag none (kept_flag f (message_at (inside_at syntax levels) p) _ x e (λ z. refl)))
-      (λ no. flag_chosen (first_is (is_word (codes "enum")) p.left) choice.Enum _
-      (λ is x e. no_flag none (kept_flag f (enum_at (custom_of syntax) p) _ x e (λ z. refl)))
-      (λ no. flag_chosen (first_is (is_word (codes "service")) p.left) choice.Service _
-      (λ is x e. no_flag none (kept_flag f (service_at (custom_of syntax) p) _ x e (λ z. refl)))
-      (λ no. flag_chosen (first_is (is_word (codes "extend")) p.left) choice.Extend choice.Other
-      (λ is x e. no_flag none (kept_flag f (extend_statement_at syntax (inside_at syntax levels) p) _ x e (λ z. refl)))
-      (λ no x e. absurd (let never : Err (fault.Grammar (offset_at p)) ≡ read_as x = e in cc)))))))))
+      (λ is x e. no_flag none x (kept_flag f (option_at (custom_of syntax) p) (λ z. f) x e (λ z. refl)))
+      (λ off. flag_chosen (first_is (is_word (codes "message")) p.left) choice.Message _
+      (λ is x e. no_flag none x (kept_flag f (message_at (inside_at syntax levels) p) _ x e (λ z. refl)))
+      (λ off. flag_chosen (first_is (is_word (codes "enum")) p.left) choice.Enum _
+      (λ is x e. no_flag none x (kept_flag f (enum_at (custom_of syntax) p) _ x e (λ z. refl)))
+      (λ off. flag_chosen (first_is (is_word (codes "service")) p.left) choice.Service _
+      (λ is x e. no_flag none x (kept_flag f (service_at (custom_of syntax) p) _ x e (λ z. refl)))
+      (λ off. flag_chosen (first_is (is_word (codes "extend")) p.left) choice.Extend choice.Other
+      (λ is x e. no_flag none x (kept_flag f (extend_statement_at syntax (inside_at syntax levels) p) _ x e (λ z. refl)))
+      (λ off x e. absurd (let never : Err (variant.Grammar (offset_at p)) ≡ read_as x = e in cc)))))))))
 
   pub statement_flag : (x : File × Place) → statement_at levels syntax f p ≡ Ok x
       → is_some x.0.package_name ≡ (is_some f.package_name || next_package)
@@ -190,7 +195,7 @@ module _ (levels : ℕ) (syntax : Syntax) (f : File) (p : Place) where
 -- a second package statement
 second_package : (levels : ℕ) (syntax : Syntax) (f : File) (t : Lexeme) (rest : List Lexeme) (end : ℕ)
     → is_some f.package_name ≡ true → is_word (codes "package") t ≡ true
-    → statement_at levels syntax f (place_of end (t ∷ rest)) ≡ Err (fault.TwoPackages t.span.start)
+    → statement_at levels syntax f (place_of end (t ∷ rest)) ≡ Err (variant.TwoPackages t.span.start)
 unfolding statement_at only_package_at
 second_package levels syntax f t rest end some is =
     rw (
@@ -206,31 +211,55 @@ no_pass_cond : (b : Bool) (x y : Taken) → (x ≡ Passed → ⊥) → (y ≡ Pa
 no_pass_cond true x y first second e = first e
 no_pass_cond false x y first second e = second e
 
-took_no_pass : {k : List Step} → Took k ≡ Passed → ⊥
-took_no_pass e = cc
+took_no_pass : (k : List Step) → Took k ≡ Passed → ⊥
+took_no_pass k e = cc
 
-stop_no_pass : {why : Why} → Stopped why ≡ Passed → ⊥
-stop_no_pass e = cc
+stop_no_pass : (why : Why) → Stopped why ≡ Passed → ⊥
+stop_no_pass why e = cc
 
-message_no_pass : (inner : Option Step) (other : Step) (k : List Step) (t : Lexeme) (d : Bool)
-    → (take_by other k t d ≡ Passed → ⊥) → take_by (message_or inner other) k t d ≡ Passed → ⊥
-message_no_pass None other k t d no e = no_pass_cond _ _ _ stop_no_pass no e
-message_no_pass (Some inner) other k t d no e = no_pass_cond _ _ _ took_no_pass no e
+module _ (k : List Step) (t : Lexeme) (d : Bool) where
+  abbrev NoPass : Step → Type 0
+  NoPass s = take_by s k t d ≡ Passed → ⊥
 
-extend_no_pass : (syntax : Syntax) (inner : Option Step) (k : List Step) (t : Lexeme) (d : Bool)
-    → take_by (extend_or syntax inner Never) k t d ≡ Passed → ⊥
-extend_no_pass (Proto3 Refuse) inner k t d e = no_pass_cond _ _ _ stop_no_pass stop_no_pass e
-extend_no_pass (Proto3 Skip) inner k t d e = no_pass_cond _ _ _ took_no_pass stop_no_pass e
-extend_no_pass Extended inner k t d e = no_pass_cond _ _ _ took_no_pass stop_no_pass e
-extend_no_pass Proto2 inner k t d e = no_pass_cond _ _ _ took_no_pass stop_no_pass e
+  if_no_pass : (test : Test) (a b : Step) → NoPass b → NoPass (If test a b)
+  if_no_pass test a b rest e =
+      no_pass_cond (passes test t) (Took (a ∷ k)) (take_by b k t d) (took_no_pass (a ∷ k)) rest e
 
-statement_takes : (levels : ℕ) (syntax : Syntax) (k : List Step) (t : Lexeme) (d : Bool)
-    → take_by (statement_step levels syntax) k t d ≡ Passed → ⊥
-statement_takes levels syntax k t d e =
-    no_pass_cond _ _ _ took_no_pass (λ e. no_pass_cond _ _ _ took_no_pass (λ e. no_pass_cond _ _ _ took_no_pass
-    (λ e. no_pass_cond _ _ _ took_no_pass (λ e. message_no_pass (inside_step syntax levels) _ k t d
-    (λ e. no_pass_cond _ _ _ took_no_pass (λ e. no_pass_cond _ _ _ took_no_pass
-    (λ e. extend_no_pass syntax (inside_step syntax levels) k t d e) e) e) e) e) e) e) e
+  ban_no_pass : (r : Refusal) (b : Step) → NoPass b → NoPass (Ban r b)
+  ban_no_pass r b rest e =
+      no_pass_cond (passes (test_of r) t) (Stopped (Refused r)) (take_by b k t d) (stop_no_pass (Refused r)) rest e
+
+  message_no_pass : (inner : Option Step) (other : Step) → NoPass other → NoPass (message_or inner other)
+  message_no_pass None other rest = ban_no_pass MessageNext other rest
+  message_no_pass (Some inner) other rest = if_no_pass (Word (codes "message")) (Then heading_rest inner) other rest
+
+  extend_no_pass : (syntax : Syntax) (inner : Option Step) → NoPass (extend_or syntax inner Never)
+  extend_no_pass (Proto3 Refuse) inner = ban_no_pass ExtendNext Never (stop_no_pass Misplaced)
+  extend_no_pass (Proto3 Skip) inner =
+      if_no_pass (Word (codes "extend")) passed_extend_rest Never (stop_no_pass Misplaced)
+  extend_no_pass Extended inner =
+      if_no_pass (Word (codes "extend")) (extend_rest Extended inner) Never (stop_no_pass Misplaced)
+  extend_no_pass Proto2 inner =
+      if_no_pass (Word (codes "extend")) (extend_rest Proto2 inner) Never (stop_no_pass Misplaced)
+
+  statement_takes : (levels : ℕ) (syntax : Syntax) → NoPass (statement_step levels syntax)
+  statement_takes levels syntax =
+      let inner : Option Step = inside_step syntax levels in
+      let behind_enum : Step = If (Word (codes "service")) (service_rest (custom_of syntax)) (extend_or syntax inner Never)
+      in
+      let behind_message : Step = If (Word (codes "enum")) (enum_rest (custom_of syntax)) behind_enum in
+      let behind_package : Step =
+      If (Word (codes "option")) (option_rest (custom_of syntax)) (message_or inner behind_message) in
+      let behind_empty : Step =
+      If (Word (codes "import")) import_rest (If (Word (codes "package")) package_rest behind_package) in
+      if_no_pass (OfKind Semicolon) Done behind_empty
+      (if_no_pass (Word (codes "import")) import_rest (If (Word (codes "package")) package_rest behind_package)
+      (if_no_pass (Word (codes "package")) package_rest behind_package
+      (if_no_pass (Word (codes "option")) (option_rest (custom_of syntax)) (message_or inner behind_message)
+      (message_no_pass inner behind_message
+      (if_no_pass (Word (codes "enum")) (enum_rest (custom_of syntax)) behind_enum
+      (if_no_pass (Word (codes "service")) (service_rest (custom_of syntax)) (extend_or syntax inner Never)
+      (extend_no_pass syntax inner)))))))
 
 -- ---- all statements
 
@@ -249,7 +278,7 @@ module _ (levels : ℕ) (syntax : Syntax) where
   one_statement t rest seen none =
       rw none (ap (λ f. going st f (λ next now. machine st rest next now) (t ∷ rest))
       (begun_fed (take_by st [] t (dots rest)) (seen || is_package t)
-      (feed st [] (seen || is_package t) t (dots rest)) (statement_takes levels syntax [] t (dots rest))))
+      (feed st [] (seen || is_package t) t (dots rest)) (statement_takes [] t (dots rest) levels syntax)))
 
   abbrev pub FileAgrees : Place → Outcome → Result (File × Place) SyntaxFault → Type 0
   FileAgrees p o (Ok x) = o ≡ Whole (is_some x.0.package_name)

@@ -1,7 +1,10 @@
 -- Each part fits: what it has begun can be finished, and its example is read.
 use Rattle.std.proofs.Common.{◌≡◌, ℕ, zero, suc, Bool, true, false, ◌&&◌, Option, Some, None, List, [], ◌∷◌, refl, sym}
 use Rattle.std.proofs.Common.{◌∙◌, ap, codes}
-use Rattle.proto_lex.specs.declared.token.TokenKind.TheVariants.{Identifier, StringLiteral, OpenBrace, OpenBracket, Less}
+use Rattle.proto_lex.specs.declared.token.TokenKind.{TokenKind}
+use Rattle.proto_lex.specs.declared.token.TokenKind.TheVariants.{Identifier, StringLiteral, Semicolon, Equals, OpenBrace}
+use Rattle.proto_lex.specs.declared.token.TokenKind.TheVariants.{CloseBrace, OpenBracket, CloseBracket, CloseParenthesis}
+use Rattle.proto_lex.specs.declared.token.TokenKind.TheVariants.{Less, Greater}
 use Rattle.proto_lex.specs.declared.token.TokenKind.TheVariants.{Comma, Dot}
 use Rattle.proto_grammar.specs.declared.tree.CustomOptions.{CustomOptions}
 use Rattle.proto_grammar.specs.declared.tree.CustomOptions.TheVariants.{Refuse, Skip}
@@ -15,7 +18,7 @@ use Rattle.proto_parse.proofs.Machine.Test.{OfKind, Word}
 use Rattle.proto_parse.proofs.Machine.Refusal.{GroupNext, LabelledGroupNext}
 use Rattle.proto_parse.proofs.Machine.Step.{Never, Token, Then, If}
 use Rattle.proto_parse.proofs.Machine.Taken.{Took}
-use Rattle.proto_parse.proofs.Machine.Finishing.{Has, Fit, Undotted, TakesDot, example}
+use Rattle.proto_parse.proofs.Machine.Finishing.{Has, Fit, Undotted, TakesDot, example, sign_of}
 use Rattle.proto_parse.proofs.Parts.{dot_names, name_step, type_name_step, named_type_step, part_step, option_name_step}
 use Rattle.proto_parse.proofs.Parts.{strings_rest, strings_step, aggregate_step, constant_step, setting_step, option_rest}
 use Rattle.proto_parse.proofs.Parts.{option_step, bracketed_rest, options_step, numbered_step, typed_step, typed_rest}
@@ -27,6 +30,10 @@ use Rattle.proto_parse.proofs.Parts.{passed_extend_rest, extend_or, message_or, 
 use Rattle.proto_parse.proofs.Parts.{inside_step, method_type_step, method_item_step, method_end_step, method_step}
 use Rattle.proto_parse.proofs.Parts.{service_item_step, service_rest, import_rest, package_rest, statement_step}
 
+-- a token of this kind is next
+abbrev at : TokenKind → Option Lexeme
+at kind = Some (sign_of kind)
+
 -- no `.` is next
 abbrev NoDot : Option Lexeme → Type 0
 NoDot n = sees (OfKind Dot) n ≡ false
@@ -34,19 +41,19 @@ NoDot n = sees (OfKind Dot) n ≡ false
 -- ---- names and types
 
 fit_dot_names : (n : Option Lexeme) → NoDot n → Fit dot_names n
-fit_dot_names n no = (no, refl, tt, tt)
+fit_dot_names n off = (off, refl, tt, tt)
 
 fit_name : (n : Option Lexeme) → NoDot n → Fit name_step n
-fit_name n no = (tt, refl, no, fit_dot_names n no)
+fit_name n off = (tt, refl, off, fit_dot_names n off)
 
 has_name : (n : Option Lexeme) → NoDot n → Has name_step n
-has_name n no = (tt, no)
+has_name n off = (tt, off)
 
 fit_type_name : (n : Option Lexeme) → NoDot n → Fit type_name_step n
-fit_type_name n no = (((refl, tt, tt), tt), refl, has_name n no, fit_name n no)
+fit_type_name n off = (((refl, tt, tt), tt), refl, has_name n off, fit_name n off)
 
 has_type_name : (n : Option Lexeme) → NoDot n → Has type_name_step n
-has_type_name n no = ((refl, tt), has_name n no)
+has_type_name n off = ((refl, tt), has_name n off)
 
 dot_names_take : TakesDot dot_names
 dot_names_take k t d is =
@@ -54,17 +61,24 @@ dot_names_take k t d is =
     (Token (OfKind Identifier) ∷ (dot_names ∷ k), took)
 
 fit_named_type : (n : Option Lexeme) → NoDot n → Fit named_type_step n
-fit_named_type n no =
-    (refl, dot_names_take, (refl, no, fit_dot_names n no), fit_type_name n no)
+fit_named_type n off =
+    (refl, dot_names_take, (refl, off, fit_dot_names n off), fit_type_name n off)
 
 has_named_type : (n : Option Lexeme) → NoDot n → Has named_type_step n
-has_named_type n no = (refl, has_type_name n no)
+has_named_type n off = (refl, has_type_name n off)
 
 -- ---- options
 
 fit_part : (custom : CustomOptions) (n : Option Lexeme) → Fit (part_step custom) n
 fit_part Refuse n = (refl, tt)
-fit_part Skip n = ((refl, (has_type_name _ refl, tt), (fit_type_name _ refl, refl, tt, tt)), tt)
+fit_part Skip n = (
+  (
+    refl,
+    (has_type_name (at CloseParenthesis) refl, tt),
+    (fit_type_name (at CloseParenthesis) refl, refl, tt, tt),
+  ),
+  tt,
+)
 
 has_part : (custom : CustomOptions) (n : Option Lexeme) → Has (part_step custom) n
 has_part Refuse n = (refl, tt)
@@ -75,22 +89,22 @@ undotted_part Refuse = refl
 undotted_part Skip = refl
 
 fit_option_name : (custom : CustomOptions) (n : Option Lexeme) → NoDot n → Fit (option_name_step custom) n
-fit_option_name custom n no = (
+fit_option_name custom n off = (
   fit_part custom n,
   refl,
-  no,
-  (no, undotted_part custom, has_part custom n, fit_part custom n),
+  off,
+  (off, undotted_part custom, has_part custom n, fit_part custom n),
 )
 
 has_option_name : (custom : CustomOptions) (n : Option Lexeme) → NoDot n → Has (option_name_step custom) n
-has_option_name custom n no = (has_part custom n, no)
+has_option_name custom n off = (has_part custom n, off)
 
 -- no literal is next
 abbrev NoLiteral : Option Lexeme → Type 0
 NoLiteral n = sees (OfKind StringLiteral) n ≡ false
 
 fit_strings : (n : Option Lexeme) → NoLiteral n → Fit strings_rest n
-fit_strings n no = (no, refl, tt, tt)
+fit_strings n off = (off, refl, tt, tt)
 
 fit_aggregate : (custom : CustomOptions) (n : Option Lexeme) → Fit (aggregate_step custom) n
 fit_aggregate Refuse n = (refl, tt)
@@ -101,8 +115,8 @@ has_aggregate Refuse n = (refl, tt)
 has_aggregate Skip n = (refl, tt)
 
 fit_constant : (custom : CustomOptions) (n : Option Lexeme) → NoDot n → NoLiteral n → Fit (constant_step custom) n
-fit_constant custom n no none = (
-  (refl, no, fit_dot_names n no),
+fit_constant custom n off none = (
+  (refl, off, fit_dot_names n off),
   ((refl, tt, tt), ((refl, none, fit_strings n none), fit_aggregate custom n)),
 )
 
@@ -115,25 +129,25 @@ undotted_constant Refuse = refl
 undotted_constant Skip = refl
 
 fit_setting : (custom : CustomOptions) (n : Option Lexeme) → NoDot n → NoLiteral n → Fit (setting_step custom) n
-fit_setting custom n no none = (
-  fit_option_name custom _ refl,
+fit_setting custom n off none = (
+  fit_option_name custom (at Equals) refl,
   refl,
   (tt, has_constant custom n),
-  (tt, undotted_constant custom, has_constant custom n, fit_constant custom n no none),
+  (tt, undotted_constant custom, has_constant custom n, fit_constant custom n off none),
 )
 
 has_setting : (custom : CustomOptions) (n : Option Lexeme) → Has (setting_step custom) n
-has_setting custom n = (has_option_name custom _ refl, (tt, has_constant custom n))
+has_setting custom n = (has_option_name custom (at Equals) refl, (tt, has_constant custom n))
 
 undotted_setting : (custom : CustomOptions) → Undotted (setting_step custom)
 undotted_setting Refuse = refl
 undotted_setting Skip = refl
 
 fit_option : (custom : CustomOptions) (n : Option Lexeme) → Fit (option_rest custom) n
-fit_option custom n = (fit_setting custom _ refl refl, refl, tt, tt)
+fit_option custom n = (fit_setting custom (at Semicolon) refl refl, refl, tt, tt)
 
 has_option : (custom : CustomOptions) (n : Option Lexeme) → Has (option_rest custom) n
-has_option custom n = (has_setting custom _, tt)
+has_option custom n = (has_setting custom (at Semicolon), tt)
 
 undotted_option : (custom : CustomOptions) → Undotted (option_rest custom)
 undotted_option Refuse = refl
@@ -141,11 +155,16 @@ undotted_option Skip = refl
 
 fit_bracketed : (custom : CustomOptions) (n : Option Lexeme) → Fit (bracketed_rest custom) n
 fit_bracketed custom n = (
-  fit_setting custom _ refl refl,
+  fit_setting custom (at CloseBracket) refl refl,
   refl,
   (refl, tt),
   (
-    (refl, undotted_setting custom, has_setting custom _, fit_setting custom _ refl refl),
+    (
+      refl,
+      undotted_setting custom,
+      has_setting custom (at CloseBracket),
+      fit_setting custom (at CloseBracket) refl refl,
+    ),
     refl,
     tt,
     tt,
@@ -153,7 +172,7 @@ fit_bracketed custom n = (
 )
 
 has_bracketed : (custom : CustomOptions) (n : Option Lexeme) → Has (bracketed_rest custom) n
-has_bracketed custom n = (has_setting custom _, (refl, tt))
+has_bracketed custom n = (has_setting custom (at CloseBracket), (refl, tt))
 
 undotted_bracketed : (custom : CustomOptions) → Undotted (bracketed_rest custom)
 undotted_bracketed Refuse = refl
@@ -167,7 +186,7 @@ fit_options : (custom : CustomOptions) (n : Option Lexeme) → Fit (options_step
 fit_options custom n = ((undotted_bracketed custom, has_bracketed custom n, fit_bracketed custom n), tt)
 
 has_options : (custom : CustomOptions) (n : Option Lexeme) → NoBracket n → Has (options_step custom) n
-has_options custom n no = (no, tt)
+has_options custom n off = (off, tt)
 
 -- ---- fields
 
@@ -176,20 +195,20 @@ fit_numbered custom n = (
   tt,
   refl,
   (tt, (tt, ((refl, tt), tt))),
-  (tt, refl, (tt, ((refl, tt), tt)), (tt, refl, ((refl, tt), tt), (fit_options custom _, refl, tt, tt))),
+  (tt, refl, (tt, ((refl, tt), tt)), (tt, refl, ((refl, tt), tt), (fit_options custom (at Semicolon), refl, tt, tt))),
 )
 
 has_numbered : (custom : CustomOptions) (n : Option Lexeme) → Has (numbered_step custom) n
 has_numbered custom n = (tt, (tt, (tt, ((refl, tt), tt))))
 
 fit_typed : (custom : CustomOptions) (n : Option Lexeme) → Fit (typed_step custom) n
-fit_typed custom n = (fit_type_name _ refl, refl, has_numbered custom n, fit_numbered custom n)
+fit_typed custom n = (fit_type_name (at Identifier) refl, refl, has_numbered custom n, fit_numbered custom n)
 
 has_typed : (custom : CustomOptions) (n : Option Lexeme) → Has (typed_step custom) n
-has_typed custom n = (has_type_name _ refl, has_numbered custom n)
+has_typed custom n = (has_type_name (at Identifier) refl, has_numbered custom n)
 
 fit_typed_rest : (custom : CustomOptions) (n : Option Lexeme) → Fit (typed_rest custom) n
-fit_typed_rest custom n = (fit_dot_names _ refl, refl, has_numbered custom n, fit_numbered custom n)
+fit_typed_rest custom n = (fit_dot_names (at Identifier) refl, refl, has_numbered custom n, fit_numbered custom n)
 
 has_typed_rest : (custom : CustomOptions) (n : Option Lexeme) → Has (typed_rest custom) n
 has_typed_rest custom n = (refl, has_numbered custom n)
@@ -207,7 +226,7 @@ fit_needed_label : (n : Option Lexeme) → Fit needed_label_step n
 fit_needed_label n = ((refl, tt, tt), ((refl, tt, tt), tt))
 
 fit_pass_field : (custom : CustomOptions) (n : Option Lexeme) → Fit (pass_field_step custom) n
-fit_pass_field custom n = (fit_label _, refl, has_typed custom n, fit_typed custom n)
+fit_pass_field custom n = (fit_label n, refl, has_typed custom n, fit_typed custom n)
 
 has_pass_field : (custom : CustomOptions) (n : Option Lexeme) → Has (pass_field_step custom) n
 has_pass_field custom n = ((refl, (refl, tt)), has_typed custom n)
@@ -217,7 +236,7 @@ fit_group n = (
   tt,
   refl,
   (tt, (tt, ((refl, tt), tt))),
-  (tt, refl, (tt, ((refl, tt), tt)), (tt, refl, ((refl, tt), tt), (fit_options Skip _, refl, tt, tt))),
+  (tt, refl, (tt, ((refl, tt), tt)), (tt, refl, ((refl, tt), tt), (fit_options Skip (at OpenBrace), refl, tt, tt))),
 )
 
 has_group : (n : Option Lexeme) → Has group_rest n
@@ -227,13 +246,13 @@ fit_map : (custom : CustomOptions) (n : Option Lexeme) → Fit (map_rest custom)
 fit_map custom n = (
   tt,
   refl,
-  (tt, (has_type_name _ refl, (tt, has_numbered custom n))),
+  (tt, (has_type_name (at Greater) refl, (tt, has_numbered custom n))),
   (
     tt,
     refl,
-    (has_type_name _ refl, (tt, has_numbered custom n)),
+    (has_type_name (at Greater) refl, (tt, has_numbered custom n)),
     (
-      fit_type_name _ refl,
+      fit_type_name (at Greater) refl,
       refl,
       (tt, has_numbered custom n),
       (tt, refl, has_numbered custom n, fit_numbered custom n),
@@ -242,7 +261,7 @@ fit_map custom n = (
 )
 
 has_map : (custom : CustomOptions) (n : Option Lexeme) → Has (map_rest custom) n
-has_map custom n = (tt, (tt, (has_type_name _ refl, (tt, has_numbered custom n))))
+has_map custom n = (tt, (tt, (has_type_name (at Greater) refl, (tt, has_numbered custom n))))
 
 -- ---- reserved statements and extension ranges
 
@@ -259,21 +278,21 @@ abbrev NoRange : Option Lexeme → Type 0
 NoRange n = sees (Word (codes "to")) n ≡ false
 
 fit_range : (negative : Bool) (n : Option Lexeme) → NoRange n → Fit (range_step negative) n
-fit_range true n no = (
+fit_range true n off = (
   fit_integer true n,
   refl,
-  (no, tt),
+  (off, tt),
   ((refl, (refl, (refl, tt)), ((refl, tt, tt), fit_integer true n)), tt),
 )
-fit_range false n no = (
+fit_range false n off = (
   fit_integer false n,
   refl,
-  (no, tt),
+  (off, tt),
   ((refl, (refl, tt), ((refl, tt, tt), fit_integer false n)), tt),
 )
 
 has_range : (negative : Bool) (n : Option Lexeme) → NoRange n → Has (range_step negative) n
-has_range negative n no = (has_integer negative n, (no, tt))
+has_range negative n off = (has_integer negative n, (off, tt))
 
 undotted_range : (negative : Bool) → Undotted (range_step negative)
 undotted_range true = refl
@@ -284,22 +303,32 @@ abbrev NoComma : Option Lexeme → Type 0
 NoComma n = sees (OfKind Comma) n ≡ false
 
 fit_ranges : (negative : Bool) (n : Option Lexeme) → NoComma n → NoRange n → Fit (ranges_rest negative) n
-fit_ranges negative n no none =
-    (no, undotted_range negative, has_range negative n none, fit_range negative n none)
+fit_ranges negative n off none =
+    (off, undotted_range negative, has_range negative n none, fit_range negative n none)
 
 fit_reserved : (negative : Bool) (n : Option Lexeme) → Fit (reserved_rest negative) n
 fit_reserved negative n = (
   (
     refl,
     (refl, (refl, tt)),
-    (fit_strings _ refl, refl, (refl, tt), ((refl, refl, (tt, refl), (tt, refl, refl, fit_strings _ refl)), refl, tt, tt)),
+    (
+      fit_strings (at Semicolon) refl,
+      refl,
+      (refl, tt),
+      ((refl, refl, (tt, refl), (tt, refl, refl, fit_strings (at Semicolon) refl)), refl, tt, tt),
+    ),
   ),
-  (fit_range negative _ refl, refl, (refl, tt), (fit_ranges negative _ refl refl, refl, tt, tt)),
+  (
+    fit_range negative (at Semicolon) refl,
+    refl,
+    (refl, tt),
+    (fit_ranges negative (at Semicolon) refl refl, refl, tt, tt),
+  ),
 )
 
 has_reserved : (negative : Bool) (n : Option Lexeme) → Has (reserved_rest negative) n
-has_reserved true n = (refl, (has_range true _ refl, (refl, tt)))
-has_reserved false n = (refl, (has_range false _ refl, (refl, tt)))
+has_reserved true n = (refl, (has_range true (at Semicolon) refl, (refl, tt)))
+has_reserved false n = (refl, (has_range false (at Semicolon) refl, (refl, tt)))
 
 undotted_reserved : (negative : Bool) → Undotted (reserved_rest negative)
 undotted_reserved true = refl
@@ -307,14 +336,14 @@ undotted_reserved false = refl
 
 fit_extensions : (n : Option Lexeme) → Fit extensions_rest n
 fit_extensions n = (
-  fit_range false _ refl,
+  fit_range false (at Semicolon) refl,
   refl,
   (refl, ((refl, tt), tt)),
-  (fit_ranges false _ refl refl, refl, ((refl, tt), tt), (fit_options Skip _, refl, tt, tt)),
+  (fit_ranges false (at Semicolon) refl refl, refl, ((refl, tt), tt), (fit_options Skip (at Semicolon), refl, tt, tt)),
 )
 
 has_extensions : (n : Option Lexeme) → Has extensions_rest n
-has_extensions n = (has_range false _ refl, (refl, ((refl, tt), tt)))
+has_extensions n = (has_range false (at Semicolon) refl, (refl, ((refl, tt), tt)))
 
 -- ---- blocks
 
@@ -326,7 +355,7 @@ abbrev Fitting : Step → Type 0
 Fitting s = (n : Option Lexeme) → Fit s n
 
 sits_block : (item : Step) → ended item ≡ false → Fitting item → Sits (block item)
-sits_block item goes fit n = (refl, (refl, tt), ((refl, goes, fit _), refl, tt, tt))
+sits_block item goes fit n = (refl, (refl, tt), ((refl, goes, fit (at CloseBrace)), refl, tt, tt))
 
 -- a heading and a block
 sits_heading : (inner : Step) → Sits inner → Sits (Then heading_rest inner)
@@ -343,7 +372,7 @@ fit_value custom n = (
     tt,
     refl,
     ((refl, tt), ((refl, tt), tt)),
-    (fit_integer true _, refl, ((refl, tt), tt), (fit_options custom _, refl, tt, tt)),
+    (fit_integer true (at Semicolon), refl, ((refl, tt), tt), (fit_options custom (at Semicolon), refl, tt, tt)),
   ),
 )
 
@@ -370,7 +399,7 @@ InnerSits (Some inner) = Sits inner
 sits_group : (inner : Step) → Sits inner → Sits (Then group_rest inner)
 sits_group inner sits n =
     let i = sits n in
-    (refl, (has_group _, i.1), (fit_group _, i.0, i.1, i.2))
+    (refl, (has_group n, i.1), (fit_group n, i.0, i.1, i.2))
 
 fit_group_or : (r : Refusal) (inner : Option Step) → InnerSits inner → Fitting (group_or r inner)
 fit_group_or r None sits n =
@@ -393,10 +422,10 @@ undotted_group_or None = refl
 undotted_group_or (Some inner) = refl
 
 fit_member : (syntax : Syntax) (inner : Option Step) → InnerSits inner → Fitting (member_step syntax inner)
-fit_member (Proto3 custom) inner sits n = (fit_label _, refl, has_typed custom n, fit_typed custom n)
-fit_member Extended inner sits n = (fit_label _, refl, has_typed Skip n, fit_typed Skip n)
+fit_member (Proto3 custom) inner sits n = (fit_label n, refl, has_typed custom n, fit_typed custom n)
+fit_member Extended inner sits n = (fit_label n, refl, has_typed Skip n, fit_typed Skip n)
 fit_member Proto2 inner sits n = (
-  fit_needed_label _,
+  fit_needed_label n,
   undotted_group_or inner,
   has_group_or inner n,
   fit_group_or LabelledGroupNext inner sits n,
@@ -434,8 +463,8 @@ sits_extend syntax inner sits n =
     let b = sits_block (extend_item_step syntax inner) (ended_member syntax inner) (fit_extend_item syntax inner sits) n
     in (
       refl,
-      (has_named_type _ refl, (tt, b.1)),
-      (fit_named_type _ refl, refl, (tt, b.1), (tt, b.0, b.1, b.2)),
+      (has_named_type (at OpenBrace) refl, (tt, b.1)),
+      (fit_named_type (at OpenBrace) refl, refl, (tt, b.1), (tt, b.0, b.1, b.2)),
     )
 
 fit_passed_item : Fitting passed_item_step
@@ -445,8 +474,8 @@ sits_passed_extend : Sits passed_extend_rest
 sits_passed_extend n =
     let b = sits_block passed_item_step refl fit_passed_item n in (
       refl,
-      (has_type_name _ refl, (tt, b.1)),
-      (fit_type_name _ refl, refl, (tt, b.1), (tt, b.0, b.1, b.2)),
+      (has_type_name (at OpenBrace) refl, (tt, b.1)),
+      (fit_type_name (at OpenBrace) refl, refl, (tt, b.1), (tt, b.0, b.1, b.2)),
     )
 
 fit_extend_or : (syntax : Syntax) (inner : Option Step) (other : Step) → InnerSits inner → ended other ≡ false
@@ -561,17 +590,17 @@ fit_method_type : Fitting method_type_step
 fit_method_type n = (
   tt,
   refl,
-  ((refl, tt), (has_named_type _ refl, tt)),
+  ((refl, tt), (has_named_type (at CloseParenthesis) refl, tt)),
   (
     ((refl, tt, tt), tt),
     refl,
-    (has_named_type _ refl, tt),
-    (fit_named_type _ refl, refl, tt, tt),
+    (has_named_type (at CloseParenthesis) refl, tt),
+    (fit_named_type (at CloseParenthesis) refl, refl, tt, tt),
   ),
 )
 
 has_method_type : (n : Option Lexeme) → Has method_type_step n
-has_method_type n = (tt, ((refl, tt), (has_named_type _ refl, tt)))
+has_method_type n = (tt, ((refl, tt), (has_named_type (at CloseParenthesis) refl, tt)))
 
 fit_method_item : (custom : CustomOptions) → Fitting (method_item_step custom)
 fit_method_item custom n =
@@ -592,16 +621,16 @@ fit_method custom n =
     let f = fit_method_end custom n in (
       tt,
       refl,
-      (tt, (has_method_type _, (tt, (has_method_type _, e)))),
+      (tt, (has_method_type n, (tt, (has_method_type n, e)))),
       (
         tt,
         refl,
-        (has_method_type _, (tt, (has_method_type _, e))),
+        (has_method_type n, (tt, (has_method_type n, e))),
         (
-          fit_method_type _,
+          fit_method_type n,
           refl,
-          (tt, (has_method_type _, e)),
-          (tt, refl, (has_method_type _, e), (fit_method_type _, refl, e, f)),
+          (tt, (has_method_type n, e)),
+          (tt, refl, (has_method_type n, e), (fit_method_type n, refl, e, f)),
         ),
       ),
     )
@@ -631,7 +660,7 @@ sits_import n = (
 )
 
 sits_package : Sits package_rest
-sits_package n = (refl, (has_name _ refl, tt), (fit_name _ refl, refl, tt, tt))
+sits_package n = (refl, (has_name (at Semicolon) refl, tt), (fit_name (at Semicolon) refl, refl, tt, tt))
 
 pub fit_statement : (levels : ℕ) (syntax : Syntax) (n : Option Lexeme) → Fit (statement_step levels syntax) n
 fit_statement levels syntax n = (

@@ -2,15 +2,16 @@
 use Rattle.std.proofs.Common.{◌≡◌, ◌⊎◌, inl, inr, ℕ, zero, suc, Bool, true, false, cond, ◌&&◌, not, Result, Ok, Err, Option, Some, None}
 use Rattle.std.proofs.Common.{List, [], ◌∷◌, refl, sym, ◌∙◌, ap, subst, codes}
 use Rattle.proto_lex.specs.declared.span.Span.{Span}
-use Rattle.proto_lex.specs.declared.token.TokenKind.TheVariants.{Identifier, Semicolon, Equals, OpenBrace, CloseBrace}
-use Rattle.proto_lex.specs.declared.token.TokenKind.TheVariants.{Less}
+use Rattle.proto_lex.specs.declared.token.TokenKind.TheVariants.{Identifier, Integer, Semicolon, Equals, OpenBrace}
+use Rattle.proto_lex.specs.declared.token.TokenKind.TheVariants.{CloseBrace, Less, Dot}
 use Rattle.proto_grammar.specs.declared.fault.SyntaxFault.{SyntaxFault}
-use Rattle.proto_grammar.specs.declared.fault.SyntaxFault.TheVariants as fault
+use Rattle.proto_grammar.specs.declared.fault.SyntaxFault.TheVariants as variant
 use Rattle.proto_grammar.specs.declared.tree.CustomOptions.{CustomOptions}
 use Rattle.proto_grammar.specs.declared.tree.CustomOptions.TheVariants.{Refuse, Skip}
 use Rattle.proto_grammar.specs.declared.tree.Syntax.{Syntax}
 use Rattle.proto_grammar.specs.declared.tree.Syntax.TheVariants.{Proto3, Extended, Proto2}
 use Rattle.proto_grammar.specs.declared.tree.Heading.{Heading}
+use Rattle.proto_grammar.specs.declared.tree.Group.{Group}
 use Rattle.proto_grammar.specs.declared.tree.Label.{Label}
 use Rattle.proto_grammar.specs.declared.tree.Item.{Item}
 use Rattle.proto_parse.specs.declared.statement.Within.{Within}
@@ -30,6 +31,7 @@ use Rattle.proto_parse.specs.Reading.Messages.{braced_at, group_at, labelled_at,
 use Rattle.proto_parse.specs.Reading.Messages.{oneof_item_at, extend_item_at, oneof_at, extend_at, passed_item_at}
 use Rattle.proto_parse.specs.Reading.Messages.{passed_items_at, passed_extend_at, extend_statement_at, message_at}
 use Rattle.proto_parse.specs.Reading.Messages.{ranges_at, message_item_by, message_item_at, item_at, inside_at}
+use Rattle.proto_grammar.proofs.Steps.{both_true}
 use Rattle.proto_grammar.proofs.StandingLemmas.{Behind, behind_here, behind_one}
 use Rattle.proto_grammar.proofs.UntilLemmas.{Falls}
 use Rattle.proto_parse.proofs.StepsFall.{enum_items_fall, passed_items_fall, items_fall}
@@ -48,7 +50,7 @@ use Rattle.proto_parse.proofs.Machine.Follows.{Agrees, Fol, fol_as, fol_then, fo
 use Rattle.proto_parse.proofs.Machine.Follows.{fol_block, fol_taken, fol_further, fol_rebind, fol_lone, fol_fork, fol_cond}
 use Rattle.proto_parse.proofs.Machine.Follows.{fol_if_true, fol_if_false, if_as, token_then, fol_last, fol_choose}
 use Rattle.proto_parse.proofs.Machine.Follows.{fol_choose_ban, agrees_behind, Tells}
-use Rattle.proto_parse.proofs.Parts.{dot_names, option_rest, numbered_step, typed_step, typed_rest, label_step}
+use Rattle.proto_parse.proofs.Parts.{type_name_step, dot_names, option_rest, numbered_step, typed_step, typed_rest, label_step}
 use Rattle.proto_parse.proofs.Parts.{needed_label_step, group_rest, map_rest, reserved_rest, extensions_rest, block}
 use Rattle.proto_parse.proofs.Parts.{heading_rest, value_step, enum_item_step, enum_rest, group_or, labelled_step}
 use Rattle.proto_parse.proofs.Parts.{member_step, oneof_item_step, extend_item_step, oneof_rest, extend_rest}
@@ -85,12 +87,12 @@ module _ (st : Step) where
   enum_item_follows : (custom : CustomOptions) (p : Place) → Fol st (enum_item_step custom) p (enum_item_at custom p)
   unfolding enum_item_at
   enum_item_follows custom p =
-      fol_if st (OfKind Semicolon) Done _ p _ _ (λ is. fol_taken st (OfKind Semicolon) p _ is)
-      (λ no. fol_if st (Word (codes "option")) _ _ p _ _
+      fol_if st (OfKind Semicolon) Done _ p _ _ (λ is. fol_taken st (OfKind Semicolon) p is)
+      (λ off. fol_if st (Word (codes "option")) _ _ p _ _
       (λ is. fol_value st _ p _ _ (option_follows st custom p))
-      (λ no. fol_if st (Word (codes "reserved")) _ _ p _ _
+      (λ off. fol_if st (Word (codes "reserved")) _ _ p _ _
       (λ is. fol_value st _ p _ _ (reserved_follows st true p))
-      (λ no. fol_value st _ p _ _ (value_follows custom p))))
+      (λ off. fol_value st _ p _ _ (value_follows custom p))))
 
   -- items in braces
   adding_follows : {A : Type 0} (item : Step) (read : Read (Option A)) → ((p : Place) → Fol st item p (read p))
@@ -125,13 +127,12 @@ module _ (st : Step) where
   group_begun : (t : Lexeme) (rest : List Lexeme) (k : List Step) (seen : Bool) → is_word (codes "group") t ≡ true
       → machine st (t ∷ rest) (typed_step Skip ∷ k) seen ≡ machine st rest (typed_rest Skip ∷ k) seen
   group_begun t rest k seen is =
-      machine_then st (t ∷ rest) _ (numbered_step Skip) k seen
+      machine_then st (t ∷ rest) type_name_step (numbered_step Skip) k seen
       ∙ name_begun st t rest (numbered_step Skip ∷ k) seen (word_kind (codes "group") t is)
       ∙ sym (machine_then st rest dot_names (numbered_step Skip) k seen)
 
   group_head_follows : {A : Type 0} (inner : Step) (first : Span) (label : Option Label) (p : Place)
-      (next : _ → Result (A × Place) SyntaxFault)
-      → ((x : _) → Fol st inner x.1 (next x))
+      (next : Group × Place → Result (A × Place) SyntaxFault) → ((x : Group × Place) → Fol st inner x.1 (next x))
       → Fol st (Then (Token (Word (codes "group"))) (Then group_rest inner)) p
       (and_then (group_head_at Skip first label p) next)
   unfolding group_head_at
@@ -149,15 +150,15 @@ module _ (st : Step) where
   group_or_follows : (r : Refusal) → passes (test_of r) ≡ is_word (codes "group") → (inner : Option Step)
       (read : Inside) → InnerFollows inner read → (first : Span) (label : Option Label) (p : Place)
       (left : List Lexeme) (end : ℕ) → Behind p (place_of end left)
-      → Tells p (Stuck (Refused r) left) (fault.TooDeep first.start) → (k : List Step) (seen : Bool)
+      → Tells p (Stuck (Refused r) left) (variant.TooDeep first.start) → (k : List Step) (seen : Bool)
       → Agrees st p k seen (machine st left (group_or r inner ∷ k) seen)
       (labelled_at Proto2 read first label (place_of end left))
   unfolding labelled_at group_at
   group_or_follows r is None None follow first label p left end front tells k seen =
       subst (λ test. Agrees st p k seen (machine st left (group_or r None ∷ k) seen)
-      (cond (first_is test left && not_next Dot (others left)) (Err (fault.TooDeep first.start))
+      (cond (first_is test left && not_next Dot (others left)) (Err (variant.TooDeep first.start))
       (typed_at Skip first label (place_of end left) >>= λ x. Ok (Leaf (leaf.Field x.0), x.1)))) is
-      (fol_lone st r (typed_rest Skip) (typed_step Skip) p left end (fault.TooDeep first.start) _ front tells
+      (fol_lone st r (typed_rest Skip) (typed_step Skip) p left end (variant.TooDeep first.start) _ front tells
       (fol_value st (typed_step Skip) (place_of end left) _ _ (typed_follows st Skip first label (place_of end left)))
       (λ t rest l was word. group_begun t rest l was (subst (λ test. test t ≡ true) is word)) k seen)
   group_or_follows r is None (Some read) follow first label p left end front tells k seen = absurd follow
@@ -181,7 +182,7 @@ module _ (st : Step) where
 
   abbrev HasNoLabel : Lexeme → List Lexeme → ℕ → Type 0
   HasNoLabel t rest end =
-      (label_at Proto2 (place_of end (t ∷ rest)) ≡ Err (fault.Grammar t.span.start))
+      (label_at Proto2 (place_of end (t ∷ rest)) ≡ Err (variant.Grammar t.span.start))
       × ((k : List Step) (seen : Bool)
       → machine st (t ∷ rest) (needed_label_step ∷ k) seen ≡ Stuck Misplaced (t ∷ rest))
 
@@ -219,7 +220,7 @@ module _ (st : Step) where
           (behind_one (place_of end (t ∷ rest)))
           (t ∷ [], refl, (t.span.start, refl, ([], t, refl, is, refl))) k seen))
       by_label (inr (e, stops)) =
-          rw e (subst (λ o. Tells (place_of end (t ∷ rest)) o (fault.Grammar t.span.start))
+          rw e (subst (λ o. Tells (place_of end (t ∷ rest)) o (variant.Grammar t.span.start))
           (sym (machine_then st (t ∷ rest) needed_label_step (group_or LabelledGroupNext inner) k seen
           ∙ stops (group_or LabelledGroupNext inner ∷ k) seen)) ([], refl, refl))
 
@@ -227,11 +228,15 @@ module _ (st : Step) where
       → Fol st (Then label_step (typed_step (custom_of syntax))) (place_of end left)
       (member_at syntax read (place_of end left))
   unfolding member_at span_at labelled_at
-  free_member syntax no read [] end k seen = refl
-  free_member syntax no read (t ∷ rest) end =
-      fol_then st _ _ (place_of end (t ∷ rest)) _ _ (free_label_follows st syntax (place_of end (t ∷ rest)) no)
-      (λ label. rw no (fol_value st (typed_step (custom_of syntax)) label.1 _ _
-      (typed_follows st (custom_of syntax) t.span label.0 label.1)))
+  free_member syntax off read [] end k seen = refl
+  free_member syntax off read (t ∷ rest) end k seen =
+      (fol_then st label_step (typed_step (custom_of syntax)) (place_of end (t ∷ rest)) _ _
+      (free_label_follows st syntax (place_of end (t ∷ rest)) off)
+      (λ label. fol_cond st (typed_step (custom_of syntax)) label.1 (is_proto2 syntax && begins_group label.1.left) _ _
+      (λ two. absurd (let never : true ≡ false =
+      sym (both_true (is_proto2 syntax) (begins_group label.1.left) two).0 ∙ off in cc))
+      (λ free. fol_value st (typed_step (custom_of syntax)) label.1 _ _
+      (typed_follows st (custom_of syntax) t.span label.0 label.1)))) k seen
 
   member_follows : (syntax : Syntax) (inner : Option Step) (read : Inside) → InnerFollows inner read → (p : Place)
       → Fol st (member_step syntax inner) p (member_at syntax read p)
@@ -248,12 +253,12 @@ module _ (st : Step) where
   oneof_member_by Extended inner read follow [] end k seen = refl
   oneof_member_by Proto2 None read follow [] end k seen = refl
   oneof_member_by Proto2 (Some inner) read follow [] end k seen = refl
-  oneof_member_by (Proto3 custom) inner read follow (t ∷ rest) end =
-      fol_value st (typed_step custom) (place_of end (t ∷ rest)) _ _
-      (typed_follows st custom t.span None (place_of end (t ∷ rest)))
-  oneof_member_by Extended inner read follow (t ∷ rest) end =
-      fol_value st (typed_step Skip) (place_of end (t ∷ rest)) _ _
-      (typed_follows st Skip t.span None (place_of end (t ∷ rest)))
+  oneof_member_by (Proto3 custom) inner read follow (t ∷ rest) end k seen =
+      (fol_value st (typed_step custom) (place_of end (t ∷ rest)) _ _
+      (typed_follows st custom t.span None (place_of end (t ∷ rest)))) k seen
+  oneof_member_by Extended inner read follow (t ∷ rest) end k seen =
+      (fol_value st (typed_step Skip) (place_of end (t ∷ rest)) _ _
+      (typed_follows st Skip t.span None (place_of end (t ∷ rest)))) k seen
   oneof_member_by Proto2 inner read follow (t ∷ rest) end k seen =
       group_or_follows GroupNext refl inner read follow t.span None (place_of end (t ∷ rest)) (t ∷ rest) end
       (behind_here (place_of end (t ∷ rest))) ([], refl, refl) k seen
@@ -262,17 +267,17 @@ module _ (st : Step) where
       → Fol st (oneof_item_step syntax inner) p (oneof_item_at syntax read p)
   unfolding oneof_item_at
   oneof_item_follows syntax inner read follow p =
-      fol_if st (OfKind Semicolon) Done _ p _ _ (λ is. fol_taken st (OfKind Semicolon) p _ is)
-      (λ no. fol_if st (Word (codes "option")) _ _ p _ _
+      fol_if st (OfKind Semicolon) Done _ p _ _ (λ is. fol_taken st (OfKind Semicolon) p is)
+      (λ off. fol_if st (Word (codes "option")) _ _ p _ _
       (λ is. fol_value st _ p _ _ (option_follows st (custom_of syntax) p))
-      (λ no. fol_value st _ p _ _ (oneof_member_by syntax inner read follow p.left p.end)))
+      (λ off. fol_value st _ p _ _ (oneof_member_by syntax inner read follow p.left p.end)))
 
   extend_item_follows : (syntax : Syntax) (inner : Option Step) (read : Inside) → InnerFollows inner read → (p : Place)
       → Fol st (extend_item_step syntax inner) p (extend_item_at syntax read p)
   unfolding extend_item_at
   extend_item_follows syntax inner read follow p =
-      fol_if st (OfKind Semicolon) Done _ p _ _ (λ is. fol_taken st (OfKind Semicolon) p _ is)
-      (λ no. fol_value st _ p _ _ (member_follows syntax inner read follow p))
+      fol_if st (OfKind Semicolon) Done _ p _ _ (λ is. fol_taken st (OfKind Semicolon) p is)
+      (λ off. fol_value st _ p _ _ (member_follows syntax inner read follow p))
 
   -- each item in braces takes a token
   abbrev AllFall : Syntax → Inside → Type 0
@@ -303,8 +308,8 @@ module _ (st : Step) where
   passed_item_follows : (p : Place) → Fol st passed_item_step p (passed_item_at p)
   unfolding passed_item_at
   passed_item_follows p =
-      fol_if st (OfKind Semicolon) Done _ p _ _ (λ is. fol_taken st (OfKind Semicolon) p _ is)
-      (λ no. pass_field_follows st p.left p.end)
+      fol_if st (OfKind Semicolon) Done _ p _ _ (λ is. fol_taken st (OfKind Semicolon) p is)
+      (λ off. pass_field_follows st p.left p.end)
 
   passed_extend_follows : (p : Place)
       → Fol st (Then (Token (Word (codes "extend"))) passed_extend_rest) p (passed_extend_at Skip p)
@@ -326,20 +331,23 @@ module _ (st : Step) where
       → (first_is (is_word (codes "extend")) p.left ≡ false → Fol st other p (choose y))
       → Fol st (extend_or syntax inner other) p (choose (cond (first_is (is_word (codes "extend")) p.left) x y))
   unfolding extend_statement_at passed_extend_at
-  extend_chosen choose (Proto3 Refuse) inner read follow fall other p make x y is no =
-      fol_choose_ban st choose ExtendNext other p _ x y is refl no
-  extend_chosen {A} choose (Proto3 Skip) inner read follow fall other p make x y is no =
+  extend_chosen choose (Proto3 Refuse) inner read follow fall other p make x y is off =
+      fol_choose_ban st choose ExtendNext other p _ x y is refl off
+  extend_chosen {A} choose (Proto3 Skip) inner read follow fall other p make x y is off =
       fol_choose st choose (Word (codes "extend")) passed_extend_rest other p x y
-      (λ word. subst (λ (o : Result (A × Place) SyntaxFault). Fol st _ p o) (sym is)
-      (fol_value st _ p _ _ (fol_value st _ p _ _ (passed_extend_follows p)))) no
-  extend_chosen {A} choose Extended inner read follow fall other p make x y is no =
+      (λ word. subst (λ (o : Result (A × Place) SyntaxFault).
+      Fol st (Then (Token (Word (codes "extend"))) passed_extend_rest) p o) (sym is)
+      (fol_value st _ p _ _ (fol_value st _ p _ _ (passed_extend_follows p)))) off
+  extend_chosen {A} choose Extended inner read follow fall other p make x y is off =
       fol_choose st choose (Word (codes "extend")) (extend_rest Extended inner) other p x y
-      (λ word. subst (λ (o : Result (A × Place) SyntaxFault). Fol st _ p o) (sym is)
-      (fol_value st _ p _ _ (fol_value st _ p _ _ (extend_follows Extended inner read follow fall p)))) no
-  extend_chosen {A} choose Proto2 inner read follow fall other p make x y is no =
+      (λ word. subst (λ (o : Result (A × Place) SyntaxFault).
+      Fol st (Then (Token (Word (codes "extend"))) (extend_rest Extended inner)) p o) (sym is)
+      (fol_value st _ p _ _ (fol_value st _ p _ _ (extend_follows Extended inner read follow fall p)))) off
+  extend_chosen {A} choose Proto2 inner read follow fall other p make x y is off =
       fol_choose st choose (Word (codes "extend")) (extend_rest Proto2 inner) other p x y
-      (λ word. subst (λ (o : Result (A × Place) SyntaxFault). Fol st _ p o) (sym is)
-      (fol_value st _ p _ _ (fol_value st _ p _ _ (extend_follows Proto2 inner read follow fall p)))) no
+      (λ word. subst (λ (o : Result (A × Place) SyntaxFault).
+      Fol st (Then (Token (Word (codes "extend"))) (extend_rest Proto2 inner)) p o) (sym is)
+      (fol_value st _ p _ _ (fol_value st _ p _ _ (extend_follows Proto2 inner read follow fall p)))) off
 
   -- by the word `message`
   pub message_chosen : {A X : Type 0} (choose : X → Result (A × Place) SyntaxFault) (inner : Option Step)
@@ -348,15 +356,16 @@ module _ (st : Step) where
       → (first_is (is_word (codes "message")) p.left ≡ false → Fol st other p (choose y))
       → Fol st (message_or inner other) p (choose (cond (first_is (is_word (codes "message")) p.left) x y))
   unfolding message_at
-  message_chosen choose None None follow other p make x y is no =
-      fol_choose_ban st choose MessageNext other p _ x y is refl no
-  message_chosen choose None (Some read) follow other p make x y is no = absurd follow
-  message_chosen choose (Some inner) None follow other p make x y is no = absurd follow
-  message_chosen {A} choose (Some inner) (Some read) follow other p make x y is no =
+  message_chosen choose None None follow other p make x y is off =
+      fol_choose_ban st choose MessageNext other p _ x y is refl off
+  message_chosen choose None (Some read) follow other p make x y is off = absurd follow
+  message_chosen choose (Some inner) None follow other p make x y is off = absurd follow
+  message_chosen {A} choose (Some inner) (Some read) follow other p make x y is off =
       fol_choose st choose (Word (codes "message")) (Then heading_rest inner) other p x y
-      (λ word. subst (λ (o : Result (A × Place) SyntaxFault). Fol st _ p o) (sym is)
+      (λ word. subst (λ (o : Result (A × Place) SyntaxFault).
+      Fol st (Then (Token (Word (codes "message"))) (Then heading_rest inner)) p o) (sym is)
       (fol_value st _ p _ _ (heading_follows (codes "message") inner p _
-      (λ heading. fol_value st inner heading.1 _ _ (follow heading.1))))) no
+      (λ heading. fol_value st inner heading.1 _ _ (follow heading.1))))) off
 
   -- by the word `extensions`
   ranges_chosen : {X : Type 0} (choose : X → Result (Option Item × Place) SyntaxFault) (syntax : Syntax) (other : Step)
@@ -364,32 +373,33 @@ module _ (st : Step) where
       → (first_is (is_word (codes "extensions")) p.left ≡ false → Fol st other p (choose y))
       → Fol st (ranges_or syntax other) p (choose (cond (first_is (is_word (codes "extensions")) p.left) x y))
   unfolding ranges_at
-  ranges_chosen choose (Proto3 custom) other p x y is no = fol_choose_ban st choose RangesNext other p _ x y is refl no
-  ranges_chosen choose Extended other p x y is no = fol_choose_ban st choose RangesNext other p _ x y is refl no
-  ranges_chosen choose Proto2 other p x y is no =
+  ranges_chosen choose (Proto3 custom) other p x y is off = fol_choose_ban st choose RangesNext other p _ x y is refl off
+  ranges_chosen choose Extended other p x y is off = fol_choose_ban st choose RangesNext other p _ x y is refl off
+  ranges_chosen choose Proto2 other p x y is off =
       fol_choose st choose (Word (codes "extensions")) extensions_rest other p x y
-      (λ word. subst (λ (o : Result (Option Item × Place) SyntaxFault). Fol st _ p o) (sym is)
-      (fol_value st _ p _ _ (extensions_follow st p))) no
+      (λ word. subst (λ (o : Result (Option Item × Place) SyntaxFault).
+      Fol st (Then (Token (Word (codes "extensions"))) extensions_rest) p o) (sym is)
+      (fol_value st _ p _ _ (extensions_follow st p))) off
 
   -- where none of the words is next
   extend_past : (syntax : Syntax) (inner : Option Step) (b : Step) (l : List Lexeme) (k : List Step) (seen : Bool)
       → first_is (is_word (codes "extend")) l ≡ false
       → machine st l (extend_or syntax inner b ∷ k) seen ≡ machine st l (b ∷ k) seen
-  extend_past (Proto3 Refuse) inner b l k seen no = machine_ban_false st ExtendNext l b k seen no
-  extend_past (Proto3 Skip) inner b l k seen no =
-      machine_if_false st (Word (codes "extend")) l passed_extend_rest b k seen no
-  extend_past Extended inner b l k seen no =
-      machine_if_false st (Word (codes "extend")) l (extend_rest Extended inner) b k seen no
-  extend_past Proto2 inner b l k seen no =
-      machine_if_false st (Word (codes "extend")) l (extend_rest Proto2 inner) b k seen no
+  extend_past (Proto3 Refuse) inner b l k seen off = machine_ban_false st ExtendNext l b k seen off
+  extend_past (Proto3 Skip) inner b l k seen off =
+      machine_if_false st (Word (codes "extend")) l passed_extend_rest b k seen off
+  extend_past Extended inner b l k seen off =
+      machine_if_false st (Word (codes "extend")) l (extend_rest Extended inner) b k seen off
+  extend_past Proto2 inner b l k seen off =
+      machine_if_false st (Word (codes "extend")) l (extend_rest Proto2 inner) b k seen off
 
   ranges_past : (syntax : Syntax) (b : Step) (l : List Lexeme) (k : List Step) (seen : Bool)
       → first_is (is_word (codes "extensions")) l ≡ false
       → machine st l (ranges_or syntax b ∷ k) seen ≡ machine st l (b ∷ k) seen
-  ranges_past (Proto3 custom) b l k seen no = machine_ban_false st RangesNext l b k seen no
-  ranges_past Extended b l k seen no = machine_ban_false st RangesNext l b k seen no
-  ranges_past Proto2 b l k seen no =
-      machine_if_false st (Word (codes "extensions")) l extensions_rest b k seen no
+  ranges_past (Proto3 custom) b l k seen off = machine_ban_false st RangesNext l b k seen off
+  ranges_past Extended b l k seen off = machine_ban_false st RangesNext l b k seen off
+  ranges_past Proto2 b l k seen off =
+      machine_if_false st (Word (codes "extensions")) l extensions_rest b k seen off
 
   -- a field whose type begins with the word `map`
   label_begun : (custom : CustomOptions) (t : Lexeme) (rest : List Lexeme) (k : List Step) (seen : Bool)
@@ -398,12 +408,13 @@ module _ (st : Step) where
       ≡ machine st rest (typed_rest custom ∷ k) seen
   label_begun custom t rest k seen is =
       machine_then st (t ∷ rest) label_step (typed_step custom) k seen
-      ∙ machine_if_false st (Word (codes "repeated")) (t ∷ rest) Done _ (typed_step custom ∷ k) seen
+      ∙ machine_if_false st (Word (codes "repeated")) (t ∷ rest) Done
+      (If (Word (codes "optional")) Done Done) (typed_step custom ∷ k) seen
       (other_word (codes "map") (codes "repeated") t refl is)
       ∙ machine_if_false st (Word (codes "optional")) (t ∷ rest) Done Done (typed_step custom ∷ k) seen
       (other_word (codes "map") (codes "optional") t refl is)
       ∙ machine_done st (t ∷ rest) (typed_step custom ∷ k) seen
-      ∙ machine_then st (t ∷ rest) _ (numbered_step custom) k seen
+      ∙ machine_then st (t ∷ rest) type_name_step (numbered_step custom) k seen
       ∙ name_begun st t rest (numbered_step custom ∷ k) seen (word_kind (codes "map") t is)
       ∙ sym (machine_then st rest dot_names (numbered_step custom) k seen)
 
@@ -418,7 +429,8 @@ module _ (st : Step) where
       → machine st (t ∷ rest) (behind_map syntax inner ∷ k) seen
       ≡ machine st (t ∷ rest) (member_step syntax inner ∷ k) seen
   map_past syntax inner t rest k seen is =
-      machine_if_false st (Word (codes "reserved")) (t ∷ rest) (reserved_rest false) _ k seen
+      machine_if_false st (Word (codes "reserved")) (t ∷ rest) (reserved_rest false)
+      (extend_or syntax inner (ranges_or syntax (member_step syntax inner))) k seen
       (other_word (codes "map") (codes "reserved") t refl is)
       ∙ extend_past syntax inner (ranges_or syntax (member_step syntax inner)) (t ∷ rest) k seen
       (other_word (codes "map") (codes "extend") t refl is)
@@ -436,38 +448,44 @@ module _ (st : Step) where
       → Fol st (If (Word (codes "map")) (If (OfKind Less) (map_rest custom) (typed_rest custom)) other)
       (place_of end left)
       (choose (cond (first_is (is_word (codes "map")) left && first_is (of_kind Less) (others left)) x y))
-  free_map choose custom other [] end x y begun yes no = fol_if_false st _ _ other (place_of end []) _ refl no
-  free_map {X} choose custom other member (t ∷ rest) end x y begun yes no =
+  free_map {X} choose custom other [] end x y begun on off = fol_if_false st (Word (codes "map"))
+      (If (OfKind Less) (map_rest custom) (typed_rest custom)) other (place_of end []) (choose y) refl off
+  free_map {X} choose custom other (t ∷ rest) end x y begun on off =
       by_tests (is_word (codes "map") t) (first_is (of_kind Less) rest) refl refl
     where
       by_tests : (a b : Bool) → is_word (codes "map") t ≡ a → first_is (of_kind Less) rest ≡ b
           → Fol st (If (Word (codes "map")) (If (OfKind Less) (map_rest custom) (typed_rest custom)) other)
           (place_of end (t ∷ rest)) (choose (cond (a && b) x y))
-      by_tests false b e f = fol_if_false st _ _ other (place_of end (t ∷ rest)) _ e no
+      by_tests false b e f = fol_if_false st (Word (codes "map"))
+          (If (OfKind Less) (map_rest custom) (typed_rest custom)) other (place_of end (t ∷ rest)) (choose y) e off
       by_tests true false e f =
-          fol_as st _ other (place_of end (t ∷ rest)) (choose y)
-          (λ k seen. machine_if_true st (Word (codes "map")) t rest _ other k seen e
+          fol_as st (If (Word (codes "map")) (If (OfKind Less) (map_rest custom) (typed_rest custom)) other) other
+          (place_of end (t ∷ rest)) (choose y)
+          (λ k seen. machine_if_true st (Word (codes "map")) t rest
+          (If (OfKind Less) (map_rest custom) (typed_rest custom)) other k seen e
           ∙ machine_if_false st (OfKind Less) rest (map_rest custom) (typed_rest custom) k seen f
-          ∙ sym (begun t rest k seen e)) no
+          ∙ sym (begun t rest k seen e)) off
       by_tests true true e f =
-          fol_as st _ (Then (Token (Word (codes "map"))) (Then (Token (OfKind Less)) (map_rest custom)))
+          fol_as st (If (Word (codes "map")) (If (OfKind Less) (map_rest custom) (typed_rest custom)) other)
+          (Then (Token (Word (codes "map"))) (Then (Token (OfKind Less)) (map_rest custom)))
           (place_of end (t ∷ rest)) (choose x)
-          (λ k seen. machine_if_true st (Word (codes "map")) t rest _ other k seen e
+          (λ k seen. machine_if_true st (Word (codes "map")) t rest
+          (If (OfKind Less) (map_rest custom) (typed_rest custom)) other k seen e
           ∙ if_as st (OfKind Less) (map_rest custom) (typed_rest custom) rest k seen f
-          ∙ sym (token_then st (Word (codes "map")) (Then (Token (OfKind Less)) (map_rest custom)) t rest k seen e)) yes
+          ∙ sym (token_then st (Word (codes "map")) (Then (Token (OfKind Less)) (map_rest custom)) t rest k seen e)) on
 
   map_chosen : {X : Type 0} (choose : X → Result (Option Item × Place) SyntaxFault) (syntax : Syntax)
       (inner : Option Step) (p : Place) (x y : X)
       → Fol st (Then (Token (Word (codes "map"))) (Then (Token (OfKind Less)) (map_rest (custom_of syntax)))) p (choose x)
       → Fol st (behind_map syntax inner) p (choose y)
       → Fol st (map_or syntax (behind_map syntax inner)) p (choose (cond (begins_map syntax p.left) x y))
-  map_chosen choose (Proto3 custom) inner p x y yes no =
+  map_chosen choose (Proto3 custom) inner p x y on off =
       free_map choose custom (behind_map (Proto3 custom) inner) p.left p.end x y
-      (λ t rest k seen is. map_past (Proto3 custom) inner t rest k seen is ∙ label_begun custom t rest k seen is) yes no
-  map_chosen choose Extended inner p x y yes no =
+      (λ t rest k seen is. map_past (Proto3 custom) inner t rest k seen is ∙ label_begun custom t rest k seen is) on off
+  map_chosen choose Extended inner p x y on off =
       free_map choose Skip (behind_map Extended inner) p.left p.end x y
-      (λ t rest k seen is. map_past Extended inner t rest k seen is ∙ label_begun Skip t rest k seen is) yes no
-  map_chosen choose Proto2 inner p x y yes no = proto2_map p.left p.end yes no
+      (λ t rest k seen is. map_past Extended inner t rest k seen is ∙ label_begun Skip t rest k seen is) on off
+  map_chosen choose Proto2 inner p x y on off = proto2_map p.left p.end on off
     where
       always : (b : Bool) → (b && true) ≡ b
       always true = refl
@@ -479,9 +497,9 @@ module _ (st : Step) where
           → Fol st (behind_map Proto2 inner) (place_of end left) (choose y)
           → Fol st (map_or Proto2 (behind_map Proto2 inner)) (place_of end left)
           (choose (cond (begins_map Proto2 left) x y))
-      proto2_map left end yes no =
+      proto2_map left end on off =
           rw (always (first_is (is_word (codes "map")) left))
-          (fol_choose st choose (Word (codes "map")) _ _ (place_of end left) x y (λ is. yes) (λ not. no))
+          (fol_choose st choose (Word (codes "map")) _ _ (place_of end left) x y (λ is. on) (λ not. off))
 
   -- what is in a message
   module _ (syntax : Syntax) (inner : Option Step) (read : Inside) (follow : InnerFollows inner read)
@@ -496,23 +514,23 @@ module _ (st : Step) where
     behind_map_follows p =
         fol_choose st (chosen_item p) (Word (codes "reserved")) (reserved_rest false) _ p choice.Reserved _
         (λ is. fol_value st _ p _ _ (reserved_follows st false p))
-        (λ no. extend_chosen (chosen_item p) syntax inner read follow fall _ p _ choice.Extend _ refl
-        (λ no. ranges_chosen (chosen_item p) syntax (member_step syntax inner) p choice.Extensions choice.Member refl
-        (λ no. fol_value st _ p _ _ (member_follows syntax inner read follow p))))
+        (λ off. extend_chosen (chosen_item p) syntax inner read follow fall _ p _ choice.Extend _ refl
+        (λ off. ranges_chosen (chosen_item p) syntax (member_step syntax inner) p choice.Extensions choice.Member refl
+        (λ off. fol_value st _ p _ _ (member_follows syntax inner read follow p))))
 
     message_item_follows : (p : Place) → Fol st (message_item_step syntax inner) p (message_item_at syntax read p)
     unfolding message_item_at
     message_item_follows p =
         fol_choose st (chosen_item p) (OfKind Semicolon) Done _ p choice.Empty _
         (λ is. fol_value st _ p _ _ (fol_last st (Token (OfKind Semicolon)) p _ (fol_token st (OfKind Semicolon) p)))
-        (λ no. message_chosen (chosen_item p) inner read follow _ p _ choice.Message _ refl
-        (λ no. fol_choose st (chosen_item p) (Word (codes "enum")) (enum_rest (custom_of syntax)) _ p choice.Enum _
+        (λ off. message_chosen (chosen_item p) inner read follow _ p _ choice.Message _ refl
+        (λ off. fol_choose st (chosen_item p) (Word (codes "enum")) (enum_rest (custom_of syntax)) _ p choice.Enum _
         (λ is. fol_value st _ p _ _ (enum_follows (custom_of syntax) p))
-        (λ no. fol_choose st (chosen_item p) (Word (codes "option")) (option_rest (custom_of syntax)) _ p choice.Option _
+        (λ off. fol_choose st (chosen_item p) (Word (codes "option")) (option_rest (custom_of syntax)) _ p choice.Option _
         (λ is. fol_value st _ p _ _ (option_follows st (custom_of syntax) p))
-        (λ no. fol_choose st (chosen_item p) (Word (codes "oneof")) (oneof_rest syntax inner) _ p choice.Oneof _
+        (λ off. fol_choose st (chosen_item p) (Word (codes "oneof")) (oneof_rest syntax inner) _ p choice.Oneof _
         (λ is. fol_value st _ p _ _ (oneof_follows syntax inner read follow fall p))
-        (λ no. map_chosen (chosen_item p) syntax inner p choice.Map _
+        (λ off. map_chosen (chosen_item p) syntax inner p choice.Map _
         (fol_value st _ p _ _ (map_rest_follows st (custom_of syntax) p)) (behind_map_follows p))))))
 
   pub inside_follows : (syntax : Syntax) (levels : ℕ)

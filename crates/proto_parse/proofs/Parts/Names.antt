@@ -4,7 +4,7 @@ use Rattle.std.proofs.Common.{refl, sym, ◌∙◌, ap, subst}
 use Rattle.proto_lex.specs.declared.span.Span.{Span}
 use Rattle.proto_lex.specs.declared.token.TokenKind.TheVariants.{Identifier, Dot}
 use Rattle.proto_grammar.specs.declared.fault.SyntaxFault.{SyntaxFault}
-use Rattle.proto_grammar.specs.declared.fault.SyntaxFault.TheVariants as fault
+use Rattle.proto_grammar.specs.declared.fault.SyntaxFault.TheVariants as variant
 use Rattle.proto_grammar.specs.declared.tree.FieldType.{FieldType}
 use Rattle.proto_grammar.specs.Lexeme.{Lexeme, Place, place_of}
 use Rattle.proto_grammar.specs.Terminal.{first_is, of_kind, is_scalar, not_next, begins_scalar, behind, offset_at}
@@ -78,8 +78,8 @@ module _ (st : Step) where
   unfolding leading_dot_at
   leading_dot_follows p =
       fol_if st (OfKind Dot) Done Done p _ _
-      (λ is. fol_then st _ _ p _ _ (fol_token st (OfKind Dot) p) (λ dot. fol_done st dot.1 _))
-      (λ no. fol_done st p _)
+      (λ is. fol_then st _ _ p _ _ (fol_token st (OfKind Dot) p) (λ dot. fol_done st dot.1))
+      (λ off. fol_done st p)
 
   pub type_name_follows : (p : Place) → Fol st type_name_step p (type_name_at p)
   unfolding type_name_at
@@ -105,7 +105,7 @@ module _ (st : Step) where
   scalar_by : (left : List Lexeme) (end : ℕ) → begins_scalar left ≡ true
       → Fol st type_name_step (place_of end left) (token_that is_scalar (place_of end left))
   unfolding token_that
-  scalar_by [] end is = absurd cc
+  scalar_by [] end is k seen = absurd cc
   scalar_by (t ∷ left) end is k seen =
       let both = both_true (is_scalar t) (not_next Dot left) is in
       let out : machine st (t ∷ left) (type_name_step ∷ k) seen ≡ machine st left k seen =
@@ -118,13 +118,13 @@ module _ (st : Step) where
   type_follows p =
       fol_cond st type_name_step p (begins_scalar p.left) _ _
       (λ is. fol_value st type_name_step p _ _ (scalar_by p.left p.end is))
-      (λ no. fol_value st type_name_step p _ _ (type_name_follows p))
+      (λ off. fol_value st type_name_step p _ _ (type_name_follows p))
 
   named_by : (left : List Lexeme) (end : ℕ) → Fol st named_type_step (place_of end left) (named_type_at (place_of end left))
   unfolding named_type_at
   named_by left end =
-      fol_lone st ScalarNext dot_names type_name_step (place_of end left) left end _ _ (behind_here (place_of end left))
-      ([], refl, refl) (type_name_follows (place_of end left))
+      fol_lone st ScalarNext dot_names type_name_step (place_of end left) left end
+      (variant.Grammar (offset_at (place_of end left))) _ (behind_here (place_of end left)) ([], refl, refl) (type_name_follows (place_of end left))
       (λ t rest k seen is. name_begun t rest k seen (scalar_word t is))
 
   pub named_type_follows : (p : Place) → Fol st named_type_step p (named_type_at p)

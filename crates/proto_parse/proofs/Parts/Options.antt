@@ -29,14 +29,14 @@ module _ (st : Step) where
   unfolding part_at extension_at
   part_follows Refuse p =
       fol_ban st CustomOptionNext (Token (OfKind Identifier)) p _ _ refl
-      (λ no. fol_value st _ p _ _ (fol_token st (OfKind Identifier) p))
+      (λ off. fol_value st _ p _ _ (fol_token st (OfKind Identifier) p))
   part_follows Skip p =
       fol_if st (OfKind OpenParenthesis) (Then type_name_step (Token (OfKind CloseParenthesis)))
       (Token (OfKind Identifier)) p _ _
       (λ is. fol_then st _ _ p _ _ (fol_token st (OfKind OpenParenthesis) p)
       (λ open_parenthesis. fol_then st _ _ open_parenthesis.1 _ _ (pass_type_name_follows st open_parenthesis.1)
       (λ name. fol_value st _ name.1 _ _ (fol_token st (OfKind CloseParenthesis) name.1))))
-      (λ no. fol_value st _ p _ _ (fol_token st (OfKind Identifier) p))
+      (λ off. fol_value st _ p _ _ (fol_token st (OfKind Identifier) p))
 
   dot_part_follows : (custom : CustomOptions) (p : Place)
       → Fol st (Then (Token (OfKind Dot)) (part_step custom)) p (dot_part_at custom p)
@@ -76,18 +76,18 @@ module _ (st : Step) where
   unfolding constant_at aggregate_at
   constant_follows Refuse p =
       fol_if st (OfKind Identifier) _ _ p _ _ (λ is. pass_name_follows st p)
-      (λ no. fol_if st Sign _ _ p _ _ (λ is. signed_follows p)
-      (λ no. fol_if st (OfKind StringLiteral) _ _ p _ _ (λ is. strings_follow p)
-      (λ no. fol_ban st AggregateNext (Token Numeral) p _ _ refl
-      (λ no. fol_value st _ p _ _ (fol_token st Numeral p)))))
+      (λ off. fol_if st Sign _ _ p _ _ (λ is. signed_follows p)
+      (λ off. fol_if st (OfKind StringLiteral) _ _ p _ _ (λ is. strings_follow p)
+      (λ off. fol_ban st AggregateNext (Token Numeral) p _ _ refl
+      (λ off. fol_value st _ p _ _ (fol_token st Numeral p)))))
   constant_follows Skip p =
       fol_if st (OfKind Identifier) _ _ p _ _ (λ is. pass_name_follows st p)
-      (λ no. fol_if st Sign _ _ p _ _ (λ is. signed_follows p)
-      (λ no. fol_if st (OfKind StringLiteral) _ _ p _ _ (λ is. strings_follow p)
-      (λ no. fol_if st (OfKind OpenBrace) (Closed 1) (Token Numeral) p _ _
+      (λ off. fol_if st Sign _ _ p _ _ (λ is. signed_follows p)
+      (λ off. fol_if st (OfKind StringLiteral) _ _ p _ _ (λ is. strings_follow p)
+      (λ off. fol_if st (OfKind OpenBrace) (Closed 1) (Token Numeral) p _ _
       (λ is. fol_then st _ _ p _ _ (fol_token st (OfKind OpenBrace) p)
       (λ open_brace. fol_closed st 1 open_brace.1))
-      (λ no. fol_value st _ p _ _ (fol_token st Numeral p)))))
+      (λ off. fol_value st _ p _ _ (fol_token st Numeral p)))))
 
   setting_follows : (custom : CustomOptions) (p : Place) → Fol st (setting_step custom) p (setting_at custom p)
   unfolding setting_at
@@ -124,4 +124,4 @@ module _ (st : Step) where
   unfolding options_at
   options_follow custom p =
       fol_if st (OfKind OpenBracket) (bracketed_rest custom) Done p _ _ (λ is. bracketed_follows custom p)
-      (λ no. fol_done st p _)
+      (λ off. fol_done st p)

@@ -25,8 +25,8 @@ module _ (st : Step) where
   stream_follows : (p : Place) → Fol st (If (Word (codes "stream")) Done Done) p (stream_at p)
   unfolding stream_at
   stream_follows p =
-      fol_if st (Word (codes "stream")) Done Done p _ _ (λ is. fol_taken st (Word (codes "stream")) p _ is)
-      (λ no. fol_done st p _)
+      fol_if st (Word (codes "stream")) Done Done p _ _ (λ is. fol_taken st (Word (codes "stream")) p is)
+      (λ off. fol_done st p)
 
   method_type_follows : (p : Place) → Fol st method_type_step p (method_type_at p)
   unfolding method_type_at
@@ -40,15 +40,15 @@ module _ (st : Step) where
       → Fol st (method_item_step custom) p (method_item_at custom p)
   unfolding method_item_at
   method_item_follows custom p =
-      fol_if st (OfKind Semicolon) Done _ p _ _ (λ is. fol_taken st (OfKind Semicolon) p _ is)
-      (λ no. option_follows st custom p)
+      fol_if st (OfKind Semicolon) Done _ p _ _ (λ is. fol_taken st (OfKind Semicolon) p is)
+      (λ off. option_follows st custom p)
 
   method_end_follows : (custom : CustomOptions) (p : Place) → Fol st (method_end_step custom) p (method_end_at custom p)
   unfolding method_end_at method_body_at method_items_at
   method_end_follows custom p =
       fol_if st (OfKind Semicolon) Done _ p _ _
       (λ is. fol_last st (Token (OfKind Semicolon)) p _ (fol_token st (OfKind Semicolon) p))
-      (λ no. fol_then st _ _ p _ _ (fol_token st (OfKind OpenBrace) p)
+      (λ off. fol_then st _ _ p _ _ (fol_token st (OfKind OpenBrace) p)
       (λ open_brace. fol_then st _ _ open_brace.1 _ _
       (fol_block st (method_item_step custom) (passing (method_item_at custom)) (method_items_fall custom)
       (λ s q. method_item_follows custom q) tt open_brace.1)
@@ -68,10 +68,10 @@ module _ (st : Step) where
       → Fol st (service_item_step custom) p (service_item_at custom p)
   unfolding service_item_at
   service_item_follows custom p =
-      fol_if st (OfKind Semicolon) Done _ p _ _ (λ is. fol_taken st (OfKind Semicolon) p _ is)
-      (λ no. fol_if st (Word (codes "option")) _ _ p _ _
+      fol_if st (OfKind Semicolon) Done _ p _ _ (λ is. fol_taken st (OfKind Semicolon) p is)
+      (λ off. fol_if st (Word (codes "option")) _ _ p _ _
       (λ is. fol_value st _ p _ _ (option_follows st custom p))
-      (λ no. fol_value st _ p _ _ (method_follows custom p)))
+      (λ off. fol_value st _ p _ _ (method_follows custom p)))
 
   pub service_follows : (custom : CustomOptions) (p : Place)
       → Fol st (Then (Token (Word (codes "service"))) (service_rest custom)) p (service_at custom p)

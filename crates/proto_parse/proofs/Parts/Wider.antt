@@ -1,17 +1,19 @@
 -- The parts where custom options are read past accept more, and so do those where a level more is left.
-use Rattle.std.proofs.Common.{◌≡◌, ℕ, zero, suc, Bool, true, false, Option, Some, None, refl, codes}
+use Rattle.std.proofs.Common.{◌≡◌, ℕ, zero, suc, Bool, true, false, Option, Some, None, refl, subst, codes}
+use Rattle.proto_grammar.specs.declared.tree.CustomOptions.{CustomOptions}
 use Rattle.proto_grammar.specs.declared.tree.CustomOptions.TheVariants.{Refuse, Skip}
 use Rattle.proto_grammar.specs.declared.tree.Syntax.{Syntax}
 use Rattle.proto_grammar.specs.declared.tree.Syntax.TheVariants.{Proto3, Extended, Proto2}
 use Rattle.proto_grammar.specs.Syntax.{custom_of}
-use Rattle.proto_parse.proofs.Machine.{Refusal, Step}
+use Rattle.proto_parse.proofs.Machine.{Refusal, Step, test_of}
+use Rattle.proto_parse.proofs.Machine.Test.{Word}
 use Rattle.proto_parse.proofs.Machine.Refusal.{CustomOptionNext, AggregateNext, ExtendNext, MessageNext, GroupNext}
 use Rattle.proto_parse.proofs.Machine.Refusal.{LabelledGroupNext, RangesNext, ScalarNext}
-use Rattle.proto_parse.proofs.Machine.Step.{Done, Never, Then}
+use Rattle.proto_parse.proofs.Machine.Step.{Then, Lone, Fork}
 use Rattle.proto_parse.proofs.Machine.Wide.{Wide, wide_same}
 use Rattle.proto_parse.proofs.Machine.Wide.Wide.{done, token, plain, plains, never, then, choice, ban, opened, lone}
 use Rattle.proto_parse.proofs.Machine.Wide.Wide.{alone, fork, many, block as wide_block, closed}
-use Rattle.proto_parse.proofs.Parts.{part_step, option_name_step, constant_step, setting_step, option_rest, option_step}
+use Rattle.proto_parse.proofs.Parts.{part_step, aggregate_step, setting_step, option_rest, option_step}
 use Rattle.proto_parse.proofs.Parts.{bracketed_rest, options_step, numbered_step, typed_step, typed_rest, map_rest}
 use Rattle.proto_parse.proofs.Parts.{type_name_step, dot_names, label_step, needed_label_step, group_rest, reserved_rest}
 use Rattle.proto_parse.proofs.Parts.{extensions_rest, block, heading_rest, value_step, enum_item_step, enum_rest, group_or}

@@ -1,6 +1,5 @@
 -- Where what is read leaves off, and where faults are: enums, messages, groups, oneofs and extends.
-use Rattle.std.proofs.Common.{◌≡◌, inl, ℕ, zero, suc, Bool, true, false, cond, ◌&&◌, ◌||◌, Ok, Option, Some, None, List}
-use Rattle.std.proofs.Common.{[]}
+use Rattle.std.proofs.Common.{◌≡◌, inl, ℕ, zero, suc, Bool, true, false, cond, ◌&&◌, ◌||◌, Ok, Option, Some, None, List, []}
 use Rattle.std.proofs.Common.{◌∷◌}
 use Rattle.std.proofs.Common.{refl, codes}
 use Rattle.proto_lex.specs.declared.span.Span.{Span}
@@ -113,14 +112,13 @@ labelled_right syntax inner first label p q right b stands =
     (λ no. right_value _ p _ (right_behind p q _ b (typed_right (custom_of syntax) first label q)))
 
 -- one of the words with which a group begins
-by_label : (message group repeated optional required : Bool)
-    → (P : Type 0) → ((message || (group || (repeated || (optional || required)))) ≡ true → P)
-    → (group ≡ true → P) × (repeated ≡ true → P) × (optional ≡ true → P) × (required ≡ true → P)
-by_label message group repeated optional required P so = (
-  (λ e. so (second message group _ e)),
-  (λ e. so (third message group repeated _ e)),
-  (λ e. so (fourth message group repeated optional _ e)),
-  (λ e. so (fifth message group repeated optional required e)),
+by_label : (a b c d f : Bool) → (P : Type 0) → ((a || (b || (c || (d || f)))) ≡ true → P)
+    → (b ≡ true → P) × (c ≡ true → P) × (d ≡ true → P) × (f ≡ true → P)
+by_label a b c d f P so = (
+  (λ e. so (second a b _ e)),
+  (λ e. so (third a b c _ e)),
+  (λ e. so (fourth a b c d _ e)),
+  (λ e. so (fifth a b c d f e)),
 )
   where
     second : (a b c : Bool) → b ≡ true → (a || (b || c)) ≡ true
@@ -148,18 +146,19 @@ label_begins : (syntax : Syntax) (t : Lexeme) (rest b : List Lexeme) (x : Option
 label_begins syntax t rest b x is l =
     let words = by_label (is_word (codes "message") t) (is_word (codes "group") t) (is_word (codes "repeated") t)
     (is_word (codes "optional") t) (is_word (codes "required") t) _ (λ e. e) in
-    by_cases syntax is l words
+    by_cases syntax b x is l words
   where
-    by_cases : (syntax : Syntax) → is_proto2 syntax ≡ true → IsLabel syntax (t ∷ rest) x b
+    by_cases : (syntax : Syntax) (b : List Lexeme) (x : Option Label) → is_proto2 syntax ≡ true
+        → IsLabel syntax (t ∷ rest) x b
         → ((is_word (codes "group") t ≡ true → can_be_at (fault.TooDeep 0) t ≡ true)
         × (is_word (codes "repeated") t ≡ true → can_be_at (fault.TooDeep 0) t ≡ true)
         × (is_word (codes "optional") t ≡ true → can_be_at (fault.TooDeep 0) t ≡ true)
         × (is_word (codes "required") t ≡ true → can_be_at (fault.TooDeep 0) t ≡ true))
         → can_be_at (fault.TooDeep 0) t ≡ true
-    by_cases syntax is (repeated (one e)) words = words.1 e
-    by_cases syntax is (optional (one e)) words = words.2 e
-    by_cases syntax is (required (one e)) words = words.3 e
-    by_cases syntax is (no_label not p q) words = cc
+    by_cases syntax b x is (repeated (one e)) words = words.1 e
+    by_cases syntax b x is (optional (one e)) words = words.2 e
+    by_cases syntax b x is (required (one e)) words = words.3 e
+    by_cases syntax b x is (no_label not p q) words = cc
 
 member_right_by : (syntax : Syntax) (inner : Inside) → InsideRight inner → (left : List Lexeme) (end : ℕ)
     → Right (place_of end left) (member_at syntax inner (place_of end left))

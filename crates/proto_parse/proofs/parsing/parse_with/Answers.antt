@@ -1,5 +1,6 @@
-use Rattle.std.proofs.Common.{◌≡◌, ap}
-use Rattle.proto_grammar.specs.Lexeme.{Place, lexemes_of}
+use Rattle.std.proofs.Common.{◌≡◌, IfErr, ap, subst}
+use Rattle.proto_grammar.specs.Lexeme.{Place, lexemes_of, start_of}
+use Rattle.proto_grammar.specs.FaultStands.{FaultStands}
 use Rattle.proto_parse.proofs.Found.Files.{file_of_found, file_of_skipped}
 use Rattle.proto_parse.proofs.Exact.Files.{file_of_exact}
 use Rattle.proto_parse.proofs.Standing.Files.{file_of_right}
@@ -22,4 +23,6 @@ returns-clause-skipped c = file_of_skipped c.args.dialect c.new.result c.file.ne
 
 pub returns-clause-fault : goal.returns-clause-fault
 returns-clause-fault c =
-    rw (← c.new.ensures) (file_of_right c.args.dialect c.new.result c.file.new.parser _ c.file.ensures)
+    let start : c.new.result ≡ start_of c.args.tokens.now.text c.args.tokens.now.tokens = c.new.ensures in
+    subst (λ (place : Place). IfErr c.file.result (λ fault. FaultStands place fault)) start
+    (file_of_right c.args.dialect c.new.result c.file.new.parser _ c.file.ensures)

@@ -26,3 +26,4 @@ pub mod RefusedLemmas
 -- The fault that is met is theirs
 pub mod Told
 pub mod Versions
+pub mod Refusing

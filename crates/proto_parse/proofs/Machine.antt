@@ -15,6 +15,7 @@ pub mod Finishing
 pub mod Wide
 pub mod Swapped
 pub mod Package
+pub mod Quiet
 pub mod Follows
 
 -- what is asked of a token

@@ -18,6 +18,7 @@ use Rattle.proto_parse.proofs.Machine.Step.{Done, Token, Plain, Plains, Never, T
 use Rattle.proto_parse.proofs.Machine.Step.{Closed}
 pub mod Fitting
 pub mod Wider
+pub mod Calming
 pub mod Names
 pub mod Options
 pub mod Fields

@@ -49,6 +49,8 @@ use Rattle.proto_parse.proofs.Machine.Package.{second_ended, ended_second}
 use Rattle.proto_parse.proofs.Machine.Follows.{Tells, Says}
 use Rattle.proto_parse.proofs.Parts.{statement_step}
 use Rattle.proto_parse.proofs.Parts.Fitting.{fit_statement}
+use Rattle.proto_parse.proofs.Parts.Calming.{statement_calm, statement_quiet}
+use Rattle.proto_parse.proofs.Machine.Quiet.{LastNoLabel, halts_noisy, reads_quiet}
 use Rattle.proto_parse.proofs.Parts.Names.{scalar_word}
 use Rattle.proto_parse.proofs.Parts.Wider.{of_options, of_levels, options_wide, levels_wide}
 use Rattle.proto_parse.proofs.Parts.Files.{FileAgrees, statements_follow}
@@ -56,12 +58,12 @@ use Rattle.proto_parse.proofs.Parts.Files.{FileAgrees, statements_follow}
 -- ---- a syntax statement, or none, in front of statements
 
 -- where there is no statement, the first word isn't one that begins one
-abbrev Allows : List Lexeme → List Lexeme → Type 0
+abbrev pub Allows : List Lexeme → List Lexeme → Type 0
 Allows [] l = (first_is (is_word (codes "syntax")) l ≡ false) × (first_is (is_word (codes "edition")) l ≡ false)
 Allows (t ∷ front) l = Unit {0}
 
 -- the front is read as that syntax
-abbrev Opens : Dialect → Syntax → List Lexeme → Type 0
+abbrev pub Opens : Dialect → Syntax → List Lexeme → Type 0
 Opens dialect syntax front = (l : List Lexeme) (end : ℕ) → Allows front l
     → syntax_at dialect (place_of end (front ++ l)) ≡ Ok (syntax, place_of end l)
 
@@ -219,11 +221,6 @@ swapped_same Escaped g other swaps = absurd (other refl)
 swapped_same (Refused r) g other swaps = swaps
 
 -- where a group begins
-abbrev LastNoLabel : List Lexeme → Type 0
-LastNoLabel [] = Unit {0}
-LastNoLabel (l ∷ []) = is_label l ≡ false
-LastNoLabel (l ∷ (u ∷ rest)) = LastNoLabel (u ∷ rest)
-
 group_alone : (front : List Lexeme) (t : Lexeme) → LastNoLabel front → group_start front t ≡ t.span.start
 group_alone [] t last = refl
 group_alone (l ∷ []) t last = rw last refl
@@ -244,15 +241,19 @@ last_front (x ∷ (y ∷ a)) b first second = last_front (y ∷ a) b first secon
 -- a group without a label doesn't follow one
 front_quiet : (levels : ℕ) (syntax : Syntax) (l left : List Lexeme)
     (s : StopsAt (statement_step levels syntax) l [] false left (Halted (Refused GroupNext))) → LastNoLabel s.front
-front_quiet levels syntax l left s = ?
+front_quiet levels syntax l left s =
+    reads_quiet (statement_calm levels syntax) tt s.reads
+    (halts_noisy (statement_step levels syntax) (statement_quiet levels syntax) s.next s.now s.token (dots s.behind)
+    (word_kind (codes "group") s.token
+    (halts_at (statement_step levels syntax) s.next s.now s.token (dots s.behind) (Refused GroupNext) s.halts)) s.halts)
 
 -- the front of a text that names a version
-record Front (dialect : Dialect) (syntax : Syntax) (start l : List Lexeme) : Type 0 where
-  allows : Allows start l
-  opens : Opens dialect syntax start
-  skips : dialect ≡ Proto3 Refuse → (syntax ≡ grammar.Proto3 Refuse) × Opens (Proto3 Skip) (grammar.Proto3 Skip) start
-  named : NamesAVersion dialect (start ++ l)
-  last : LastNoLabel start
+pub record Front (dialect : Dialect) (syntax : Syntax) (start l : List Lexeme) : Type 0 where
+  pub allows : Allows start l
+  pub opens : Opens dialect syntax start
+  pub skips : dialect ≡ Proto3 Refuse → (syntax ≡ grammar.Proto3 Refuse) × Opens (Proto3 Skip) (grammar.Proto3 Skip) start
+  pub named : NamesAVersion dialect (start ++ l)
+  pub last : LastNoLabel start
 
 module _ (dialect : Dialect) (syntax : Syntax) (start l left : List Lexeme) (end : ℕ)
     (f : Front dialect syntax start l) (fed : Fed) (halt : IsHalt fed)
@@ -646,7 +647,7 @@ module _ (dialect : Dialect) (syntax : Syntax) (start l left : List Lexeme) (end
       none
 
 -- by what the machine tells
-outcome_refused : (dialect : Dialect) (syntax : Syntax) (start l : List Lexeme) (end : ℕ)
+pub outcome_refused : (dialect : Dialect) (syntax : Syntax) (start l : List Lexeme) (end : ℕ)
     (f : Front dialect syntax start l) (o : Outcome)
     → machine (statement_step max_message_depth syntax) l [] false ≡ o → (x : SyntaxFault)
     → Tells (place_of end l) o x → (is_of_custom_options x ≡ true → dialect ≡ Proto3 Refuse)

@@ -1,5 +1,5 @@
 -- Syntax statements: what is behind one that is read, and the fault of one that isn't.
-use Rattle.std.proofs.Common.{◌≡◌, ◌⊎◌, inl, inr, ℕ, Bool, true, false, cond, not, ◌&&◌, Result, Ok, Err, Option, Some, None}
+use Rattle.std.proofs.Common.{◌≡◌, ◌⊎◌, inl, inr, ℕ, suc, Bool, true, false, cond, not, ◌&&◌, Result, Ok, Err, Option, Some, None}
 use Rattle.std.proofs.Common.{List, [], ◌∷◌, ◌++◌, is_some, refl, sym, ◌∙◌, ap, subst, codes, append_assoc}
 use Rattle.std.specs.Option.{option_map_or}
 use Rattle.std.proofs.lemmas.List.{append-nil}
@@ -37,12 +37,13 @@ use Rattle.proto_parse.specs.Refused.IsRefused.{not_proto3, wrong, missing}
 use Rattle.proto_parse.proofs.Exact.Files.{syntax_exact}
 use Rattle.proto_parse.proofs.Joined.{joined_exact, joined_found}
 use Rattle.proto_parse.proofs.RefusedLemmas.{version_named}
-use Rattle.proto_parse.proofs.Told.{Front, Opens, Allows, LastNoLabel}
+use Rattle.proto_parse.proofs.Told.{Front, Opens}
+use Rattle.proto_parse.proofs.Machine.Quiet.{LastNoLabel}
 
 -- ---- the literals of a statement
 
 -- the literals, and what they spell in front of other tokens
-joined_front : {a d : List Lexeme} {text : List ℕ} → SpellsJoined a text d
+pub joined_front : {a d : List Lexeme} {text : List ℕ} → SpellsJoined a text d
     → (lits : List Lexeme) × (a ≡ lits ++ d)
     × ((c : List Lexeme) → not_next StringLiteral c ≡ true → SpellsJoined (lits ++ c) text c)
 joined_front (none_joined past) = ([], refl, λ c p. none_joined p)
@@ -68,9 +69,10 @@ semicolon_no_label t is =
 
 -- ---- what is behind a statement that is read
 
-named_by : {dialect : Dialect} {a b start : List Lexeme} {x : Syntax} → IsSyntax dialect a x b → a ≡ start ++ b
+named_by : {dialect : Dialect} (start : List Lexeme) {a b : List Lexeme} {x : Syntax} → IsSyntax dialect a x b
+    → a ≡ start ++ b
     → NamesAVersion dialect (start ++ b)
-named_by {dialect} {a} {b} {x = x} is e front behind whole names =
+named_by {dialect} start {a} {b} {x = x} is e front behind whole names =
     version_named names (subst (λ all. IsSyntax dialect all x b) (e ∙ whole) is)
 
 statement_start : (k q s : Lexeme) (lits l : List Lexeme)
@@ -106,7 +108,7 @@ syntax_front {dialect} (proto3 {e = e} (one {t = k} ke) (one {t = q} qe) j (one 
         allows = tt;
         opens = proto3_opens dialect k q s f.0 ke qe se f.2;
         skips = λ only. (ap proto3_in only, proto3_opens (Proto3 Skip) k q s f.0 ke qe se f.2);
-        named = named_by (proto3 {dialect = dialect} (one {t = k} ke) (one {t = q} qe) j (one {t = s} se)) whole;
+        named = named_by (k ∷ (q ∷ (f.0 ++ s ∷ []))) (proto3 {dialect = dialect} (one {t = k} ke) (one {t = q} qe) j (one {t = s} se)) whole;
         last = last_sign (q ∷ f.0) s (semicolon_no_label s se);
       },
     )
@@ -119,18 +121,18 @@ syntax_front (proto2 {e = e} (one {t = k} ke) (one {t = q} qe) j (one {t = s} se
         allows = tt;
         opens = proto2_opens k q s f.0 ke qe se f.2;
         skips = λ only. absurd cc;
-        named = named_by (proto2 (one {t = k} ke) (one {t = q} qe) j (one {t = s} se)) whole;
+        named = named_by (k ∷ (q ∷ (f.0 ++ s ∷ []))) (proto2 (one {t = k} ke) (one {t = q} qe) j (one {t = s} se)) whole;
         last = last_sign (q ∷ f.0) s (semicolon_no_label s se);
       },
     )
-syntax_front (no_syntax p q) = (
+syntax_front {b = b} (no_syntax p q) = (
   [],
   refl,
   record {
     allows = (p, q);
     opens = λ l end allows. syntax_exact end (no_syntax allows.0 allows.1);
     skips = λ only. absurd cc;
-    named = named_by (no_syntax p q) refl;
+    named = named_by [] {a = b} {b = b} (no_syntax p q) refl;
     last = tt;
   },
 )
@@ -138,7 +140,7 @@ syntax_front (no_syntax p q) = (
 -- ---- a statement that is cut
 
 -- nothing that begins so is a file
-abbrev Stops : List Lexeme → Type 0
+abbrev pub Stops : List Lexeme → Type 0
 Stops a = (dialect : Dialect) → (x : SyntaxFault) × (syntax_at dialect (place_of 0 a) ≡ Err x)
 
 no_file : (levels : ℕ) (dialect : Dialect) (a : List Lexeme) (tree : File) → Stops a → IsFileWithin levels dialect a tree
@@ -155,12 +157,12 @@ module _ (dialect : Dialect) (front : List Lexeme) (more : List Lexeme) (undotte
   cut_goes_on behind =
       record { more = more; tree = empty_file; is_file = finished; no_dot = λ none. undotted }
 
-  cut_missing : (end : ℕ) → Stops front → NamesAVersion dialect front
+  pub cut_missing : (end : ℕ) → Stops front → NamesAVersion dialect front
       → IsRefused dialect front end (variant.Grammar end)
   cut_missing end stops named =
       missing named (cut_goes_on []) (λ tree is. no_file max_message_depth dialect front tree stops is)
 
-  cut_wrong : (t : Lexeme) (behind : List Lexeme) (end : ℕ) → Stops front → ((c : List Lexeme) → Stops (front ++ t ∷ c))
+  pub cut_wrong : (t : Lexeme) (behind : List Lexeme) (end : ℕ) → Stops front → ((c : List Lexeme) → Stops (front ++ t ∷ c))
       → ((u : Lexeme) → of_kind StringLiteral t ≡ true → is_plain_literal u ≡ true → (c : List Lexeme)
       → Stops (front ++ u ∷ c))
       → NamesAVersion dialect (front ++ t ∷ behind)
@@ -187,41 +189,39 @@ module _ (dialect : Dialect) (front : List Lexeme) (more : List Lexeme) (undotte
 
 -- ---- the fault of a statement
 
-equals_sign : Lexeme
+abbrev pub equals_sign : Lexeme
 equals_sign = record { kind = Equals; spelling = []; span = record { start = 0; end = 0 } }
 
-proto3_literal : Lexeme
+abbrev pub proto3_literal : Lexeme
 proto3_literal =
     record { kind = StringLiteral; spelling = codes "\"proto3\""; span = record { start = 0; end = 0 } }
 
-end_sign : Lexeme
+abbrev pub end_sign : Lexeme
 end_sign = record { kind = Semicolon; spelling = []; span = record { start = 0; end = 0 } }
 
 -- a statement and nothing behind it is a file
-only_statement : {dialect : Dialect} {a : List Lexeme} {x : Syntax} → IsSyntax dialect a x [] → IsFile dialect a empty_file
+pub only_statement : {dialect : Dialect} {a : List Lexeme} {x : Syntax} → IsSyntax dialect a x [] → IsFile dialect a empty_file
 only_statement s = file s (done refl)
 
 proto3_named : SpellsJoined (proto3_literal ∷ (end_sign ∷ [])) (codes "proto3") (end_sign ∷ [])
-unfolding proto3_literal end_sign
 proto3_named = some_joined refl (none_joined refl)
 
 module _ (k : Lexeme) (ke : is_word (codes "syntax") k ≡ true) where
   -- behind the word
-  word_finished : (dialect : Dialect)
+  pub word_finished : (dialect : Dialect)
       → IsFile dialect ((k ∷ []) ++ equals_sign ∷ (proto3_literal ∷ (end_sign ∷ []))) empty_file
-  unfolding equals_sign end_sign
   word_finished dialect = only_statement (proto3 (one ke) (one refl) proto3_named (one refl))
 
-  word_stops : Stops (k ∷ [])
+  pub word_stops : Stops (k ∷ [])
   unfolding syntax_at syntax_statement_at token_that
   word_stops dialect = (variant.Grammar 0, rw ke refl)
 
-  word_stops_at : (t : Lexeme) → of_kind Equals t ≡ false → (c : List Lexeme) → Stops ((k ∷ []) ++ t ∷ c)
+  pub word_stops_at : (t : Lexeme) → of_kind Equals t ≡ false → (c : List Lexeme) → Stops ((k ∷ []) ++ t ∷ c)
   unfolding syntax_at syntax_statement_at token_that
   word_stops_at t differs c dialect = (variant.Grammar t.span.start, rw (ke, differs) refl)
 
   -- no version is named only by a statement's literals
-  only_other : (dialect : Dialect) (l : List Lexeme)
+  pub only_other : (dialect : Dialect) (l : List Lexeme)
       → ((equals : Lexeme) (a b : List Lexeme) (text : List ℕ) → l ≡ equals ∷ a → of_kind Equals equals ≡ true
       → first_is (of_kind StringLiteral) a ≡ true → SpellsJoined a text b → (text ≡ codes "proto3" → ⊥)
       → (dialect ≡ All → text ≡ codes "proto2" → ⊥) → ⊥)
@@ -246,22 +246,21 @@ module _ (k : Lexeme) (ke : is_word (codes "syntax") k ≡ true) where
 
   -- behind `=`
   module _ (q : Lexeme) (qe : of_kind Equals q ≡ true) where
-    equals_finished : (dialect : Dialect)
+    pub equals_finished : (dialect : Dialect)
         → IsFile dialect ((k ∷ (q ∷ [])) ++ proto3_literal ∷ (end_sign ∷ [])) empty_file
-    unfolding end_sign
     equals_finished dialect = only_statement (proto3 (one ke) (one qe) proto3_named (one refl))
 
-    equals_stops : Stops (k ∷ (q ∷ []))
+    pub equals_stops : Stops (k ∷ (q ∷ []))
     unfolding syntax_at syntax_statement_at token_that version_at
     equals_stops dialect = (variant.Grammar 0, rw (ke, qe) refl)
 
-    equals_stops_at : (t : Lexeme) → of_kind StringLiteral t ≡ false → (c : List Lexeme)
+    pub equals_stops_at : (t : Lexeme) → of_kind StringLiteral t ≡ false → (c : List Lexeme)
         → Stops ((k ∷ (q ∷ [])) ++ t ∷ c)
     unfolding syntax_at syntax_statement_at token_that version_at
     equals_stops_at t differs c dialect = (variant.Grammar t.span.start, rw (ke, qe, differs) refl)
 
     -- behind the literals
-    version_stops : (dialect : Dialect) (a c : List Lexeme) → first_is (of_kind StringLiteral) a ≡ true
+    pub version_stops : (dialect : Dialect) (a c : List Lexeme) → first_is (of_kind StringLiteral) a ≡ true
         → behind_literals a ≡ c → first_is (of_kind Semicolon) c ≡ false
         → (x : SyntaxFault) × (syntax_at dialect (place_of 0 (k ∷ (q ∷ a))) ≡ Err x)
     unfolding syntax_at syntax_statement_at token_that version_at

@@ -70,7 +70,7 @@ use Rattle.proto_grammar.specs.Terminal.{offset_at}
 use Rattle.proto_grammar.specs.Lexeme.{Place}
 
 -- the version that a text names
-version_text : {P : Type 0} (text : List ℕ) → (text ≡ codes "proto3" → version_of text ≡ version.Proto3 → P)
+pub version_text : {P : Type 0} (text : List ℕ) → (text ≡ codes "proto3" → version_of text ≡ version.Proto3 → P)
     → (text ≡ codes "proto2" → version_of text ≡ version.Proto2 → P) → (version_of text ≡ version.Other → P) → P
 version_text text three two other =
     chosen (bytes_eq text (codes "proto3")) _ _ (version_of text) refl
@@ -84,7 +84,7 @@ abbrev IsVersion : Dialect → List Lexeme → Syntax → List Lexeme → Type 0
 IsVersion dialect a syntax b = ((syntax ≡ proto3_in dialect) × SpellsJoined a (codes "proto3") b)
     ⊎ ((dialect ≡ All) × ((syntax ≡ Proto2) × SpellsJoined a (codes "proto2") b))
 
-proto2_accepted : (dialect : Dialect) (syntax : Syntax) → cond (is_all dialect) (Some Proto2) None ≡ Some syntax
+pub proto2_accepted : (dialect : Dialect) (syntax : Syntax) → cond (is_all dialect) (Some Proto2) None ≡ Some syntax
     → (dialect ≡ All) × (syntax ≡ Proto2)
 proto2_accepted (Proto3 custom) syntax e = cc
 proto2_accepted All syntax e = (refl, sym (same_Some Proto2 syntax e))

@@ -65,7 +65,7 @@ unfolding version_at
 version_right dialect p = right_cond p (first_is (of_kind StringLiteral) p.left) _ _ (λ is. version_right_by _ p)
     (λ no. misplaced_right p)
 
-syntax_right : (dialect : Dialect) (p : Place) → Right p (syntax_at dialect p)
+pub syntax_right : (dialect : Dialect) (p : Place) → Right p (syntax_at dialect p)
 unfolding syntax_at syntax_statement_at
 syntax_right dialect p =
     right_cond p (first_is (is_word (codes "syntax")) p.left) _ _

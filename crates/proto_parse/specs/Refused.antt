@@ -1,6 +1,6 @@
 -- Why tokens derive no tree: which fault they have, and at which token. No reading is spoken of: the fault is at the
 -- first token with which what is in front of it can't be finished to a file any more.
-use Rattle.std.specs.Prelude.{◌≡◌, ℕ, suc, Bool, true, false, cond, ◌||◌, is_some, List, [], ◌∷◌, ◌++◌, codes}
+use Rattle.std.specs.Prelude.{◌≡◌, ℕ, suc, Bool, true, false, cond, ◌||◌, is_some, List, [], ◌∷◌, ◌++◌, length, codes}
 use Rattle.proto_lex.specs.declared.token.TokenKind.TheVariants.{StringLiteral, Equals, OpenBrace, OpenParenthesis, Dot}
 use Rattle.proto_grammar.specs.declared.fault.SyntaxFault.{SyntaxFault}
 use Rattle.proto_grammar.specs.declared.fault.SyntaxFault.TheVariants.{NotProto3, CustomOption, Aggregate, Extend}
@@ -10,7 +10,8 @@ use Rattle.proto_grammar.specs.declared.tree.CustomOptions.TheVariants.{Refuse, 
 use Rattle.proto_grammar.specs.declared.tree.Dialect.{Dialect}
 use Rattle.proto_grammar.specs.declared.tree.Dialect.TheVariants.{Proto3, All}
 use Rattle.proto_grammar.specs.declared.tree.File.{File}
-use Rattle.proto_grammar.specs.Lexeme.{Lexeme, place_of}
+use Rattle.proto_lex.specs.declared.token.Token.{Token}
+use Rattle.proto_grammar.specs.Lexeme.{Lexeme, place_of, lexemes_of}
 use Rattle.proto_grammar.specs.Terminal.{first_is, of_kind, is_word, is_plain_literal, not_next, offset_at}
 use Rattle.proto_parse.specs.Limits.{max_message_depth}
 use Rattle.proto_parse.specs.Grammar.Files.{SpellsJoined, IsFileWithin, IsFile}
@@ -98,3 +99,7 @@ pub data IsRefused (dialect : Dialect) (tokens : List Lexeme) (end : ℕ) : Synt
   missing : NamesAVersion dialect tokens → GoesOn max_message_depth dialect tokens []
       → ((tree : File) → IsFile dialect tokens tree → ⊥)
       → IsRefused dialect tokens end (Grammar end)
+
+-- The tokens of the text have the fault. They have at most one.
+abbrev pub HasFault : Dialect → List ℕ → List Token → SyntaxFault → Type 0
+HasFault dialect text tokens fault = IsRefused dialect (lexemes_of text tokens) (length text) fault

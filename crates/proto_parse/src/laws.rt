@@ -10,7 +10,7 @@ ghost use Rattle.proto_parse.specs.Filled.{FilledFile};
 ghost use Rattle.proto_parse.specs.Derives.{Derives};
 ghost use Rattle.proto_parse.specs.Extends.{HasNoExtend};
 ghost use Rattle.proto_grammar.specs.declared.tree.CustomOptions.TheVariants.{Refuse, Skip};
-ghost use Rattle.proto_parse.specs.Refused.{IsRefused};
+ghost use Rattle.proto_parse.specs.Refused.{HasFault};
 ghost use Rattle.proto_grammar.specs.declared.fault.SyntaxFault.{SyntaxFault};
 ghost use Rattle.proto_grammar.specs.declared.tree.Dialect.{Dialect};
 ghost use Rattle.proto_grammar.specs.declared.tree.Dialect.TheVariants.{Proto3, All};
@@ -67,13 +67,13 @@ pub fn proto3_without_extend_among_all()
 /// Tokens have at most one fault.
 pub fn one_syntax_fault()
     ensures { (dialect : Dialect) (text : List ℕ) (tokens : List Token) (fault other : SyntaxFault)
-        → IsRefused dialect (lexemes_of text tokens) (length text) fault
-        → IsRefused dialect (lexemes_of text tokens) (length text) other → fault ≡ other }
+        → HasFault dialect text tokens fault
+        → HasFault dialect text tokens other → fault ≡ other }
 {}
 
 /// Tokens that derive a tree have no fault.
 pub fn no_fault_where_it_derives()
     ensures { (dialect : Dialect) (text : List ℕ) (tokens : List Token) (file : File) (fault : SyntaxFault)
         → Derives dialect text tokens file
-        → IsRefused dialect (lexemes_of text tokens) (length text) fault → ⊥ }
+        → HasFault dialect text tokens fault → ⊥ }
 {}

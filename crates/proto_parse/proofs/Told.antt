@@ -183,13 +183,13 @@ allows_none [] = (refl, refl)
 allows_none (s ∷ start) = tt
 
 -- what finishes the steps behind a front is allowed
-allows_finish : (st : Step) (start front : List Lexeme) (t : Lexeme) (a : List Lexeme) (next : List Step) (d now : Bool)
-    → Allows start (front ++ t ∷ a) → Reads st [] false front d next now → Allows start (front ++ finish next)
-allows_finish st start [] t a next d now allows reads = none_left next now reads
+allows_finish : (by : Step) (start front : List Lexeme) (t : Lexeme) (a : List Lexeme) (next : List Step) (d now : Bool)
+    → Allows start (front ++ t ∷ a) → Reads by [] false front d next now → Allows start (front ++ finish next)
+allows_finish by start [] t a next d now allows reads = none_left next now reads
   where
-    none_left : (next : List Step) (now : Bool) → Reads st [] false [] d next now → Allows start (finish next)
+    none_left : (next : List Step) (now : Bool) → Reads by [] false [] d next now → Allows start (finish next)
     none_left next now here = allows_none start
-allows_finish st start (u ∷ front) t a next d now allows reads =
+allows_finish by start (u ∷ front) t a next d now allows reads =
     allows_first start u (front ++ t ∷ a) (front ++ finish next) allows
 
 -- ---- a token at which the machine stops is wrong
@@ -200,13 +200,13 @@ allows_short : (start front : List Lexeme) (t : Lexeme) (a : List Lexeme) → Al
 allows_short start [] t a allows = allows_none start
 allows_short start (u ∷ front) t a allows = allows_first start u (front ++ t ∷ a) front allows
 
-allows_all : (st : Step) (start l : List Lexeme) (next : List Step) (now : Bool) → Allows start l
-    → Reads st [] false l false next now → Allows start (l ++ finish next)
-allows_all st start [] next now allows reads = none_left next now reads
+allows_all : (by : Step) (start l : List Lexeme) (next : List Step) (now : Bool) → Allows start l
+    → Reads by [] false l false next now → Allows start (l ++ finish next)
+allows_all by start [] next now allows reads = none_left next now reads
   where
-    none_left : (next : List Step) (now : Bool) → Reads st [] false [] false next now → Allows start (finish next)
+    none_left : (next : List Step) (now : Bool) → Reads by [] false [] false next now → Allows start (finish next)
     none_left next now here = allows_none start
-allows_all st start (u ∷ l) next now allows reads = allows_first start u l (l ++ finish next) allows
+allows_all by start (u ∷ l) next now allows reads = allows_first start u l (l ++ finish next) allows
 
 ended_whole : (b now : Bool) → cond b (Whole now) Missing ≡ Whole true → (b ≡ true) × (now ≡ true)
 ended_whole true now e = (refl, same_seen e)
@@ -468,10 +468,10 @@ module _ (dialect : Dialect) (syntax : Syntax) (start l left : List Lexeme) (end
   -- a second package would be told
   no_second : is_word (codes "package") s.token ≡ true → (tree : File) → IsFile dialect ahead tree
       → is_some tree.package_name ≡ true → ⊥
-  no_second is tree file some =
+  no_second is tree is_file some =
       let read : machine step s.front [] false ≡ Whole true =
       file_machine max_message_depth dialect syntax start f.opens s.front tree
-      (allows_short start s.front s.token s.behind (allowed_now s.behind)) file ∙ ap Whole some in
+      (allows_short start s.front s.token s.behind (allowed_now s.behind)) is_file ∙ ap Whole some in
       let reached : machine step s.front [] false ≡ cond (all_ended s.next) (Whole s.now) Missing =
       ap (λ a. machine step a [] false) (sym (append-nil s.front)) ∙ reads_machine fits_now [] refl in
       let both = ended_whole (all_ended s.next) s.now (sym reached ∙ read) in
@@ -494,7 +494,7 @@ module _ (dialect : Dialect) (syntax : Syntax) (start l left : List Lexeme) (end
   none_would other options levels x (custom_option only is g) = options_stop only options g
   none_would other options levels x (aggregate only is g) = options_stop only options g
   none_would other options levels x (extend only is g) = options_stop only options g
-  none_would other options levels x (two_packages {tree} is file some) = no_second is tree file some
+  none_would other options levels x (two_packages {tree} is whole some) = no_second is tree whole some
   none_would other options levels x (import_escape u is escaped plain g) = literal_stop other u is plain g
   none_would other options levels x (too_deep is g) = levels_stop levels g
   none_would other options levels x (group_too_deep is g) = levels_stop levels g

@@ -212,10 +212,10 @@ pub took_true : (b : Bool) (x y : Taken) (k : List Step) (P : Type 0) → cond b
 took_true true x y k P e on off = on refl e
 took_true false x y k P e on off = off refl e
 
-no_stop : {why : Why} {k : List Step} {P : Type 0} → Stopped why ≡ Took k → P
+pub no_stop : {why : Why} {k : List Step} {P : Type 0} → Stopped why ≡ Took k → P
 no_stop e = cc
 
-no_pass : {k : List Step} {P : Type 0} → Passed ≡ Took k → P
+pub no_pass : {k : List Step} {P : Type 0} → Passed ≡ Took k → P
 no_pass e = cc
 
 pub then_took : (o p : Taken) (next : List Step) (P : Type 0) → or_next o p ≡ Took next → (o ≡ Took next → P)

@@ -1,11 +1,9 @@
 -- The fault that reading meets is the one that the tokens have.
 use Rattle.std.proofs.Common.{◌≡◌, ◌⊎◌, inl, inr, ℕ, Bool, true, false, cond, not, ◌&&◌, Result, Ok, Err, Option, Some, None}
 use Rattle.std.proofs.Common.{List, [], ◌∷◌, ◌++◌, IfErr, refl, sym, ◌∙◌, ap, subst, codes}
-use Rattle.std.specs.Option.{option_map_or}
 use Rattle.proto_lex.specs.declared.token.TokenKind.TheVariants.{StringLiteral, Semicolon, Equals}
 use Rattle.proto_grammar.specs.declared.fault.SyntaxFault.{SyntaxFault}
 use Rattle.proto_grammar.specs.declared.fault.SyntaxFault.TheVariants as variant
-use Rattle.proto_grammar.specs.declared.tree.CustomOptions.{CustomOptions}
 use Rattle.proto_grammar.specs.declared.tree.CustomOptions.TheVariants.{Refuse, Skip}
 use Rattle.proto_grammar.specs.declared.tree.Dialect.{Dialect}
 use Rattle.proto_grammar.specs.declared.tree.Dialect.TheVariants.{Proto3, All}
@@ -15,18 +13,18 @@ use Rattle.proto_grammar.specs.declared.tree.File.{File}
 use Rattle.proto_grammar.specs.Gives.{Gives}
 use Rattle.proto_grammar.specs.Lexeme.{Lexeme, Place, place_of}
 use Rattle.proto_grammar.specs.Syntax.{custom_in, proto3_in, is_all}
-use Rattle.proto_grammar.specs.Terminal.{first_is, of_kind, is_word, is_plain_literal, not_next, is_end, offset_at}
+use Rattle.proto_grammar.specs.Terminal.{first_is, of_kind, is_word, not_next, is_end, offset_at}
 use Rattle.proto_grammar.specs.Reading.Repetition.{and_then, token_that, until_at}
 use Rattle.proto_grammar.proofs.Steps.{both_true, stopped}
-use Rattle.proto_grammar.proofs.TokenLemmas.{other_kind, kind_no_word}
+use Rattle.proto_grammar.proofs.TokenLemmas.{other_kind}
 use Rattle.proto_parse.specs.Choice.{version_of}
 use Rattle.proto_parse.specs.Faults.{is_of_custom_options}
 use Rattle.proto_parse.specs.Limits.{max_message_depth}
-use Rattle.proto_parse.specs.Grammar.Files.{SpellsJoined, IsSyntax, IsFile, empty_file}
+use Rattle.proto_parse.specs.Grammar.Files.{SpellsJoined, IsFile, empty_file}
 use Rattle.proto_parse.specs.Reading.Files.{statement_at, statements_at, file_at}
-use Rattle.proto_parse.specs.Reading.Syntax.{syntax_at, syntax_statement_at, version_at, syntax_by, joined_of, past_literals}
+use Rattle.proto_parse.specs.Reading.Syntax.{syntax_at, syntax_statement_at, version_at, syntax_by, joined_of}
 use Rattle.proto_parse.specs.Reading.Syntax.{behind_literals}
-use Rattle.proto_parse.specs.Refused.{NamesNoVersion, NamesAVersion, IsRefused}
+use Rattle.proto_parse.specs.Refused.{NamesAVersion, IsRefused}
 use Rattle.proto_parse.specs.Refused.NamesNoVersion.{no_statement, edition, other as other_version}
 use Rattle.proto_parse.specs.Refused.IsRefused.{not_proto3}
 use Rattle.proto_parse.proofs.Exact.Files.{file_exact}

@@ -1,30 +1,28 @@
 -- The fault that is met is the one that the tokens have.
-use Rattle.std.proofs.Common.{◌≡◌, ◌⊎◌, inl, inr, ℕ, zero, suc, Bool, true, false, cond, not, ◌&&◌, ◌||◌, is_some, Result, Ok}
-use Rattle.std.proofs.Common.{Err, Option, Some, None, List, [], ◌∷◌, ◌++◌, IfErr, refl, sym, ◌∙◌, ap, subst, codes}
+use Rattle.std.proofs.Common.{◌≡◌, ℕ, suc, Bool, true, false, cond, not, is_some, Result, Ok}
+use Rattle.std.proofs.Common.{Err, None, List, [], ◌∷◌, ◌++◌, refl, sym, ◌∙◌, ap, subst, codes}
 use Rattle.std.proofs.Common.{append_assoc}
 use Rattle.std.proofs.lemmas.List.{append-nil, append_cancel_right}
 use Rattle.proto_lex.specs.declared.token.TokenKind.TheVariants.{Identifier, StringLiteral, Dot, OpenBrace, OpenParenthesis}
 use Rattle.proto_grammar.specs.declared.fault.SyntaxFault.{SyntaxFault}
 use Rattle.proto_grammar.specs.declared.fault.SyntaxFault.TheVariants as variant
-use Rattle.proto_grammar.specs.declared.tree.CustomOptions.{CustomOptions}
 use Rattle.proto_grammar.specs.declared.tree.CustomOptions.TheVariants.{Refuse, Skip}
 use Rattle.proto_grammar.specs.declared.tree.Dialect.{Dialect}
-use Rattle.proto_grammar.specs.declared.tree.Dialect.TheVariants.{Proto3, All}
+use Rattle.proto_grammar.specs.declared.tree.Dialect.TheVariants.{Proto3}
 use Rattle.proto_grammar.specs.declared.tree.Syntax.{Syntax}
 use Rattle.proto_grammar.specs.declared.tree.Syntax.TheVariants as grammar
 use Rattle.proto_grammar.specs.declared.tree.File.{File}
 use Rattle.proto_grammar.specs.Lexeme.{Lexeme, Place, place_of}
-use Rattle.proto_grammar.specs.Syntax.{custom_in, proto3_in}
 use Rattle.proto_grammar.specs.Terminal.{first_is, of_kind, is_word, is_plain_literal, not_next, is_end, offset_at}
-use Rattle.proto_grammar.specs.Reading.Repetition.{and_then, until_at}
-use Rattle.proto_grammar.proofs.Steps.{bind_ok, same_ok, both_true}
+use Rattle.proto_grammar.specs.Reading.Repetition.{until_at}
+use Rattle.proto_grammar.proofs.Steps.{both_true}
 use Rattle.proto_grammar.proofs.TokenLemmas.{word_kind, other_kind, kind_no_word}
 use Rattle.proto_parse.specs.Limits.{max_message_depth}
 use Rattle.proto_parse.specs.Faults.{is_of_custom_options}
-use Rattle.proto_parse.specs.Grammar.Files.{IsSyntax, IsFileWithin, IsFile, empty_file}
+use Rattle.proto_parse.specs.Grammar.Files.{IsFileWithin, IsFile, empty_file}
 use Rattle.proto_parse.specs.Reading.Files.{statement_at, statements_at, file_at}
 use Rattle.proto_parse.specs.Reading.Syntax.{syntax_at}
-use Rattle.proto_parse.specs.Refused.{GoesOn, IsWrong, NamesNoVersion, NamesAVersion, WouldGoOn, IsRefused, group_start}
+use Rattle.proto_parse.specs.Refused.{GoesOn, IsWrong, NamesAVersion, WouldGoOn, IsRefused, group_start}
 use Rattle.proto_parse.specs.Refused.{is_label}
 use Rattle.proto_parse.specs.Refused.WouldGoOn.{custom_option, aggregate, extend, two_packages, import_escape, too_deep}
 use Rattle.proto_parse.specs.Refused.WouldGoOn.{group_too_deep}
@@ -32,17 +30,17 @@ use Rattle.proto_parse.specs.Refused.IsRefused.{would_go_on, wrong, missing}
 use Rattle.proto_parse.proofs.Found.Files.{file_found}
 use Rattle.proto_parse.proofs.Exact.Files.{file_exact}
 use Rattle.proto_parse.proofs.Machine.{Refusal, Why, Step, Outcome, Fed, test_of, passes, machine, going, feed, dots}
-use Rattle.proto_parse.proofs.Machine.{all_ended, is_package}
+use Rattle.proto_parse.proofs.Machine.{all_ended}
 use Rattle.proto_parse.proofs.Machine.Refusal.{CustomOptionNext, AggregateNext, ExtendNext, MessageNext, GroupNext}
 use Rattle.proto_parse.proofs.Machine.Refusal.{LabelledGroupNext, RangesNext, ScalarNext}
 use Rattle.proto_parse.proofs.Machine.Why.{Misplaced, Escaped, Refused}
 use Rattle.proto_parse.proofs.Machine.Outcome.{Whole, Missing, Stuck, Twice}
 use Rattle.proto_parse.proofs.Machine.Fed.{Went, Halted, SecondPackage}
 use Rattle.proto_parse.proofs.Machine.Finishing.{Fit, Fits, finish, finish_undotted, machine_finish, feed_fits, sign_of}
-use Rattle.proto_parse.proofs.Machine.Reads.{Reads, StopsAt, EndsAt, reads_machine, reads_fits, stuck_at, twice_at, ends_at}
+use Rattle.proto_parse.proofs.Machine.Reads.{Reads, StopsAt, reads_machine, reads_fits, stuck_at, twice_at, ends_at}
 use Rattle.proto_parse.proofs.Machine.Reads.Reads.{here}
 use Rattle.proto_parse.proofs.Machine.Reads.{IsHalt, halts_so, reads_on, front_finished, token_wrong}
-use Rattle.proto_parse.proofs.Machine.Wide.{Wide, AllWide, opens_why, reads_wide, halts_wide, opens_wide}
+use Rattle.proto_parse.proofs.Machine.Wide.{opens_why, reads_wide, halts_wide, opens_wide}
 use Rattle.proto_parse.proofs.Machine.Wide.AllWide.{none as none_wide}
 use Rattle.proto_parse.proofs.Machine.Swapped.{FedSwaps, feed_swaps, halts_at, second_at}
 use Rattle.proto_parse.proofs.Machine.Package.{second_ended, ended_second}

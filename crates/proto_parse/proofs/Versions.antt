@@ -1,25 +1,21 @@
 -- Syntax statements: what is behind one that is read, and the fault of one that isn't.
-use Rattle.std.proofs.Common.{◌≡◌, ◌⊎◌, inl, inr, ℕ, suc, Bool, true, false, cond, not, ◌&&◌, Result, Ok, Err, Option, Some, None}
-use Rattle.std.proofs.Common.{List, [], ◌∷◌, ◌++◌, is_some, refl, sym, ◌∙◌, ap, subst, codes, append_assoc}
-use Rattle.std.specs.Option.{option_map_or}
-use Rattle.std.proofs.lemmas.List.{append-nil}
-use Rattle.proto_lex.specs.declared.span.Span.{Span}
-use Rattle.proto_lex.specs.declared.token.TokenKind.TheVariants.{Identifier, StringLiteral, Semicolon, Equals, Dot}
+use Rattle.std.proofs.Common.{◌≡◌, ℕ, suc, true, false, not, Ok, Err, Option, Some, None}
+use Rattle.std.proofs.Common.{List, [], ◌∷◌, ◌++◌, refl, sym, ◌∙◌, ap, subst, codes, append_assoc}
+use Rattle.proto_lex.specs.declared.token.TokenKind.TheVariants.{StringLiteral, Semicolon, Equals, Dot}
 use Rattle.proto_grammar.specs.declared.fault.SyntaxFault.{SyntaxFault}
 use Rattle.proto_grammar.specs.declared.fault.SyntaxFault.TheVariants as variant
-use Rattle.proto_grammar.specs.declared.tree.CustomOptions.TheVariants.{Refuse, Skip}
+use Rattle.proto_grammar.specs.declared.tree.CustomOptions.TheVariants.{Skip}
 use Rattle.proto_grammar.specs.declared.tree.Dialect.{Dialect}
 use Rattle.proto_grammar.specs.declared.tree.Dialect.TheVariants.{Proto3, All}
 use Rattle.proto_grammar.specs.declared.tree.Syntax.{Syntax}
 use Rattle.proto_grammar.specs.declared.tree.Syntax.TheVariants as grammar
 use Rattle.proto_grammar.specs.declared.tree.File.{File}
-use Rattle.proto_grammar.specs.Lexeme.{Lexeme, Place, place_of}
+use Rattle.proto_grammar.specs.Lexeme.{Lexeme, place_of}
 use Rattle.proto_grammar.specs.Syntax.{proto3_in}
-use Rattle.proto_grammar.specs.Terminal.{first_is, of_kind, is_word, is_plain_literal, not_next, is_end, offset_at}
+use Rattle.proto_grammar.specs.Terminal.{first_is, of_kind, is_word, is_plain_literal, not_next, offset_at}
 use Rattle.proto_grammar.specs.Grammar.Repetition.One.{one}
 use Rattle.proto_grammar.specs.Grammar.Repetition.Until.{done}
 use Rattle.proto_grammar.specs.Reading.Repetition.{token_that}
-use Rattle.proto_grammar.proofs.Steps.{both_true}
 use Rattle.proto_grammar.proofs.TokenLemmas.{other_kind, other_word, kind_no_word}
 use Rattle.proto_parse.specs.Choice.{version_of}
 use Rattle.proto_parse.specs.Limits.{max_message_depth}
@@ -27,15 +23,14 @@ use Rattle.proto_parse.specs.Grammar.Files.{SpellsJoined, IsSyntax, IsFileWithin
 use Rattle.proto_parse.specs.Grammar.Files.SpellsJoined.{none as none_joined, some as some_joined}
 use Rattle.proto_parse.specs.Grammar.Files.IsSyntax.{proto3, proto2, no_statement as no_syntax}
 use Rattle.proto_parse.specs.Grammar.Files.IsFileWithin.{file}
-use Rattle.proto_parse.specs.Reading.Syntax.{syntax_at, syntax_statement_at, version_at, syntax_by, joined_of, past_literals}
+use Rattle.proto_parse.specs.Reading.Syntax.{syntax_at, syntax_statement_at, version_at, syntax_by, joined_of}
 use Rattle.proto_parse.specs.Reading.Syntax.{behind_literals}
-use Rattle.proto_parse.specs.Refused.{GoesOn, IsWrong, NamesNoVersion, NamesAVersion, WouldGoOn, IsRefused, is_label}
+use Rattle.proto_parse.specs.Refused.{GoesOn, NamesAVersion, WouldGoOn, IsRefused, is_label}
 use Rattle.proto_parse.specs.Refused.NamesNoVersion.{no_statement, edition, other as other_version}
 use Rattle.proto_parse.specs.Refused.WouldGoOn.{custom_option, aggregate, extend, two_packages, import_escape, too_deep}
 use Rattle.proto_parse.specs.Refused.WouldGoOn.{group_too_deep}
-use Rattle.proto_parse.specs.Refused.IsRefused.{not_proto3, wrong, missing}
+use Rattle.proto_parse.specs.Refused.IsRefused.{wrong, missing}
 use Rattle.proto_parse.proofs.Exact.Files.{syntax_exact}
-use Rattle.proto_parse.proofs.Joined.{joined_exact, joined_found}
 use Rattle.proto_parse.proofs.RefusedLemmas.{version_named}
 use Rattle.proto_parse.proofs.Told.{Front, Opens}
 use Rattle.proto_parse.proofs.Machine.Quiet.{LastNoLabel}

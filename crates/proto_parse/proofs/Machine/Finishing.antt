@@ -1,5 +1,5 @@
 -- Tokens with which steps are finished.
-use Rattle.std.proofs.Common.{◌≡◌, ℕ, zero, suc, ◌-◌, ◌==◌, Bool, true, false, cond, ◌&&◌, ◌||◌, not, Option, Some, None}
+use Rattle.std.proofs.Common.{◌≡◌, ℕ, zero, suc, ◌-◌, ◌==◌, Bool, true, false, cond, ◌&&◌, ◌||◌, Option, Some, None}
 use Rattle.std.proofs.Common.{List, [], ◌∷◌, ◌++◌, refl, sym, ◌∙◌, ap, subst, codes, arith}
 use Rattle.std.proofs.lemmas.Bool.Decides.{nat_tests}
 use Rattle.std.proofs.Common.{append_assoc}
@@ -12,18 +12,18 @@ use Rattle.proto_lex.specs.declared.token.TokenKind.TheVariants.{Dot, Minus}
 use Rattle.proto_grammar.specs.Lexeme.{Lexeme}
 use Rattle.proto_grammar.specs.Terminal.{number_of, first, first_is, of_kind, is_plain_literal}
 use Rattle.proto_grammar.specs.Reading.Options.{depth_behind}
-use Rattle.proto_parse.proofs.Machine.{Test, test_of, passes, sees, Why, Step, Taken, or_next, take_by, ended, all_ended}
-use Rattle.proto_parse.proofs.Machine.{Fed, begun, fed_by, feed, is_package, dots, Outcome, machine, machine_done}
+use Rattle.proto_parse.proofs.Machine.{Test, test_of, passes, sees, Why, Step, Taken, or_next, take_by, ended}
+use Rattle.proto_parse.proofs.Machine.{Fed, begun, fed_by, feed, is_package, dots, machine, machine_done}
 use Rattle.proto_parse.proofs.Machine.{machine_then, machine_token, machine_if_false, machine_ban_false}
 use Rattle.proto_parse.proofs.Machine.{machine_lone_false, machine_fork_false, machine_many_false, machine_block_true}
 use Rattle.proto_parse.proofs.Machine.{machine_closed}
 use Rattle.proto_parse.proofs.Machine.Test.{OfKind, Word, Scalar, Key, Sign, Numeral, Number, GroupName}
 use Rattle.proto_parse.proofs.Machine.Step.{Done, Token, Plain, Plains, Never, Then, If, Ban, Lone, Fork, Many, Block}
 use Rattle.proto_parse.proofs.Machine.Step.{Closed}
-use Rattle.proto_parse.proofs.Machine.Why.{Misplaced, Escaped}
+use Rattle.proto_parse.proofs.Machine.Why.{Misplaced}
 use Rattle.proto_parse.proofs.Machine.Taken.{Took, Passed, Stopped}
 use Rattle.proto_parse.proofs.Machine.Fed.{Went, Halted, SecondPackage}
-use Rattle.proto_parse.proofs.Machine.Outcome.{Whole, Missing}
+use Rattle.proto_parse.proofs.Machine.Outcome.{Whole}
 
 -- ---- a token that passes
 

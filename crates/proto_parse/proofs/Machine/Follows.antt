@@ -1,14 +1,13 @@
 -- What is read follows steps: it leaves off where they do, and has the fault at which they stop.
-use Rattle.std.proofs.Common.{◌≡◌, ℕ, zero, suc, ◌<◌, ◌≤◌, ◌==◌, Bool, true, false, cond, ◌&&◌, not, Result, Ok, Err}
-use Rattle.std.proofs.Common.{List, [], ◌∷◌, ◌++◌, length, refl, sym, ◌∙◌, ap, subst, append_assoc, arith, codes}
-use Rattle.proto_lex.specs.declared.span.Span.{Span}
-use Rattle.proto_lex.specs.declared.token.TokenKind.TheVariants.{StringLiteral, CloseBrace, Dot}
+use Rattle.std.proofs.Common.{◌≡◌, ℕ, zero, suc, ◌≤◌, ◌==◌, Bool, true, false, cond, ◌&&◌, not, Result, Ok, Err}
+use Rattle.std.proofs.Common.{List, [], ◌∷◌, ◌++◌, length, refl, sym, ◌∙◌, ap, subst, append_assoc, arith}
+use Rattle.proto_lex.specs.declared.token.TokenKind.TheVariants.{StringLiteral, Dot}
 use Rattle.proto_grammar.specs.declared.fault.SyntaxFault.{SyntaxFault}
 use Rattle.proto_grammar.specs.declared.fault.SyntaxFault.TheVariants as variant
 use Rattle.proto_grammar.specs.Lexeme.{Lexeme, Place, place_of}
 use Rattle.proto_grammar.specs.Terminal.{first_is, of_kind, is_plain_literal, not_next, closes, offset_at}
 use Rattle.proto_grammar.specs.Terminal.{behind, others}
-use Rattle.proto_grammar.specs.Reading.Repetition.{and_then, Read, misplaced, token_that, plain_literal_at, until_at}
+use Rattle.proto_grammar.specs.Reading.Repetition.{and_then, Read, token_that, plain_literal_at, until_at}
 use Rattle.proto_grammar.specs.Reading.Options.{depth_behind, closed_by, closed_at}
 use Rattle.proto_grammar.proofs.StandingLemmas.{Behind, behind_here, behind_one}
 use Rattle.proto_grammar.proofs.UntilLemmas.{Falls, until_at-step}
@@ -19,7 +18,6 @@ use Rattle.proto_parse.proofs.Machine.{machine_if_false, machine_ban_true, machi
 use Rattle.proto_parse.proofs.Machine.{machine_many_false, machine_block_true, machine_block_false, machine_lone_false}
 use Rattle.proto_parse.proofs.Machine.{machine_lone_dotted, machine_lone_alone, machine_fork_false}
 use Rattle.proto_parse.proofs.Machine.{machine_fork_dotted, machine_fork_alone}
-use Rattle.proto_parse.proofs.Machine.Test.{OfKind}
 use Rattle.proto_parse.proofs.Machine.Refusal.{CustomOptionNext, AggregateNext, ExtendNext, MessageNext, GroupNext}
 use Rattle.proto_parse.proofs.Machine.Refusal.{LabelledGroupNext, RangesNext, ScalarNext}
 use Rattle.proto_parse.proofs.Machine.Step.{Done, Token, Plain, Plains, Then, If, Ban, Lone, Fork, Many, Block}

@@ -1,16 +1,16 @@
 -- A second package statement: all steps have ended in front of it.
-use Rattle.std.proofs.Common.{◌≡◌, ℕ, ◌==◌, Bool, true, false, cond, ◌&&◌, ◌||◌, Option, None, List, [], ◌∷◌, refl, sym}
-use Rattle.std.proofs.Common.{◌∙◌, ap, subst, codes}
+use Rattle.std.proofs.Common.{◌≡◌, ◌==◌, Bool, true, false, cond, ◌&&◌, ◌||◌, Option, List, [], ◌∷◌, refl, sym}
+use Rattle.std.proofs.Common.{◌∙◌, codes}
 use Rattle.proto_lex.specs.declared.token.TokenKind.TheVariants.{Identifier, StringLiteral, CloseBrace}
 use Rattle.proto_grammar.specs.Lexeme.{Lexeme}
 use Rattle.proto_grammar.specs.Terminal.{first, of_kind, is_plain_literal}
 use Rattle.proto_grammar.proofs.Steps.{both_true}
 use Rattle.proto_grammar.proofs.TokenLemmas.{other_kind, word_kind}
-use Rattle.proto_parse.proofs.Machine.{Test, test_of, passes, Why, Step, Taken, or_next, take_by, ended, all_ended}
+use Rattle.proto_parse.proofs.Machine.{test_of, passes, Why, Step, Taken, or_next, take_by, ended, all_ended}
 use Rattle.proto_parse.proofs.Machine.{Fed, begun, fed_by, feed, is_package}
 use Rattle.proto_parse.proofs.Machine.Step.{Done, Token, Plain, Plains, Never, Then, If, Ban, Lone, Fork, Many, Block}
 use Rattle.proto_parse.proofs.Machine.Step.{Closed}
-use Rattle.proto_parse.proofs.Machine.Why.{Misplaced, Escaped, Refused}
+use Rattle.proto_parse.proofs.Machine.Why.{Misplaced}
 use Rattle.proto_parse.proofs.Machine.Taken.{Took, Passed, Stopped}
 use Rattle.proto_parse.proofs.Machine.Fed.{Went, Halted, SecondPackage}
 use Rattle.proto_parse.proofs.Machine.Finishing.{Fit, Fits, finish, head, example}

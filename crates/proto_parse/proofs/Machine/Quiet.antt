@@ -1,5 +1,5 @@
 -- Which steps may stop at a group that no label is in front of: none may behind a label.
-use Rattle.std.proofs.Common.{◌≡◌, ℕ, ◌==◌, Bool, true, false, cond, ◌&&◌, ◌||◌, List, [], ◌∷◌, refl, sym, ◌∙◌, ap, subst, codes}
+use Rattle.std.proofs.Common.{◌≡◌, ℕ, ◌==◌, Bool, true, false, cond, ◌&&◌, ◌||◌, List, [], ◌∷◌, refl, sym, ◌∙◌, subst, codes}
 use Rattle.std.proofs.lemmas.Slice.Eq.{bytes_eq-Decides}
 use Rattle.proto_lex.specs.declared.token.TokenKind.TheVariants.{Identifier, StringLiteral, CloseBrace, Dot}
 use Rattle.proto_grammar.specs.Lexeme.{Lexeme}
@@ -20,7 +20,7 @@ use Rattle.proto_parse.proofs.Machine.Why.{Misplaced, Escaped, Refused}
 use Rattle.proto_parse.proofs.Machine.Taken.{Took, Passed, Stopped}
 use Rattle.proto_parse.proofs.Machine.Fed.{Went, Halted, SecondPackage}
 use Rattle.proto_parse.proofs.Machine.Finishing.{word_of, took_true, then_took, no_stop, no_pass, fed_went, base_went}
-use Rattle.proto_parse.proofs.Machine.Reads.{Reads, dots_behind}
+use Rattle.proto_parse.proofs.Machine.Reads.{Reads}
 use Rattle.proto_parse.proofs.Machine.Reads.Reads.{here, onward}
 
 -- ---- which may stop there

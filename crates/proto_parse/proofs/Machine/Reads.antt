@@ -1,21 +1,19 @@
 -- The steps that are left behind a front.
 use Rattle.std.proofs.Common.{◌≡◌, ◌⊎◌, inl, inr, None, Bool, true, false, cond, ◌&&◌, ◌||◌, List, [], ◌∷◌, ◌++◌, refl, sym}
 use Rattle.std.proofs.Common.{◌∙◌, ap, subst}
-use Rattle.proto_lex.specs.declared.token.TokenKind.TheVariants.{StringLiteral, Dot, CloseBrace}
+use Rattle.proto_lex.specs.declared.token.TokenKind.TheVariants.{Dot, CloseBrace}
 use Rattle.proto_grammar.specs.Lexeme.{Lexeme}
-use Rattle.proto_grammar.specs.Terminal.{first, of_kind, is_plain_literal}
-use Rattle.proto_grammar.specs.Reading.Options.{depth_behind}
+use Rattle.proto_grammar.specs.Terminal.{first, of_kind}
 use Rattle.proto_parse.proofs.Machine.{test_of, passes, Why, Step, Taken, or_next, take_by, all_ended, Fed, begun, fed_by}
 use Rattle.proto_parse.proofs.Machine.{feed, going, is_package, dots, Outcome, machine}
 use Rattle.proto_parse.proofs.Machine.Step.{Done, Token, Plain, Plains, Never, Then, If, Ban, Lone, Fork, Many, Block}
 use Rattle.proto_parse.proofs.Machine.Step.{Closed}
-use Rattle.proto_parse.proofs.Machine.Why.{Misplaced, Escaped, Refused}
+use Rattle.proto_parse.proofs.Machine.Why.{Misplaced, Refused}
 use Rattle.proto_parse.proofs.Machine.Taken.{Took, Passed, Stopped}
 use Rattle.proto_parse.proofs.Machine.Fed.{Went, Halted, SecondPackage}
 use Rattle.proto_parse.proofs.Machine.Outcome.{Whole, Missing, Stuck, Twice}
 use Rattle.proto_parse.proofs.Machine.Finishing.{Fit, Fits, TakesDot, example, head_is, finish, feed_fits}
 use Rattle.proto_parse.proofs.Machine.Finishing.{finish_undotted, machine_finish}
-use Rattle.proto_parse.proofs.Machine.Finishing.{then_took, took_true, fed_went, base_went}
 
 -- whether a `.` is next, if the tokens are followed by what begins with one or not
 abbrev pub dots_behind : List Lexeme → Bool → Bool

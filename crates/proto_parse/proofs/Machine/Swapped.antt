@@ -1,13 +1,13 @@
 -- What a plain literal does in the place of another string literal; and at which tokens nothing is taken.
-use Rattle.std.proofs.Common.{◌≡◌, ℕ, ◌==◌, Bool, true, false, cond, ◌&&◌, ◌||◌, not, List, [], ◌∷◌, refl, sym, ◌∙◌, ap}
+use Rattle.std.proofs.Common.{◌≡◌, ◌==◌, Bool, true, false, cond, ◌&&◌, ◌||◌, List, [], ◌∷◌, refl, sym, ap}
 use Rattle.std.proofs.Common.{subst}
 use Rattle.std.proofs.lemmas.Bool.{eqb-true}
-use Rattle.proto_lex.specs.declared.token.TokenKind.TheVariants.{Identifier, StringLiteral, CloseBrace}
+use Rattle.proto_lex.specs.declared.token.TokenKind.TheVariants.{StringLiteral, CloseBrace}
 use Rattle.proto_grammar.specs.Lexeme.{Lexeme}
 use Rattle.proto_grammar.specs.Terminal.{number_of, of_kind, is_plain_literal}
-use Rattle.proto_grammar.proofs.Steps.{both_true, both_false}
-use Rattle.proto_parse.proofs.Machine.{Test, test_of, passes, Refusal, Why, Step, Taken, or_next, take_by, ended}
-use Rattle.proto_parse.proofs.Machine.{all_ended, Fed, begun, fed_by, feed, is_package}
+use Rattle.proto_grammar.proofs.Steps.{both_true}
+use Rattle.proto_parse.proofs.Machine.{Test, test_of, passes, Why, Step, Taken, or_next, take_by}
+use Rattle.proto_parse.proofs.Machine.{Fed, begun, fed_by, feed, is_package}
 use Rattle.proto_parse.proofs.Machine.Test.{OfKind, Word, Scalar, Key, Sign, Numeral, Number, GroupName}
 use Rattle.proto_parse.proofs.Machine.Step.{Done, Token, Plain, Plains, Never, Then, If, Ban, Lone, Fork, Many, Block}
 use Rattle.proto_parse.proofs.Machine.Step.{Closed}

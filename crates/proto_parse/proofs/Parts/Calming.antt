@@ -1,15 +1,13 @@
 -- No part may stop at a group without a label behind one.
-use Rattle.std.proofs.Common.{◌≡◌, ℕ, zero, suc, Bool, true, false, ◌&&◌, ◌||◌, Option, Some, None, refl, ◌∙◌, codes}
-use Rattle.proto_lex.specs.declared.token.TokenKind.TheVariants.{Less}
+use Rattle.std.proofs.Common.{◌≡◌, ℕ, zero, suc, Bool, true, false, ◌&&◌, ◌||◌, Option, Some, None, refl}
 use Rattle.proto_grammar.specs.declared.tree.CustomOptions.{CustomOptions}
 use Rattle.proto_grammar.specs.declared.tree.CustomOptions.TheVariants.{Refuse, Skip}
 use Rattle.proto_grammar.specs.declared.tree.Syntax.{Syntax}
 use Rattle.proto_grammar.specs.declared.tree.Syntax.TheVariants.{Proto3, Extended, Proto2}
 use Rattle.proto_grammar.specs.Syntax.{custom_of}
 use Rattle.proto_parse.proofs.Machine.{Step, Refusal, test_of}
-use Rattle.proto_parse.proofs.Machine.Test.{OfKind, Word}
 use Rattle.proto_parse.proofs.Machine.Refusal.{GroupNext, LabelledGroupNext}
-use Rattle.proto_parse.proofs.Machine.Step.{Never, Then, If}
+use Rattle.proto_parse.proofs.Machine.Step.{Never, Then}
 use Rattle.proto_parse.proofs.Machine.Quiet.{Calm, noisy, passable, takes_label}
 use Rattle.proto_parse.proofs.Parts.{dot_names, name_step, type_name_step, named_type_step, part_step, option_name_step}
 use Rattle.proto_parse.proofs.Parts.{aggregate_step, constant_step, setting_step, option_rest, bracketed_rest}
@@ -20,7 +18,7 @@ use Rattle.proto_parse.proofs.Parts.{enum_rest, group_or, labelled_step, member_
 use Rattle.proto_parse.proofs.Parts.{oneof_rest, extend_rest, passed_item_step, passed_extend_rest, extend_or, message_or}
 use Rattle.proto_parse.proofs.Parts.{map_or, ranges_or, message_item_step, inside_step, method_type_step}
 use Rattle.proto_parse.proofs.Parts.{method_item_step, method_end_step, method_step, service_item_step, service_rest}
-use Rattle.proto_parse.proofs.Parts.{import_rest, package_rest, statement_step}
+use Rattle.proto_parse.proofs.Parts.{statement_step}
 
 -- whatever is behind it
 abbrev Calms : Step → Type 0

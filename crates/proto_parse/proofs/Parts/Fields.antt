@@ -1,31 +1,31 @@
 -- What is read follows the parts: fields, what is before a group's body, reserved statements and extension ranges.
-use Rattle.std.proofs.Common.{◌≡◌, ℕ, Bool, true, false, ◌&&◌, Ok, Option, List, [], ◌∷◌, refl, sym, ◌∙◌, codes}
+use Rattle.std.proofs.Common.{◌≡◌, ℕ, Bool, true, false, Ok, Option, List, [], ◌∷◌, refl, sym, ◌∙◌, codes}
 use Rattle.proto_lex.specs.declared.span.Span.{Span}
 use Rattle.proto_lex.specs.declared.token.TokenKind.TheVariants.{Identifier, Integer, StringLiteral, Semicolon, Equals}
-use Rattle.proto_lex.specs.declared.token.TokenKind.TheVariants.{OpenBrace, Less, Greater, Comma, Minus}
+use Rattle.proto_lex.specs.declared.token.TokenKind.TheVariants.{Less, Greater, Comma, Minus}
 use Rattle.proto_grammar.specs.declared.tree.CustomOptions.{CustomOptions}
 use Rattle.proto_grammar.specs.declared.tree.CustomOptions.TheVariants.{Skip}
 use Rattle.proto_grammar.specs.declared.tree.Syntax.{Syntax}
-use Rattle.proto_grammar.specs.declared.tree.Syntax.TheVariants.{Proto3, Extended, Proto2}
+use Rattle.proto_grammar.specs.declared.tree.Syntax.TheVariants.{Proto3}
 use Rattle.proto_grammar.specs.declared.tree.Label.{Label}
 use Rattle.proto_grammar.specs.Lexeme.{Lexeme, Place, place_of}
 use Rattle.proto_grammar.specs.Syntax.{is_proto2}
-use Rattle.proto_grammar.specs.Terminal.{first_is, of_kind, is_word, not_next, behind}
+use Rattle.proto_grammar.specs.Terminal.{first_is, of_kind, not_next, behind}
 use Rattle.proto_grammar.specs.Reading.Repetition.{◌>>=◌, token_that, passing, span_at}
 use Rattle.proto_grammar.specs.Reading.Options.{literal_at, literals_at, strings_at}
-use Rattle.proto_grammar.specs.Reading.Fields.{numbered_at, typed_at, required_at, label_at, pass_field_at}
-use Rattle.proto_grammar.specs.Reading.Fields.{group_head_at, map_field_at}
+use Rattle.proto_grammar.specs.Reading.Fields.{numbered_at, typed_at, label_at, pass_field_at}
+use Rattle.proto_grammar.specs.Reading.Fields.{map_field_at}
 use Rattle.proto_grammar.specs.Reading.Names.{pass_type_name_at}
 use Rattle.proto_grammar.specs.Reading.Reserved.{plain_integer_at, integer_at, range_end_at, range_at, reserved_item_at}
 use Rattle.proto_grammar.specs.Reading.Reserved.{comma_item_at, comma_items_at, reserved_at, extensions_at}
 use Rattle.proto_grammar.proofs.StepsFall.{comma_items_fall}
 use Rattle.proto_parse.proofs.Machine.{Step}
-use Rattle.proto_parse.proofs.Machine.Test.{OfKind, Word, Key, GroupName}
+use Rattle.proto_parse.proofs.Machine.Test.{OfKind, Word, Key}
 use Rattle.proto_parse.proofs.Machine.Step.{Done, Token, Then, If, Many}
 use Rattle.proto_parse.proofs.Machine.Follows.{Fol, fol_then, fol_value, fol_done, fol_token, fol_if, fol_many}
 use Rattle.proto_parse.proofs.Machine.Follows.{fol_taken, fol_further, fol_if_true, fol_if_false, fol_rebind, fol_cond}
-use Rattle.proto_parse.proofs.Parts.{type_name_step, strings_rest, strings_step, options_step, numbered_step, typed_step}
-use Rattle.proto_parse.proofs.Parts.{label_step, needed_label_step, pass_field_step, group_rest, map_rest, integer_step}
+use Rattle.proto_parse.proofs.Parts.{type_name_step, strings_step, numbered_step, typed_step}
+use Rattle.proto_parse.proofs.Parts.{label_step, pass_field_step, map_rest, integer_step}
 use Rattle.proto_parse.proofs.Parts.{range_step, ranges_rest, reserved_rest, extensions_rest}
 use Rattle.proto_parse.proofs.Parts.Names.{type_follows, pass_type_name_follows}
 use Rattle.proto_parse.proofs.Parts.Options.{options_follow, strings_follow, literal_follows, literals_follow}

@@ -1,6 +1,6 @@
 -- What is read follows the parts: statements of a file.
 use Rattle.std.proofs.Common.{◌≡◌, ℕ, zero, suc, ◌≤◌, Bool, true, false, cond, ◌&&◌, ◌||◌, is_some, Result, Ok, Err, Option}
-use Rattle.std.proofs.Common.{Some, None, List, [], ◌∷◌, ◌++◌, length, refl, sym, ◌∙◌, ap, subst, codes, arith}
+use Rattle.std.proofs.Common.{Some, None, List, [], ◌∷◌, length, refl, sym, ◌∙◌, ap, subst, codes, arith}
 use Rattle.proto_lex.specs.declared.span.Span.{Span}
 use Rattle.proto_lex.specs.declared.token.TokenKind.TheVariants.{Identifier, Semicolon}
 use Rattle.proto_grammar.specs.declared.fault.SyntaxFault.{SyntaxFault}
@@ -11,9 +11,9 @@ use Rattle.proto_parse.specs.declared.statement.FileStatement.{FileStatement}
 use Rattle.proto_parse.specs.declared.statement.FileStatement.TheVariants as choice
 use Rattle.proto_grammar.specs.Lexeme.{Lexeme, Place, place_of}
 use Rattle.proto_grammar.specs.Syntax.{custom_of}
-use Rattle.proto_grammar.specs.Terminal.{first_is, of_kind, is_word, is_end, not_next, offset_at}
+use Rattle.proto_grammar.specs.Terminal.{first_is, of_kind, is_word, is_end, offset_at}
 use Rattle.proto_parse.specs.Choice.{file_statement_of}
-use Rattle.proto_grammar.specs.Reading.Repetition.{and_then, token_that, adding, until_at, misplaced}
+use Rattle.proto_grammar.specs.Reading.Repetition.{and_then, token_that, adding, until_at}
 use Rattle.proto_parse.specs.Reading.Files.{import_kind_at, path_literal_at, path_literals_at, import_at, package_at}
 use Rattle.proto_parse.specs.Reading.Files.{only_package_at, statement_by, statement_at}
 use Rattle.proto_parse.specs.Reading.Messages.{inside_at, message_at, enum_at, extend_statement_at}
@@ -32,11 +32,10 @@ use Rattle.proto_parse.proofs.Machine.Step.{Done, Never, Token, Then, If, Ban, P
 use Rattle.proto_parse.proofs.Machine.Why.{Misplaced, Refused}
 use Rattle.proto_parse.proofs.Machine.Refusal.{MessageNext, ExtendNext}
 use Rattle.proto_parse.proofs.Machine.Taken.{Took, Passed, Stopped}
-use Rattle.proto_parse.proofs.Machine.Fed.{Went, Halted, SecondPackage}
-use Rattle.proto_parse.proofs.Machine.Outcome.{Whole, Missing, Stuck, Twice}
+use Rattle.proto_parse.proofs.Machine.Outcome.{Whole}
 use Rattle.proto_parse.proofs.Machine.Follows.{Agrees, Tells, Fol, fol_then, fol_value, fol_done, fol_token, fol_if, fol_last}
 use Rattle.proto_parse.proofs.Machine.Follows.{fol_cond}
-use Rattle.proto_parse.proofs.Machine.Follows.{fol_taken, fol_plain, fol_plains, fol_choose, tells_behind, behind_both}
+use Rattle.proto_parse.proofs.Machine.Follows.{fol_taken, fol_plain, fol_plains, fol_choose, tells_behind}
 use Rattle.proto_parse.proofs.Parts.{import_rest, package_rest, option_rest, enum_rest, service_rest, inside_step}
 use Rattle.proto_parse.proofs.Parts.{extend_or, extend_rest, passed_extend_rest, heading_rest, message_or, statement_step}
 use Rattle.proto_parse.proofs.Parts.Names.{name_follows}

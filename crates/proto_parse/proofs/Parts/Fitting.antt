@@ -1,6 +1,6 @@
 -- Each part fits: what it has begun can be finished, and its example is read.
-use Rattle.std.proofs.Common.{◌≡◌, ℕ, zero, suc, Bool, true, false, ◌&&◌, Option, Some, None, List, [], ◌∷◌, refl, sym}
-use Rattle.std.proofs.Common.{◌∙◌, ap, codes}
+use Rattle.std.proofs.Common.{◌≡◌, ℕ, zero, suc, Bool, true, false, Option, Some, None, ◌∷◌, refl}
+use Rattle.std.proofs.Common.{◌∙◌, codes}
 use Rattle.proto_lex.specs.declared.token.TokenKind.{TokenKind}
 use Rattle.proto_lex.specs.declared.token.TokenKind.TheVariants.{Identifier, StringLiteral, Semicolon, Equals, OpenBrace}
 use Rattle.proto_lex.specs.declared.token.TokenKind.TheVariants.{CloseBrace, OpenBracket, CloseBracket, CloseParenthesis}
@@ -12,16 +12,15 @@ use Rattle.proto_grammar.specs.declared.tree.Syntax.{Syntax}
 use Rattle.proto_grammar.specs.declared.tree.Syntax.TheVariants.{Proto3, Extended, Proto2}
 use Rattle.proto_grammar.specs.Lexeme.{Lexeme}
 use Rattle.proto_grammar.specs.Syntax.{custom_of}
-use Rattle.proto_grammar.specs.Terminal.{of_kind}
-use Rattle.proto_parse.proofs.Machine.{Refusal, Step, sees, take_by, ended, dots}
+use Rattle.proto_parse.proofs.Machine.{Refusal, Step, sees, take_by, ended}
 use Rattle.proto_parse.proofs.Machine.Test.{OfKind, Word}
 use Rattle.proto_parse.proofs.Machine.Refusal.{GroupNext, LabelledGroupNext}
 use Rattle.proto_parse.proofs.Machine.Step.{Never, Token, Then, If}
 use Rattle.proto_parse.proofs.Machine.Taken.{Took}
-use Rattle.proto_parse.proofs.Machine.Finishing.{Has, Fit, Undotted, TakesDot, example, sign_of}
+use Rattle.proto_parse.proofs.Machine.Finishing.{Has, Fit, Undotted, TakesDot, sign_of}
 use Rattle.proto_parse.proofs.Parts.{dot_names, name_step, type_name_step, named_type_step, part_step, option_name_step}
-use Rattle.proto_parse.proofs.Parts.{strings_rest, strings_step, aggregate_step, constant_step, setting_step, option_rest}
-use Rattle.proto_parse.proofs.Parts.{option_step, bracketed_rest, options_step, numbered_step, typed_step, typed_rest}
+use Rattle.proto_parse.proofs.Parts.{strings_rest, aggregate_step, constant_step, setting_step, option_rest}
+use Rattle.proto_parse.proofs.Parts.{bracketed_rest, options_step, numbered_step, typed_step, typed_rest}
 use Rattle.proto_parse.proofs.Parts.{label_step, needed_label_step, pass_field_step, group_rest, map_rest, integer_step}
 use Rattle.proto_parse.proofs.Parts.{range_step, ranges_rest, reserved_rest, extensions_rest, block, heading_rest}
 use Rattle.proto_parse.proofs.Parts.{value_step, enum_item_step, enum_rest, group_or, labelled_step, member_step}

@@ -1,6 +1,6 @@
 -- What is read follows the parts: enums, messages, groups, oneofs and extends.
-use Rattle.std.proofs.Common.{◌≡◌, ◌⊎◌, inl, inr, ℕ, zero, suc, Bool, true, false, cond, ◌&&◌, not, Result, Ok, Err, Option, Some, None}
-use Rattle.std.proofs.Common.{List, [], ◌∷◌, refl, sym, ◌∙◌, ap, subst, codes}
+use Rattle.std.proofs.Common.{◌≡◌, ◌⊎◌, inl, inr, ℕ, zero, suc, Bool, true, false, cond, ◌&&◌, Result, Ok, Err, Option, Some, None}
+use Rattle.std.proofs.Common.{List, [], ◌∷◌, refl, sym, ◌∙◌, subst, codes}
 use Rattle.proto_lex.specs.declared.span.Span.{Span}
 use Rattle.proto_lex.specs.declared.token.TokenKind.TheVariants.{Identifier, Integer, Semicolon, Equals, OpenBrace}
 use Rattle.proto_lex.specs.declared.token.TokenKind.TheVariants.{CloseBrace, Less, Dot}
@@ -22,9 +22,8 @@ use Rattle.proto_parse.specs.Choice.{begins_map}
 use Rattle.proto_parse.specs.Refused.{is_label}
 use Rattle.proto_grammar.specs.Lexeme.{Lexeme, Place, place_of}
 use Rattle.proto_grammar.specs.Syntax.{custom_of, is_proto2}
-use Rattle.proto_grammar.specs.Terminal.{first_is, of_kind, is_word, closes, begins_group, not_next, offset_at, others}
-use Rattle.proto_grammar.specs.Terminal.{behind}
-use Rattle.proto_grammar.specs.Reading.Repetition.{◌>>=◌, and_then, Read, span_at, token_that, until_at, adding, passing}
+use Rattle.proto_grammar.specs.Terminal.{first_is, of_kind, is_word, begins_group, not_next, others}
+use Rattle.proto_grammar.specs.Reading.Repetition.{◌>>=◌, and_then, Read, span_at, token_that, adding, passing}
 use Rattle.proto_grammar.specs.Reading.Fields.{label_at, required_at, typed_at, group_head_at}
 use Rattle.proto_parse.specs.Reading.Messages.{Inside, heading_at, value_at, enum_item_at, enum_items_at, enum_at}
 use Rattle.proto_parse.specs.Reading.Messages.{braced_at, group_at, labelled_at, member_at, oneof_member_at}
@@ -41,14 +40,14 @@ use Rattle.proto_parse.proofs.Machine.{Refusal}
 use Rattle.proto_parse.proofs.Machine.Why.{Misplaced, Refused}
 use Rattle.proto_parse.proofs.Machine.Outcome.{Stuck}
 use Rattle.proto_grammar.specs.declared.tree.Label.TheVariants.{Repeated, Optional, Required}
-use Rattle.proto_grammar.specs.declared.tree.Item.TheVariants.{Block as block_item, Leaf}
+use Rattle.proto_grammar.specs.declared.tree.Item.TheVariants.{Leaf}
 use Rattle.proto_grammar.specs.declared.tree.Leaf.TheVariants as leaf
 use Rattle.proto_parse.proofs.Machine.Test.{OfKind, Word, GroupName}
 use Rattle.proto_parse.proofs.Machine.Refusal.{ExtendNext, MessageNext, GroupNext, LabelledGroupNext, RangesNext}
-use Rattle.proto_parse.proofs.Machine.Step.{Done, Token, Then, If, Block}
-use Rattle.proto_parse.proofs.Machine.Follows.{Agrees, Fol, fol_as, fol_then, fol_value, fol_done, fol_token, fol_if, fol_ban}
-use Rattle.proto_parse.proofs.Machine.Follows.{fol_block, fol_taken, fol_further, fol_rebind, fol_lone, fol_fork, fol_cond}
-use Rattle.proto_parse.proofs.Machine.Follows.{fol_if_true, fol_if_false, if_as, token_then, fol_last, fol_choose}
+use Rattle.proto_parse.proofs.Machine.Step.{Done, Token, Then, If}
+use Rattle.proto_parse.proofs.Machine.Follows.{Agrees, Fol, fol_as, fol_then, fol_value, fol_token, fol_if}
+use Rattle.proto_parse.proofs.Machine.Follows.{fol_block, fol_taken, fol_rebind, fol_lone, fol_fork, fol_cond}
+use Rattle.proto_parse.proofs.Machine.Follows.{fol_if_false, if_as, token_then, fol_last, fol_choose}
 use Rattle.proto_parse.proofs.Machine.Follows.{fol_choose_ban, agrees_behind, Tells}
 use Rattle.proto_parse.proofs.Parts.{type_name_step, dot_names, option_rest, numbered_step, typed_step, typed_rest, label_step}
 use Rattle.proto_parse.proofs.Parts.{needed_label_step, group_rest, map_rest, reserved_rest, extensions_rest, block}
@@ -58,7 +57,7 @@ use Rattle.proto_parse.proofs.Parts.{passed_item_step, passed_extend_rest, exten
 use Rattle.proto_parse.proofs.Parts.{message_item_step, inside_step}
 use Rattle.proto_parse.proofs.Parts.Names.{name_begun, named_type_follows, pass_type_name_follows}
 use Rattle.proto_parse.proofs.Parts.Options.{option_follows, options_follow}
-use Rattle.proto_parse.proofs.Parts.Fields.{numbered_follows, typed_follows, free_label_follows, pass_field_follows}
+use Rattle.proto_parse.proofs.Parts.Fields.{typed_follows, free_label_follows, pass_field_follows}
 use Rattle.proto_parse.proofs.Parts.Fields.{map_rest_follows, integer_follows, reserved_follows, extensions_follow}
 use Rattle.proto_grammar.proofs.TokenLemmas.{word_kind, other_word}
 

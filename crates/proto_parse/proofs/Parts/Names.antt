@@ -1,13 +1,11 @@
 -- What is read follows the parts: names and types.
-use Rattle.std.proofs.Common.{◌≡◌, ℕ, Bool, true, false, cond, ◌&&◌, not, Result, Ok, Err, Option, Some, List, [], ◌∷◌}
-use Rattle.std.proofs.Common.{refl, sym, ◌∙◌, ap, subst}
+use Rattle.std.proofs.Common.{◌≡◌, ℕ, Bool, true, false, not, List, [], ◌∷◌}
+use Rattle.std.proofs.Common.{refl, ◌∙◌}
 use Rattle.proto_lex.specs.declared.span.Span.{Span}
 use Rattle.proto_lex.specs.declared.token.TokenKind.TheVariants.{Identifier, Dot}
-use Rattle.proto_grammar.specs.declared.fault.SyntaxFault.{SyntaxFault}
 use Rattle.proto_grammar.specs.declared.fault.SyntaxFault.TheVariants as variant
-use Rattle.proto_grammar.specs.declared.tree.FieldType.{FieldType}
 use Rattle.proto_grammar.specs.Lexeme.{Lexeme, Place, place_of}
-use Rattle.proto_grammar.specs.Terminal.{first_is, of_kind, is_scalar, not_next, begins_scalar, behind, offset_at}
+use Rattle.proto_grammar.specs.Terminal.{of_kind, is_scalar, not_next, begins_scalar, offset_at}
 use Rattle.proto_grammar.specs.Reading.Repetition.{adding, passing, token_that}
 use Rattle.proto_grammar.specs.Reading.Names.{dot_name_at, dot_names_at, name_at, pass_dot_name_at, pass_dot_names_at}
 use Rattle.proto_grammar.specs.Reading.Names.{pass_name_at, leading_dot_at, type_name_at, pass_type_name_at}
@@ -16,15 +14,12 @@ use Rattle.proto_grammar.proofs.Steps.{both_true}
 use Rattle.proto_grammar.proofs.StandingLemmas.{behind_here, behind_one}
 use Rattle.proto_grammar.proofs.StepsFall.{dot_names_fall, pass_dot_names_fall}
 use Rattle.proto_grammar.proofs.TokenLemmas.{other_kind}
-use Rattle.proto_parse.proofs.Machine.{Step, machine, dots, passes, machine_then, machine_token, machine_if_false}
-use Rattle.proto_parse.proofs.Machine.{machine_done, machine_many_false, machine_lone_false, machine_lone_dotted}
-use Rattle.proto_parse.proofs.Machine.{machine_lone_alone}
-use Rattle.proto_parse.proofs.Machine.Test.{OfKind, Scalar}
+use Rattle.proto_parse.proofs.Machine.{Step, machine, dots, machine_then, machine_token, machine_if_false}
+use Rattle.proto_parse.proofs.Machine.{machine_done, machine_many_false}
+use Rattle.proto_parse.proofs.Machine.Test.{OfKind}
 use Rattle.proto_parse.proofs.Machine.Refusal.{ScalarNext}
-use Rattle.proto_parse.proofs.Machine.Step.{Done, Token, Then, If, Lone}
-use Rattle.proto_parse.proofs.Machine.Why.{Refused}
-use Rattle.proto_parse.proofs.Machine.Outcome.{Stuck}
-use Rattle.proto_parse.proofs.Machine.Follows.{Agrees, Tells, Fol, fol_as, fol_then, fol_value, fol_done, fol_token, fol_if}
+use Rattle.proto_parse.proofs.Machine.Step.{Done, Token, Then, If}
+use Rattle.proto_parse.proofs.Machine.Follows.{Fol, fol_then, fol_value, fol_done, fol_token, fol_if}
 use Rattle.proto_parse.proofs.Machine.Follows.{fol_many, fol_cond, fol_lone}
 use Rattle.proto_parse.proofs.Parts.{dot_names, name_step, type_name_step, named_type_step}
 

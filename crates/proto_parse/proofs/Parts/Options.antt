@@ -1,12 +1,12 @@
 -- What is read follows the parts: options.
-use Rattle.std.proofs.Common.{◌≡◌, ℕ, ◌==◌, Bool, true, false, Ok, List, [], ◌∷◌, refl, codes}
+use Rattle.std.proofs.Common.{refl, codes}
 use Rattle.proto_lex.specs.declared.token.TokenKind.TheVariants.{Identifier, StringLiteral, Semicolon, Equals, OpenBrace}
 use Rattle.proto_lex.specs.declared.token.TokenKind.TheVariants.{OpenBracket, CloseBracket, OpenParenthesis}
 use Rattle.proto_lex.specs.declared.token.TokenKind.TheVariants.{CloseParenthesis, Comma, Dot}
 use Rattle.proto_grammar.specs.declared.tree.CustomOptions.{CustomOptions}
 use Rattle.proto_grammar.specs.declared.tree.CustomOptions.TheVariants.{Refuse, Skip}
-use Rattle.proto_grammar.specs.Lexeme.{Lexeme, Place, place_of}
-use Rattle.proto_grammar.specs.Terminal.{first_is, of_kind, is_sign, not_next, offset_at}
+use Rattle.proto_grammar.specs.Lexeme.{Place}
+use Rattle.proto_grammar.specs.Terminal.{not_next}
 use Rattle.proto_grammar.specs.Reading.Repetition.{passing}
 use Rattle.proto_grammar.specs.Reading.Options.{extension_at, part_at, dot_part_at, dot_parts_at, option_name_at}
 use Rattle.proto_grammar.specs.Reading.Options.{literal_at, literals_at, strings_at, aggregate_at, signed_at}
@@ -16,11 +16,11 @@ use Rattle.proto_grammar.proofs.StepsFall.{dot_parts_fall, literals_fall, comma_
 use Rattle.proto_parse.proofs.Machine.{Step}
 use Rattle.proto_parse.proofs.Machine.Test.{OfKind, Word, Sign, Numeral, Number}
 use Rattle.proto_parse.proofs.Machine.Refusal.{CustomOptionNext, AggregateNext}
-use Rattle.proto_parse.proofs.Machine.Step.{Done, Token, Then, If, Closed}
+use Rattle.proto_parse.proofs.Machine.Step.{Done, Token, Then, Closed}
 use Rattle.proto_parse.proofs.Machine.Follows.{Fol, fol_then, fol_value, fol_done, fol_token, fol_if, fol_ban, fol_many}
 use Rattle.proto_parse.proofs.Machine.Follows.{fol_last, fol_closed}
 use Rattle.proto_parse.proofs.Parts.{type_name_step, part_step, option_name_step, strings_rest, strings_step}
-use Rattle.proto_parse.proofs.Parts.{aggregate_step, constant_step, setting_step, option_rest, option_step}
+use Rattle.proto_parse.proofs.Parts.{constant_step, setting_step, option_step}
 use Rattle.proto_parse.proofs.Parts.{bracketed_rest, options_step}
 use Rattle.proto_parse.proofs.Parts.Names.{pass_name_follows, pass_type_name_follows}
 

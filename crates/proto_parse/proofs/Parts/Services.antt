@@ -1,10 +1,9 @@
 -- What is read follows the parts: services.
-use Rattle.std.proofs.Common.{◌≡◌, Bool, true, false, Ok, Option, List, [], ◌∷◌, refl, codes}
+use Rattle.std.proofs.Common.{[], codes}
 use Rattle.proto_lex.specs.declared.token.TokenKind.TheVariants.{Identifier, Semicolon, OpenBrace, CloseBrace}
 use Rattle.proto_lex.specs.declared.token.TokenKind.TheVariants.{OpenParenthesis, CloseParenthesis}
 use Rattle.proto_grammar.specs.declared.tree.CustomOptions.{CustomOptions}
-use Rattle.proto_grammar.specs.Lexeme.{Lexeme, Place}
-use Rattle.proto_grammar.specs.Terminal.{first_is, of_kind, is_word, closes}
+use Rattle.proto_grammar.specs.Lexeme.{Place}
 use Rattle.proto_grammar.specs.Reading.Repetition.{adding, passing}
 use Rattle.proto_parse.specs.Reading.Services.{stream_at, method_type_at, method_item_at, method_items_at}
 use Rattle.proto_parse.specs.Reading.Services.{method_body_at, method_end_at, method_at, service_item_at}

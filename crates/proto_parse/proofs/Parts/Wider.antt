@@ -9,19 +9,19 @@ use Rattle.proto_parse.proofs.Machine.{Refusal, Step, test_of}
 use Rattle.proto_parse.proofs.Machine.Test.{Word}
 use Rattle.proto_parse.proofs.Machine.Refusal.{CustomOptionNext, AggregateNext, ExtendNext, MessageNext, GroupNext}
 use Rattle.proto_parse.proofs.Machine.Refusal.{LabelledGroupNext, RangesNext, ScalarNext}
-use Rattle.proto_parse.proofs.Machine.Step.{Then, Lone, Fork}
-use Rattle.proto_parse.proofs.Machine.Wide.{Wide, wide_same}
+use Rattle.proto_parse.proofs.Machine.Step.{Then, Fork}
+use Rattle.proto_parse.proofs.Machine.Wide.{Wide}
 use Rattle.proto_parse.proofs.Machine.Wide.Wide.{done, token, plain, plains, never, then, choice, ban, opened, lone}
 use Rattle.proto_parse.proofs.Machine.Wide.Wide.{alone, fork, many, block as wide_block, closed}
-use Rattle.proto_parse.proofs.Parts.{part_step, aggregate_step, setting_step, option_rest, option_step}
-use Rattle.proto_parse.proofs.Parts.{bracketed_rest, options_step, numbered_step, typed_step, typed_rest, map_rest}
-use Rattle.proto_parse.proofs.Parts.{type_name_step, dot_names, label_step, needed_label_step, group_rest, reserved_rest}
-use Rattle.proto_parse.proofs.Parts.{extensions_rest, block, heading_rest, value_step, enum_item_step, enum_rest, group_or}
-use Rattle.proto_parse.proofs.Parts.{labelled_step, member_step, oneof_item_step, extend_item_step, oneof_rest}
-use Rattle.proto_parse.proofs.Parts.{extend_rest, passed_extend_rest, extend_or, message_or, map_or, ranges_or}
-use Rattle.proto_parse.proofs.Parts.{message_item_step, inside_step, method_step, service_item_step, service_rest}
-use Rattle.proto_parse.proofs.Parts.{import_rest, package_rest, statement_step, named_type_step, method_item_step}
-use Rattle.proto_parse.proofs.Parts.{method_type_step, method_end_step}
+use Rattle.proto_parse.proofs.Parts.{part_step, aggregate_step, setting_step, option_rest}
+use Rattle.proto_parse.proofs.Parts.{options_step, numbered_step, typed_step, typed_rest, map_rest}
+use Rattle.proto_parse.proofs.Parts.{type_name_step, label_step, needed_label_step, group_rest, reserved_rest}
+use Rattle.proto_parse.proofs.Parts.{extensions_rest, block, heading_rest, enum_rest, group_or}
+use Rattle.proto_parse.proofs.Parts.{labelled_step, member_step}
+use Rattle.proto_parse.proofs.Parts.{extend_or, message_or, map_or, ranges_or}
+use Rattle.proto_parse.proofs.Parts.{message_item_step, inside_step, service_rest}
+use Rattle.proto_parse.proofs.Parts.{import_rest, package_rest, statement_step, named_type_step}
+use Rattle.proto_parse.proofs.Parts.{method_type_step}
 
 -- ---- custom options
 

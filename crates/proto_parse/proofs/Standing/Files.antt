@@ -2,19 +2,17 @@
 use Rattle.std.proofs.Common.{◌≡◌, inl, ◌++◌, ◌&&◌, not, is_some, Bool, true, false, Result, Ok, Err, IfErr, Option}
 use Rattle.std.proofs.Common.{Some, None, List, [], ◌∷◌}
 use Rattle.std.proofs.Common.{refl, ap, codes, cond, subst, ℕ}
-use Rattle.proto_lex.specs.declared.span.Span.{Span}
 use Rattle.proto_lex.specs.declared.token.TokenKind.TheVariants.{StringLiteral, Semicolon}
 use Rattle.proto_grammar.specs.declared.fault.SyntaxFault.{SyntaxFault}
 use Rattle.proto_grammar.specs.declared.fault.SyntaxFault.TheVariants as fault
-use Rattle.proto_grammar.specs.declared.tree.CustomOptions.{CustomOptions}
 use Rattle.proto_grammar.specs.declared.tree.Dialect.{Dialect}
 use Rattle.proto_grammar.specs.declared.tree.Syntax.{Syntax}
 use Rattle.proto_grammar.specs.declared.tree.File.{File}
 use Rattle.proto_parse.specs.declared.statement.FileStatement.{FileStatement}
 use Rattle.proto_parse.specs.declared.statement.FileStatement.TheVariants as choice
 use Rattle.std.specs.Option.{option_map_or}
-use Rattle.proto_grammar.specs.FaultStands.{IsAmong, FaultStands}
-use Rattle.proto_grammar.specs.Gives.{Fails, Gives}
+use Rattle.proto_grammar.specs.FaultStands.{FaultStands}
+use Rattle.proto_grammar.specs.Gives.{Gives}
 use Rattle.proto_grammar.specs.Lexeme.{Lexeme, Place, place_of}
 use Rattle.proto_grammar.specs.Syntax.{custom_of, custom_in, is_all}
 use Rattle.proto_grammar.specs.Terminal.{first_is, of_kind, is_word, is_end, not_next, offset_at}

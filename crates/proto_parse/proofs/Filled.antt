@@ -70,7 +70,7 @@ use Rattle.proto_parse.specs.Grammar.Files.IsStatement.{package_statement as sta
 use Rattle.proto_parse.specs.Grammar.Files.IsStatement.{option as statements-option, message as statements-message}
 use Rattle.proto_parse.specs.Grammar.Files.IsStatement.{enum as statements-enum, service as statements-service}
 use Rattle.proto_parse.specs.Grammar.Files.IsStatement.{extend as statements-extend}
-use Rattle.proto_parse.specs.Grammar.Files.IsFile.{file}
+use Rattle.proto_parse.specs.Grammar.Files.IsFileWithin.{file}
 
 -- of each item that a chain of steps keeps
 until_all : {A : Type 0}
@@ -245,7 +245,8 @@ with_extend : (items : List FileItem) (x : Option BlockTree) → All FilledItem 
 with_extend items None all here = All-append FilledItem items [] all (All-nil FilledItem)
 with_extend items (Some x) all here = with_item items (item.Block x) all here
 
-statement_filled : (syntax : Syntax) (f g : File) (a b : List Lexeme) → IsStatement syntax f a g b → FilledFile f
+statement_filled : (syntax : Syntax) (f g : File) (a b : List Lexeme) → IsStatement max_message_depth syntax f a g b
+    → FilledFile f
     → FilledFile g
 statement_filled syntax f g a b (statements-empty is s) filled = filled
 statement_filled syntax f g a b (statements-import {import = x} is i) filled =
@@ -286,7 +287,7 @@ statement_filled syntax f g a b (statements-extend {extend = x} is e) filled =
     }
 
 statements_filled : (syntax : Syntax) (f g : File) (a b : List Lexeme)
-    → Until is_end (IsStatement syntax) f a g b → FilledFile f → FilledFile g
+    → Until is_end (IsStatement max_message_depth syntax) f a g b → FilledFile f → FilledFile g
 statements_filled syntax f g a b (done e) filled = filled
 statements_filled syntax f g a b (more {t = t} {b = c} further first behind) filled =
     statements_filled syntax t g c b behind (statement_filled syntax f t a c first filled)

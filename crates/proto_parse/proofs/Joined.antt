@@ -11,7 +11,8 @@ use Rattle.proto_grammar.specs.Lexeme.{Lexeme, Place, place_of}
 use Rattle.proto_grammar.specs.Terminal.{first, others, first_is, of_kind}
 use Rattle.proto_parse.specs.Grammar.Files.{SpellsJoined}
 use Rattle.proto_parse.specs.Grammar.Files.SpellsJoined.{none, some}
-use Rattle.proto_parse.specs.Reading.Syntax.{stripped_of, is_left, content_of, joined_of, behind_literals, past_literals}
+use Rattle.proto_parse.specs.Reading.Syntax.{stripped_of, is_left, content_of, joined_of, behind_literals}
+use Rattle.proto_parse.specs.Reading.Syntax.{past_literals}
 
 pub not_true : (b : Bool) → not b ≡ true → b ≡ false
 not_true true e = cc

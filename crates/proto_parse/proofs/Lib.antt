@@ -18,3 +18,12 @@ pub mod Filled
 pub mod Widened
 -- Where faults are
 pub mod Standing
+-- The grammar as a machine, and what is read by it
+pub mod Machine
+pub mod Parts
+-- Which fault tokens have
+pub mod RefusedLemmas
+-- The fault that is met is theirs
+pub mod Told
+pub mod Versions
+pub mod Refusing

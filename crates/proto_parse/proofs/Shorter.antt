@@ -17,7 +17,6 @@ use Rattle.proto_parse.specs.declared.statement.Within.{Within}
 use Rattle.proto_parse.specs.declared.statement.Within.TheVariants as within
 use Rattle.proto_grammar.specs.Lexeme.{Lexeme}
 use Rattle.proto_grammar.specs.Syntax.{custom_of}
-use Rattle.proto_parse.specs.Limits.{max_message_depth}
 use Rattle.proto_parse.specs.Grammar.Messages.{IsHeading, IsValue, IsEnumItem, IsEnum, IsBraced, IsGroup, IsLabelled}
 use Rattle.proto_parse.specs.Grammar.Messages.{IsMember, IsOneofMember, IsOneofItem, IsOneof, IsExtendItem, IsExtend}
 use Rattle.proto_parse.specs.Grammar.Messages.{IsPassedItem, IsPassedExtend, IsExtendStatement, IsMessage}
@@ -278,16 +277,17 @@ import_shorter (import k i l u s) =
 package_shorter : {a b : List Lexeme} {x : List Span} → IsPackage a x b → length b < length a
 package_shorter (package_statement k n s) = omega (arith, one_shorter k, name_shorter n, one_shorter s)
 
-pub statement_shorter : (syntax : Syntax) (f g : File) (a b : List Lexeme) → IsStatement syntax f a g b
+pub statement_shorter : (levels : ℕ) (syntax : Syntax) (f g : File) (a b : List Lexeme)
+    → IsStatement levels syntax f a g b
     → length b < length a
-statement_shorter syntax f g a b (statements-empty is s) = one_shorter s
-statement_shorter syntax f g a b (statements-import is i) = import_shorter i
-statement_shorter syntax f g a b (statements-package_statement is none_next p) = package_shorter p
-statement_shorter syntax f g a b (statements-option is o) = option_shorter o
-statement_shorter syntax f g a b (statements-message m is i) =
-    message_shorter (IsInside syntax max_message_depth) (inside_shorter syntax max_message_depth) a b m i
-statement_shorter syntax f g a b (statements-enum is e) = enum_shorter e
-statement_shorter syntax f g a b (statements-service is s) = service_shorter s
-statement_shorter syntax f g a b (statements-extend is e) =
-    extend_statement_shorter syntax (IsInside syntax max_message_depth) (inside_shorter syntax max_message_depth) a b _
+statement_shorter levels syntax f g a b (statements-empty is s) = one_shorter s
+statement_shorter levels syntax f g a b (statements-import is i) = import_shorter i
+statement_shorter levels syntax f g a b (statements-package_statement is none_next p) = package_shorter p
+statement_shorter levels syntax f g a b (statements-option is o) = option_shorter o
+statement_shorter levels syntax f g a b (statements-message m is i) =
+    message_shorter (IsInside syntax levels) (inside_shorter syntax levels) a b m i
+statement_shorter levels syntax f g a b (statements-enum is e) = enum_shorter e
+statement_shorter levels syntax f g a b (statements-service is s) = service_shorter s
+statement_shorter levels syntax f g a b (statements-extend is e) =
+    extend_statement_shorter syntax (IsInside syntax levels) (inside_shorter syntax levels) a b _
     e

@@ -46,6 +46,6 @@ pub path_literals_fall : Falls (adding path_literal_at)
 path_literals_fall = adding-falls path_literal_at
     (λ tokens x e. path_literal_shorter tokens.left x.1.left x.0 (path_literal_found tokens x e))
 
-pub statements_fall : (syntax : Syntax) → Falls (statement_at syntax)
-statements_fall syntax f tokens x e = statement_shorter syntax f x.0 tokens.left x.1.left
-    (statement_found syntax f tokens x e)
+pub statements_fall : (levels : ℕ) (syntax : Syntax) → Falls (statement_at levels syntax)
+statements_fall levels syntax f tokens x e = statement_shorter levels syntax f x.0 tokens.left x.1.left
+    (statement_found levels syntax f tokens x e)

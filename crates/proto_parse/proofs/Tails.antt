@@ -429,7 +429,7 @@ import_past {tail = tail} (import k i l u s) behind =
     one_past k (import_kind_past i (one_past l
     (until_past tail (path_literal_past tail) _ _ _ _ u (one_past s behind))))
 
-pub statement_past : (syntax : Syntax) (f g : File) (a b : List Lexeme) → IsStatement syntax f a g b
+pub statement_past : (syntax : Syntax) (f g : File) (a b : List Lexeme) → IsStatement max_message_depth syntax f a g b
     → (tail : List Lexeme) → IsTail tail b → IsTail tail a
 statement_past syntax f g a b (statements-empty is s) tail behind = one_past s behind
 statement_past syntax f g a b (statements-import is i) tail behind = import_past i behind

@@ -76,7 +76,7 @@ use Rattle.proto_parse.specs.Grammar.Files.IsStatement.{package_statement as sta
 use Rattle.proto_parse.specs.Grammar.Files.IsStatement.{option as statements-option, message as statements-message}
 use Rattle.proto_parse.specs.Grammar.Files.IsStatement.{enum as statements-enum, service as statements-service}
 use Rattle.proto_parse.specs.Grammar.Files.IsStatement.{extend as statements-extend}
-use Rattle.proto_parse.specs.Grammar.Files.IsFile.{file}
+use Rattle.proto_parse.specs.Grammar.Files.IsFileWithin.{file}
 use Rattle.proto_parse.specs.Extends.{HasNoExtend}
 use Rattle.proto_grammar.proofs.Steps.{both_false}
 use Rattle.proto_parse.proofs.Tails.{IsTail, PassedOver, one_past, joined_past, heading_past, adds_past}
@@ -288,8 +288,8 @@ service_wide : {custom : CustomOptions} {a b : List Lexeme} {x : Service} → Is
 service_wide (service h u c) = service h (until_wide (adds_wide service_item_wide) u) c
 
 -- files
-statement_wide : (custom : CustomOptions) (f g : File) (a b : List Lexeme) → IsStatement (Proto3 custom) f a g b
-    → PassesNone custom a → IsStatement Extended f a g b
+statement_wide : (custom : CustomOptions) (f g : File) (a b : List Lexeme) → IsStatement max_message_depth (Proto3 custom) f a g b
+    → PassesNone custom a → IsStatement max_message_depth Extended f a g b
 statement_wide custom f g a b (statements-empty is s) free = statements-empty is s
 statement_wide custom f g a b (statements-import is i) free = statements-import is i
 statement_wide custom f g a b (statements-package_statement is none_yet p) free =

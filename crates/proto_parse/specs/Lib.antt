@@ -15,6 +15,7 @@ pub mod Grammar
 pub mod Derives
 pub mod Extends
 pub mod Faults
+pub mod Refused
 -- Where the spans of a tree are
 pub mod Walk
 -- The lists of a tree that are never empty

@@ -2,6 +2,7 @@
 
 ghost use Rattle.std.specs.Prelude.{◌≡◌};
 ghost use Rattle.proto_parse.specs.Choice.{file_statement_of};
+ghost use Rattle.proto_parse.specs.Limits.{max_message_depth};
 ghost use Rattle.proto_grammar.specs.Gives.{Gives};
 ghost use Rattle.proto_grammar.specs.Syntax.{custom_of, custom_in};
 ghost use Rattle.proto_grammar.specs.declared.tree.CustomOptions.TheVariants.{Skip};
@@ -139,7 +140,7 @@ fn statement(
     file: &mut File,
 ) -> Result<(), SyntaxFault>
     ensures { Gives (custom_of syntax) (λ x. file.new) parser.new result
-        (statement_at syntax file.old parser.old) }
+        (statement_at max_message_depth syntax file.old parser.old) }
 {
     let custom = syntax.custom_options();
     match file_statement(parser) {
@@ -175,7 +176,7 @@ fn statement(
 
 /// The statements after the syntax statement, up to the last token.
 fn statements(parser: &mut Parser<'_>, alloc: Global, syntax: Syntax) -> Result<File, SyntaxFault>
-    ensures { Gives (custom_of syntax) (λ x. x) parser.new result (statements_at syntax parser.old) }
+    ensures { Gives (custom_of syntax) (λ x. x) parser.new result (statements_at max_message_depth syntax parser.old) }
 {
     let mut file = File {
         package_name: None,
@@ -195,7 +196,7 @@ pub(crate) fn file(
     alloc: Global,
     dialect: Dialect,
 ) -> Result<File, SyntaxFault>
-    ensures { Gives (custom_in dialect) (λ x. x) parser.new result (file_at dialect parser.old) }
+    ensures { Gives (custom_in dialect) (λ x. x) parser.new result (file_at max_message_depth dialect parser.old) }
 {
     let syntax = syntax(parser, dialect)?;
     statements(parser, alloc, syntax)

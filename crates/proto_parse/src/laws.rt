@@ -1,6 +1,6 @@
 //! Laws of derivations.
 
-ghost use Rattle.std.specs.Prelude.{◌≡◌, ℕ, List, map};
+ghost use Rattle.std.specs.Prelude.{◌≡◌, ℕ, List, map, length};
 ghost use Rattle.proto_lex.specs.Lexed.{AreInOrder};
 ghost use Rattle.proto_lex.specs.declared.token.Token.{Token};
 ghost use Rattle.proto_grammar.specs.Lexeme.{lexemes_of};
@@ -10,6 +10,8 @@ ghost use Rattle.proto_parse.specs.Filled.{FilledFile};
 ghost use Rattle.proto_parse.specs.Derives.{Derives};
 ghost use Rattle.proto_parse.specs.Extends.{HasNoExtend};
 ghost use Rattle.proto_grammar.specs.declared.tree.CustomOptions.TheVariants.{Refuse, Skip};
+ghost use Rattle.proto_parse.specs.Refused.{HasFault};
+ghost use Rattle.proto_grammar.specs.declared.fault.SyntaxFault.{SyntaxFault};
 ghost use Rattle.proto_grammar.specs.declared.tree.Dialect.{Dialect};
 ghost use Rattle.proto_grammar.specs.declared.tree.Dialect.TheVariants.{Proto3, All};
 ghost use Rattle.proto_grammar.specs.declared.tree.File.{File};
@@ -60,4 +62,18 @@ pub fn proto3_among_all()
 pub fn proto3_without_extend_among_all()
     ensures { (text : List ℕ) (tokens : List Token) (file : File) → HasNoExtend (lexemes_of text tokens)
         → Derives (Proto3 Skip) text tokens file → Derives All text tokens file }
+{}
+
+/// Tokens have at most one fault.
+pub fn one_syntax_fault()
+    ensures { (dialect : Dialect) (text : List ℕ) (tokens : List Token) (fault other : SyntaxFault)
+        → HasFault dialect text tokens fault
+        → HasFault dialect text tokens other → fault ≡ other }
+{}
+
+/// Tokens that derive a tree have no fault.
+pub fn no_fault_where_it_derives()
+    ensures { (dialect : Dialect) (text : List ℕ) (tokens : List Token) (file : File) (fault : SyntaxFault)
+        → Derives dialect text tokens file
+        → HasFault dialect text tokens fault → ⊥ }
 {}

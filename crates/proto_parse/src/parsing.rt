@@ -1,10 +1,9 @@
 //! Parsing: from the tokens of a text to its tree.
 
-ghost use Rattle.std.specs.Prelude.{◌≡◌, false, IfOk, IfErr, MatchResult};
+ghost use Rattle.std.specs.Prelude.{◌≡◌, ◌⊎◌, false, IfOk, IfErr, MatchResult};
 ghost use Rattle.proto_parse.specs.Derives.{Derives};
 ghost use Rattle.proto_parse.specs.Faults.{is_of_custom_options};
-ghost use Rattle.proto_grammar.specs.FaultStands.{FaultStands};
-ghost use Rattle.proto_grammar.specs.Lexeme.{start_of};
+ghost use Rattle.proto_parse.specs.Refused.{HasFault};
 ghost use Rattle.proto_grammar.specs.Syntax.{custom_in};
 ghost use Rattle.proto_grammar.specs.declared.tree.File.{File};
 ghost use Rattle.proto_grammar.specs.declared.tree.CustomOptions.TheVariants.{Refuse, Skip};
@@ -18,22 +17,22 @@ use std::alloc::Global;
 
 /// The tree that the tokens derive where only proto3 is accepted and custom options are refused.
 ///
-/// It is Ok exactly where they derive one, but for want of memory. Otherwise the fault is the one that reading from
-/// left to right meets first (tests show which). It is at a token that its kind names, or at the text's length.
+/// It is Ok exactly where they derive one, but for want of memory. Otherwise the fault is the one that the tokens have:
+/// it is at the first token with which what is in front of it can't be finished to a file.
 pub fn parse(alloc: Global, tokens: &Tokens<'_, '_>) -> Result<File, SyntaxFault>
     ensures found { IfOk result (λ file. Derives (Proto3 Refuse) tokens.now.text tokens.now.tokens file) }
     ensures only { (file : File) → Derives (Proto3 Refuse) tokens.now.text tokens.now.tokens file
         → MatchResult result (λ found. found ≡ file) (λ fault. fault ≡ Memory) }
-    ensures fault { IfErr result (λ fault. FaultStands (start_of tokens.now.text tokens.now.tokens) fault) }
+    ensures fault { IfErr result (λ fault. (fault ≡ Memory)
+        ⊎ HasFault (Proto3 Refuse) tokens.now.text tokens.now.tokens fault) }
 {
     parse_with(alloc, tokens, Dialect::Proto3(CustomOptions::Refuse))
 }
 
 /// The tree that the tokens derive, with a choice of which sources are accepted.
 ///
-/// It is Ok if and only if they derive one, unless memory runs out. Otherwise the fault is the one that reading from
-/// left to right meets first (tests show which), and if custom options are read past none of CustomOption, Aggregate
-/// and Extend.
+/// It is Ok if and only if they derive one, unless memory runs out. Otherwise the fault is the one that the tokens have,
+/// and if custom options are read past none of CustomOption, Aggregate and Extend.
 pub fn parse_with(
     alloc: Global,
     tokens: &Tokens<'_, '_>,
@@ -43,7 +42,8 @@ pub fn parse_with(
     ensures only { (file : File) → Derives dialect tokens.now.text tokens.now.tokens file
         → MatchResult result (λ found. found ≡ file) (λ fault. fault ≡ Memory) }
     ensures skipped { custom_in dialect ≡ Skip → IfErr result (λ fault. is_of_custom_options fault ≡ false) }
-    ensures fault { IfErr result (λ fault. FaultStands (start_of tokens.now.text tokens.now.tokens) fault) }
+    ensures fault { IfErr result (λ fault. (fault ≡ Memory)
+        ⊎ HasFault dialect tokens.now.text tokens.now.tokens fault) }
 {
     file(&mut Parser::new(tokens), alloc, dialect)
 }

@@ -26,7 +26,7 @@ use Rattle.proto_parse.specs.Choice.{file_statement_of, version_of}
 use Rattle.proto_grammar.specs.Grammar.Repetition.{Adds}
 use Rattle.proto_parse.specs.Grammar.Messages.{IsInside}
 use Rattle.proto_parse.specs.Grammar.Files.{SpellsJoined, IsSyntax, IsImportKind, IsPathLiteral, IsImport, IsPackage}
-use Rattle.proto_parse.specs.Grammar.Files.{IsStatement, IsFile}
+use Rattle.proto_parse.specs.Grammar.Files.{IsStatement, IsFileWithin, IsFile}
 use Rattle.proto_parse.specs.Grammar.Files.SpellsJoined.{none, some}
 use Rattle.proto_parse.specs.Grammar.Files.IsSyntax.{proto3, proto2, no_statement}
 use Rattle.proto_parse.specs.Grammar.Files.IsImportKind.{weak, public, neither}
@@ -38,7 +38,7 @@ use Rattle.proto_parse.specs.Grammar.Files.IsStatement.{package_statement as sta
 use Rattle.proto_parse.specs.Grammar.Files.IsStatement.{option as statements-option, message as statements-message}
 use Rattle.proto_parse.specs.Grammar.Files.IsStatement.{enum as statements-enum, service as statements-service}
 use Rattle.proto_parse.specs.Grammar.Files.IsStatement.{extend as statements-extend}
-use Rattle.proto_parse.specs.Grammar.Files.IsFile.{file}
+use Rattle.proto_parse.specs.Grammar.Files.IsFileWithin.{file}
 use Rattle.proto_grammar.specs.Reading.Repetition.{adding}
 use Rattle.proto_parse.specs.Reading.Messages.{inside_at}
 use Rattle.proto_parse.specs.Reading.Syntax.{syntax_by, version_at, syntax_statement_at, syntax_at}
@@ -75,7 +75,7 @@ module _ (end : ℕ) where
       let first = literal_first dialect syntax (rw named accepted) spelled in
       rw (first, joined.0, joined.1, named, accepted) refl
 
-  syntax_exact : {dialect : Dialect} {a b : List Lexeme} {x : Syntax} → IsSyntax dialect a x b
+  pub syntax_exact : {dialect : Dialect} {a b : List Lexeme} {x : Syntax} → IsSyntax dialect a x b
       → syntax_at dialect (place_of end a) ≡ Ok (x, place_of end b)
   unfolding syntax_at syntax_statement_at
   syntax_exact {dialect = dialect} (proto3 k q t s) =
@@ -127,42 +127,43 @@ module _ (end : ℕ) where
   package_exact (package_statement k n s) = rw (token_exact end k, name_exact end n, token_exact end s) refl
 
   -- the statement that is chosen
-  by_choice : (syntax : Syntax) (f g : File) (a b : List Lexeme) (statement : FileStatement)
+  by_choice : (levels : ℕ) (syntax : Syntax) (f g : File) (a b : List Lexeme) (statement : FileStatement)
       → file_statement_of a ≡ statement
-      → statement_by statement syntax f (place_of end a) ≡ Ok (g, place_of end b)
-      → statement_at syntax f (place_of end a) ≡ Ok (g, place_of end b)
+      → statement_by levels statement syntax f (place_of end a) ≡ Ok (g, place_of end b)
+      → statement_at levels syntax f (place_of end a) ≡ Ok (g, place_of end b)
   unfolding statement_at
-  by_choice syntax f g a b statement is read = subst
-      (λ s. statement_by s syntax f (place_of end a) ≡ Ok (g, place_of end b)) (sym is) read
+  by_choice levels syntax f g a b statement is read = subst
+      (λ s. statement_by levels s syntax f (place_of end a) ≡ Ok (g, place_of end b)) (sym is) read
 
-  statement_exact : (syntax : Syntax) (f g : File) (a b : List Lexeme) → IsStatement syntax f a g b
-      → statement_at syntax f (place_of end a) ≡ Ok (g, place_of end b)
+  statement_exact : (levels : ℕ) (syntax : Syntax) (f g : File) (a b : List Lexeme) → IsStatement levels syntax f a g b
+      → statement_at levels syntax f (place_of end a) ≡ Ok (g, place_of end b)
   unfolding only_package_at
-  statement_exact syntax f g a b (statements-empty is s) = by_choice syntax f g a b _ is (rw (token_exact end s) refl)
-  statement_exact syntax f g a b (statements-import is i) = by_choice syntax f g a b _ is (rw (import_exact i) refl)
-  statement_exact syntax f g a b (statements-package_statement is none_yet p) =
-      by_choice syntax f g a b _ is (rw (none_yet, package_exact p) refl)
-  statement_exact syntax f g a b (statements-option is o) = by_choice syntax f g a b _ is (rw (option_exact end o) refl)
-  statement_exact syntax f g a b (statements-message m is i) =
-      by_choice syntax f g a b _ is
-      (rw (message_exact end (inside_at syntax max_message_depth) (IsInside syntax max_message_depth)
-      (inside_exact end syntax max_message_depth) a b m i) refl)
-  statement_exact syntax f g a b (statements-enum is e) = by_choice syntax f g a b _ is (rw (enum_exact end e) refl)
-  statement_exact syntax f g a b (statements-service is s) = by_choice syntax f g a b _ is
+  statement_exact levels syntax f g a b (statements-empty is s) = by_choice levels syntax f g a b _ is (rw (token_exact end s) refl)
+  statement_exact levels syntax f g a b (statements-import is i) = by_choice levels syntax f g a b _ is (rw (import_exact i) refl)
+  statement_exact levels syntax f g a b (statements-package_statement is none_yet p) =
+      by_choice levels syntax f g a b _ is (rw (none_yet, package_exact p) refl)
+  statement_exact levels syntax f g a b (statements-option is o) = by_choice levels syntax f g a b _ is (rw (option_exact end o) refl)
+  statement_exact levels syntax f g a b (statements-message m is i) =
+      by_choice levels syntax f g a b _ is
+      (rw (message_exact end (inside_at syntax levels) (IsInside syntax levels)
+      (inside_exact end syntax levels) a b m i) refl)
+  statement_exact levels syntax f g a b (statements-enum is e) = by_choice levels syntax f g a b _ is (rw (enum_exact end e) refl)
+  statement_exact levels syntax f g a b (statements-service is s) = by_choice levels syntax f g a b _ is
       (rw (service_exact end s) refl)
-  statement_exact syntax f g a b (statements-extend {extend = x} is e) =
-      by_choice syntax f g a b _ is
-      (rw (extend_statement_exact end syntax (inside_at syntax max_message_depth) (IsInside syntax max_message_depth)
-      (inside_exact end syntax max_message_depth) (λ place. items_fall place syntax max_message_depth) a b x e) refl)
+  statement_exact levels syntax f g a b (statements-extend {extend = x} is e) =
+      by_choice levels syntax f g a b _ is
+      (rw (extend_statement_exact end syntax (inside_at syntax levels) (IsInside syntax levels)
+      (inside_exact end syntax levels) (λ place. items_fall place syntax levels) a b x e) refl)
 
   -- what is left behind the last statement
-  pub file_exact : {dialect : Dialect} {a : List Lexeme} {x : File} → IsFile dialect a x
-      → (b : List Lexeme) × (file_at dialect (place_of end a) ≡ Ok (x, place_of end b))
+  pub file_exact : {levels : ℕ} {dialect : Dialect} {a : List Lexeme} {x : File} → IsFileWithin levels dialect a x
+      → (b : List Lexeme) × (file_at levels dialect (place_of end a) ≡ Ok (x, place_of end b))
   unfolding file_at statements_at
-  file_exact {dialect} {a} {x} (file {c = c} {syntax = syntax} s u) =
-      let read : file_at dialect (place_of end a) ≡ Ok (x, place_of end c) =
-      rw (syntax_exact s) (until_at-exact end is_end (statement_at syntax) (IsStatement syntax) (statements_fall syntax)
-      (statement_exact syntax) u) in
+  file_exact {levels} {dialect} {a} {x} (file {c = c} {syntax = syntax} s u) =
+      let read : file_at levels dialect (place_of end a) ≡ Ok (x, place_of end c) =
+      rw (syntax_exact s) (until_at-exact end is_end (statement_at levels syntax) (IsStatement levels syntax)
+      (statements_fall levels syntax)
+      (statement_exact levels syntax) u) in
       (c, read)
 
 -- tokens derive at most one tree
@@ -175,7 +176,7 @@ same_tree tree other d e =
 
 -- where a tree derives, a fault is want of memory
 pub only_memory : (end : ℕ) {dialect : Dialect} {a : List Lexeme} {tree : File} → (fault : SyntaxFault)
-    → Fails (custom_in dialect) fault (file_at dialect (place_of end a)) → IsFile dialect a tree → fault ≡ Memory
+    → Fails (custom_in dialect) fault (file_at max_message_depth dialect (place_of end a)) → IsFile dialect a tree → fault ≡ Memory
 only_memory end (NotProto3 offset) fails d = let read = (file_exact end d).1 in cc
 only_memory end (CustomOption offset) fails d = let read = (file_exact end d).1 in cc
 only_memory end (Aggregate offset) fails d = let read = (file_exact end d).1 in cc
@@ -188,7 +189,7 @@ only_memory end Memory fails d = refl
 
 -- of what the parser gives
 pub file_of_exact : (dialect : Dialect) (tokens rest : Place) (result : Result File SyntaxFault)
-    → Gives (custom_in dialect) (λ x. x) rest result (file_at dialect tokens)
+    → Gives (custom_in dialect) (λ x. x) rest result (file_at max_message_depth dialect tokens)
     → (tree : File) → IsFile dialect tokens.left tree → MatchResult result (λ f. f ≡ tree) (λ fault. fault ≡ Memory)
 file_of_exact dialect tokens rest (Ok f) e tree d =
     let read = file_exact tokens.end d in

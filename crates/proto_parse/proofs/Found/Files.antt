@@ -31,7 +31,7 @@ use Rattle.proto_parse.specs.Limits.{max_message_depth}
 use Rattle.proto_grammar.specs.Grammar.Repetition.{One, Adds}
 use Rattle.proto_parse.specs.Grammar.Messages.{IsInside}
 use Rattle.proto_parse.specs.Grammar.Files.{empty_file, SpellsJoined, IsSyntax, IsImportKind, IsPathLiteral, IsImport}
-use Rattle.proto_parse.specs.Grammar.Files.{IsPackage, IsStatement, IsFile}
+use Rattle.proto_parse.specs.Grammar.Files.{IsPackage, IsStatement, IsFileWithin, IsFile}
 use Rattle.proto_parse.specs.Grammar.Files.IsSyntax.{proto3, proto2, no_statement}
 use Rattle.proto_parse.specs.Grammar.Files.IsImportKind.{weak, public, neither}
 use Rattle.proto_parse.specs.Grammar.Files.IsPathLiteral.{path_literal}
@@ -42,7 +42,7 @@ use Rattle.proto_parse.specs.Grammar.Files.IsStatement.{package_statement as sta
 use Rattle.proto_parse.specs.Grammar.Files.IsStatement.{option as statements-option, message as statements-message}
 use Rattle.proto_parse.specs.Grammar.Files.IsStatement.{enum as statements-enum, service as statements-service}
 use Rattle.proto_parse.specs.Grammar.Files.IsStatement.{extend as statements-extend}
-use Rattle.proto_parse.specs.Grammar.Files.IsFile.{file}
+use Rattle.proto_parse.specs.Grammar.Files.IsFileWithin.{file}
 use Rattle.proto_grammar.specs.Reading.Repetition.{token_that, adding, until_at}
 use Rattle.proto_grammar.specs.Reading.Names.{name_at}
 use Rattle.proto_grammar.specs.Reading.Options.{option_at}
@@ -70,7 +70,7 @@ use Rattle.proto_grammar.specs.Terminal.{offset_at}
 use Rattle.proto_grammar.specs.Lexeme.{Place}
 
 -- the version that a text names
-version_text : {P : Type 0} (text : List ℕ) → (text ≡ codes "proto3" → version_of text ≡ version.Proto3 → P)
+pub version_text : {P : Type 0} (text : List ℕ) → (text ≡ codes "proto3" → version_of text ≡ version.Proto3 → P)
     → (text ≡ codes "proto2" → version_of text ≡ version.Proto2 → P) → (version_of text ≡ version.Other → P) → P
 version_text text three two other =
     chosen (bytes_eq text (codes "proto3")) _ _ (version_of text) refl
@@ -84,7 +84,7 @@ abbrev IsVersion : Dialect → List Lexeme → Syntax → List Lexeme → Type 0
 IsVersion dialect a syntax b = ((syntax ≡ proto3_in dialect) × SpellsJoined a (codes "proto3") b)
     ⊎ ((dialect ≡ All) × ((syntax ≡ Proto2) × SpellsJoined a (codes "proto2") b))
 
-proto2_accepted : (dialect : Dialect) (syntax : Syntax) → cond (is_all dialect) (Some Proto2) None ≡ Some syntax
+pub proto2_accepted : (dialect : Dialect) (syntax : Syntax) → cond (is_all dialect) (Some Proto2) None ≡ Some syntax
     → (dialect ≡ All) × (syntax ≡ Proto2)
 proto2_accepted (Proto3 custom) syntax e = cc
 proto2_accepted All syntax e = (refl, sym (same_Some Proto2 syntax e))
@@ -222,74 +222,74 @@ no_some : {A : Type 0} (o : Option A) → is_some o ≡ false → o ≡ None
 no_some None e = refl
 no_some (Some x) e = cc
 
-statement_by_found : (syntax : Syntax) (f : File) (tokens : Place) (x : File × Place)
+statement_by_found : (levels : ℕ) (syntax : Syntax) (f : File) (tokens : Place) (x : File × Place)
     (statement : FileStatement) → file_statement_of tokens.left ≡ statement
-    → statement_by statement syntax f tokens ≡ Ok x → IsStatement syntax f tokens.left x.0 x.1.left
+    → statement_by levels statement syntax f tokens ≡ Ok x → IsStatement levels syntax f tokens.left x.0 x.1.left
 unfolding only_package_at
-statement_by_found syntax f tokens x choice.Empty is e =
+statement_by_found levels syntax f tokens x choice.Empty is e =
     let m = bind_ok (token_that (of_kind Semicolon) tokens) _ x e in
-    subst (λ (y : File × Place). IsStatement syntax f tokens.left y.0 y.1.left) (same_ok _ x m.2)
+    subst (λ (y : File × Place). IsStatement levels syntax f tokens.left y.0 y.1.left) (same_ok _ x m.2)
     (statements-empty is (token_found _ _ m.1))
-statement_by_found syntax f tokens x choice.Import is e =
+statement_by_found levels syntax f tokens x choice.Import is e =
     let m = bind_ok (import_at tokens) _ x e in
-    subst (λ (y : File × Place). IsStatement syntax f tokens.left y.0 y.1.left) (same_ok _ x m.2)
+    subst (λ (y : File × Place). IsStatement levels syntax f tokens.left y.0 y.1.left) (same_ok _ x m.2)
     (statements-import is (import_found _ _ m.1))
-statement_by_found syntax f tokens x choice.Package is e =
+statement_by_found levels syntax f tokens x choice.Package is e =
     let k = kept_ok (is_some f.package_name) _ _ x e in
     let m = bind_ok (package_at tokens) _ x k.1 in
-    subst (λ (y : File × Place). IsStatement syntax f tokens.left y.0 y.1.left) (same_ok _ x m.2)
+    subst (λ (y : File × Place). IsStatement levels syntax f tokens.left y.0 y.1.left) (same_ok _ x m.2)
     (statements-package_statement is (no_some f.package_name k.0) (package_found _ _ m.1))
-statement_by_found syntax f tokens x choice.Option is e =
+statement_by_found levels syntax f tokens x choice.Option is e =
     let m = bind_ok (option_at (custom_of syntax) tokens) _ x e in
-    subst (λ (y : File × Place). IsStatement syntax f tokens.left y.0 y.1.left) (same_ok _ x m.2)
+    subst (λ (y : File × Place). IsStatement levels syntax f tokens.left y.0 y.1.left) (same_ok _ x m.2)
     (statements-option is (option_found (custom_of syntax) _ _ m.1))
-statement_by_found syntax f tokens x choice.Message is e =
-    let m = bind_ok (message_at (inside_at syntax max_message_depth) tokens) _ x e in
-    subst (λ (y : File × Place). IsStatement syntax f tokens.left y.0 y.1.left) (same_ok _ x m.2)
-    (statements-message m.0.0 is (message_found (inside_at syntax max_message_depth) (IsInside syntax max_message_depth)
-    (inside_found syntax max_message_depth) _ _ m.1))
-statement_by_found syntax f tokens x choice.Enum is e =
+statement_by_found levels syntax f tokens x choice.Message is e =
+    let m = bind_ok (message_at (inside_at syntax levels) tokens) _ x e in
+    subst (λ (y : File × Place). IsStatement levels syntax f tokens.left y.0 y.1.left) (same_ok _ x m.2)
+    (statements-message m.0.0 is (message_found (inside_at syntax levels) (IsInside syntax levels)
+    (inside_found syntax levels) _ _ m.1))
+statement_by_found levels syntax f tokens x choice.Enum is e =
     let m = bind_ok (enum_at (custom_of syntax) tokens) _ x e in
-    subst (λ (y : File × Place). IsStatement syntax f tokens.left y.0 y.1.left) (same_ok _ x m.2)
+    subst (λ (y : File × Place). IsStatement levels syntax f tokens.left y.0 y.1.left) (same_ok _ x m.2)
     (statements-enum is (enum_found (custom_of syntax) _ _ m.1))
-statement_by_found syntax f tokens x choice.Service is e =
+statement_by_found levels syntax f tokens x choice.Service is e =
     let m = bind_ok (service_at (custom_of syntax) tokens) _ x e in
-    subst (λ (y : File × Place). IsStatement syntax f tokens.left y.0 y.1.left) (same_ok _ x m.2)
+    subst (λ (y : File × Place). IsStatement levels syntax f tokens.left y.0 y.1.left) (same_ok _ x m.2)
     (statements-service is (service_found (custom_of syntax) _ _ m.1))
-statement_by_found syntax f tokens x choice.Extend is e =
-    let m = bind_ok (extend_statement_at syntax (inside_at syntax max_message_depth) tokens) _ x e in
-    subst (λ (y : File × Place). IsStatement syntax f tokens.left y.0 y.1.left) (same_ok _ x m.2)
-    (statements-extend is (extend_statement_found syntax (inside_at syntax max_message_depth)
-    (IsInside syntax max_message_depth) (inside_found syntax max_message_depth) _ _ m.1))
-statement_by_found syntax f tokens x choice.Other is e =
+statement_by_found levels syntax f tokens x choice.Extend is e =
+    let m = bind_ok (extend_statement_at syntax (inside_at syntax levels) tokens) _ x e in
+    subst (λ (y : File × Place). IsStatement levels syntax f tokens.left y.0 y.1.left) (same_ok _ x m.2)
+    (statements-extend is (extend_statement_found syntax (inside_at syntax levels)
+    (IsInside syntax levels) (inside_found syntax levels) _ _ m.1))
+statement_by_found levels syntax f tokens x choice.Other is e =
     absurd (let no : Err (Grammar (offset_at tokens)) ≡ read_as x = e in cc)
 
-pub statement_found : (syntax : Syntax) (f : File) (tokens : Place) (x : File × Place)
-    → statement_at syntax f tokens ≡ Ok x → IsStatement syntax f tokens.left x.0 x.1.left
+pub statement_found : (levels : ℕ) (syntax : Syntax) (f : File) (tokens : Place) (x : File × Place)
+    → statement_at levels syntax f tokens ≡ Ok x → IsStatement levels syntax f tokens.left x.0 x.1.left
 unfolding statement_at
-statement_found syntax f tokens x e = statement_by_found syntax f tokens x (file_statement_of tokens.left) refl e
+statement_found levels syntax f tokens x e = statement_by_found levels syntax f tokens x (file_statement_of tokens.left) refl e
 
-pub file_found : (dialect : Dialect) (tokens : Place) (x : File × Place)
-    → file_at dialect tokens ≡ Ok x → IsFile dialect tokens.left x.0
+pub file_found : (levels : ℕ) (dialect : Dialect) (tokens : Place) (x : File × Place)
+    → file_at levels dialect tokens ≡ Ok x → IsFileWithin levels dialect tokens.left x.0
 unfolding file_at statements_at
-file_found dialect tokens x e =
+file_found levels dialect tokens x e =
     let s = bind_ok (syntax_at dialect tokens) _ x e in
     file (syntax_found dialect _ _ s.1)
-    (until_at-found is_end (statement_at s.0.0) (IsStatement s.0.0)
-    (statement_found s.0.0) empty_file s.0.1 x s.2)
+    (until_at-found is_end (statement_at levels s.0.0) (IsStatement levels s.0.0)
+    (statement_found levels s.0.0) empty_file s.0.1 x s.2)
 
 -- of what the parser gives
 pub file_of_found : (dialect : Dialect) (tokens rest : Place) (result : Result File SyntaxFault)
-    → Gives (custom_in dialect) (λ x. x) rest result (file_at dialect tokens)
+    → Gives (custom_in dialect) (λ x. x) rest result (file_at max_message_depth dialect tokens)
     → IfOk result (λ f. IsFile dialect tokens.left f)
-file_of_found dialect tokens rest (Ok f) e = file_found dialect tokens (f, rest) e
+file_of_found dialect tokens rest (Ok f) e = file_found max_message_depth dialect tokens (f, rest) e
 file_of_found dialect tokens rest (Err fault) e = tt
 
 only_where_refused : (custom : CustomOptions) → custom ≡ Refuse → custom ≡ Skip → true ≡ false
 only_where_refused custom refused skipped = let same : Refuse ≡ Skip = sym refused ∙ skipped in cc
 
 pub file_of_skipped : (dialect : Dialect) (tokens rest : Place) (result : Result File SyntaxFault)
-    → Gives (custom_in dialect) (λ x. x) rest result (file_at dialect tokens)
+    → Gives (custom_in dialect) (λ x. x) rest result (file_at max_message_depth dialect tokens)
     → custom_in dialect ≡ Skip → IfErr result (λ fault. is_of_custom_options fault ≡ false)
 file_of_skipped dialect tokens rest (Ok f) e skipped = tt
 file_of_skipped dialect tokens rest (Err (NotProto3 offset)) e skipped = refl

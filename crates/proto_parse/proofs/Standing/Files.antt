@@ -2,19 +2,17 @@
 use Rattle.std.proofs.Common.{◌≡◌, inl, ◌++◌, ◌&&◌, not, is_some, Bool, true, false, Result, Ok, Err, IfErr, Option}
 use Rattle.std.proofs.Common.{Some, None, List, [], ◌∷◌}
 use Rattle.std.proofs.Common.{refl, ap, codes, cond, subst, ℕ}
-use Rattle.proto_lex.specs.declared.span.Span.{Span}
 use Rattle.proto_lex.specs.declared.token.TokenKind.TheVariants.{StringLiteral, Semicolon}
 use Rattle.proto_grammar.specs.declared.fault.SyntaxFault.{SyntaxFault}
 use Rattle.proto_grammar.specs.declared.fault.SyntaxFault.TheVariants as fault
-use Rattle.proto_grammar.specs.declared.tree.CustomOptions.{CustomOptions}
 use Rattle.proto_grammar.specs.declared.tree.Dialect.{Dialect}
 use Rattle.proto_grammar.specs.declared.tree.Syntax.{Syntax}
 use Rattle.proto_grammar.specs.declared.tree.File.{File}
 use Rattle.proto_parse.specs.declared.statement.FileStatement.{FileStatement}
 use Rattle.proto_parse.specs.declared.statement.FileStatement.TheVariants as choice
 use Rattle.std.specs.Option.{option_map_or}
-use Rattle.proto_grammar.specs.FaultStands.{IsAmong, FaultStands}
-use Rattle.proto_grammar.specs.Gives.{Fails, Gives}
+use Rattle.proto_grammar.specs.FaultStands.{FaultStands}
+use Rattle.proto_grammar.specs.Gives.{Gives}
 use Rattle.proto_grammar.specs.Lexeme.{Lexeme, Place, place_of}
 use Rattle.proto_grammar.specs.Syntax.{custom_of, custom_in, is_all}
 use Rattle.proto_grammar.specs.Terminal.{first_is, of_kind, is_word, is_end, not_next, offset_at}
@@ -65,7 +63,7 @@ unfolding version_at
 version_right dialect p = right_cond p (first_is (of_kind StringLiteral) p.left) _ _ (λ is. version_right_by _ p)
     (λ no. misplaced_right p)
 
-syntax_right : (dialect : Dialect) (p : Place) → Right p (syntax_at dialect p)
+pub syntax_right : (dialect : Dialect) (p : Place) → Right p (syntax_at dialect p)
 unfolding syntax_at syntax_statement_at
 syntax_right dialect p =
     right_cond p (first_is (is_word (codes "syntax")) p.left) _ _
@@ -113,12 +111,12 @@ only_package_right file p is =
 
 -- the statement that is chosen
 choice_right : (syntax : Syntax) (file : File) (p : Place) (b : Bool) (x y : FileStatement)
-    → (b ≡ true → Right p (statement_by x syntax file p)) → (b ≡ false → Right p (statement_by y syntax file p))
-    → Right p (statement_by (cond b x y) syntax file p)
+    → (b ≡ true → Right p (statement_by max_message_depth x syntax file p)) → (b ≡ false → Right p (statement_by max_message_depth y syntax file p))
+    → Right p (statement_by max_message_depth (cond b x y) syntax file p)
 choice_right syntax file p true x y left right = left refl
 choice_right syntax file p false x y left right = right refl
 
-statement_right : (syntax : Syntax) (file : File) (p : Place) → Right p (statement_at syntax file p)
+statement_right : (syntax : Syntax) (file : File) (p : Place) → Right p (statement_at max_message_depth syntax file p)
 unfolding statement_at
 statement_right syntax file p =
     let inner = inside_right syntax max_message_depth in
@@ -141,11 +139,11 @@ statement_right syntax file p =
     (extend_statement_right syntax (inside_at syntax max_message_depth) inner p is))
     (λ no. misplaced_right p))))))))
 
-pub file_right : (dialect : Dialect) (p : Place) → Right p (file_at dialect p)
+pub file_right : (dialect : Dialect) (p : Place) → Right p (file_at max_message_depth dialect p)
 unfolding file_at statements_at
 file_right dialect p =
     right_then p _ _ (syntax_right dialect p)
-    (λ syntax. until_right is_end (statement_at syntax.0) (statement_right syntax.0) empty_file syntax.1)
+    (λ syntax. until_right is_end (statement_at max_message_depth syntax.0) (statement_right syntax.0) empty_file syntax.1)
 
 -- of what the parser gives
 right_of : {A : Type 0} (p : Place) (o : Result (A × Place) SyntaxFault) (fault : SyntaxFault) → o ≡ Err fault
@@ -153,7 +151,7 @@ right_of : {A : Type 0} (p : Place) (o : Result (A × Place) SyntaxFault) (fault
 right_of {A} p o fault e right = subst (λ (x : Result (A × Place) SyntaxFault). Right p x) e right
 
 pub file_of_right : (dialect : Dialect) (p rest : Place) (result : Result File SyntaxFault)
-    → Gives (custom_in dialect) (λ x. x) rest result (file_at dialect p)
+    → Gives (custom_in dialect) (λ x. x) rest result (file_at max_message_depth dialect p)
     → IfErr result (λ fault. FaultStands p fault)
 file_of_right dialect p rest (Ok f) e = tt
 file_of_right dialect p rest (Err (fault.NotProto3 offset)) e = right_of p _ _ e (file_right dialect p)

@@ -1,5 +1,5 @@
 -- Where what is read leaves off, and where faults are: enums, messages, groups, oneofs and extends.
-use Rattle.std.proofs.Common.{◌≡◌, inl, ℕ, zero, suc, Bool, true, false, cond, ◌&&◌, ◌||◌, Ok, Option, Some, None, List, []}
+use Rattle.std.proofs.Common.{◌≡◌, inl, ℕ, zero, suc, Bool, true, false, cond, ◌&&◌, ◌||◌, Option, Some, None, List, []}
 use Rattle.std.proofs.Common.{◌∷◌}
 use Rattle.std.proofs.Common.{refl, codes}
 use Rattle.proto_lex.specs.declared.span.Span.{Span}
@@ -11,25 +11,22 @@ use Rattle.proto_grammar.specs.declared.tree.Syntax.{Syntax}
 use Rattle.proto_grammar.specs.declared.tree.Syntax.TheVariants.{Proto3, Extended, Proto2}
 use Rattle.proto_grammar.specs.declared.tree.Item.{Item}
 use Rattle.proto_grammar.specs.declared.tree.Label.{Label}
-use Rattle.proto_parse.specs.declared.statement.Within.{Within}
-use Rattle.proto_parse.specs.declared.statement.Within.TheVariants as within
 use Rattle.proto_parse.specs.declared.statement.MessageStatement.{MessageStatement}
 use Rattle.proto_parse.specs.declared.statement.MessageStatement.TheVariants as choice
 use Rattle.proto_parse.specs.Choice.{begins_map}
-use Rattle.proto_grammar.specs.FaultStands.{can_be_at, may_begin_group, FaultStands}
+use Rattle.proto_grammar.specs.FaultStands.{can_be_at, FaultStands}
 use Rattle.proto_grammar.specs.Lexeme.{Lexeme, Place, place_of}
 use Rattle.proto_grammar.specs.Syntax.{custom_of, is_proto2}
-use Rattle.proto_grammar.specs.Terminal.{first_is, of_kind, is_word, closes, begins_group, not_next, offset_at, others}
+use Rattle.proto_grammar.specs.Terminal.{first_is, of_kind, is_word, closes, begins_group, offset_at}
 use Rattle.proto_grammar.specs.Grammar.Fields.{IsLabel}
 use Rattle.proto_grammar.specs.Grammar.Fields.IsLabel.{repeated, optional, required, no_label}
 use Rattle.proto_grammar.specs.Grammar.Repetition.One.{one}
-use Rattle.proto_grammar.specs.Reading.Repetition.{Read, span_at, until_at, adding, passing}
-use Rattle.proto_grammar.specs.Reading.Fields.{label_at}
+use Rattle.proto_grammar.specs.Reading.Repetition.{Read, span_at, adding, passing}
 use Rattle.proto_parse.specs.Reading.Messages.{Inside, heading_at, value_at, enum_item_at, enum_items_at, enum_at}
 use Rattle.proto_parse.specs.Reading.Messages.{braced_at, group_at, labelled_at, member_at, oneof_member_at}
 use Rattle.proto_parse.specs.Reading.Messages.{oneof_item_at, extend_item_at, oneof_at, extend_at, passed_item_at}
 use Rattle.proto_parse.specs.Reading.Messages.{passed_items_at, passed_extend_at, extend_statement_at, message_at}
-use Rattle.proto_parse.specs.Reading.Messages.{ranges_at, message_item_by, message_item_at, item_at, inside_at}
+use Rattle.proto_parse.specs.Reading.Messages.{ranges_at, message_item_by, message_item_at, inside_at}
 use Rattle.proto_grammar.proofs.Steps.{both_true}
 use Rattle.proto_grammar.proofs.StandingLemmas.{Behind, Right, behind_here, behind_one, right_then, right_cond}
 use Rattle.proto_grammar.proofs.StandingLemmas.{right_value, right_behind, right_further, misplaced_right}

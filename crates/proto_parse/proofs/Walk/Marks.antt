@@ -92,7 +92,7 @@ use Rattle.proto_parse.specs.Grammar.Files.IsStatement.{package_statement as sta
 use Rattle.proto_parse.specs.Grammar.Files.IsStatement.{option as statements-option, message as statements-message}
 use Rattle.proto_parse.specs.Grammar.Files.IsStatement.{enum as statements-enum, service as statements-service}
 use Rattle.proto_parse.specs.Grammar.Files.IsStatement.{extend as statements-extend}
-use Rattle.proto_parse.specs.Grammar.Files.IsFile.{file}
+use Rattle.proto_parse.specs.Grammar.Files.IsFileWithin.{file}
 use Rattle.proto_parse.proofs.Walk.Past.{same_kind, past, at_a_name, at_a_word, at_a_group_name, at_a_scalar, at_a_key}
 use Rattle.proto_parse.proofs.Walk.Past.{at_a_literal, at_another, at_its_first, over}
 use Rattle.proto_parse.proofs.Tails.IsTail.{here}
@@ -402,7 +402,7 @@ file_extend_marks None marks = refl
 file_extend_marks (Some b) marks = refl
 
 -- what a statement puts into the file
-pub statement_items : (syntax : Syntax) (f g : File) (a b : List Lexeme) → IsStatement syntax f a g b
+pub statement_items : (syntax : Syntax) (f g : File) (a b : List Lexeme) → IsStatement max_message_depth syntax f a g b
     → (marks : List Mark) → Among marks b
     → Puts (λ (x : File). x.items) item_then f a g b marks
 statement_items syntax f g a b (statements-empty is s) marks behind = ([], sym (append-nil f.items), past s behind)
@@ -428,7 +428,7 @@ statement_items syntax f g a b (statements-extend {extend = x} is e) marks behin
       (inside_marks syntax max_message_depth) a b x e marks behind),
 )
 
-statement_imports : (syntax : Syntax) (f g : File) (a b : List Lexeme) → IsStatement syntax f a g b
+statement_imports : (syntax : Syntax) (f g : File) (a b : List Lexeme) → IsStatement max_message_depth syntax f a g b
     → (marks : List Mark) → Among marks b
     → Puts (λ (x : File). x.imports) import_then f a g b marks
 statement_imports syntax f g a b (statements-empty is s) marks behind = ([], sym (append-nil f.imports), past s behind)
@@ -450,7 +450,7 @@ statement_imports syntax f g a b (statements-extend {extend = x} is e) marks beh
 abbrev packages_of : File → List (List Span)
 packages_of f = option_to_list f.package_name
 
-statement_package : (syntax : Syntax) (f g : File) (a b : List Lexeme) → IsStatement syntax f a g b
+statement_package : (syntax : Syntax) (f g : File) (a b : List Lexeme) → IsStatement max_message_depth syntax f a g b
     → (marks : List Mark) → Among marks b
     → Puts packages_of names_then f a g b marks
 statement_package syntax f g a b (statements-empty is s) marks behind =

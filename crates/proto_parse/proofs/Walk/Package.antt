@@ -13,17 +13,18 @@ use Rattle.std.proofs.lemmas.Option.{same_Some}
 use Rattle.proto_parse.specs.Grammar.Files.{empty_file, IsStatement, IsFile}
 use Rattle.proto_parse.specs.Grammar.Files.IsStatement.{empty, import, package_statement, option, message, enum}
 use Rattle.proto_parse.specs.Grammar.Files.IsStatement.{service, extend}
-use Rattle.proto_parse.specs.Grammar.Files.IsFile.{file}
+use Rattle.proto_parse.specs.Grammar.Files.IsFileWithin.{file}
 use Rattle.proto_parse.specs.Walk.{Mark, Among, each_then, item_then, names_then, IsAmongItems, PackageIsAmongItems}
 use Rattle.proto_parse.specs.Walk.Among.{none as no_marks}
 use Rattle.proto_parse.proofs.Walk.Marks.{Puts, each_then-append, until_puts, statement_items, package_marks}
 use Rattle.proto_parse.proofs.Walk.Past.{over}
 use Rattle.proto_parse.proofs.Tails.{syntax_past}
 use Rattle.proto_parse.proofs.Tails.IsTail.{here}
+use Rattle.proto_parse.specs.Limits.{max_message_depth}
 
 -- a package's name stays
 statement_keeps : (syntax : Syntax) (f g : File) (a b : List Lexeme) (components : List Span)
-    → IsStatement syntax f a g b → f.package_name ≡ Some components → g.package_name ≡ Some components
+    → IsStatement max_message_depth syntax f a g b → f.package_name ≡ Some components → g.package_name ≡ Some components
 statement_keeps syntax f g a b components (empty is s) set = set
 statement_keeps syntax f g a b components (import is i) set = set
 statement_keeps syntax f g a b components (package_statement is none_yet p) set =
@@ -35,7 +36,8 @@ statement_keeps syntax f g a b components (service is i) set = set
 statement_keeps syntax f g a b components (extend is e) set = set
 
 statements_keep : (syntax : Syntax) (f g : File) (a b : List Lexeme) (components : List Span)
-    → Until is_end (IsStatement syntax) f a g b → f.package_name ≡ Some components → g.package_name ≡ Some components
+    → Until is_end (IsStatement max_message_depth syntax) f a g b → f.package_name ≡ Some components
+    → g.package_name ≡ Some components
 statements_keep syntax f g a b components (done e) set = set
 statements_keep syntax f g a b components (more {t = t} {b = c} further first behind) set =
     statements_keep syntax t g c b components behind (statement_keeps syntax f t a c components first set)
@@ -65,7 +67,8 @@ one_before components f t g a b puts (items, all, (before, (behind, (split, amon
     )
 
 places : (syntax : Syntax) (f g : File) (a c : List Lexeme) (components : List Span)
-    → Until is_end (IsStatement syntax) f a g c → f.package_name ≡ None → g.package_name ≡ Some components
+    → Until is_end (IsStatement max_message_depth syntax) f a g c → f.package_name ≡ None
+    → g.package_name ≡ Some components
     → Places components f g a
 places syntax f g a c components (done e) none_yet set =
     absurd (let both : None ≡ Some components = sym none_yet ∙ set in cc)
@@ -107,7 +110,7 @@ among_items components items all same earlier (before, (behind, (split, among)))
 
 by_name : (syntax : Syntax) (g : File) (a b c : List Lexeme) (name : Option (List Span)) → g.package_name ≡ name
     → ((marks : List Mark) → Among marks b → Among marks a)
-    → Until is_end (IsStatement syntax) empty_file b g c → PackageIsAmongItems name g.items a
+    → Until is_end (IsStatement max_message_depth syntax) empty_file b g c → PackageIsAmongItems name g.items a
 by_name syntax g a b c None is earlier u = tt
 by_name syntax g a b c (Some components) is earlier u =
     let p = places syntax empty_file g b c components u refl is in

@@ -78,38 +78,41 @@ pub data IsPackage : List Lexeme → List Span → List Lexeme → Type 0 where
       → IsPackage a components d
 
 -- import | package | option | message | enum | service | extend | ";", as the first word chooses, from the file so far
--- to the file with it.
+-- to the file with it. At most `levels` messages and groups are inside one another.
 -- There is at most one package statement.
-pub data IsStatement (syntax : Syntax) : File → List Lexeme → File → List Lexeme → Type 0 where
+pub data IsStatement (levels : ℕ) (syntax : Syntax) : File → List Lexeme → File → List Lexeme → Type 0 where
   empty : {file : File} {a b : List Lexeme} {semicolon : Span} → file_statement_of a ≡ chosen.Empty
-      → One (of_kind Semicolon) a semicolon b → IsStatement syntax file a file b
+      → One (of_kind Semicolon) a semicolon b → IsStatement levels syntax file a file b
   import : {file : File} {a b : List Lexeme} {import : Import}
       → file_statement_of a ≡ chosen.Import → IsImport a import b
-      → IsStatement syntax file a (record file { imports = file.imports ++ import ∷ [] }) b
+      → IsStatement levels syntax file a (record file { imports = file.imports ++ import ∷ [] }) b
   package_statement : {file : File} {a b : List Lexeme} {components : List Span}
       → file_statement_of a ≡ chosen.Package → file.package_name ≡ None → IsPackage a components b
-      → IsStatement syntax file a (record file { package_name = Some components }) b
+      → IsStatement levels syntax file a (record file { package_name = Some components }) b
   option : {file : File} {a b : List Lexeme} → file_statement_of a ≡ chosen.Option → IsOption (custom_of syntax) a b
-      → IsStatement syntax file a file b
+      → IsStatement levels syntax file a file b
   message : {file : File} {a b : List Lexeme} (message : BlockTree)
-      → file_statement_of a ≡ chosen.Message → IsMessage (IsInside syntax max_message_depth) a message b
-      → IsStatement syntax file a (record file { items = file.items ++ item.Block message ∷ [] }) b
+      → file_statement_of a ≡ chosen.Message → IsMessage (IsInside syntax levels) a message b
+      → IsStatement levels syntax file a (record file { items = file.items ++ item.Block message ∷ [] }) b
   enum : {file : File} {a b : List Lexeme} {enum : Enum}
       → file_statement_of a ≡ chosen.Enum → IsEnum (custom_of syntax) a enum b
-      → IsStatement syntax file a (record file { items = file.items ++ item.Enum enum ∷ [] }) b
+      → IsStatement levels syntax file a (record file { items = file.items ++ item.Enum enum ∷ [] }) b
   service : {file : File} {a b : List Lexeme} {service : Service}
       → file_statement_of a ≡ chosen.Service → IsService (custom_of syntax) a service b
-      → IsStatement syntax file a (record file { items = file.items ++ item.Service service ∷ [] }) b
+      → IsStatement levels syntax file a (record file { items = file.items ++ item.Service service ∷ [] }) b
   extend : {file : File} {a b : List Lexeme} {extend : Option BlockTree}
-      → file_statement_of a ≡ chosen.Extend → IsExtendStatement (IsInside syntax max_message_depth) syntax a extend b
-      → IsStatement syntax file a
+      → file_statement_of a ≡ chosen.Extend → IsExtendStatement (IsInside syntax levels) syntax a extend b
+      → IsStatement levels syntax file a
       (record file { items = file.items ++ option_to_list (option_map item.Block extend) }) b
 
 abbrev pub empty_file : File
 empty_file = record { package_name = None; imports = []; items = [] }
 
 -- file = [ syntax ] { import | package | option | message | enum | service | extend | ";" }, up to the last token
-pub data IsFile (dialect : Dialect) : List Lexeme → File → Type 0 where
+pub data IsFileWithin (levels : ℕ) (dialect : Dialect) : List Lexeme → File → Type 0 where
   file : {a b c : List Lexeme} {syntax : Syntax} {file : File} → IsSyntax dialect a syntax b
-      → Until is_end (IsStatement syntax) empty_file b file c
-      → IsFile dialect a file
+      → Until is_end (IsStatement levels syntax) empty_file b file c
+      → IsFileWithin levels dialect a file
+
+abbrev pub IsFile : Dialect → List Lexeme → File → Type 0
+IsFile dialect = IsFileWithin max_message_depth dialect

@@ -1,5 +1,5 @@
 -- Files.
-use Rattle.std.specs.Prelude.{cond, Ok, Err, Some, is_some, option_map, option_to_list, List, [], ◌∷◌, ◌++◌, codes}
+use Rattle.std.specs.Prelude.{ℕ, cond, Ok, Err, Some, is_some, option_map, option_to_list, List, [], ◌∷◌, ◌++◌, codes}
 use Rattle.proto_lex.specs.declared.span.Span.{Span}
 use Rattle.proto_lex.specs.declared.token.TokenKind.TheVariants.{StringLiteral, Semicolon}
 use Rattle.proto_grammar.specs.declared.tree.Dialect.{Dialect}
@@ -14,7 +14,6 @@ use Rattle.proto_parse.specs.declared.statement.FileStatement.TheVariants as cho
 use Rattle.proto_grammar.specs.Terminal.{behind, first_is, of_kind, is_word, not_next, is_end, offset_at}
 use Rattle.proto_grammar.specs.Syntax.{custom_of}
 use Rattle.proto_parse.specs.Choice.{file_statement_of}
-use Rattle.proto_parse.specs.Limits.{max_message_depth}
 use Rattle.proto_parse.specs.Grammar.Files.{empty_file}
 use Rattle.proto_grammar.specs.Reading.Repetition.{◌>>=◌, Read, misplaced, token_that, plain_literal_at, until_at}
 use Rattle.proto_grammar.specs.Reading.Repetition.{adding}
@@ -59,29 +58,29 @@ only_package_at file tokens =
     cond (is_some file.package_name) (Err (TwoPackages (offset_at tokens)))
     (package_at tokens >>= λ x. Ok (record file { package_name = Some x.0 }, x.1))
 
-abbrev pub statement_by : FileStatement → Syntax → File → Read File
-statement_by chosen.Empty syntax file tokens = token_that (of_kind Semicolon) tokens >>= λ x. Ok (file, x.1)
-statement_by chosen.Import syntax file tokens =
+abbrev pub statement_by : (levels : ℕ) → FileStatement → Syntax → File → Read File
+statement_by levels chosen.Empty syntax file tokens = token_that (of_kind Semicolon) tokens >>= λ x. Ok (file, x.1)
+statement_by levels chosen.Import syntax file tokens =
     import_at tokens >>= λ x. Ok (record file { imports = file.imports ++ x.0 ∷ [] }, x.1)
-statement_by chosen.Package syntax file tokens = only_package_at file tokens
-statement_by chosen.Option syntax file tokens = option_at (custom_of syntax) tokens >>= λ x. Ok (file, x.1)
-statement_by chosen.Message syntax file tokens =
-    message_at (inside_at syntax max_message_depth) tokens >>= λ x. Ok
+statement_by levels chosen.Package syntax file tokens = only_package_at file tokens
+statement_by levels chosen.Option syntax file tokens = option_at (custom_of syntax) tokens >>= λ x. Ok (file, x.1)
+statement_by levels chosen.Message syntax file tokens =
+    message_at (inside_at syntax levels) tokens >>= λ x. Ok
     (record file { items = file.items ++ item.Block x.0 ∷ [] }, x.1)
-statement_by chosen.Enum syntax file tokens =
+statement_by levels chosen.Enum syntax file tokens =
     enum_at (custom_of syntax) tokens >>= λ x. Ok (record file { items = file.items ++ item.Enum x.0 ∷ [] }, x.1)
-statement_by chosen.Service syntax file tokens =
+statement_by levels chosen.Service syntax file tokens =
     service_at (custom_of syntax) tokens >>= λ x. Ok (record file { items = file.items ++ item.Service x.0 ∷ [] }, x.1)
-statement_by chosen.Extend syntax file tokens =
-    extend_statement_at syntax (inside_at syntax max_message_depth) tokens >>= λ x. Ok
+statement_by levels chosen.Extend syntax file tokens =
+    extend_statement_at syntax (inside_at syntax levels) tokens >>= λ x. Ok
     (record file { items = file.items ++ option_to_list (option_map item.Block x.0) }, x.1)
-statement_by chosen.Other syntax file tokens = misplaced tokens
+statement_by levels chosen.Other syntax file tokens = misplaced tokens
 
-unfoldable pub statement_at : Syntax → File → Read File
-statement_at syntax file tokens = statement_by (file_statement_of tokens.left) syntax file tokens
+unfoldable pub statement_at : (levels : ℕ) → Syntax → File → Read File
+statement_at levels syntax file tokens = statement_by levels (file_statement_of tokens.left) syntax file tokens
 
-unfoldable pub statements_at : Syntax → Read File
-statements_at syntax tokens = until_at is_end (statement_at syntax) empty_file tokens
+unfoldable pub statements_at : (levels : ℕ) → Syntax → Read File
+statements_at levels syntax tokens = until_at is_end (statement_at levels syntax) empty_file tokens
 
-unfoldable pub file_at : Dialect → Read File
-file_at dialect tokens = syntax_at dialect tokens >>= λ syntax. statements_at syntax.0 syntax.1
+unfoldable pub file_at : (levels : ℕ) → Dialect → Read File
+file_at levels dialect tokens = syntax_at dialect tokens >>= λ syntax. statements_at levels syntax.0 syntax.1

@@ -1,9 +1,10 @@
-use Rattle.std.proofs.Common.{◌≡◌, IfErr, ap, subst}
+use Rattle.std.proofs.Common.{◌≡◌, ◌⊎◌, IfErr, ap, subst}
 use Rattle.proto_grammar.specs.Lexeme.{Place, lexemes_of, start_of}
-use Rattle.proto_grammar.specs.FaultStands.{FaultStands}
+use Rattle.proto_grammar.specs.declared.fault.SyntaxFault.TheVariants.{Memory}
+use Rattle.proto_parse.specs.Refused.{IsRefused}
 use Rattle.proto_parse.proofs.Found.Files.{file_of_found, file_of_skipped}
 use Rattle.proto_parse.proofs.Exact.Files.{file_of_exact}
-use Rattle.proto_parse.proofs.Standing.Files.{file_of_right}
+use Rattle.proto_parse.proofs.Refusing.{file_of_refused}
 use Rattle.proto_parse.proofs.parsing.parse_with.Goals as goal
 
 pub returns-clause-found : goal.returns-clause-found
@@ -24,5 +25,6 @@ returns-clause-skipped c = file_of_skipped c.args.dialect c.new.result c.file.ne
 pub returns-clause-fault : goal.returns-clause-fault
 returns-clause-fault c =
     let start : c.new.result ≡ start_of c.args.tokens.now.text c.args.tokens.now.tokens = c.new.ensures in
-    subst (λ (place : Place). IfErr c.file.result (λ fault. FaultStands place fault)) start
-    (file_of_right c.args.dialect c.new.result c.file.new.parser _ c.file.ensures)
+    subst (λ (place : Place). IfErr c.file.result
+    (λ fault. (fault ≡ Memory) ⊎ IsRefused c.args.dialect place.left place.end fault)) start
+    (file_of_refused c.args.dialect c.new.result c.file.new.parser _ c.file.ensures)

@@ -1,0 +1,256 @@
+-- Tokens have at most one fault, and none if they derive a tree.
+use Rattle.std.proofs.Common.{◌≡◌, ℕ, Bool, true, false, cond, List, [], ◌∷◌, ◌++◌, refl, sym, ◌∙◌, ap, subst}
+use Rattle.std.proofs.Common.{codes}
+use Rattle.std.proofs.Common.{append_assoc}
+use Rattle.std.proofs.lemmas.List.{append-nil}
+use Rattle.proto_lex.specs.declared.token.TokenKind.{TokenKind}
+use Rattle.proto_lex.specs.declared.token.TokenKind.TheVariants.{Identifier, StringLiteral, OpenBrace, Dot}
+use Rattle.proto_lex.specs.declared.token.TokenKind.TheVariants.{OpenParenthesis}
+use Rattle.proto_grammar.specs.declared.fault.SyntaxFault.{SyntaxFault}
+use Rattle.proto_grammar.specs.declared.fault.SyntaxFault.TheVariants.{NotProto3, CustomOption, Aggregate, Extend}
+use Rattle.proto_grammar.specs.declared.fault.SyntaxFault.TheVariants.{TwoPackages, ImportEscape, TooDeep, Grammar}
+use Rattle.proto_grammar.specs.declared.tree.Dialect.{Dialect}
+use Rattle.proto_grammar.specs.declared.tree.Syntax.{Syntax}
+use Rattle.proto_grammar.specs.declared.tree.File.{File}
+use Rattle.proto_grammar.specs.Lexeme.{Lexeme, place_of}
+use Rattle.proto_grammar.specs.Terminal.{is_kind, first_is, of_kind, is_word, not_next, offset_at}
+use Rattle.proto_grammar.specs.Grammar.Repetition.One.{one}
+use Rattle.proto_parse.specs.Limits.{max_message_depth}
+use Rattle.proto_parse.specs.Grammar.Files.{IsSyntax, IsFileWithin, IsFile}
+use Rattle.proto_parse.specs.Grammar.Files.IsSyntax.{proto3, proto2, no_statement as no_syntax}
+use Rattle.proto_parse.specs.Grammar.Files.IsFileWithin.{file}
+use Rattle.proto_parse.specs.Refused.{GoesOn, IsWrong, NamesNoVersion, WouldGoOn, IsRefused, group_start}
+use Rattle.proto_parse.specs.Refused.NamesNoVersion.{no_statement, edition, other as other_version}
+use Rattle.proto_parse.specs.Refused.WouldGoOn.{custom_option, aggregate, extend, two_packages, import_escape, too_deep}
+use Rattle.proto_parse.specs.Refused.WouldGoOn.{group_too_deep}
+use Rattle.proto_parse.specs.Refused.IsRefused.{not_proto3, would_go_on, wrong, missing}
+use Rattle.proto_grammar.proofs.TokenLemmas.{one_next, other_kind, other_word, next_other_word, word_kind}
+use Rattle.proto_parse.proofs.Joined.{joined_exact}
+
+-- ---- what goes on
+
+same_head : {A : Type 0} (x y : A) (xs ys : List A) → x ∷ xs ≡ y ∷ ys → x ≡ y
+same_head x y xs ys e = cc
+
+same_tail : {A : Type 0} (x y : A) (xs ys : List A) → x ∷ xs ≡ y ∷ ys → xs ≡ ys
+same_tail x y xs ys e = cc
+
+no_dot_further : (m rest more : List Lexeme) → (not_next Dot rest ≡ true → not_next Dot more ≡ true)
+    → not_next Dot (m ++ rest) ≡ true → not_next Dot (m ++ more) ≡ true
+no_dot_further [] rest more so none = so none
+no_dot_further (u ∷ m) rest more so none = none
+
+-- a front of a front that goes on goes on
+goes_further : (levels : ℕ) (dialect : Dialect) (front : List Lexeme) (t : Lexeme) (m rest behind : List Lexeme)
+    → GoesOn levels dialect (front ++ t ∷ m) rest → behind ≡ m ++ rest
+    → GoesOn levels dialect (front ++ t ∷ []) behind
+goes_further levels dialect front t m rest behind on e = record {
+  more = m ++ on.more;
+  tree = on.tree;
+  is_file = subst (λ all. IsFileWithin levels dialect all on.tree)
+      (append_assoc front (t ∷ m) on.more ∙ sym (append_assoc front (t ∷ []) (m ++ on.more))) on.is_file;
+  no_dot = λ none. no_dot_further m rest on.more on.no_dot
+      (subst (λ left. not_next Dot left ≡ true) e none);
+}
+
+-- two places in one list
+ordered : {P : Type 0} (f : List Lexeme) (t : Lexeme) (b g : List Lexeme) (u : Lexeme) (c : List Lexeme)
+    → f ++ t ∷ b ≡ g ++ u ∷ c
+    → (f ≡ g → t ≡ u → b ≡ c → P)
+    → ((m : List Lexeme) → g ≡ f ++ t ∷ m → b ≡ m ++ u ∷ c → P)
+    → ((m : List Lexeme) → f ≡ g ++ u ∷ m → c ≡ m ++ t ∷ b → P)
+    → P
+ordered [] t b [] u c e same before after = same refl (same_head t u b c e) (same_tail t u b c e)
+ordered [] t b (x ∷ g) u c e same before after =
+    before g (ap (λ y. y ∷ g) (sym (same_head t x b (g ++ u ∷ c) e))) (same_tail t x b (g ++ u ∷ c) e)
+ordered (x ∷ f) t b [] u c e same before after =
+    after f (ap (λ y. y ∷ f) (same_head x u (f ++ t ∷ b) c e)) (sym (same_tail x u (f ++ t ∷ b) c e))
+ordered (x ∷ f) t b (y ∷ g) u c e same before after =
+    let head = same_head x y (f ++ t ∷ b) (g ++ u ∷ c) e in
+    ordered f t b g u c (same_tail x y (f ++ t ∷ b) (g ++ u ∷ c) e)
+    (λ p q r. same (ap (λ z. z ∷ f) head ∙ ap (λ l. y ∷ l) p) q r)
+    (λ m p r. before m (ap (λ z. z ∷ g) (sym head) ∙ ap (λ l. x ∷ l) p) r)
+    (λ m p r. after m (ap (λ z. z ∷ f) head ∙ ap (λ l. y ∷ l) p) r)
+
+-- only one token is wrong
+not_both : (dialect : Dialect) (f : List Lexeme) (t : Lexeme) (b g : List Lexeme) (u : Lexeme) (c m : List Lexeme)
+    → IsWrong dialect f t b → IsWrong dialect g u c → g ≡ f ++ t ∷ m → b ≡ m ++ u ∷ c → ⊥
+not_both dialect f t b g u c m v w p r =
+    v.here (goes_further max_message_depth dialect f t m (u ∷ c) b
+    (subst (λ front. GoesOn max_message_depth dialect front (u ∷ c)) p w.before) r)
+
+wrong_once : {P : Type 0} (dialect : Dialect) (f : List Lexeme) (t : Lexeme) (b g : List Lexeme) (u : Lexeme)
+    (c : List Lexeme) → IsWrong dialect f t b → IsWrong dialect g u c → f ++ t ∷ b ≡ g ++ u ∷ c
+    → (f ≡ g → t ≡ u → b ≡ c → P) → P
+wrong_once dialect f t b g u c v w e same =
+    ordered f t b g u c e same
+    (λ m p r. absurd (not_both dialect f t b g u c m v w p r))
+    (λ m p r. absurd (not_both dialect g u c f t b m w v p r))
+
+-- where all tokens go on, none is wrong
+none_wrong : (dialect : Dialect) (tokens f : List Lexeme) (t : Lexeme) (b : List Lexeme)
+    → GoesOn max_message_depth dialect tokens [] → tokens ≡ f ++ t ∷ b → IsWrong dialect f t b → ⊥
+none_wrong dialect tokens f t b on e w =
+    w.here (goes_further max_message_depth dialect f t b [] b
+    (subst (λ all. GoesOn max_message_depth dialect all []) e on) (sym (append-nil b)))
+
+-- ---- versions
+
+-- the tests of the first token, in one list
+first_of : (word : List ℕ) (b : Bool) (a c : List Lexeme) → a ≡ c → first_is (is_word word) a ≡ b
+    → first_is (is_word word) c ≡ b
+first_of word b a c e is = subst (λ l. first_is (is_word word) l ≡ b) e is
+
+version_once : {dialect : Dialect} {f a g b : List Lexeme} → NamesNoVersion dialect f a → NamesNoVersion dialect g b
+    → f ++ a ≡ g ++ b → a ≡ b
+version_once (no_statement p) (no_statement q) e = e
+version_once (edition p) (edition q) e = e
+version_once (other_version {keyword = k} {equals = q} {a = a} p r l s x y)
+    (other_version {keyword = k'} {equals = q'} {a = b} p' r' l' s' x' y') e =
+    same_tail q q' a b (same_tail k k' (q ∷ a) (q' ∷ b) e)
+version_once (no_statement p) (other_version is r l s x y) e =
+    absurd (let no : true ≡ false = sym is ∙ first_of (codes "syntax") false _ _ e p in cc)
+version_once (other_version is r l s x y) (no_statement p) e =
+    absurd (let no : true ≡ false = sym is ∙ first_of (codes "syntax") false _ _ (sym e) p in cc)
+version_once (edition p) (other_version {keyword = k} is r l s x y) e =
+    absurd (let no : true ≡ false = sym (first_of (codes "edition") true _ _ e p)
+    ∙ other_word (codes "syntax") (codes "edition") k refl is in cc)
+version_once (other_version {keyword = k} is r l s x y) (edition p) e =
+    absurd (let no : true ≡ false = sym (first_of (codes "edition") true _ _ (sym e) p)
+    ∙ other_word (codes "syntax") (codes "edition") k refl is in cc)
+
+-- what names a version doesn't name none
+pub version_named : {dialect : Dialect} {f a b : List Lexeme} {x : Syntax} → NamesNoVersion dialect f a
+    → IsSyntax dialect (f ++ a) x b → ⊥
+version_named (no_statement p) (proto3 k q t s) = let no : true ≡ false = sym (one_next k) ∙ p in cc
+version_named (edition {a = a} p) (proto3 k q t s) =
+    let no : true ≡ false = sym p ∙ next_other_word (codes "syntax") (codes "edition") a refl (one_next k) in cc
+version_named (edition {a = a} p) (proto2 k q t s) =
+    let no : true ≡ false = sym p ∙ next_other_word (codes "syntax") (codes "edition") a refl (one_next k) in cc
+version_named (edition r) (no_syntax p q) = let no : true ≡ false = sym r ∙ q in cc
+version_named (other_version is r l spelled no3 no2) (proto3 (one k) (one q) t s) =
+    no3 (sym (joined_exact spelled).0 ∙ (joined_exact t).0)
+version_named (other_version is r l spelled no3 no2) (proto2 (one k) (one q) t s) =
+    no2 refl (sym (joined_exact spelled).0 ∙ (joined_exact t).0)
+version_named (other_version is r l spelled no3 no2) (no_syntax p q) = let no : true ≡ false = sym is ∙ p in cc
+
+-- ---- kinds
+
+-- which fault it is, by the token
+abbrev kind_of : List Lexeme → Lexeme → SyntaxFault
+kind_of front t =
+    cond (of_kind OpenParenthesis t) (CustomOption t.span.start)
+    (cond (of_kind OpenBrace t) (Aggregate t.span.start)
+    (cond (of_kind StringLiteral t) (ImportEscape t.span.start)
+    (cond (is_word (codes "extend") t) (Extend t.span.start)
+    (cond (is_word (codes "package") t) (TwoPackages t.span.start)
+    (cond (is_word (codes "message") t) (TooDeep t.span.start)
+    (TooDeep (group_start front t)))))))
+
+word_no : (word : List ℕ) (kind : TokenKind) (t : Lexeme) → is_kind kind Identifier ≡ false → is_word word t ≡ true
+    → of_kind kind t ≡ false
+word_no word kind t differs is = other_kind Identifier kind t differs (word_kind word t is)
+
+kind_is : (dialect : Dialect) (front : List Lexeme) (t : Lexeme) (behind : List Lexeme) {fault : SyntaxFault}
+    → WouldGoOn dialect front t behind fault → fault ≡ kind_of front t
+kind_is dialect front t behind (custom_option d is on) = rw is refl
+kind_is dialect front t behind (aggregate d is on) = rw (other_kind OpenBrace OpenParenthesis t refl is, is) refl
+kind_is dialect front t behind (import_escape plain is escaped p on) =
+    rw (
+      other_kind StringLiteral OpenParenthesis t refl is,
+      other_kind StringLiteral OpenBrace t refl is,
+      is,
+    ) refl
+kind_is dialect front t behind (extend d is on) =
+    rw (
+      word_no (codes "extend") OpenParenthesis t refl is,
+      word_no (codes "extend") OpenBrace t refl is,
+      word_no (codes "extend") StringLiteral t refl is,
+      is,
+    ) refl
+kind_is dialect front t behind (two_packages is d some) =
+    rw (
+      word_no (codes "package") OpenParenthesis t refl is,
+      word_no (codes "package") OpenBrace t refl is,
+      word_no (codes "package") StringLiteral t refl is,
+      other_word (codes "package") (codes "extend") t refl is,
+      is,
+    ) refl
+kind_is dialect front t behind (too_deep is on) =
+    rw (
+      word_no (codes "message") OpenParenthesis t refl is,
+      word_no (codes "message") OpenBrace t refl is,
+      word_no (codes "message") StringLiteral t refl is,
+      other_word (codes "message") (codes "extend") t refl is,
+      other_word (codes "message") (codes "package") t refl is,
+      is,
+    ) refl
+kind_is dialect front t behind (group_too_deep is on) =
+    rw (
+      word_no (codes "group") OpenParenthesis t refl is,
+      word_no (codes "group") OpenBrace t refl is,
+      word_no (codes "group") StringLiteral t refl is,
+      other_word (codes "group") (codes "extend") t refl is,
+      other_word (codes "group") (codes "package") t refl is,
+      other_word (codes "group") (codes "message") t refl is,
+    ) refl
+
+kind_once : (dialect : Dialect) (f : List Lexeme) (t : Lexeme) (b g : List Lexeme) (u : Lexeme) (c : List Lexeme)
+    {fault second : SyntaxFault} → WouldGoOn dialect f t b fault → WouldGoOn dialect g u c second → f ≡ g → t ≡ u
+    → fault ≡ second
+kind_once dialect f t b g u c v w p q =
+    kind_is dialect f t b v ∙ ap (λ x. kind_of x t) p ∙ ap (λ y. kind_of g y) q ∙ sym (kind_is dialect g u c w)
+
+moved : (dialect : Dialect) (f : List Lexeme) (t : Lexeme) (b g : List Lexeme) (u : Lexeme) (c : List Lexeme)
+    {fault : SyntaxFault} → WouldGoOn dialect f t b fault → f ≡ g → t ≡ u → b ≡ c → WouldGoOn dialect g u c fault
+moved dialect f t b g u c {fault} v p q r =
+    subst (λ x. WouldGoOn dialect g u x fault) r
+    (subst (λ x. WouldGoOn dialect g x b fault) q (subst (λ x. WouldGoOn dialect x t b fault) p v))
+
+-- ---- the laws
+
+pub one_fault : {dialect : Dialect} {tokens : List Lexeme} {end : ℕ} {fault second : SyntaxFault}
+    → IsRefused dialect tokens end fault → IsRefused dialect tokens end second → fault ≡ second
+one_fault {end = end} (not_proto3 e n) (not_proto3 e' n') =
+    ap (λ left. NotProto3 (offset_at (place_of end left))) (version_once n n' (sym e ∙ e'))
+one_fault (not_proto3 e n) (would_go_on v e' w g) = absurd (v _ _ e n)
+one_fault (not_proto3 e n) (wrong v e' w none) = absurd (v _ _ e n)
+one_fault (not_proto3 e n) (missing v on none) = absurd (v _ _ e n)
+one_fault (would_go_on v e w g) (not_proto3 e' n) = absurd (v _ _ e' n)
+one_fault (wrong v e w none) (not_proto3 e' n) = absurd (v _ _ e' n)
+one_fault (missing v on none) (not_proto3 e n) = absurd (v _ _ e n)
+one_fault {dialect} (would_go_on v e w g) (would_go_on v' e' w' g') =
+    wrong_once dialect _ _ _ _ _ _ w w' (sym e ∙ e') (λ p q r. kind_once dialect _ _ _ _ _ _ g g' p q)
+one_fault {dialect} {fault = fault} (would_go_on v e w g) (wrong v' e' w' none) =
+    wrong_once dialect _ _ _ _ _ _ w w' (sym e ∙ e') (λ p q r. absurd (none fault (moved dialect _ _ _ _ _ _ g p q r)))
+one_fault {dialect} {second = fault} (wrong v e w none) (would_go_on v' e' w' g) =
+    wrong_once dialect _ _ _ _ _ _ w' w (sym e' ∙ e) (λ p q r. absurd (none fault (moved dialect _ _ _ _ _ _ g p q r)))
+one_fault {dialect} (wrong v e w none) (wrong v' e' w' none') =
+    wrong_once dialect _ _ _ _ _ _ w w' (sym e ∙ e') (λ p q r. ap (λ (t : Lexeme). Grammar t.span.start) q)
+one_fault {dialect} {tokens} (missing v on none) (would_go_on v' e w g) =
+    absurd (none_wrong dialect tokens _ _ _ on e w)
+one_fault {dialect} {tokens} (missing v on none) (wrong v' e w none') =
+    absurd (none_wrong dialect tokens _ _ _ on e w)
+one_fault {dialect} {tokens} (would_go_on v e w g) (missing v' on none) =
+    absurd (none_wrong dialect tokens _ _ _ on e w)
+one_fault {dialect} {tokens} (wrong v e w none') (missing v' on none) =
+    absurd (none_wrong dialect tokens _ _ _ on e w)
+one_fault (missing v on none) (missing v' on' none') = refl
+
+-- a file begins with each of its fronts
+begins : (dialect : Dialect) (tokens f : List Lexeme) (t : Lexeme) (b : List Lexeme) (tree : File)
+    → IsFile dialect tokens tree → tokens ≡ f ++ t ∷ b → GoesOn max_message_depth dialect (f ++ t ∷ []) b
+begins dialect tokens f t b tree d e = record {
+  more = b;
+  tree = tree;
+  is_file = subst (λ all. IsFileWithin max_message_depth dialect all tree) (e ∙ sym (append_assoc f (t ∷ []) b)) d;
+  no_dot = λ none. none;
+}
+
+pub no_fault : {dialect : Dialect} {tokens : List Lexeme} {end : ℕ} {fault : SyntaxFault} (tree : File)
+    → IsFile dialect tokens tree → IsRefused dialect tokens end fault → ⊥
+no_fault {dialect} tree (file {b = b} {syntax = x} s u) (not_proto3 e n) =
+    version_named n (subst (λ all. IsSyntax dialect all x b) e s)
+no_fault {dialect} {tokens} tree d (would_go_on v e w g) = w.here (begins dialect tokens _ _ _ tree d e)
+no_fault {dialect} {tokens} tree d (wrong v e w none) = w.here (begins dialect tokens _ _ _ tree d e)
+no_fault tree d (missing v on none) = none tree d

@@ -1,6 +1,5 @@
 //! Sources that the grammar doesn't have: which fault each has is named by the test, and where it is
-//! by a `^`, which is taken out. A contract says only that it is at a token that its kind names, or where
-//! the text ends. Behind `SYNTAX`, offsets grow by 19.
+//! by a `^`, which is taken out. Behind `SYNTAX`, offsets grow by 19.
 
 use crate::calls::{PAST, PROTO3, SYNTAX, fault_of, first_other, joined, offset_of, see};
 use std::alloc::{AllocError, Global};

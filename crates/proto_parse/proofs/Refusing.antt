@@ -1,5 +1,6 @@
 -- The fault that reading meets is the one that the tokens have.
-use Rattle.std.proofs.Common.{◌≡◌, ◌⊎◌, inl, inr, ℕ, Bool, true, false, cond, not, ◌&&◌, Result, Ok, Err, Option, Some, None}
+use Rattle.std.proofs.Common.{◌≡◌, ◌⊎◌, inl, inr, ℕ, Bool, true, false, cond, not, ◌&&◌, Result, Ok, Err, Option}
+use Rattle.std.proofs.Common.{Some, None}
 use Rattle.std.proofs.Common.{List, [], ◌∷◌, ◌++◌, IfErr, refl, sym, ◌∙◌, ap, subst, codes}
 use Rattle.proto_lex.specs.declared.token.TokenKind.TheVariants.{StringLiteral, Semicolon, Equals}
 use Rattle.proto_grammar.specs.declared.fault.SyntaxFault.{SyntaxFault}
@@ -40,7 +41,8 @@ use Rattle.proto_parse.proofs.Machine.Follows.{Tells}
 use Rattle.proto_parse.proofs.Parts.{statement_step}
 use Rattle.proto_parse.proofs.Parts.Files.{FileAgrees, statements_follow}
 use Rattle.proto_parse.proofs.Told.{outcome_refused}
-use Rattle.proto_parse.proofs.Versions.{syntax_front, word_finished, word_stops, word_stops_at, only_other, equals_finished}
+use Rattle.proto_parse.proofs.Versions.{syntax_front, word_finished, word_stops, word_stops_at, only_other}
+use Rattle.proto_parse.proofs.Versions.{equals_finished}
 use Rattle.proto_parse.proofs.Versions.{equals_stops, equals_stops_at, version_stops, cut_missing, cut_wrong}
 use Rattle.proto_parse.proofs.Versions.{equals_sign, proto3_literal, end_sign, joined_front, only_statement, Stops}
 
@@ -70,11 +72,13 @@ module _ (dialect : Dialect) (end : ℕ) (k : Lexeme) (ke : is_word (codes "synt
   word_refused : (l : List Lexeme) → first_is (of_kind Equals) l ≡ false
       → IsRefused dialect (k ∷ l) end (variant.Grammar (offset_at (place_of end l)))
   word_refused [] differs =
-      cut_missing dialect (k ∷ []) (equals_sign ∷ (proto3_literal ∷ (end_sign ∷ []))) refl (word_finished k ke dialect) end
+      cut_missing dialect (k ∷ []) (equals_sign ∷ (proto3_literal ∷ (end_sign ∷ []))) refl
+      (word_finished k ke dialect) end
       (word_stops k ke)
       (only_other k ke dialect [] (λ q a b text e is literal spelled x y. let never : [] ≡ q ∷ a = e in cc))
   word_refused (t ∷ l) differs =
-      cut_wrong dialect (k ∷ []) (equals_sign ∷ (proto3_literal ∷ (end_sign ∷ []))) refl (word_finished k ke dialect) t l end
+      cut_wrong dialect (k ∷ []) (equals_sign ∷ (proto3_literal ∷ (end_sign ∷ []))) refl (word_finished k ke dialect)
+      t l end
       (word_stops k ke) (word_stops_at k ke t differs)
       (λ u is plain c. word_stops_at k ke u
       (other_kind StringLiteral Equals u refl (both_true (of_kind StringLiteral u) _ plain).0) c)
@@ -101,10 +105,12 @@ module _ (dialect : Dialect) (end : ℕ) (k : Lexeme) (ke : is_word (codes "synt
     equals_refused : (l : List Lexeme) → first_is (of_kind StringLiteral) l ≡ false
         → IsRefused dialect (k ∷ (q ∷ l)) end (variant.Grammar (offset_at (place_of end l)))
     equals_refused [] differs =
-        cut_missing dialect (k ∷ (q ∷ [])) (proto3_literal ∷ (end_sign ∷ [])) refl (equals_finished k ke q qe dialect) end
+        cut_missing dialect (k ∷ (q ∷ [])) (proto3_literal ∷ (end_sign ∷ [])) refl
+        (equals_finished k ke q qe dialect) end
         (equals_stops k ke q qe) (equals_named [] differs)
     equals_refused (t ∷ l) differs =
-        cut_wrong dialect (k ∷ (q ∷ [])) (proto3_literal ∷ (end_sign ∷ [])) refl (equals_finished k ke q qe dialect) t l end
+        cut_wrong dialect (k ∷ (q ∷ [])) (proto3_literal ∷ (end_sign ∷ [])) refl (equals_finished k ke q qe dialect)
+        t l end
         (equals_stops k ke q qe) (equals_stops_at k ke q qe t differs)
         (λ u is plain c. absurd (let never : true ≡ false = sym is ∙ differs in cc)) (equals_named (t ∷ l) differs)
 
@@ -114,7 +120,8 @@ module _ (dialect : Dialect) (end : ℕ) (k : Lexeme) (ke : is_word (codes "synt
         → IsRefused dialect (k ∷ (q ∷ l)) end (variant.NotProto3 (offset_at (place_of end l)))
     other_refused l literal none =
         not_proto3 {front = k ∷ (q ∷ [])} refl
-        (other_version {dialect = dialect} ke qe literal (joined_found l) (λ text. no_proto3 text) (λ only text. no_proto2 only text))
+        (other_version {dialect = dialect} ke qe literal (joined_found l) (λ text. no_proto3 text)
+        (λ only text. no_proto2 only text))
       where
         no_proto3 : joined_of l ≡ codes "proto3" → ⊥
         no_proto3 text =
@@ -140,7 +147,8 @@ module _ (dialect : Dialect) (end : ℕ) (k : Lexeme) (ke : is_word (codes "synt
           version_text (joined_of l) (λ text named. three text)
           (λ text named. two
           (proto2_accepted dialect syntax (subst (λ n. syntax_by n dialect ≡ Some syntax) named accepted)).0 text)
-          (λ named. absurd (let never : None ≡ Some syntax = subst (λ n. syntax_by n dialect ≡ Some syntax) named accepted
+          (λ named. absurd
+          (let never : None ≡ Some syntax = subst (λ n. syntax_by n dialect ≡ Some syntax) named accepted
           in cc))
 
       literals_named : NamesAVersion dialect (k ∷ (q ∷ l))
@@ -282,7 +290,8 @@ module _ (dialect : Dialect) (end : ℕ) (k : Lexeme) (ke : is_word (codes "synt
       → syntax_statement_at dialect (place_of end (k ∷ l)) ≡ stopped {A = Syntax × Place} x
       → IsRefused dialect (k ∷ l) end x
   statement_refused [] x e =
-      subst (λ y. IsRefused dialect (k ∷ []) end y) (same_fault (sym (word_evaluated [] refl) ∙ e)) (word_refused [] refl)
+      subst (λ y. IsRefused dialect (k ∷ []) end y) (same_fault (sym (word_evaluated [] refl) ∙ e))
+      (word_refused [] refl)
   statement_refused (q ∷ l) x e = by_equals (of_kind Equals q) refl
     where
       by_equals : (b : Bool) → of_kind Equals q ≡ b → IsRefused dialect (k ∷ (q ∷ l)) end x
@@ -343,7 +352,8 @@ statements_refused dialect syntax left end q x read e only none =
     FileAgrees max_message_depth syntax q (machine (statement_step max_message_depth syntax) q.left [] false) o) e
     (statements_follow max_message_depth syntax empty_file q) in
     let tells : Tells (place_of end q.left) (machine (statement_step max_message_depth syntax) q.left [] false) x =
-    subst (λ n. Tells (place_of n q.left) (machine (statement_step max_message_depth syntax) q.left [] false) x) b.2 agrees
+    subst (λ n. Tells (place_of n q.left) (machine (statement_step max_message_depth syntax) q.left [] false) x) b.2
+    agrees
     in
     subst (λ a. IsRefused dialect a end x) (sym front.1)
     (outcome_refused dialect syntax front.0 q.left end front.2

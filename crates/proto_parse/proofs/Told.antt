@@ -3,7 +3,8 @@ use Rattle.std.proofs.Common.{◌≡◌, ℕ, suc, Bool, true, false, cond, not,
 use Rattle.std.proofs.Common.{Err, None, List, [], ◌∷◌, ◌++◌, refl, sym, ◌∙◌, ap, subst, codes}
 use Rattle.std.proofs.Common.{append_assoc}
 use Rattle.std.proofs.lemmas.List.{append-nil, append_cancel_right}
-use Rattle.proto_lex.specs.declared.token.TokenKind.TheVariants.{Identifier, StringLiteral, Dot, OpenBrace, OpenParenthesis}
+use Rattle.proto_lex.specs.declared.token.TokenKind.TheVariants.{Identifier, StringLiteral, Dot, OpenBrace}
+use Rattle.proto_lex.specs.declared.token.TokenKind.TheVariants.{OpenParenthesis}
 use Rattle.proto_grammar.specs.declared.fault.SyntaxFault.{SyntaxFault}
 use Rattle.proto_grammar.specs.declared.fault.SyntaxFault.TheVariants as variant
 use Rattle.proto_grammar.specs.declared.tree.CustomOptions.TheVariants.{Refuse, Skip}
@@ -249,7 +250,8 @@ front_quiet levels syntax l left s =
 pub record Front (dialect : Dialect) (syntax : Syntax) (start l : List Lexeme) : Type 0 where
   pub allows : Allows start l
   pub opens : Opens dialect syntax start
-  pub skips : dialect ≡ Proto3 Refuse → (syntax ≡ grammar.Proto3 Refuse) × Opens (Proto3 Skip) (grammar.Proto3 Skip) start
+  pub skips : dialect ≡ Proto3 Refuse → (syntax ≡ grammar.Proto3 Refuse)
+      × Opens (Proto3 Skip) (grammar.Proto3 Skip) start
   pub named : NamesAVersion dialect (start ++ l)
   pub last : LastNoLabel start
 
@@ -379,7 +381,8 @@ module _ (dialect : Dialect) (syntax : Syntax) (start l left : List Lexeme) (end
   levels_go opens no_dot =
       let w = reads_wide (levels_wide max_message_depth syntax) none_wide fits_now in
       let o = opens_wide s.now s.token false why (levels_wide max_message_depth syntax) w.2 opens halts_undotted in
-      goes_with dialect syntax start l left end f (Halted why) tt s (suc max_message_depth) dialect syntax f.opens s.token
+      goes_with dialect syntax start l left end f (Halted why) tt s (suc max_message_depth) dialect syntax f.opens
+      s.token
       allowed_now no_dot o.0 w.0 o.1 w.1 o.2
 
   levels_stop : opens_why of_levels why ≡ false
@@ -397,21 +400,25 @@ module _ (dialect : Dialect) (syntax : Syntax) (start l left : List Lexeme) (end
       let skips = f.skips only in
       let reads : Reads (statement_step max_message_depth (grammar.Proto3 Refuse)) [] false s.front false s.next s.now =
       subst (λ x. Reads (statement_step max_message_depth x) [] false s.front false s.next s.now) skips.0 fits_now in
-      let halts : feed (statement_step max_message_depth (grammar.Proto3 Refuse)) s.next s.now s.token false ≡ Halted why =
+      let halts : feed (statement_step max_message_depth (grammar.Proto3 Refuse)) s.next s.now s.token false
+      ≡ Halted why =
       subst (λ x. feed (statement_step max_message_depth x) s.next s.now s.token false ≡ Halted why) skips.0
       halts_undotted in
       let w = reads_wide (options_wide max_message_depth) none_wide reads in
       let o = opens_wide s.now s.token false why (options_wide max_message_depth) w.2 opens halts in
-      goes_with dialect syntax start l left end f (Halted why) tt s max_message_depth (Proto3 Skip) (grammar.Proto3 Skip)
+      goes_with dialect syntax start l left end f (Halted why) tt s max_message_depth (Proto3 Skip)
+      (grammar.Proto3 Skip)
       skips.1 s.token allowed_now no_dot o.0 w.0 o.1 w.1 o.2
 
   options_stop : (only : dialect ≡ Proto3 Refuse) → opens_why of_options why ≡ false
       → GoesOn max_message_depth (Proto3 Skip) (ahead ++ s.token ∷ []) s.behind → ⊥
   options_stop only shut =
       let skips = f.skips only in
-      let reads : Reads (statement_step max_message_depth (grammar.Proto3 Refuse)) [] false s.front (of_kind Dot s.token)
+      let reads : Reads (statement_step max_message_depth (grammar.Proto3 Refuse)) [] false s.front
+      (of_kind Dot s.token)
       s.next s.now =
-      subst (λ x. Reads (statement_step max_message_depth x) [] false s.front (of_kind Dot s.token) s.next s.now) skips.0
+      subst (λ x. Reads (statement_step max_message_depth x) [] false s.front (of_kind Dot s.token) s.next s.now)
+      skips.0
       s.reads in
       let halts : feed (statement_step max_message_depth (grammar.Proto3 Refuse)) s.next s.now s.token (dots s.behind)
       ≡ Halted why =
@@ -520,9 +527,11 @@ module _ (dialect : Dialect) (syntax : Syntax) (start l left : List Lexeme) (end
       halts_at (statement_step max_message_depth syntax) s.next s.now s.token (dots s.behind) Escaped s.halts in
       let swaps : FedSwaps (Halted Escaped)
       (feed (statement_step max_message_depth syntax) s.next s.now (sign_of StringLiteral) false) =
-      subst (λ y. FedSwaps y (feed (statement_step max_message_depth syntax) s.next s.now (sign_of StringLiteral) false))
+      subst
+      (λ y. FedSwaps y (feed (statement_step max_message_depth syntax) s.next s.now (sign_of StringLiteral) false))
       (halts_undotted dialect syntax start l left end f Escaped s)
-      (feed_swaps (statement_step max_message_depth syntax) s.next s.now s.token (sign_of StringLiteral) false at.0 refl)
+      (feed_swaps (statement_step max_message_depth syntax) s.next s.now s.token (sign_of StringLiteral) false at.0
+      refl)
       in
       would_at dialect syntax start l left end f Escaped s variant.ImportEscape x e
       (import_escape (sign_of StringLiteral) at.0 at.1 refl
@@ -532,7 +541,8 @@ module _ (dialect : Dialect) (syntax : Syntax) (start l left : List Lexeme) (end
 
   -- the token that is refused
   refused_at : (r : Refusal) (s : At (Refused r)) → passes (test_of r) s.token ≡ true
-  refused_at r s = halts_at (statement_step max_message_depth syntax) s.next s.now s.token (dots s.behind) (Refused r) s.halts
+  refused_at r s =
+      halts_at (statement_step max_message_depth syntax) s.next s.now s.token (dots s.behind) (Refused r) s.halts
 
   options_refused : (r : Refusal) → of_options r ≡ true → (s : At (Refused r)) → dialect ≡ Proto3 Refuse
       → GoesOn max_message_depth (Proto3 Skip) ((start ++ s.front) ++ s.token ∷ []) s.behind
@@ -632,7 +642,8 @@ module _ (dialect : Dialect) (syntax : Syntax) (start l left : List Lexeme) (end
 
   -- tokens are missing
   missing_refused : machine (statement_step max_message_depth syntax) l [] false ≡ Missing
-      → ((tree : File) → IsFile dialect (start ++ l) tree → ⊥) → IsRefused dialect (start ++ l) end (variant.Grammar end)
+      → ((tree : File) → IsFile dialect (start ++ l) tree → ⊥)
+      → IsRefused dialect (start ++ l) end (variant.Grammar end)
   missing_refused e none =
       let s = ends_at (statement_step max_message_depth syntax) l [] false Missing tt e in
       let fits = reads_fits (fit_statement max_message_depth syntax None) s.reads tt in

@@ -103,7 +103,8 @@ syntax_front {dialect} (proto3 {e = e} (one {t = k} ke) (one {t = q} qe) j (one 
         allows = tt;
         opens = proto3_opens dialect k q s f.0 ke qe se f.2;
         skips = λ only. (ap proto3_in only, proto3_opens (Proto3 Skip) k q s f.0 ke qe se f.2);
-        named = named_by (k ∷ (q ∷ (f.0 ++ s ∷ []))) (proto3 {dialect = dialect} (one {t = k} ke) (one {t = q} qe) j (one {t = s} se)) whole;
+        named = named_by (k ∷ (q ∷ (f.0 ++ s ∷ [])))
+            (proto3 {dialect = dialect} (one {t = k} ke) (one {t = q} qe) j (one {t = s} se)) whole;
         last = last_sign (q ∷ f.0) s (semicolon_no_label s se);
       },
     )
@@ -116,7 +117,8 @@ syntax_front (proto2 {e = e} (one {t = k} ke) (one {t = q} qe) j (one {t = s} se
         allows = tt;
         opens = proto2_opens k q s f.0 ke qe se f.2;
         skips = λ only. absurd cc;
-        named = named_by (k ∷ (q ∷ (f.0 ++ s ∷ []))) (proto2 (one {t = k} ke) (one {t = q} qe) j (one {t = s} se)) whole;
+        named =
+            named_by (k ∷ (q ∷ (f.0 ++ s ∷ []))) (proto2 (one {t = k} ke) (one {t = q} qe) j (one {t = s} se)) whole;
         last = last_sign (q ∷ f.0) s (semicolon_no_label s se);
       },
     )
@@ -138,7 +140,8 @@ syntax_front {b = b} (no_syntax p q) = (
 abbrev pub Stops : List Lexeme → Type 0
 Stops a = (dialect : Dialect) → (x : SyntaxFault) × (syntax_at dialect (place_of 0 a) ≡ Err x)
 
-no_file : (levels : ℕ) (dialect : Dialect) (a : List Lexeme) (tree : File) → Stops a → IsFileWithin levels dialect a tree
+no_file : (levels : ℕ) (dialect : Dialect) (a : List Lexeme) (tree : File) → Stops a
+    → IsFileWithin levels dialect a tree
     → ⊥
 no_file levels dialect a tree stops (file {syntax = x} s u) =
     let e = stops dialect in
@@ -157,13 +160,15 @@ module _ (dialect : Dialect) (front : List Lexeme) (more : List Lexeme) (undotte
   cut_missing end stops named =
       missing named (cut_goes_on []) (λ tree is. no_file max_message_depth dialect front tree stops is)
 
-  pub cut_wrong : (t : Lexeme) (behind : List Lexeme) (end : ℕ) → Stops front → ((c : List Lexeme) → Stops (front ++ t ∷ c))
+  pub cut_wrong : (t : Lexeme) (behind : List Lexeme) (end : ℕ) → Stops front
+      → ((c : List Lexeme) → Stops (front ++ t ∷ c))
       → ((u : Lexeme) → of_kind StringLiteral t ≡ true → is_plain_literal u ≡ true → (c : List Lexeme)
       → Stops (front ++ u ∷ c))
       → NamesAVersion dialect (front ++ t ∷ behind)
       → IsRefused dialect (front ++ t ∷ behind) end (variant.Grammar t.span.start)
   cut_wrong t behind end stops here literals named =
-      wrong named refl (record { before = cut_goes_on (t ∷ behind); here = not_on max_message_depth dialect }) none_would
+      wrong named refl (record { before = cut_goes_on (t ∷ behind); here = not_on max_message_depth dialect })
+      none_would
     where
       not_on : (levels : ℕ) (other : Dialect) → GoesOn levels other (front ++ t ∷ []) behind → ⊥
       not_on levels other g =
@@ -195,7 +200,8 @@ abbrev pub end_sign : Lexeme
 end_sign = record { kind = Semicolon; spelling = []; span = record { start = 0; end = 0 } }
 
 -- a statement and nothing behind it is a file
-pub only_statement : {dialect : Dialect} {a : List Lexeme} {x : Syntax} → IsSyntax dialect a x [] → IsFile dialect a empty_file
+pub only_statement : {dialect : Dialect} {a : List Lexeme} {x : Syntax} → IsSyntax dialect a x []
+    → IsFile dialect a empty_file
 only_statement s = file s (done refl)
 
 proto3_named : SpellsJoined (proto3_literal ∷ (end_sign ∷ [])) (codes "proto3") (end_sign ∷ [])

@@ -288,7 +288,8 @@ service_wide : {custom : CustomOptions} {a b : List Lexeme} {x : Service} → Is
 service_wide (service h u c) = service h (until_wide (adds_wide service_item_wide) u) c
 
 -- files
-statement_wide : (custom : CustomOptions) (f g : File) (a b : List Lexeme) → IsStatement max_message_depth (Proto3 custom) f a g b
+statement_wide : (custom : CustomOptions) (f g : File) (a b : List Lexeme)
+    → IsStatement max_message_depth (Proto3 custom) f a g b
     → PassesNone custom a → IsStatement max_message_depth Extended f a g b
 statement_wide custom f g a b (statements-empty is s) free = statements-empty is s
 statement_wide custom f g a b (statements-import is i) free = statements-import is i

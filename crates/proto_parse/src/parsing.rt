@@ -31,8 +31,8 @@ pub fn parse(alloc: Global, tokens: &Tokens<'_, '_>) -> Result<File, SyntaxFault
 
 /// The tree that the tokens derive, with a choice of which sources are accepted.
 ///
-/// It is Ok if and only if they derive one, unless memory runs out. Otherwise the fault is the one that the tokens have,
-/// and if custom options are read past none of CustomOption, Aggregate and Extend.
+/// It is Ok if and only if they derive one, unless memory runs out. Otherwise the fault is the one that the tokens
+/// have, and if custom options are read past none of CustomOption, Aggregate and Extend.
 pub fn parse_with(
     alloc: Global,
     tokens: &Tokens<'_, '_>,

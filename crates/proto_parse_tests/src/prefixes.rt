@@ -1,5 +1,5 @@
-//! Each beginning of worked sources is a file, or is refused, in lexing or in parsing, no earlier than the shorter ones:
-//! where, no contract says.
+//! Each beginning of worked sources is a file, or is refused, in lexing or in parsing, no earlier than the shorter
+//! ones.
 
 use crate::calls::{PROTO3, fault_of_tokens, see, text_of, tokens_of};
 use proto_lex::Text;

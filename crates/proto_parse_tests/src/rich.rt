@@ -1,5 +1,5 @@
-//! A source with every production, cut, and with each of its tokens left out or replaced. No contract
-//! says that the fault is the one that reading from left to right meets first.
+//! A source with every production, cut, and with each of its tokens left out or replaced: the fault is the
+//! one that reading from left to right meets first.
 
 use crate::calls::{PAST, PROTO3, fault_of, offset_of, see, text_of, tokens_of};
 use proto_lex::{Span, Text, Tokens};

@@ -138,16 +138,20 @@ module _ (end : ℕ) where
   statement_exact : (levels : ℕ) (syntax : Syntax) (f g : File) (a b : List Lexeme) → IsStatement levels syntax f a g b
       → statement_at levels syntax f (place_of end a) ≡ Ok (g, place_of end b)
   unfolding only_package_at
-  statement_exact levels syntax f g a b (statements-empty is s) = by_choice levels syntax f g a b _ is (rw (token_exact end s) refl)
-  statement_exact levels syntax f g a b (statements-import is i) = by_choice levels syntax f g a b _ is (rw (import_exact i) refl)
+  statement_exact levels syntax f g a b (statements-empty is s) =
+      by_choice levels syntax f g a b _ is (rw (token_exact end s) refl)
+  statement_exact levels syntax f g a b (statements-import is i) =
+      by_choice levels syntax f g a b _ is (rw (import_exact i) refl)
   statement_exact levels syntax f g a b (statements-package_statement is none_yet p) =
       by_choice levels syntax f g a b _ is (rw (none_yet, package_exact p) refl)
-  statement_exact levels syntax f g a b (statements-option is o) = by_choice levels syntax f g a b _ is (rw (option_exact end o) refl)
+  statement_exact levels syntax f g a b (statements-option is o) =
+      by_choice levels syntax f g a b _ is (rw (option_exact end o) refl)
   statement_exact levels syntax f g a b (statements-message m is i) =
       by_choice levels syntax f g a b _ is
       (rw (message_exact end (inside_at syntax levels) (IsInside syntax levels)
       (inside_exact end syntax levels) a b m i) refl)
-  statement_exact levels syntax f g a b (statements-enum is e) = by_choice levels syntax f g a b _ is (rw (enum_exact end e) refl)
+  statement_exact levels syntax f g a b (statements-enum is e) =
+      by_choice levels syntax f g a b _ is (rw (enum_exact end e) refl)
   statement_exact levels syntax f g a b (statements-service is s) = by_choice levels syntax f g a b _ is
       (rw (service_exact end s) refl)
   statement_exact levels syntax f g a b (statements-extend {extend = x} is e) =
@@ -176,7 +180,8 @@ same_tree tree other d e =
 
 -- where a tree derives, a fault is want of memory
 pub only_memory : (end : ℕ) {dialect : Dialect} {a : List Lexeme} {tree : File} → (fault : SyntaxFault)
-    → Fails (custom_in dialect) fault (file_at max_message_depth dialect (place_of end a)) → IsFile dialect a tree → fault ≡ Memory
+    → Fails (custom_in dialect) fault (file_at max_message_depth dialect (place_of end a)) → IsFile dialect a tree
+    → fault ≡ Memory
 only_memory end (NotProto3 offset) fails d = let read = (file_exact end d).1 in cc
 only_memory end (CustomOption offset) fails d = let read = (file_exact end d).1 in cc
 only_memory end (Aggregate offset) fails d = let read = (file_exact end d).1 in cc

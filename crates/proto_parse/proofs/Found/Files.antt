@@ -267,7 +267,8 @@ statement_by_found levels syntax f tokens x choice.Other is e =
 pub statement_found : (levels : ℕ) (syntax : Syntax) (f : File) (tokens : Place) (x : File × Place)
     → statement_at levels syntax f tokens ≡ Ok x → IsStatement levels syntax f tokens.left x.0 x.1.left
 unfolding statement_at
-statement_found levels syntax f tokens x e = statement_by_found levels syntax f tokens x (file_statement_of tokens.left) refl e
+statement_found levels syntax f tokens x e =
+    statement_by_found levels syntax f tokens x (file_statement_of tokens.left) refl e
 
 pub file_found : (levels : ℕ) (dialect : Dialect) (tokens : Place) (x : File × Place)
     → file_at levels dialect tokens ≡ Ok x → IsFileWithin levels dialect tokens.left x.0

@@ -202,7 +202,8 @@ module _ (statement : Step) where
   fol_further test a p r is fol = further_by test a p.left p.end r is fol
 
   -- choices
-  pub if_as : (test : Test) (a b : Step) (l : List Lexeme) (k : List Step) (seen : Bool) → first_is (passes test) l ≡ true
+  pub if_as : (test : Test) (a b : Step) (l : List Lexeme) (k : List Step) (seen : Bool)
+      → first_is (passes test) l ≡ true
       → machine statement l (If test a b ∷ k) seen ≡ machine statement l (Then (Token test) a ∷ k) seen
   if_as test a b [] k seen is = absurd cc
   if_as test a b (t ∷ rest) k seen is =

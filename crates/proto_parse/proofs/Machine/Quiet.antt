@@ -1,5 +1,6 @@
 -- Which steps may stop at a group that no label is in front of: none may behind a label.
-use Rattle.std.proofs.Common.{◌≡◌, ℕ, ◌==◌, Bool, true, false, cond, ◌&&◌, ◌||◌, List, [], ◌∷◌, refl, sym, ◌∙◌, subst, codes}
+use Rattle.std.proofs.Common.{◌≡◌, ℕ, ◌==◌, Bool, true, false, cond, ◌&&◌, ◌||◌, List, [], ◌∷◌, refl, sym, ◌∙◌, subst}
+use Rattle.std.proofs.Common.{codes}
 use Rattle.std.proofs.lemmas.Slice.Eq.{bytes_eq-Decides}
 use Rattle.proto_lex.specs.declared.token.TokenKind.TheVariants.{Identifier, StringLiteral, CloseBrace, Dot}
 use Rattle.proto_grammar.specs.Lexeme.{Lexeme}
@@ -394,7 +395,8 @@ take_keeps (Closed depth) k next t d calm all e =
 feed_keeps : (statement : Step) → Calm statement false → (k next : List Step) (seen now : Bool) (t : Lexeme) (d : Bool)
     → CalmAll k → feed statement k seen t d ≡ Went next now → Kept t next
 feed_keeps statement base [] next seen now t d all e =
-    base_went statement (seen && is_package t) (take_by statement [] t d) (seen || is_package t) next now (Kept t next) e
+    base_went statement (seen && is_package t) (take_by statement [] t d) (seen || is_package t) next now
+    (Kept t next) e
     (λ f. take_keeps statement [] next t d base tt f)
 feed_keeps statement base (s ∷ k) next seen now t d all e =
     fed_went statement (take_by s k t d) seen (feed statement k seen t d) next now (Kept t next) e

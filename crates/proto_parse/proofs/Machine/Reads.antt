@@ -1,10 +1,12 @@
 -- The steps that are left behind a front.
-use Rattle.std.proofs.Common.{◌≡◌, ◌⊎◌, inl, inr, None, Bool, true, false, cond, ◌&&◌, ◌||◌, List, [], ◌∷◌, ◌++◌, refl, sym}
+use Rattle.std.proofs.Common.{◌≡◌, ◌⊎◌, inl, inr, None, Bool, true, false, cond, ◌&&◌, ◌||◌, List, [], ◌∷◌, ◌++◌}
+use Rattle.std.proofs.Common.{refl, sym}
 use Rattle.std.proofs.Common.{◌∙◌, ap, subst}
 use Rattle.proto_lex.specs.declared.token.TokenKind.TheVariants.{Dot, CloseBrace}
 use Rattle.proto_grammar.specs.Lexeme.{Lexeme}
 use Rattle.proto_grammar.specs.Terminal.{first, of_kind}
-use Rattle.proto_parse.proofs.Machine.{test_of, passes, Why, Step, Taken, or_next, take_by, all_ended, Fed, begun, fed_by}
+use Rattle.proto_parse.proofs.Machine.{test_of, passes, Why, Step, Taken, or_next, take_by, all_ended, Fed, begun}
+use Rattle.proto_parse.proofs.Machine.{fed_by}
 use Rattle.proto_parse.proofs.Machine.{feed, going, is_package, dots, Outcome, machine}
 use Rattle.proto_parse.proofs.Machine.Step.{Done, Token, Plain, Plains, Never, Then, If, Ban, Lone, Fork, Many, Block}
 use Rattle.proto_parse.proofs.Machine.Step.{Closed}
@@ -40,7 +42,8 @@ reads_machine {statement} {d = d} (onward {t = t} {front = front} f r) c e =
 pub reads_fits : {statement : Step} {k last : List Step} {seen later d : Bool} {front : List Lexeme}
     → Fit statement None → Reads statement k seen front d last later → Fits k → Fits last
 reads_fits base here fits = fits
-reads_fits {statement} {k} {seen = seen} {d = d} base (onward {next = next} {now = now} {t = t} {front = front} f r) fits =
+reads_fits {statement} {k} {seen = seen} {d = d} base (onward {next = next} {now = now} {t = t} {front = front} f r)
+    fits =
     reads_fits base r (feed_fits statement base k next seen now t (dots_behind front d) fits f)
 
 -- ---- where the machine stops
@@ -231,10 +234,12 @@ without_dot (If test a b) k t =
     as_cond (passes test t) (Took (a ∷ k)) (Took (a ∷ k)) (take_by b k t true) (take_by b k t false) tt
     (without_dot b k t)
 without_dot (Ban r b) k t =
-    as_cond (passes (test_of r) t) (Stopped (Refused r)) (Stopped (Refused r)) (take_by b k t true) (take_by b k t false) refl
+    as_cond (passes (test_of r) t) (Stopped (Refused r)) (Stopped (Refused r)) (take_by b k t true)
+    (take_by b k t false) refl
     (without_dot b k t)
 without_dot (Lone r dotted b) k t =
-    as_cond (passes (test_of r) t) (Took (dotted ∷ k)) (Stopped (Refused r)) (take_by b k t true) (take_by b k t false) tt
+    as_cond (passes (test_of r) t) (Took (dotted ∷ k)) (Stopped (Refused r)) (take_by b k t true)
+    (take_by b k t false) tt
     (without_dot b k t)
 without_dot (Fork word alone dotted b) k t =
     as_cond (passes word t) (Took (dotted ∷ k)) (Took (alone ∷ k)) (take_by b k t true) (take_by b k t false) tt
@@ -345,10 +350,12 @@ took_dotless (If test a b) k next t fit e =
     dotless_cond (passes test t) (Took (a ∷ k)) (Took (a ∷ k)) (take_by b k t true) (take_by b k t false) next
     (λ f. inl f) (λ f. took_dotless b k next t fit.1 f) e
 took_dotless (Ban r b) k next t fit e =
-    dotless_cond (passes (test_of r) t) (Stopped (Refused r)) (Stopped (Refused r)) (take_by b k t true) (take_by b k t false) next
+    dotless_cond (passes (test_of r) t) (Stopped (Refused r)) (Stopped (Refused r)) (take_by b k t true)
+    (take_by b k t false) next
     (λ f. inl f) (λ f. took_dotless b k next t fit.1 f) e
 took_dotless (Lone r dotted b) k next t fit e =
-    dotless_cond (passes (test_of r) t) (Took (dotted ∷ k)) (Stopped (Refused r)) (take_by b k t true) (take_by b k t false) next
+    dotless_cond (passes (test_of r) t) (Took (dotted ∷ k)) (Stopped (Refused r)) (take_by b k t true)
+    (take_by b k t false) next
     (λ f. inr (subst HeadTakesDot (took_same f) fit.1)) (λ f. took_dotless b k next t fit.3 f) e
 took_dotless (Fork word alone dotted b) k next t fit e =
     dotless_cond (passes word t) (Took (dotted ∷ k)) (Took (alone ∷ k)) (take_by b k t true) (take_by b k t false) next

@@ -4,7 +4,8 @@ use Rattle.std.proofs.Common.{subst}
 use Rattle.proto_lex.specs.declared.token.TokenKind.TheVariants.{StringLiteral, CloseBrace}
 use Rattle.proto_grammar.specs.Lexeme.{Lexeme}
 use Rattle.proto_grammar.specs.Terminal.{of_kind, is_plain_literal}
-use Rattle.proto_parse.proofs.Machine.{Test, test_of, passes, Refusal, Why, Step, Taken, or_next, take_by, Fed, begun, fed_by}
+use Rattle.proto_parse.proofs.Machine.{Test, test_of, passes, Refusal, Why, Step, Taken, or_next, take_by, Fed, begun}
+use Rattle.proto_parse.proofs.Machine.{fed_by}
 use Rattle.proto_parse.proofs.Machine.{feed, is_package}
 use Rattle.proto_parse.proofs.Machine.Step.{Done, Token, Plain, Plains, Never, Then, If, Ban, Lone, Fork, Many, Block}
 use Rattle.proto_parse.proofs.Machine.Step.{Closed}

@@ -15,7 +15,8 @@ use Rattle.proto_parse.proofs.Parts.{options_step, numbered_step, typed_step, ty
 use Rattle.proto_parse.proofs.Parts.{needed_label_step, group_rest, map_rest, integer_step, range_step, ranges_rest}
 use Rattle.proto_parse.proofs.Parts.{reserved_rest, extensions_rest, block, heading_rest, value_step, enum_item_step}
 use Rattle.proto_parse.proofs.Parts.{enum_rest, group_or, labelled_step, member_step, oneof_item_step, extend_item_step}
-use Rattle.proto_parse.proofs.Parts.{oneof_rest, extend_rest, passed_item_step, passed_extend_rest, extend_or, message_or}
+use Rattle.proto_parse.proofs.Parts.{oneof_rest, extend_rest, passed_item_step, passed_extend_rest, extend_or}
+use Rattle.proto_parse.proofs.Parts.{message_or}
 use Rattle.proto_parse.proofs.Parts.{map_or, ranges_or, message_item_step, inside_step, method_type_step}
 use Rattle.proto_parse.proofs.Parts.{method_item_step, method_end_step, method_step, service_item_step, service_rest}
 use Rattle.proto_parse.proofs.Parts.{statement_step}
@@ -124,7 +125,8 @@ calm_enum_item custom n =
     (refl, tt, (refl, calm_option custom n, (refl, calm_reserved true n, calm_value custom n)))
 
 calm_enum : (custom : CustomOptions) → Calms (enum_rest custom)
-calm_enum custom = calm_heading (block (enum_item_step custom)) (calm_block (enum_item_step custom) (calm_enum_item custom))
+calm_enum custom =
+    calm_heading (block (enum_item_step custom)) (calm_block (enum_item_step custom) (calm_enum_item custom))
 
 -- what is inside, if a level is left for it
 abbrev InnerCalms : Option Step → Type 0
@@ -137,7 +139,8 @@ calm_group_or r quiet None calm n = (quiet, calm_typed_rest Skip n, calm_typed S
 calm_group_or r quiet (Some inner) calm n =
     (refl, refl, (calm_group (noisy inner || (passable inner && n)), calm n), calm_typed_rest Skip n, calm_typed Skip n)
 
-calm_labelled : (syntax : Syntax) (inner : Option Step) → InnerCalms inner → Calms (labelled_step GroupNext syntax inner)
+calm_labelled : (syntax : Syntax) (inner : Option Step) → InnerCalms inner
+    → Calms (labelled_step GroupNext syntax inner)
 calm_labelled (Proto3 custom) inner calm n = calm_typed custom n
 calm_labelled Extended inner calm n = calm_typed Skip n
 calm_labelled Proto2 inner calm n = calm_group_or GroupNext refl inner calm n

@@ -1,5 +1,6 @@
 -- What is read follows the parts: statements of a file.
-use Rattle.std.proofs.Common.{◌≡◌, ℕ, zero, suc, ◌≤◌, Bool, true, false, cond, ◌&&◌, ◌||◌, is_some, Result, Ok, Err, Option}
+use Rattle.std.proofs.Common.{◌≡◌, ℕ, zero, suc, ◌≤◌, Bool, true, false, cond, ◌&&◌, ◌||◌, is_some, Result, Ok, Err}
+use Rattle.std.proofs.Common.{Option}
 use Rattle.std.proofs.Common.{Some, None, List, [], ◌∷◌, length, refl, sym, ◌∙◌, ap, subst, codes, arith}
 use Rattle.proto_lex.specs.declared.span.Span.{Span}
 use Rattle.proto_lex.specs.declared.token.TokenKind.TheVariants.{Identifier, Semicolon}
@@ -26,18 +27,21 @@ use Rattle.proto_grammar.proofs.StandingLemmas.{Behind}
 use Rattle.proto_grammar.proofs.UntilLemmas.{until_at-step}
 use Rattle.proto_grammar.proofs.TokenLemmas.{other_word, word_kind, other_kind, next_no_word, next_other_word}
 use Rattle.proto_parse.proofs.StepsFall.{path_literals_fall, items_fall, statements_fall}
-use Rattle.proto_parse.proofs.Machine.{Test, Refusal, test_of, passes, Why, Step, Taken, Fed, take_by, begun, fed_by, feed, going, is_package, dots, Outcome, machine}
+use Rattle.proto_parse.proofs.Machine.{Test, Refusal, test_of, passes, Why, Step, Taken, Fed, take_by, begun, fed_by}
+use Rattle.proto_parse.proofs.Machine.{feed, going, is_package, dots, Outcome, machine}
 use Rattle.proto_parse.proofs.Machine.Test.{OfKind, Word}
 use Rattle.proto_parse.proofs.Machine.Step.{Done, Never, Token, Then, If, Ban, Plain}
 use Rattle.proto_parse.proofs.Machine.Why.{Misplaced, Refused}
 use Rattle.proto_parse.proofs.Machine.Refusal.{MessageNext, ExtendNext}
 use Rattle.proto_parse.proofs.Machine.Taken.{Took, Passed, Stopped}
 use Rattle.proto_parse.proofs.Machine.Outcome.{Whole}
-use Rattle.proto_parse.proofs.Machine.Follows.{Agrees, Tells, Fol, fol_then, fol_value, fol_done, fol_token, fol_if, fol_last}
+use Rattle.proto_parse.proofs.Machine.Follows.{Agrees, Tells, Fol, fol_then, fol_value, fol_done, fol_token, fol_if}
+use Rattle.proto_parse.proofs.Machine.Follows.{fol_last}
 use Rattle.proto_parse.proofs.Machine.Follows.{fol_cond}
 use Rattle.proto_parse.proofs.Machine.Follows.{fol_taken, fol_plain, fol_plains, fol_choose, tells_behind}
 use Rattle.proto_parse.proofs.Parts.{import_rest, package_rest, option_rest, enum_rest, service_rest, inside_step}
-use Rattle.proto_parse.proofs.Parts.{extend_or, extend_rest, passed_extend_rest, heading_rest, message_or, statement_step}
+use Rattle.proto_parse.proofs.Parts.{extend_or, extend_rest, passed_extend_rest, heading_rest, message_or}
+use Rattle.proto_parse.proofs.Parts.{statement_step}
 use Rattle.proto_parse.proofs.Parts.Names.{name_follows}
 use Rattle.proto_parse.proofs.Parts.Options.{option_follows}
 use Rattle.proto_parse.proofs.Parts.Messages.{enum_follows, extend_chosen, message_chosen, inside_follows}
@@ -91,19 +95,22 @@ module _ (st : Step) where
   statement_follows levels syntax f p one =
       fol_choose st (λ s. statement_by levels s syntax f p) (OfKind Semicolon) Done _ p choice.Empty _
       (λ is. fol_value st _ p _ _ (fol_last st (Token (OfKind Semicolon)) p _ (fol_token st (OfKind Semicolon) p)))
-      (λ off. fol_choose st (λ s. statement_by levels s syntax f p) (Word (codes "import")) import_rest _ p choice.Import _
+      (λ off. fol_choose st (λ s. statement_by levels s syntax f p) (Word (codes "import")) import_rest _ p
+      choice.Import _
       (λ is. fol_value st _ p _ _ (import_follows p))
       (λ off. fol_choose st (λ s. statement_by levels s syntax f p) (Word (codes "package")) package_rest _ p
       choice.Package _
       (λ is. fol_cond st _ p (is_some f.package_name) _ _
       (λ some. absurd (let never : true ≡ false = sym some ∙ no_package is in cc))
       (λ none. fol_value st _ p _ _ (package_follows p)))
-      (λ off. fol_choose st (λ s. statement_by levels s syntax f p) (Word (codes "option")) (option_rest (custom_of syntax))
+      (λ off. fol_choose st (λ s. statement_by levels s syntax f p) (Word (codes "option"))
+      (option_rest (custom_of syntax))
       _ p choice.Option _
       (λ is. fol_value st _ p _ _ (option_follows st (custom_of syntax) p))
       (λ off. message_chosen st (λ s. statement_by levels s syntax f p) (inside_step syntax levels)
       (inside_at syntax levels) (inside_follows st syntax levels) _ p _ choice.Message _ refl
-      (λ off. fol_choose st (λ s. statement_by levels s syntax f p) (Word (codes "enum")) (enum_rest (custom_of syntax)) _ p
+      (λ off. fol_choose st (λ s. statement_by levels s syntax f p) (Word (codes "enum"))
+      (enum_rest (custom_of syntax)) _ p
       choice.Enum _
       (λ is. fol_value st _ p _ _ (enum_follows st (custom_of syntax) p))
       (λ off. fol_choose st (λ s. statement_by levels s syntax f p) (Word (codes "service"))
@@ -183,7 +190,8 @@ module _ (levels : ℕ) (syntax : Syntax) (f : File) (p : Place) where
       (λ off. flag_chosen (first_is (is_word (codes "service")) p.left) choice.Service _
       (λ is x e. no_flag none x (kept_flag f (service_at (custom_of syntax) p) _ x e (λ z. refl)))
       (λ off. flag_chosen (first_is (is_word (codes "extend")) p.left) choice.Extend choice.Other
-      (λ is x e. no_flag none x (kept_flag f (extend_statement_at syntax (inside_at syntax levels) p) _ x e (λ z. refl)))
+      (λ is x e. no_flag none x
+      (kept_flag f (extend_statement_at syntax (inside_at syntax levels) p) _ x e (λ z. refl)))
       (λ off x e. absurd (let never : Err (variant.Grammar (offset_at p)) ≡ read_as x = e in cc)))))))))
 
   pub statement_flag : (x : File × Place) → statement_at levels syntax f p ≡ Ok x
@@ -244,7 +252,8 @@ module _ (k : List Step) (t : Lexeme) (d : Bool) where
   statement_takes : (levels : ℕ) (syntax : Syntax) → NoPass (statement_step levels syntax)
   statement_takes levels syntax =
       let inner : Option Step = inside_step syntax levels in
-      let behind_enum : Step = If (Word (codes "service")) (service_rest (custom_of syntax)) (extend_or syntax inner Never)
+      let behind_enum : Step =
+      If (Word (codes "service")) (service_rest (custom_of syntax)) (extend_or syntax inner Never)
       in
       let behind_message : Step = If (Word (codes "enum")) (enum_rest (custom_of syntax)) behind_enum in
       let behind_package : Step =

@@ -2,8 +2,10 @@
 use Rattle.std.proofs.Common.{◌≡◌, ℕ, zero, suc, Bool, true, false, Option, Some, None, ◌∷◌, refl}
 use Rattle.std.proofs.Common.{◌∙◌, codes}
 use Rattle.proto_lex.specs.declared.token.TokenKind.{TokenKind}
-use Rattle.proto_lex.specs.declared.token.TokenKind.TheVariants.{Identifier, StringLiteral, Semicolon, Equals, OpenBrace}
-use Rattle.proto_lex.specs.declared.token.TokenKind.TheVariants.{CloseBrace, OpenBracket, CloseBracket, CloseParenthesis}
+use Rattle.proto_lex.specs.declared.token.TokenKind.TheVariants.{Identifier, StringLiteral, Semicolon, Equals}
+use Rattle.proto_lex.specs.declared.token.TokenKind.TheVariants.{OpenBrace}
+use Rattle.proto_lex.specs.declared.token.TokenKind.TheVariants.{CloseBrace, OpenBracket, CloseBracket}
+use Rattle.proto_lex.specs.declared.token.TokenKind.TheVariants.{CloseParenthesis}
 use Rattle.proto_lex.specs.declared.token.TokenKind.TheVariants.{Less, Greater}
 use Rattle.proto_lex.specs.declared.token.TokenKind.TheVariants.{Comma, Dot}
 use Rattle.proto_grammar.specs.declared.tree.CustomOptions.{CustomOptions}
@@ -406,7 +408,8 @@ fit_group_or r None sits n =
 fit_group_or r (Some inner) sits n =
     (typed_rest_takes, sits_group inner sits n, (refl, has_typed_rest Skip n, fit_typed_rest Skip n), fit_typed Skip n)
 
-fit_labelled : (syntax : Syntax) (inner : Option Step) → InnerSits inner → Fitting (labelled_step GroupNext syntax inner)
+fit_labelled : (syntax : Syntax) (inner : Option Step) → InnerSits inner
+    → Fitting (labelled_step GroupNext syntax inner)
 fit_labelled (Proto3 custom) inner sits n = fit_typed custom n
 fit_labelled Extended inner sits n = fit_typed Skip n
 fit_labelled Proto2 inner sits n = fit_group_or GroupNext inner sits n

@@ -1,5 +1,6 @@
 -- What is read follows the parts: enums, messages, groups, oneofs and extends.
-use Rattle.std.proofs.Common.{◌≡◌, ◌⊎◌, inl, inr, ℕ, zero, suc, Bool, true, false, cond, ◌&&◌, Result, Ok, Err, Option, Some, None}
+use Rattle.std.proofs.Common.{◌≡◌, ◌⊎◌, inl, inr, ℕ, zero, suc, Bool, true, false, cond, ◌&&◌, Result, Ok, Err}
+use Rattle.std.proofs.Common.{Option, Some, None}
 use Rattle.std.proofs.Common.{List, [], ◌∷◌, refl, sym, ◌∙◌, subst, codes}
 use Rattle.proto_lex.specs.declared.span.Span.{Span}
 use Rattle.proto_lex.specs.declared.token.TokenKind.TheVariants.{Identifier, Integer, Semicolon, Equals, OpenBrace}
@@ -49,7 +50,8 @@ use Rattle.proto_parse.proofs.Machine.Follows.{Agrees, Fol, fol_as, fol_then, fo
 use Rattle.proto_parse.proofs.Machine.Follows.{fol_block, fol_taken, fol_rebind, fol_lone, fol_fork, fol_cond}
 use Rattle.proto_parse.proofs.Machine.Follows.{fol_if_false, if_as, token_then, fol_last, fol_choose}
 use Rattle.proto_parse.proofs.Machine.Follows.{fol_choose_ban, agrees_behind, Tells}
-use Rattle.proto_parse.proofs.Parts.{type_name_step, dot_names, option_rest, numbered_step, typed_step, typed_rest, label_step}
+use Rattle.proto_parse.proofs.Parts.{type_name_step, dot_names, option_rest, numbered_step, typed_step, typed_rest}
+use Rattle.proto_parse.proofs.Parts.{label_step}
 use Rattle.proto_parse.proofs.Parts.{needed_label_step, group_rest, map_rest, reserved_rest, extensions_rest, block}
 use Rattle.proto_parse.proofs.Parts.{heading_rest, value_step, enum_item_step, enum_rest, group_or, labelled_step}
 use Rattle.proto_parse.proofs.Parts.{member_step, oneof_item_step, extend_item_step, oneof_rest, extend_rest}
@@ -188,7 +190,8 @@ module _ (st : Step) where
   label_cases : (t : Lexeme) (rest : List Lexeme) (end : ℕ) → HasLabel t rest end ⊎ HasNoLabel t rest end
   unfolding label_at required_at token_that
   label_cases t rest end =
-      by_tests (is_word (codes "repeated") t) (is_word (codes "optional") t) (is_word (codes "required") t) refl refl refl
+      by_tests (is_word (codes "repeated") t) (is_word (codes "optional") t) (is_word (codes "required") t) refl refl
+      refl
     where
       by_tests : (a b c : Bool) → is_word (codes "repeated") t ≡ a → is_word (codes "optional") t ≡ b
           → is_word (codes "required") t ≡ c → HasLabel t rest end ⊎ HasNoLabel t rest end
@@ -372,7 +375,8 @@ module _ (st : Step) where
       → (first_is (is_word (codes "extensions")) p.left ≡ false → Fol st other p (choose y))
       → Fol st (ranges_or syntax other) p (choose (cond (first_is (is_word (codes "extensions")) p.left) x y))
   unfolding ranges_at
-  ranges_chosen choose (Proto3 custom) other p x y is off = fol_choose_ban st choose RangesNext other p _ x y is refl off
+  ranges_chosen choose (Proto3 custom) other p x y is off =
+      fol_choose_ban st choose RangesNext other p _ x y is refl off
   ranges_chosen choose Extended other p x y is off = fol_choose_ban st choose RangesNext other p _ x y is refl off
   ranges_chosen choose Proto2 other p x y is off =
       fol_choose st choose (Word (codes "extensions")) extensions_rest other p x y
@@ -475,7 +479,8 @@ module _ (st : Step) where
 
   map_chosen : {X : Type 0} (choose : X → Result (Option Item × Place) SyntaxFault) (syntax : Syntax)
       (inner : Option Step) (p : Place) (x y : X)
-      → Fol st (Then (Token (Word (codes "map"))) (Then (Token (OfKind Less)) (map_rest (custom_of syntax)))) p (choose x)
+      → Fol st (Then (Token (Word (codes "map"))) (Then (Token (OfKind Less)) (map_rest (custom_of syntax)))) p
+      (choose x)
       → Fol st (behind_map syntax inner) p (choose y)
       → Fol st (map_or syntax (behind_map syntax inner)) p (choose (cond (begins_map syntax p.left) x y))
   map_chosen choose (Proto3 custom) inner p x y on off =
@@ -525,7 +530,8 @@ module _ (st : Step) where
         (λ off. message_chosen (chosen_item p) inner read follow _ p _ choice.Message _ refl
         (λ off. fol_choose st (chosen_item p) (Word (codes "enum")) (enum_rest (custom_of syntax)) _ p choice.Enum _
         (λ is. fol_value st _ p _ _ (enum_follows (custom_of syntax) p))
-        (λ off. fol_choose st (chosen_item p) (Word (codes "option")) (option_rest (custom_of syntax)) _ p choice.Option _
+        (λ off. fol_choose st (chosen_item p) (Word (codes "option")) (option_rest (custom_of syntax)) _ p
+        choice.Option _
         (λ is. fol_value st _ p _ _ (option_follows st (custom_of syntax) p))
         (λ off. fol_choose st (chosen_item p) (Word (codes "oneof")) (oneof_rest syntax inner) _ p choice.Oneof _
         (λ is. fol_value st _ p _ _ (oneof_follows syntax inner read follow fall p))

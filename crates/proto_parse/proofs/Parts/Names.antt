@@ -115,11 +115,13 @@ module _ (st : Step) where
       (λ is. fol_value st type_name_step p _ _ (scalar_by p.left p.end is))
       (λ off. fol_value st type_name_step p _ _ (type_name_follows p))
 
-  named_by : (left : List Lexeme) (end : ℕ) → Fol st named_type_step (place_of end left) (named_type_at (place_of end left))
+  named_by : (left : List Lexeme) (end : ℕ)
+      → Fol st named_type_step (place_of end left) (named_type_at (place_of end left))
   unfolding named_type_at
   named_by left end =
       fol_lone st ScalarNext dot_names type_name_step (place_of end left) left end
-      (variant.Grammar (offset_at (place_of end left))) _ (behind_here (place_of end left)) ([], refl, refl) (type_name_follows (place_of end left))
+      (variant.Grammar (offset_at (place_of end left))) _ (behind_here (place_of end left)) ([], refl, refl)
+      (type_name_follows (place_of end left))
       (λ t rest k seen is. name_begun t rest k seen (scalar_word t is))
 
   pub named_type_follows : (p : Place) → Fol st named_type_step p (named_type_at p)

@@ -1,6 +1,7 @@
 -- What is read follows the parts: options.
 use Rattle.std.proofs.Common.{refl, codes}
-use Rattle.proto_lex.specs.declared.token.TokenKind.TheVariants.{Identifier, StringLiteral, Semicolon, Equals, OpenBrace}
+use Rattle.proto_lex.specs.declared.token.TokenKind.TheVariants.{Identifier, StringLiteral, Semicolon, Equals}
+use Rattle.proto_lex.specs.declared.token.TokenKind.TheVariants.{OpenBrace}
 use Rattle.proto_lex.specs.declared.token.TokenKind.TheVariants.{OpenBracket, CloseBracket, OpenParenthesis}
 use Rattle.proto_lex.specs.declared.token.TokenKind.TheVariants.{CloseParenthesis, Comma, Dot}
 use Rattle.proto_grammar.specs.declared.tree.CustomOptions.{CustomOptions}

@@ -12,7 +12,8 @@ use Rattle.proto_parse.proofs.StepsFall.{method_items_fall, service_items_fall}
 use Rattle.proto_parse.proofs.Machine.{Step}
 use Rattle.proto_parse.proofs.Machine.Test.{OfKind, Word}
 use Rattle.proto_parse.proofs.Machine.Step.{Done, Token, Then, If}
-use Rattle.proto_parse.proofs.Machine.Follows.{Fol, fol_then, fol_value, fol_done, fol_token, fol_if, fol_block, fol_taken}
+use Rattle.proto_parse.proofs.Machine.Follows.{Fol, fol_then, fol_value, fol_done, fol_token, fol_if, fol_block}
+use Rattle.proto_parse.proofs.Machine.Follows.{fol_taken}
 use Rattle.proto_parse.proofs.Machine.Follows.{fol_last}
 use Rattle.proto_parse.proofs.Parts.{method_type_step, method_item_step, method_end_step, method_step}
 use Rattle.proto_parse.proofs.Parts.{service_item_step, service_rest, block}

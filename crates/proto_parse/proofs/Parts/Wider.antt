@@ -258,7 +258,8 @@ group_or_l : (r : Refusal) (inner other : Option Step) → of_levels r ≡ true 
     → Deeper inner other → Wide of_levels (group_or r inner) (group_or r other)
 group_or_l r None None opens is w = absurd w
 group_or_l r None (Some other) opens is w =
-    subst (λ t. Wide of_levels (group_or r None) (Fork t (Then group_rest other) (typed_rest Skip) (typed_step Skip))) is
+    subst
+    (λ t. Wide of_levels (group_or r None) (Fork t (Then group_rest other) (typed_rest Skip) (typed_step Skip))) is
     (alone opens (typed_rest_l Skip) (typed_l Skip))
 group_or_l r (Some inner) None opens is w = absurd w
 group_or_l r (Some inner) (Some other) opens is w = fork (then group_l w) (typed_rest_l Skip) (typed_l Skip)

@@ -111,7 +111,8 @@ only_package_right file p is =
 
 -- the statement that is chosen
 choice_right : (syntax : Syntax) (file : File) (p : Place) (b : Bool) (x y : FileStatement)
-    → (b ≡ true → Right p (statement_by max_message_depth x syntax file p)) → (b ≡ false → Right p (statement_by max_message_depth y syntax file p))
+    → (b ≡ true → Right p (statement_by max_message_depth x syntax file p))
+    → (b ≡ false → Right p (statement_by max_message_depth y syntax file p))
     → Right p (statement_by max_message_depth (cond b x y) syntax file p)
 choice_right syntax file p true x y left right = left refl
 choice_right syntax file p false x y left right = right refl
@@ -143,7 +144,8 @@ pub file_right : (dialect : Dialect) (p : Place) → Right p (file_at max_messag
 unfolding file_at statements_at
 file_right dialect p =
     right_then p _ _ (syntax_right dialect p)
-    (λ syntax. until_right is_end (statement_at max_message_depth syntax.0) (statement_right syntax.0) empty_file syntax.1)
+    (λ syntax. until_right is_end (statement_at max_message_depth syntax.0) (statement_right syntax.0) empty_file
+    syntax.1)
 
 -- of what the parser gives
 right_of : {A : Type 0} (p : Place) (o : Result (A × Place) SyntaxFault) (fault : SyntaxFault) → o ≡ Err fault

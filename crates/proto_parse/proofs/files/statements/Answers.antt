@@ -26,7 +26,8 @@ returns-in_err-statement c =
     rw (p.1, p.2)
     (Fails-of _ _ (statement_at max_message_depth c.args.syntax c.statements.file c.statements.parser) _
     (stops is_end (statement_at max_message_depth c.args.syntax)
-    (statements_fall max_message_depth c.args.syntax) c.statements.file c.statements.parser _ c.statements.invariant further)
+    (statements_fall max_message_depth c.args.syntax) c.statements.file c.statements.parser _ c.statements.invariant
+    further)
     c.in_err-statement.ensures)
 
 pub returns : goal.returns
@@ -34,4 +35,5 @@ unfolding statements_at
 returns c =
     let past : is_end c.statements.parser.left ≡ true = cc in
     is_done is_end (statement_at max_message_depth c.args.syntax)
-    (statements_fall max_message_depth c.args.syntax) c.statements.file c.statements.parser _ c.statements.invariant past
+    (statements_fall max_message_depth c.args.syntax) c.statements.file c.statements.parser _ c.statements.invariant
+    past

@@ -24,6 +24,7 @@ pub mod Parts
 -- Which fault tokens have
 pub mod RefusedLemmas
 -- The fault that is met is theirs
+pub mod Fronts
 pub mod Told
 pub mod Versions
 pub mod Refusing

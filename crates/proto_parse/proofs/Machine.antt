@@ -16,6 +16,7 @@ pub mod Wide
 pub mod Swapped
 pub mod Package
 pub mod Quiet
+pub mod Tells
 pub mod Follows
 
 -- what is asked of a token

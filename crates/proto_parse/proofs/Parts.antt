@@ -17,11 +17,13 @@ use Rattle.proto_parse.proofs.Machine.Refusal.{LabelledGroupNext, RangesNext, Sc
 use Rattle.proto_parse.proofs.Machine.Step.{Done, Token, Plain, Plains, Never, Then, If, Ban, Lone, Fork, Many, Block}
 use Rattle.proto_parse.proofs.Machine.Step.{Closed}
 pub mod Fitting
+pub mod Sitting
 pub mod Wider
 pub mod Calming
 pub mod Names
 pub mod Options
 pub mod Fields
+pub mod Enums
 pub mod Messages
 pub mod Services
 pub mod Files

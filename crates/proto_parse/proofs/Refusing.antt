@@ -37,7 +37,7 @@ use Rattle.proto_grammar.specs.Grammar.Repetition.One.{one}
 use Rattle.proto_parse.specs.Grammar.Files.IsSyntax.{proto3, proto2}
 use Rattle.proto_parse.proofs.Joined.{joined_exact, joined_found}
 use Rattle.proto_parse.proofs.Machine.{machine}
-use Rattle.proto_parse.proofs.Machine.Follows.{Tells}
+use Rattle.proto_parse.proofs.Machine.Tells.{Tells}
 use Rattle.proto_parse.proofs.Parts.{statement_step}
 use Rattle.proto_parse.proofs.Parts.Files.{FileAgrees, statements_follow}
 use Rattle.proto_parse.proofs.Told.{outcome_refused}

@@ -32,7 +32,7 @@ use Rattle.proto_parse.specs.Refused.WouldGoOn.{group_too_deep}
 use Rattle.proto_parse.specs.Refused.IsRefused.{wrong, missing}
 use Rattle.proto_parse.proofs.Exact.Files.{syntax_exact}
 use Rattle.proto_parse.proofs.RefusedLemmas.{version_named}
-use Rattle.proto_parse.proofs.Told.{Front, Opens}
+use Rattle.proto_parse.proofs.Fronts.{Front, Opens}
 use Rattle.proto_parse.proofs.Machine.Quiet.{LastNoLabel}
 
 -- ---- the literals of a statement

@@ -35,16 +35,18 @@ use Rattle.proto_parse.proofs.Machine.Why.{Misplaced, Refused}
 use Rattle.proto_parse.proofs.Machine.Refusal.{MessageNext, ExtendNext}
 use Rattle.proto_parse.proofs.Machine.Taken.{Took, Passed, Stopped}
 use Rattle.proto_parse.proofs.Machine.Outcome.{Whole}
-use Rattle.proto_parse.proofs.Machine.Follows.{Agrees, Tells, Fol, fol_then, fol_value, fol_done, fol_token, fol_if}
+use Rattle.proto_parse.proofs.Machine.Follows.{Agrees, Fol, fol_then, fol_value, fol_done, fol_token, fol_if}
 use Rattle.proto_parse.proofs.Machine.Follows.{fol_last}
 use Rattle.proto_parse.proofs.Machine.Follows.{fol_cond}
-use Rattle.proto_parse.proofs.Machine.Follows.{fol_taken, fol_plain, fol_plains, fol_choose, tells_behind}
+use Rattle.proto_parse.proofs.Machine.Follows.{fol_taken, fol_plain, fol_plains, fol_choose}
+use Rattle.proto_parse.proofs.Machine.Tells.{Tells, tells_behind}
 use Rattle.proto_parse.proofs.Parts.{import_rest, package_rest, option_rest, enum_rest, service_rest, inside_step}
 use Rattle.proto_parse.proofs.Parts.{extend_or, extend_rest, passed_extend_rest, heading_rest, message_or}
 use Rattle.proto_parse.proofs.Parts.{statement_step}
 use Rattle.proto_parse.proofs.Parts.Names.{name_follows}
 use Rattle.proto_parse.proofs.Parts.Options.{option_follows}
-use Rattle.proto_parse.proofs.Parts.Messages.{enum_follows, extend_chosen, message_chosen, inside_follows}
+use Rattle.proto_parse.proofs.Parts.Messages.{extend_chosen, message_chosen, inside_follows}
+use Rattle.proto_parse.proofs.Parts.Enums.{enum_follows}
 use Rattle.proto_parse.proofs.Parts.Services.{service_follows}
 
 module _ (st : Step) where

@@ -1,9 +1,9 @@
--- What is read follows the parts: enums, messages, groups, oneofs and extends.
+-- What is read follows the parts: messages, groups, oneofs and extends.
 use Rattle.std.proofs.Common.{◌≡◌, ◌⊎◌, inl, inr, ℕ, zero, suc, Bool, true, false, cond, ◌&&◌, Result, Ok, Err}
 use Rattle.std.proofs.Common.{Option, Some, None}
 use Rattle.std.proofs.Common.{List, [], ◌∷◌, refl, sym, ◌∙◌, subst, codes}
 use Rattle.proto_lex.specs.declared.span.Span.{Span}
-use Rattle.proto_lex.specs.declared.token.TokenKind.TheVariants.{Identifier, Integer, Semicolon, Equals, OpenBrace}
+use Rattle.proto_lex.specs.declared.token.TokenKind.TheVariants.{Integer, Semicolon, Equals, OpenBrace}
 use Rattle.proto_lex.specs.declared.token.TokenKind.TheVariants.{CloseBrace, Less, Dot}
 use Rattle.proto_grammar.specs.declared.fault.SyntaxFault.{SyntaxFault}
 use Rattle.proto_grammar.specs.declared.fault.SyntaxFault.TheVariants as variant
@@ -11,7 +11,6 @@ use Rattle.proto_grammar.specs.declared.tree.CustomOptions.{CustomOptions}
 use Rattle.proto_grammar.specs.declared.tree.CustomOptions.TheVariants.{Refuse, Skip}
 use Rattle.proto_grammar.specs.declared.tree.Syntax.{Syntax}
 use Rattle.proto_grammar.specs.declared.tree.Syntax.TheVariants.{Proto3, Extended, Proto2}
-use Rattle.proto_grammar.specs.declared.tree.Heading.{Heading}
 use Rattle.proto_grammar.specs.declared.tree.Group.{Group}
 use Rattle.proto_grammar.specs.declared.tree.Label.{Label}
 use Rattle.proto_grammar.specs.declared.tree.Item.{Item}
@@ -26,7 +25,7 @@ use Rattle.proto_grammar.specs.Syntax.{custom_of, is_proto2}
 use Rattle.proto_grammar.specs.Terminal.{first_is, of_kind, is_word, begins_group, not_next, others}
 use Rattle.proto_grammar.specs.Reading.Repetition.{◌>>=◌, and_then, Read, span_at, token_that, adding, passing}
 use Rattle.proto_grammar.specs.Reading.Fields.{label_at, required_at, typed_at, group_head_at}
-use Rattle.proto_parse.specs.Reading.Messages.{Inside, heading_at, value_at, enum_item_at, enum_items_at, enum_at}
+use Rattle.proto_parse.specs.Reading.Messages.{Inside}
 use Rattle.proto_parse.specs.Reading.Messages.{braced_at, group_at, labelled_at, member_at, oneof_member_at}
 use Rattle.proto_parse.specs.Reading.Messages.{oneof_item_at, extend_item_at, oneof_at, extend_at, passed_item_at}
 use Rattle.proto_parse.specs.Reading.Messages.{passed_items_at, passed_extend_at, extend_statement_at, message_at}
@@ -34,7 +33,7 @@ use Rattle.proto_parse.specs.Reading.Messages.{ranges_at, message_item_by, messa
 use Rattle.proto_grammar.proofs.Steps.{both_true}
 use Rattle.proto_grammar.proofs.StandingLemmas.{Behind, behind_here, behind_one}
 use Rattle.proto_grammar.proofs.UntilLemmas.{Falls}
-use Rattle.proto_parse.proofs.StepsFall.{enum_items_fall, passed_items_fall, items_fall}
+use Rattle.proto_parse.proofs.StepsFall.{passed_items_fall, items_fall}
 use Rattle.proto_parse.proofs.Machine.{Step, passes, test_of, machine, machine_then, machine_if_true, machine_if_false}
 use Rattle.proto_parse.proofs.Machine.{machine_done, machine_ban_false}
 use Rattle.proto_parse.proofs.Machine.{Refusal}
@@ -49,67 +48,24 @@ use Rattle.proto_parse.proofs.Machine.Step.{Done, Token, Then, If}
 use Rattle.proto_parse.proofs.Machine.Follows.{Agrees, Fol, fol_as, fol_then, fol_value, fol_token, fol_if}
 use Rattle.proto_parse.proofs.Machine.Follows.{fol_block, fol_taken, fol_rebind, fol_lone, fol_fork, fol_cond}
 use Rattle.proto_parse.proofs.Machine.Follows.{fol_if_false, if_as, token_then, fol_last, fol_choose}
-use Rattle.proto_parse.proofs.Machine.Follows.{fol_choose_ban, agrees_behind, Tells}
+use Rattle.proto_parse.proofs.Machine.Follows.{fol_choose_ban, agrees_behind}
+use Rattle.proto_parse.proofs.Machine.Tells.{Tells}
 use Rattle.proto_parse.proofs.Parts.{type_name_step, dot_names, option_rest, numbered_step, typed_step, typed_rest}
 use Rattle.proto_parse.proofs.Parts.{label_step}
 use Rattle.proto_parse.proofs.Parts.{needed_label_step, group_rest, map_rest, reserved_rest, extensions_rest, block}
-use Rattle.proto_parse.proofs.Parts.{heading_rest, value_step, enum_item_step, enum_rest, group_or, labelled_step}
+use Rattle.proto_parse.proofs.Parts.{heading_rest, enum_rest, group_or, labelled_step}
 use Rattle.proto_parse.proofs.Parts.{member_step, oneof_item_step, extend_item_step, oneof_rest, extend_rest}
 use Rattle.proto_parse.proofs.Parts.{passed_item_step, passed_extend_rest, extend_or, message_or, map_or, ranges_or}
 use Rattle.proto_parse.proofs.Parts.{message_item_step, inside_step}
 use Rattle.proto_parse.proofs.Parts.Names.{name_begun, named_type_follows, pass_type_name_follows}
 use Rattle.proto_parse.proofs.Parts.Options.{option_follows, options_follow}
 use Rattle.proto_parse.proofs.Parts.Fields.{typed_follows, free_label_follows, pass_field_follows}
-use Rattle.proto_parse.proofs.Parts.Fields.{map_rest_follows, integer_follows, reserved_follows, extensions_follow}
+use Rattle.proto_parse.proofs.Parts.Fields.{map_rest_follows, reserved_follows, extensions_follow}
 use Rattle.proto_grammar.proofs.TokenLemmas.{word_kind, other_word}
+use Rattle.proto_parse.proofs.Parts.Enums.{heading_follows, adding_follows}
+use Rattle.proto_parse.proofs.Parts.Enums.{enum_follows}
 
 module _ (st : Step) where
-  -- a heading, and what is inside
-  pub heading_follows : {A : Type 0} (word : List ℕ) (inner : Step) (p : Place)
-      (next : Heading × Place → Result (A × Place) SyntaxFault) → ((x : Heading × Place) → Fol st inner x.1 (next x))
-      → Fol st (Then (Token (Word word)) (Then heading_rest inner)) p (and_then (heading_at word p) next)
-  unfolding heading_at
-  heading_follows word inner p next follow =
-      fol_rebind st _ p (token_that (is_word word) p) _ next
-      (fol_then st _ _ p _ _ (fol_token st (Word word) p)
-      (λ first. fol_then st _ _ first.1 _ _
-      (fol_then st _ _ first.1 _ _ (fol_token st (OfKind Identifier) first.1)
-      (λ name. fol_value st _ name.1 _ _ (fol_token st (OfKind OpenBrace) name.1))) follow))
-
-  value_follows : (custom : CustomOptions) (p : Place) → Fol st (value_step custom) p (value_at custom p)
-  unfolding value_at
-  value_follows custom p =
-      fol_then st _ _ p _ _ (fol_token st (OfKind Identifier) p)
-      (λ name. fol_then st _ _ name.1 _ _ (fol_token st (OfKind Equals) name.1)
-      (λ equals. fol_then st _ _ equals.1 _ _ (integer_follows st true equals.1)
-      (λ number. fol_then st _ _ number.1 _ _ (options_follow st custom number.1)
-      (λ options. fol_value st _ options.1 _ _ (fol_token st (OfKind Semicolon) options.1)))))
-
-  enum_item_follows : (custom : CustomOptions) (p : Place) → Fol st (enum_item_step custom) p (enum_item_at custom p)
-  unfolding enum_item_at
-  enum_item_follows custom p =
-      fol_if st (OfKind Semicolon) Done _ p _ _ (λ is. fol_taken st (OfKind Semicolon) p is)
-      (λ off. fol_if st (Word (codes "option")) _ _ p _ _
-      (λ is. fol_value st _ p _ _ (option_follows st custom p))
-      (λ off. fol_if st (Word (codes "reserved")) _ _ p _ _
-      (λ is. fol_value st _ p _ _ (reserved_follows st true p))
-      (λ off. fol_value st _ p _ _ (value_follows custom p))))
-
-  -- items in braces
-  adding_follows : {A : Type 0} (item : Step) (read : Read (Option A)) → ((p : Place) → Fol st item p (read p))
-      → (items : List A) (p : Place) → Fol st item p (adding read items p)
-  adding_follows item read follow items p = fol_value st item p _ _ (follow p)
-
-  pub enum_follows : (custom : CustomOptions) (p : Place)
-      → Fol st (Then (Token (Word (codes "enum"))) (enum_rest custom)) p (enum_at custom p)
-  unfolding enum_at enum_items_at
-  enum_follows custom p =
-      heading_follows (codes "enum") (block (enum_item_step custom)) p _
-      (λ heading. fol_then st _ _ heading.1 _ _
-      (fol_block st (enum_item_step custom) (adding (enum_item_at custom)) (enum_items_fall custom)
-      (adding_follows (enum_item_step custom) (enum_item_at custom) (enum_item_follows custom)) [] heading.1)
-      (λ values. fol_value st _ values.1 _ _ (fol_token st (OfKind CloseBrace) values.1)))
-
   -- what is in a message or a group
   abbrev pub InnerFollows : Option Step → Inside → Type 0
   InnerFollows None None = Unit {0}
@@ -121,7 +77,7 @@ module _ (st : Step) where
       → ((p : Place) → Fol st item p (read p)) → (p : Place) → Fol st (block item) p (braced_at read p)
   unfolding braced_at
   braced_follows item read falls follow p =
-      fol_then st _ _ p _ _ (fol_block st item (adding read) falls (adding_follows item read follow) [] p)
+      fol_then st _ _ p _ _ (fol_block st item (adding read) falls (adding_follows st item read follow) [] p)
       (λ items. fol_value st _ items.1 _ _ (fol_token st (OfKind CloseBrace) items.1))
 
   -- the word `group` begins the name of a type, too
@@ -290,7 +246,7 @@ module _ (st : Step) where
       → Fol st (Then (Token (Word (codes "oneof"))) (oneof_rest syntax inner)) p (oneof_at syntax read p)
   unfolding oneof_at
   oneof_follows syntax inner read follow fall p =
-      heading_follows (codes "oneof") (block (oneof_item_step syntax inner)) p _
+      heading_follows st (codes "oneof") (block (oneof_item_step syntax inner)) p _
       (λ heading. fol_value st _ heading.1 _ _
       (braced_follows (oneof_item_step syntax inner) (oneof_item_at syntax read) (fall within.Oneof)
       (oneof_item_follows syntax inner read follow) heading.1))
@@ -366,7 +322,7 @@ module _ (st : Step) where
       fol_choose st choose (Word (codes "message")) (Then heading_rest inner) other p x y
       (λ word. subst (λ (o : Result (A × Place) SyntaxFault).
       Fol st (Then (Token (Word (codes "message"))) (Then heading_rest inner)) p o) (sym is)
-      (fol_value st _ p _ _ (heading_follows (codes "message") inner p _
+      (fol_value st _ p _ _ (heading_follows st (codes "message") inner p _
       (λ heading. fol_value st inner heading.1 _ _ (follow heading.1))))) off
 
   -- by the word `extensions`
@@ -529,7 +485,7 @@ module _ (st : Step) where
         (λ is. fol_value st _ p _ _ (fol_last st (Token (OfKind Semicolon)) p _ (fol_token st (OfKind Semicolon) p)))
         (λ off. message_chosen (chosen_item p) inner read follow _ p _ choice.Message _ refl
         (λ off. fol_choose st (chosen_item p) (Word (codes "enum")) (enum_rest (custom_of syntax)) _ p choice.Enum _
-        (λ is. fol_value st _ p _ _ (enum_follows (custom_of syntax) p))
+        (λ is. fol_value st _ p _ _ (enum_follows st (custom_of syntax) p))
         (λ off. fol_choose st (chosen_item p) (Word (codes "option")) (option_rest (custom_of syntax)) _ p
         choice.Option _
         (λ is. fol_value st _ p _ _ (option_follows st (custom_of syntax) p))

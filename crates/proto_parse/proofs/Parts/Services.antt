@@ -19,7 +19,7 @@ use Rattle.proto_parse.proofs.Parts.{method_type_step, method_item_step, method_
 use Rattle.proto_parse.proofs.Parts.{service_item_step, service_rest, block}
 use Rattle.proto_parse.proofs.Parts.Names.{named_type_follows}
 use Rattle.proto_parse.proofs.Parts.Options.{option_follows}
-use Rattle.proto_parse.proofs.Parts.Messages.{heading_follows}
+use Rattle.proto_parse.proofs.Parts.Enums.{heading_follows}
 
 module _ (st : Step) where
   stream_follows : (p : Place) → Fol st (If (Word (codes "stream")) Done Done) p (stream_at p)

@@ -2,7 +2,6 @@
 use Rattle.std.proofs.Common.{◌≡◌, ◌≢◌, ◌⊎◌, ℕ, List, Option, Some, Ok, Err, inl, inr}
 use Rattle.std.specs.Prelude.{Result}
 use Rattle.scip_model.specs.declared.records.Index.{Index}
-use Rattle.scip_wire.specs.Decodes.{Decodes}
 use Rattle.scip_wire.specs.Refused.{NoIndex}
 use Rattle.scip_wire.specs.declared.wire_fault.WireFault.{WireFault}
 use Rattle.scip_wire.specs.declared.wire_fault.WireFault.TheVariants as wire
@@ -29,33 +28,16 @@ named bytes fault (inr no_index) other = no_index
 
 -- bytes that are refused, and not for want of memory, decode to no index
 pub refused_bytes : (gives : Option (List ℕ) → Type 0) (bytes : List ℕ) (fault : WireFault) → gives (Some bytes)
-    → ((index : Index) → Decodes bytes index → fault ≡ wire.Memory) → (fault ≡ wire.Memory) ⊎ NoIndex bytes fault
-    → IsReadFrom gives (Err (fault_of_wire fault))
-refused_bytes gives bytes (wire.Truncated at) given only why =
-    let other : wire.Truncated at ≢ wire.Memory = λ same. cc in
-    (bytes, given, λ index d. other (only index d), other, named bytes _ why other)
-refused_bytes gives bytes (wire.Varint at) given only why =
-    let other : wire.Varint at ≢ wire.Memory = λ same. cc in
-    (bytes, given, λ index d. other (only index d), other, named bytes _ why other)
-refused_bytes gives bytes (wire.FieldZero at) given only why =
-    let other : wire.FieldZero at ≢ wire.Memory = λ same. cc in
-    (bytes, given, λ index d. other (only index d), other, named bytes _ why other)
-refused_bytes gives bytes (wire.Group at) given only why =
-    let other : wire.Group at ≢ wire.Memory = λ same. cc in
-    (bytes, given, λ index d. other (only index d), other, named bytes _ why other)
-refused_bytes gives bytes (wire.WireType at) given only why =
-    let other : wire.WireType at ≢ wire.Memory = λ same. cc in
-    (bytes, given, λ index d. other (only index d), other, named bytes _ why other)
-refused_bytes gives bytes (wire.Repeated at) given only why =
-    let other : wire.Repeated at ≢ wire.Memory = λ same. cc in
-    (bytes, given, λ index d. other (only index d), other, named bytes _ why other)
-refused_bytes gives bytes (wire.Utf8 at) given only why =
-    let other : wire.Utf8 at ≢ wire.Memory = λ same. cc in
-    (bytes, given, λ index d. other (only index d), other, named bytes _ why other)
-refused_bytes gives bytes (wire.BadRange at) given only why =
-    let other : wire.BadRange at ≢ wire.Memory = λ same. cc in
-    (bytes, given, λ index d. other (only index d), other, named bytes _ why other)
-refused_bytes gives bytes wire.Memory given only why = tt
+    → (fault ≡ wire.Memory) ⊎ NoIndex bytes fault → IsReadFrom gives (Err (fault_of_wire fault))
+refused_bytes gives bytes (wire.Truncated at) given why = (bytes, given, named bytes _ why (λ same. cc))
+refused_bytes gives bytes (wire.Varint at) given why = (bytes, given, named bytes _ why (λ same. cc))
+refused_bytes gives bytes (wire.FieldZero at) given why = (bytes, given, named bytes _ why (λ same. cc))
+refused_bytes gives bytes (wire.Group at) given why = (bytes, given, named bytes _ why (λ same. cc))
+refused_bytes gives bytes (wire.WireType at) given why = (bytes, given, named bytes _ why (λ same. cc))
+refused_bytes gives bytes (wire.Repeated at) given why = (bytes, given, named bytes _ why (λ same. cc))
+refused_bytes gives bytes (wire.Utf8 at) given why = (bytes, given, named bytes _ why (λ same. cc))
+refused_bytes gives bytes (wire.BadRange at) given why = (bytes, given, named bytes _ why (λ same. cc))
+refused_bytes gives bytes wire.Memory given why = tt
 
 module _ {R W : Type 0} (gives : Option (List ℕ) → Type 0) (commands : Reader R) (answers : Writer W) where
   -- there is no index

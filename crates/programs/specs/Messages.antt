@@ -42,19 +42,20 @@ TellsOne contents failures Due due before after status =
 abbrev pub IsSilent : {M : Type 0} → M → M → (status : ℕ) → Type 0
 IsSilent before after status = (after ≡ before) × (status ≡ 0)
 
--- after a success a text of which `Due` holds is said,
+-- after a success a text of which `Due` holds is said
 abbrev pub SaysOfSuccess : {M : Type 0} → (contents : M → Option (List ℕ)) → (failures : M → ℕ)
     → (Due : List ℕ → Type 0) → M → M → (status : ℕ) → Type 0
 SaysOfSuccess contents failures Due before after status =
     (text : List ℕ) × Due text × Says contents failures text 0 before after status
 
--- or a given one, if there is one
+-- a given text, if there is one, is said after a success
 abbrev pub SaysIfAny : {M : Type 0} → (contents : M → Option (List ℕ)) → (failures : M → ℕ) → Option (List ℕ) → M → M
     → (status : ℕ) → Type 0
 SaysIfAny contents failures None before after status = IsSilent before after status
 SaysIfAny contents failures (Some text) before after status = Says contents failures text 0 before after status
 
--- it is said; or, if there is no memory for it, the line of Memory, with its status
+-- a text of which `Due` holds is said after a success; or, if there is no memory for it, the line of Memory, with its
+-- status
 abbrev pub TellsOfSuccess : {M : Type 0} → (contents : M → Option (List ℕ)) → (failures : M → ℕ)
     → (Due : List ℕ → Type 0) → M → M → (status : ℕ) → Type 0
 TellsOfSuccess contents failures Due before after status = TellsOne contents failures Due 0 before after status

@@ -1,10 +1,9 @@
 -- What the program `query` answers of an index that a file holds.
 -- `gives` is what reading the file may give.
-use Rattle.std.specs.Prelude.{◌≢◌, ◌⊎◌, ℕ, List, Option, Some, None, Result, Ok, Err}
+use Rattle.std.specs.Prelude.{◌⊎◌, ℕ, List, Option, Some, None, Result, Ok, Err}
 use Rattle.scip_model.specs.declared.records.Index.{Index}
 use Rattle.scip_wire.specs.Decodes.{Decodes}
 use Rattle.scip_wire.specs.Refused.{NoIndex}
-use Rattle.scip_wire.specs.declared.wire_fault.WireFault.TheVariants as wire
 use Rattle.scip_query.specs.declared.answer_fault.AnswerFault.{AnswerFault}
 use Rattle.scip_query.specs.declared.answer_fault.AnswerFault.TheVariants as answer
 use Rattle.protoscip.specs.Sessions.{AreAnswered, AreUntouched}
@@ -13,15 +12,12 @@ use Rattle.programs.specs.declared.query_fault.QueryFault.TheVariants.{Unreadabl
 use Rattle.programs.specs.Streams.{Reader}
 use Rattle.scip_snapshot.specs.Showing.{Writer}
 
--- the index that the file's bytes decode to; or that it can't be read, or that they decode to none, and why; or memory
--- ran out
+-- the index that the file's bytes decode to; or that it can't be read, or why they decode to none; or memory ran out
 abbrev pub IsReadFrom : (Option (List ℕ) → Type 0) → Result Index QueryFault → Type 0
 IsReadFrom gives (Ok index) = (bytes : List ℕ) × gives (Some bytes) × Decodes bytes index
 IsReadFrom gives (Err (Answers answer.Memory)) = Unit {0}
 IsReadFrom gives (Err Unreadable) = gives None
-IsReadFrom gives (Err (Wire fault)) =
-    (bytes : List ℕ) × gives (Some bytes) × ((index : Index) → Decodes bytes index → ⊥) × (fault ≢ wire.Memory)
-    × NoIndex bytes fault
+IsReadFrom gives (Err (Wire fault)) = (bytes : List ℕ) × gives (Some bytes) × NoIndex bytes fault
 IsReadFrom gives (Err other) = ⊥
 
 -- the index is read, and answers go out to commands about it

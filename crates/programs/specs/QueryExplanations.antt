@@ -17,9 +17,10 @@ wire_explanation (wire.Varint at) = codes "\nthis file is no SCIP index: the num
 wire_explanation (wire.FieldZero at) = codes "\nthis file is no SCIP index: no field has the number 0"
 wire_explanation (wire.Group at) = codes "\nthis file is no SCIP index: the record here is a group"
 wire_explanation (wire.WireType at) = codes "\nthis file is no SCIP index: no record has this wire type"
-wire_explanation (wire.Repeated at) = codes "\nthis file is no SCIP index: it has its metadata twice"
+wire_explanation (wire.Repeated at) = codes "\nthis file is no SCIP index: the record here may come only once"
 wire_explanation (wire.Utf8 at) = codes "\nthis file is no SCIP index: the text here isn't UTF-8"
-wire_explanation (wire.BadRange at) = codes "\nthis file is no SCIP index: a range has three or four numbers"
+wire_explanation (wire.BadRange at) =
+    codes "\nthis file is no SCIP index: a range has three or four numbers, none of them negative"
 wire_explanation wire.Memory = []
 
 abbrev pub answer_explanation : AnswerFault → List ℕ

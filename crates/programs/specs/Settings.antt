@@ -1,5 +1,5 @@
 -- What the options of `index` and `shell` say about the run.
-use Rattle.std.specs.Prelude.{Bool, Option, Some, None, string_bytes, if◌then◌else◌}
+use Rattle.std.specs.Prelude.{string_bytes}
 use Rattle.std.specs.Option.{option_map}
 use Rattle.proto_lex.specs.declared.position.Encoding.{Encoding}
 use Rattle.proto_lex.specs.declared.position.Encoding.TheVariants as encoding
@@ -39,10 +39,6 @@ custom_options_of word.Skip = custom.Skip
 abbrev pub dialect_of : AcceptWord → CustomOptionsWord → Dialect
 dialect_of accept.Proto3 custom_options = dialect.Proto3 (custom_options_of custom_options)
 dialect_of accept.All custom_options = dialect.All
-
--- with what faults are explained, if that is asked for: the dialect in which sources are parsed
-abbrev pub explaining : (explain : Bool) → AcceptWord → CustomOptionsWord → Option Dialect
-explaining explain accept custom_options = if explain then Some (dialect_of accept custom_options) else None
 
 -- what is done about a tree with faults
 abbrev pub faulty_of : FaultyWord → Faulty

@@ -10,20 +10,20 @@ use Rattle.scip_document.specs.Packages.{Packages}
 use Rattle.scip_build.specs.declared.fault.BuildFault.{BuildFault}
 use Rattle.protoscip.specs.declared.fault.Fault.{Fault}
 use Rattle.protoscip.specs.declared.recorded.Recorded.{Recorded}
-use Rattle.protoscip.specs.Explanations.{IsFaultText}
+use Rattle.protoscip.specs.Explanations.{IsFaultText, explain_in}
 use Rattle.protoscip.specs.Statuses.{status_of}
 use Rattle.protoscip.specs.ToldLines.{IsToldText}
 use Rattle.command_line.specs.declared.options.IndexOptions.{IndexOptions}
 use Rattle.programs.specs.declared.start_fault.StartFault.{StartFault}
 use Rattle.programs.specs.Messages.{IsSilent, Tells, TellsOne}
 use Rattle.programs.specs.Folders.{AreFolders, NamePackages}
-use Rattle.programs.specs.Settings.{explaining}
+use Rattle.programs.specs.Settings.{settings_in}
 use Rattle.programs.specs.StartExplanations.{told as start_told}
 use Rattle.programs.specs.StartFaults.{status_of as start_status}
 use Rattle.programs.specs.Starting.{MayNotStart}
 
--- the end of a run that made an index which lacks this; `says` says how a text of which something holds is written
--- after a success. If it lacks nothing, nothing is said; else a line for each, and their numbers
+-- the end of a run that made an index which lacks this; `says` says how a text with a property is written after a
+-- success. If it lacks nothing, nothing is said; else a line for each, and their numbers
 abbrev pub Lacks : {M : Type 0} → (says : (List ℕ → Type 0) → M → M → (status : ℕ) → Type 0)
     → (explain : Option Dialect) → List TreeFile → List BuildFault → M → M → (status : ℕ) → Type 0
 Lacks says explain tree [] before after status = IsSilent before after status
@@ -55,6 +55,6 @@ pub data IsRun {M : Type 0} (lists : List ℕ → Option (List (List ℕ)) → T
   over_tree : (tree : List TreeFile) (ids : Packages) (done : Result Recorded Fault) → NamePackages options
       → AreFolders lists gives options tree ids
       → runs tree ids done
-      → Ends said unsaid says (explaining options.explain options.accept options.custom_options) tree
+      → Ends said unsaid says (explain_in options.explain (settings_in options ids).dialect) tree
       (λ recorded. recorded.told) done before after status
       → IsRun lists gives said unsaid says options untouched runs before after status

@@ -4,14 +4,15 @@ ghost use Rattle.std.specs.Prelude.{Result};
 ghost use Rattle.streams.specs.WholeReads.{IsReadBriefly};
 ghost use Rattle.protoscip.specs.declared.fault.Fault.{Fault};
 ghost use Rattle.protoscip.specs.Dump.{IsDumped, LeavesReader};
+ghost use Rattle.protoscip.specs.Explanations.{explain_in};
 ghost use Rattle.programs.specs.Dumping.{EndsDump};
-ghost use Rattle.programs.specs.Settings.{dialect_of, explaining};
+ghost use Rattle.programs.specs.Settings.{dialect_of};
 
 use crate::host::Host;
 use crate::messages::report;
-use crate::settings::{dialect_of, explaining};
+use crate::settings::dialect_of;
 use command_line::DumpOptions;
-use protoscip::{MEMORY_STATUS, dump_and_keep, dump_tree, fault_text};
+use protoscip::{MEMORY_STATUS, dump_and_keep, dump_tree, explain_in, fault_text};
 use std::alloc::AllocError;
 use std::sync::Wait;
 use std::thread::Threads;
@@ -32,8 +33,8 @@ pub(crate) fn dump_source<R: Threads + Wait, F, I: Feed, W: Sink, M: Sink>(
         × LeavesReader I.failures I.reads I.ends input.old input.new done
         × IsReadBriefly I.reads input.old input.new
         × EndsDump I.remaining M.contents M.failures
-        (explaining options.now.explain options.now.accept options.now.custom_options) input.old done messages.old
-        messages.new result }
+        (explain_in options.now.explain (dialect_of options.now.accept options.now.custom_options)) input.old done
+        messages.old messages.new result }
 {
     let dialect = dialect_of(options.accept, options.custom_options);
     let mut tree = match dump_tree(host.alloc, Vec::new(host.alloc)) {
@@ -43,7 +44,7 @@ pub(crate) fn dump_source<R: Threads + Wait, F, I: Feed, W: Sink, M: Sink>(
     match dump_and_keep(host.rt, host.alloc, dialect, input, &mut tree, out) {
         Ok(()) => 0,
         Err(fault) => {
-            let explain = explaining(options.explain, options.accept, options.custom_options);
+            let explain = explain_in(options.explain, dialect);
             let text = fault_text(host.alloc, &tree, &fault, explain);
             report(text, fault.status(), messages)
         }

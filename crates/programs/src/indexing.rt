@@ -13,12 +13,11 @@ use crate::ending::{say_text, stop};
 use crate::host::Host;
 use crate::messages::report;
 use crate::progress::Progress;
-use crate::settings::explaining;
 use crate::start_explanations::start_text;
 use crate::starting::start;
 use command_line::IndexOptions;
 use proto_parse::Dialect;
-use protoscip::{Fault, KeptIndex, index_and_keep};
+use protoscip::{Fault, KeptIndex, explain_in, index_and_keep};
 use scip_build::Run;
 use source_files::ReadFiles;
 use source_tree::Tree;
@@ -100,9 +99,16 @@ where
         workers: run.workers,
         gate: &gate,
     };
-    let explain = explaining(options.explain, options.accept, options.custom_options);
-    let done = index_and_keep(&work, &run.tree, &run.choices, &run.settings, explain, out);
+    let done = index_and_keep(
+        &work,
+        &run.tree,
+        &run.choices,
+        &run.settings,
+        options.explain,
+        out,
+    );
     gate.wipe();
+    let explain = explain_in(options.explain, run.settings.dialect);
     let status = end(host.alloc, &run.tree, done, explain, messages);
     forget(run);
     status

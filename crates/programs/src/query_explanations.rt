@@ -20,10 +20,12 @@ fn wire_explanation(fault: &WireFault) -> &'static str
         WireFault::FieldZero(_) => "\nthis file is no SCIP index: no field has the number 0",
         WireFault::Group(_) => "\nthis file is no SCIP index: the record here is a group",
         WireFault::WireType(_) => "\nthis file is no SCIP index: no record has this wire type",
-        WireFault::Repeated(_) => "\nthis file is no SCIP index: it has its metadata twice",
+        WireFault::Repeated(_) => {
+            "\nthis file is no SCIP index: the record here may come only once"
+        }
         WireFault::Utf8(_) => "\nthis file is no SCIP index: the text here isn't UTF-8",
         WireFault::BadRange(_) => {
-            "\nthis file is no SCIP index: a range has three or four numbers"
+            "\nthis file is no SCIP index: a range has three or four numbers, none of them negative"
         }
         WireFault::Memory => "",
     }

@@ -18,6 +18,7 @@ ghost use Rattle.command_line.specs.Requests.{
 ghost use Rattle.streams.specs.WholeReads.{IsReadBriefly};
 ghost use Rattle.protoscip.specs.declared.fault.Fault.{Fault};
 ghost use Rattle.protoscip.specs.Dump.{IsDumped, LeavesReader};
+ghost use Rattle.protoscip.specs.Explanations.{explain_in};
 ghost use Rattle.programs.specs.declared.query_fault.QueryFault.{QueryFault};
 ghost use Rattle.programs.specs.declared.statuses.TheConstants.{COMMAND_LINE_STATUS};
 ghost use Rattle.programs.specs.Answering.{Answers};
@@ -28,7 +29,7 @@ ghost use Rattle.programs.specs.Paging.{RunsPages};
 ghost use Rattle.programs.specs.Printing.{Prints};
 ghost use Rattle.programs.specs.Queries.{Queried};
 ghost use Rattle.programs.specs.Serving.{Served};
-ghost use Rattle.programs.specs.Settings.{dialect_of, explaining};
+ghost use Rattle.programs.specs.Settings.{dialect_of};
 ghost use Rattle.programs.specs.Snapshotting.{RunsSnapshot};
 ghost use Rattle.programs.specs.Streams.{reader};
 
@@ -127,8 +128,8 @@ where
         × LeavesReader I.failures I.reads I.ends input.old input.new done
         × IsReadBriefly I.reads input.old input.new
         × EndsDump I.remaining M.contents M.failures
-        (explaining options.explain options.accept options.custom_options) input.old done messages.old messages.new
-        result)
+        (explain_in options.explain (dialect_of options.accept options.custom_options)) input.old done messages.old
+        messages.new result)
         × (file.new ≡ file.old))) }
     // What `query` promises of its answers, and what becomes of that.
     ensures queried { IfOk asked.now (λ request. IfSome (index_path request) (λ path. ((done : Result (Unit {0})

@@ -11,13 +11,12 @@ ghost use Rattle.programs.specs.TreeRuns.{Ends};
 use crate::ending::{stop, tell};
 use crate::host::Host;
 use crate::messages::report;
-use crate::settings::explaining;
 use crate::start_explanations::start_text;
 use crate::starting::start;
 use command_line::IndexOptions;
 use index_pool::NoGate;
 use proto_parse::Dialect;
-use protoscip::{Fault, Recorded, session};
+use protoscip::{Fault, Recorded, explain_in, session};
 use scip_build::Run;
 use source_files::ReadFiles;
 use source_tree::Tree;
@@ -83,6 +82,6 @@ pub(crate) fn shell<R: Threads + Wait, F: ReadFiles + Sync, I: Feed, W: Sink, M:
         commands,
         answers,
     );
-    let explain = explaining(options.explain, options.accept, options.custom_options);
+    let explain = explain_in(options.explain, run.settings.dialect);
     end(host.alloc, &run.tree, &done, explain, messages)
 }

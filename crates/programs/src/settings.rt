@@ -7,7 +7,6 @@ ghost use Rattle.programs.specs.Settings.{
   custom_options_of,
   dialect_of,
   encoding_of,
-  explaining,
   faulty_of,
   settings_in,
 };
@@ -48,21 +47,6 @@ pub(crate) fn dialect_of(accept: AcceptWord, custom_options: CustomOptionsWord) 
     match accept {
         AcceptWord::Proto3 => Dialect::Proto3(custom_options_of(custom_options)),
         AcceptWord::All => Dialect::All,
-    }
-}
-
-/// With what faults are explained, if that is asked for: the dialect in which sources are parsed.
-pub(crate) fn explaining(
-    explain: bool,
-    accept: AcceptWord,
-    custom_options: CustomOptionsWord,
-) -> Option<Dialect>
-    ensures { result ≡ explaining explain accept custom_options }
-{
-    if explain {
-        Some(dialect_of(accept, custom_options))
-    } else {
-        None
     }
 }
 

@@ -1,6 +1,6 @@
 -- What is added to the line of a fault if it is to be explained: the place, a sentence, and the source's line. (The
 -- texts are this project's own.)
-use Rattle.std.specs.Prelude.{◌≡◌, ℕ, ◌-◌, List, [], ◌++◌, Option, None, Some, take, drop, length, nat_eq, codes}
+use Rattle.std.specs.Prelude.{◌≡◌, ℕ, ◌-◌, Bool, List, [], ◌++◌, Option, None, Some, take, drop, length, nat_eq, codes}
 use Rattle.std.specs.Prelude.{if◌then◌else◌}
 use Rattle.std.specs.List.{slice_get}
 use Rattle.std.specs.Option.{option_map, unwrap_or}
@@ -43,7 +43,7 @@ syntax_sentence (parsing.Aggregate at) =
 syntax_sentence (parsing.Extend at) = codes "`--custom-options skip` reads past `extend`, and `--accept all` reads it"
 syntax_sentence (parsing.TwoPackages at) = codes "a source has one package statement at most"
 syntax_sentence (parsing.ImportEscape at) = codes "an import's path is written without `\\`"
-syntax_sentence (parsing.TooDeep at) = codes "messages nest at most 64 deep"
+syntax_sentence (parsing.TooDeep at) = codes "messages and groups nest at most 64 deep"
 syntax_sentence (parsing.Grammar at) = codes "the grammar wants something else here"
 syntax_sentence parsing.Memory = []
 
@@ -107,9 +107,9 @@ AreSyntaxHints dialect text (parsing.Grammar at) hints = IsHinted dialect (take 
 AreSyntaxHints dialect text fault hints = hints ≡ []
 
 -- of a tree whose sources are parsed in this dialect
-abbrev pub AreHints : Dialect → List TreeFile → Fault → (hints : List ℕ) → Type 0
-AreHints dialect tree (Syntax number fault) hints = AreSyntaxHints dialect (bytes_of tree number) fault hints
-AreHints dialect tree fault hints = hints ≡ []
+abbrev pub AreHintsOf : Dialect → List TreeFile → Fault → (hints : List ℕ) → Type 0
+AreHintsOf dialect tree (Syntax number fault) hints = AreSyntaxHints dialect (bytes_of tree number) fault hints
+AreHintsOf dialect tree fault hints = hints ≡ []
 
 -- ---- explanations
 
@@ -125,12 +125,16 @@ explanation_of tree (MissingImport place) hints = at_place tree place (sentence_
 explanation_of tree (Unresolved place) hints = at_place tree place (sentence_of (Unresolved place))
 explanation_of tree fault hints = codes "\n" ++ sentence_of fault
 
--- A line about a fault, and its explanation if that is asked for, with the dialect in which sources are parsed.
+-- with what a fault is explained, if that is asked for: the dialect in which sources are parsed
+abbrev pub explain_in : (asked : Bool) → Dialect → Option Dialect
+explain_in asked dialect = if asked then Some dialect else None
+
+-- a line about a fault, and its explanation if that is asked for
 abbrev pub IsExplained : (explain : Option Dialect) → List TreeFile → Fault → (line text : List ℕ) → Type 0
 IsExplained None tree fault line text = text ≡ line
 IsExplained (Some dialect) tree fault line text =
-    (hints : List ℕ) × AreHints dialect tree fault hints × (text ≡ line ++ explanation_of tree fault hints)
+    (hints : List ℕ) × AreHintsOf dialect tree fault hints × (text ≡ line ++ explanation_of tree fault hints)
 
--- the line of a fault, so
+-- the line of a fault, with its explanation if that is asked for
 abbrev pub IsFaultText : (explain : Option Dialect) → List TreeFile → Fault → (text : List ℕ) → Type 0
 IsFaultText explain tree fault text = IsExplained explain tree fault (line_of tree fault) text

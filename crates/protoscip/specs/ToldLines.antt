@@ -27,7 +27,7 @@ skipped tree number = codes "skipped: " ++ path_of tree number
 abbrev pub untargeted : List TreeFile → (number : ℕ) → List ℕ
 untargeted tree number = codes "no target: " ++ path_of tree number
 
--- the line of the fault for which a tree would be refused, with these words before the path where it is told
+-- the line of the fault for which a tree would be refused, with `skipped: ` or `no target: ` before the path
 abbrev pub told_line : List TreeFile → Fault → List ℕ
 told_line tree (Lex number fault) = placed_line (skipped tree number) (lex_offset fault) (name_of (Lex number fault))
 told_line tree (Syntax number fault) =

@@ -2,13 +2,14 @@
 
 ghost use Rattle.std.specs.Prelude.{◌≡◌, ◌++◌, IfOk, OnOk, drop, string_bytes, take};
 ghost use Rattle.protoscip.specs.Explanations.{
-  AreHints,
+  AreHintsOf,
   AreSyntaxHints,
   at_both,
   at_met,
   at_place,
   at_token,
   bytes_of,
+  explain_in,
   explained,
   explanation_of,
   IsExplained,
@@ -60,6 +61,13 @@ pub fn fault_text(
 {
     let line = fault_line(alloc, tree, fault)?;
     with_explanation(alloc, tree, fault, explain, line)
+}
+
+/// With what faults are explained, if that is asked for: the dialect in which sources are parsed.
+pub fn explain_in(asked: bool, dialect: Dialect) -> Option<Dialect>
+    ensures { result ≡ explain_in asked dialect }
+{
+    if asked { Some(dialect) } else { None }
 }
 
 /// A line about a fault, and what explains the fault, if that is asked for.
@@ -122,7 +130,7 @@ fn hints_of(
     dialect: Dialect,
 ) -> Result<String, AllocError>
     requires { HasFilesOf tree.now fault.now }
-    ensures { IfOk result (λ hints. AreHints dialect tree.now fault.now (string_bytes hints)) }
+    ensures { IfOk result (λ hints. AreHintsOf dialect tree.now fault.now (string_bytes hints)) }
 {
     match fault {
         Fault::Syntax(file, fault) => {

@@ -4,6 +4,7 @@ ghost use Rattle.std.specs.Prelude.{Ok, Err, IfErr, IfOk, MatchResult, string_by
 ghost use Rattle.std.specs.Option.{option_map};
 ghost use Rattle.scip_model.specs.declared.records.Index.{Index};
 ghost use Rattle.scip_build.specs.Forms.{ArePartsOf};
+ghost use Rattle.protoscip.specs.Explanations.{explain_in};
 ghost use Rattle.protoscip.specs.FaultLines.{HasFilesOf, HaveFilesOf};
 ghost use Rattle.protoscip.specs.Headline.{WritesNavigable};
 ghost use Rattle.protoscip.specs.Indexes.{Indexes, recorded_of};
@@ -11,13 +12,13 @@ ghost use Rattle.protoscip.specs.ToldLines.{IsTextOfLacks};
 ghost use Rattle.protoscip.specs.Writing.{IsRecordOf, WritesIndex};
 
 use crate::as_bytes::AsBytes;
+use crate::explaining::explain_in;
 use crate::fault::Fault;
 use crate::laws::headline_of_tree;
 use crate::recorded::Recorded;
 use crate::telling::text_of_lacks;
 use index_hooks::Chooses;
 use index_pool::Gate;
-use proto_parse::Dialect;
 use scip_build::{BuiltParts, Parts, Run, Settings, build_in_form};
 use scip_wire::{
     bytes_decode_to_one_index, spelling_decodes_to_its_index, spelling_is_of_pieces, write_pieces,
@@ -65,7 +66,7 @@ pub fn index_and_keep<'a, R: Threads + Wait, C: Chooses + Sync, G: Gate, W: Sink
     tree: &'a Tree,
     chooser: &C,
     settings: &Settings,
-    explain: Option<Dialect>,
+    explain: bool,
     out: &mut W,
 ) -> Result<KeptIndex<'a>, Fault>
     ensures indexed { MatchResult result
@@ -77,11 +78,12 @@ pub fn index_and_keep<'a, R: Threads + Wait, C: Chooses + Sync, G: Gate, W: Sink
         tree.now (recorded_of kept.built.choices kept.built.told) out.old out.new) }
     ensures files { IfErr result (HasFilesOf tree.now) }
     ensures told { IfOk result (λ kept. HaveFilesOf tree.now kept.built.told) }
-    ensures said { IfOk result (λ kept.
-        IsTextOfLacks explain tree.now kept.built.told (option_map string_bytes kept.text)) }
+    ensures said { IfOk result (λ kept. IsTextOfLacks (explain_in explain settings.now.dialect) tree.now
+        kept.built.told (option_map string_bytes kept.text)) }
 {
     headline_of_tree(chooser, tree, settings);
     let built = build_in_form(run, tree, chooser, settings, &AsBytes)?;
+    let explain = explain_in(explain, settings.dialect);
     let text = text_of_lacks(run.alloc, tree, built.told.as_slice(), explain)?;
     write_spelled(&built.parts, out)?;
     Ok(KeptIndex { built, text })
@@ -106,7 +108,7 @@ pub fn index_tree<R: Threads + Wait, C: Chooses + Sync, G: Gate, W: Sink>(
     ensures files { IfErr result (HasFilesOf tree.now) }
     ensures told { IfOk result (λ recorded. HaveFilesOf tree.now recorded.told) }
 {
-    let kept = index_and_keep(run, tree, chooser, settings, None, out)?;
+    let kept = index_and_keep(run, tree, chooser, settings, false, out)?;
     let built = kept.built;
     Ok(Recorded {
         choices: built.choices,

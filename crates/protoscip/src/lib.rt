@@ -32,7 +32,7 @@ mod told_lines;
 
 pub use answering::answer_commands;
 pub use dumping::{SOURCE_PATH, dump, dump_and_keep, dump_tree};
-pub use explaining::fault_text;
+pub use explaining::{explain_in, fault_text};
 pub use fault::Fault;
 pub use fault_lines::fault_line;
 pub use indexing::{KeptIndex, index_and_keep, index_tree};

@@ -48,7 +48,7 @@ fn syntax_sentence(fault: &SyntaxFault) -> &'static str
         }
         SyntaxFault::TwoPackages(_) => "a source has one package statement at most",
         SyntaxFault::ImportEscape(_) => "an import's path is written without `\\`",
-        SyntaxFault::TooDeep(_) => "messages nest at most 64 deep",
+        SyntaxFault::TooDeep(_) => "messages and groups nest at most 64 deep",
         SyntaxFault::Grammar(_) => "the grammar wants something else here",
         SyntaxFault::Memory => "",
     }

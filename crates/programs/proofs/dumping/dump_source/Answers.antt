@@ -5,8 +5,8 @@ use Rattle.proto_parse.specs.tree.Dialect.{Dialect}
 use Rattle.protoscip.specs.declared.fault.Fault.{Fault}
 use Rattle.protoscip.specs.declared.fault.Fault.TheVariants.{Memory}
 use Rattle.protoscip.specs.Dump.{IsDumped, dump_tree}
-use Rattle.protoscip.specs.Explanations.{IsFaultText}
-use Rattle.programs.specs.Settings.{explaining}
+use Rattle.protoscip.specs.Explanations.{IsFaultText, explain_in}
+use Rattle.programs.specs.Settings.{dialect_of}
 use Rattle.programs.proofs.DumpEndLemmas.{of_fault}
 use Rattle.programs.proofs.MessageLemmas.{told_one}
 use Rattle.programs.proofs.dumping.dump_source.Goals as goal
@@ -21,7 +21,7 @@ returns-in-Err g c =
       refl,
       omega arith,
       of_fault g.I.Feed.remaining g.M.Sink.contents g.M.Sink.failures
-          (explaining c.args.options.now.explain c.args.options.now.accept c.args.options.now.custom_options)
+          (explain_in c.args.options.now.explain (dialect_of c.args.options.now.accept c.args.options.now.custom_options))
           c.args.input.now c.args.messages.now c.report.new.messages c.report.result Memory (dump_tree []) tt
           (inr c.report.ensures),
     )
@@ -35,7 +35,7 @@ returns g c =
     let done : Result (Unit {0}) Fault = Err fault in
     let tree = c.dump_and_keep.new.tree in
     let explain =
-    explaining c.args.options.now.explain c.args.options.now.accept c.args.options.now.custom_options in
+    explain_in c.args.options.now.explain (dialect_of c.args.options.now.accept c.args.options.now.custom_options) in
     let Told : Option Dialect → Type 0 =
     λ asked. IfOk c.fault_text-text.result (λ text. IsFaultText asked tree fault (string_bytes text)) in
     let Dumped : Dialect → Type 0 =
@@ -44,7 +44,7 @@ returns g c =
     let said = told_one g.M.Sink.contents g.M.Sink.failures c.args.messages.now c.report-in-Err-dump_and_keep.new.messages
     c.report-in-Err-dump_and_keep.result _ _ string_bytes c.fault_text-text.result
     (IsFaultText explain tree fault) c.status.ensures
-    (subst Told c.explaining-explain.ensures c.fault_text-text.ensures) c.report-in-Err-dump_and_keep.ensures in (
+    (subst Told (rw c.dialect_of-dialect.ensures at c.explain_in-explain.ensures) c.fault_text-text.ensures) c.report-in-Err-dump_and_keep.ensures in (
       done,
       subst Dumped c.dialect_of-dialect.ensures of.dumped,
       of.reader,

@@ -1,5 +1,5 @@
 use Rattle.std.specs.String.{string_bytes}
-use Rattle.std.proofs.Common.{refl, subst, ℕ, List, Option, Result}
+use Rattle.std.proofs.Common.{◌∙◌, ap, refl, subst, ℕ, List, Option, Result}
 use Rattle.proto_parse.specs.tree.Dialect.{Dialect}
 use Rattle.proto_decl.specs.Seen.{Seen}
 use Rattle.index_hooks.specs.declared.choice.Choice.{Choice}
@@ -12,6 +12,7 @@ use Rattle.programs.specs.TreeRuns.{Ends, not_started, over_tree}
 use Rattle.programs.proofs.MessageLemmas.{told}
 use Rattle.programs.proofs.MoveLemmas.{moved4}
 use Rattle.programs.proofs.TreeRunLemmas.{part_of, holds_of_part, ends_alike}
+use Rattle.protoscip.specs.Explanations.{explain_in}
 use Rattle.protoscip.specs.Indexes.{Indexes, recorded_of}
 use Rattle.protoscip.specs.declared.fault.Fault.{Fault}
 use Rattle.protoscip.specs.declared.indexing.KeptIndex.{KeptIndex}
@@ -45,7 +46,9 @@ returns g c =
     (λ r. r.told) done c.args.messages.now c.end-status.new.messages c.end-status.result in
     over_tree run.tree run.settings.package done c.in-Ok.ensures.named c.in-Ok.ensures.folders
     (moved4 By c.in-Ok.ensures.only c.in-Ok.ensures.doc c.in-Ok.ensures.settings c.in-Ok.ensures.workers indexed)
-    (subst Ended c.explaining-explain.ensures
+    (subst Ended
+    (c.explain_in-explain.ensures
+    ∙ ap (λ (s : Settings). explain_in c.args.options.now.explain s.dialect) c.in-Ok.ensures.settings)
     (ends_alike recorded (λ r. r.told) g.M.Sink.contents g.M.Sink.failures
-    (SaysOfSuccess g.M.Sink.contents g.M.Sink.failures) c.explaining-explain.result run.tree kept
+    (SaysOfSuccess g.M.Sink.contents g.M.Sink.failures) c.explain_in-explain.result run.tree kept
     c.args.messages.now c.end-status.new.messages c.end-status.result c.end-status.ensures))

@@ -14,7 +14,7 @@ returns-in_err-index g c =
     let p = err_from_is_err_and c.from_residual-in_err-index.result c.from_residual-in_err-index.ensures.1 in
     let given = read_some gives _ c.in_ok-bytes.field-0 c.in-Some.bytes c.in-Some.is c.in_ok-bytes.ensures in
     rw (p.1, p.2) (refused_bytes gives c.deref.result.now c.in_err-index.field-0.0
-    (subst (λ (b : List ℕ). gives (Some b)) (sym c.deref.ensures.value) given) c.in_err-index.ensures.only
+    (subst (λ (b : List ℕ). gives (Some b)) (sym c.deref.ensures.value) given)
     c.in_err-index.ensures.fault)
 
 pub returns : goal.returns

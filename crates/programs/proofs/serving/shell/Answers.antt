@@ -1,5 +1,5 @@
 use Rattle.std.specs.String.{string_bytes}
-use Rattle.std.proofs.Common.{refl, subst, ℕ, List, Option}
+use Rattle.std.proofs.Common.{◌∙◌, ap, refl, subst, ℕ, List, Option}
 use Rattle.proto_parse.specs.tree.Dialect.{Dialect}
 use Rattle.index_hooks.specs.declared.choice.DocChoice.{DocChoice}
 use Rattle.scip_build.specs.declared.settings.Settings.{Settings}
@@ -9,6 +9,7 @@ use Rattle.programs.specs.StartExplanations.{told as start_told}
 use Rattle.programs.specs.TreeRuns.{Ends, not_started, over_tree}
 use Rattle.programs.proofs.MessageLemmas.{told}
 use Rattle.programs.proofs.MoveLemmas.{moved4}
+use Rattle.protoscip.specs.Explanations.{explain_in}
 use Rattle.protoscip.specs.Sessions.{Serves}
 use Rattle.programs.proofs.serving.shell.Goals as goal
 
@@ -33,4 +34,7 @@ returns g c =
     (λ r. r.told) c.session-done.result c.args.messages.now c.end.new.messages c.end.result in
     over_tree run.tree run.settings.package c.session-done.result c.in-Ok.ensures.named c.in-Ok.ensures.folders
     (moved4 By c.in-Ok.ensures.only c.in-Ok.ensures.doc c.in-Ok.ensures.settings c.in-Ok.ensures.workers
-    c.session-done.ensures.served) (subst Ended c.explaining-explain.ensures c.end.ensures)
+    c.session-done.ensures.served) (subst Ended
+    (c.explain_in-explain.ensures
+    ∙ ap (λ (s : Settings). explain_in c.args.options.now.explain s.dialect) c.in-Ok.ensures.settings)
+    c.end.ensures)

@@ -9,6 +9,9 @@ use Rattle.proto_lex.specs.declared.fault.LexFault.{LexFault}
 use Rattle.proto_parse.specs.tree.Dialect.{Dialect}
 use Rattle.proto_parse.specs.tree.File.{File}
 use Rattle.proto_parse.specs.Derives.{Derives}
+use Rattle.proto_parse.specs.Refused.{HasFault}
+use Rattle.proto_parse.specs.FaultNames.{syntax_offset}
+use Rattle.proto_parse.specs.fault.SyntaxFault.{SyntaxFault}
 
 -- the bytes are a text, with these tokens and comments
 pub record HasLexing (bytes : List ℕ) (lexed : Lexed) : Type 0 where
@@ -29,13 +32,15 @@ pub record IsUnlexed (bytes : List ℕ) (at : ℕ) : Type 0 where
   pub is_first : IsNoText bytes fault ⊎ (IsText bytes × IsFirstFault bytes fault)
   pub is_at : lex_offset fault ≡ Some at
 
--- the text has a lexing, but its tokens derive no tree; where the parser's fault is, tests show
-pub record IsUnparsed (dialect : Dialect) (bytes : List ℕ) : Type 0 where
+-- the text has a lexing, but its tokens have a fault of the grammar, which is there
+pub record IsUnparsed (dialect : Dialect) (bytes : List ℕ) (at : ℕ) : Type 0 where
   pub lexed : Lexed
   pub lexing : HasLexing bytes lexed
-  pub no_tree : (tree : File) → Derives dialect lexed.text lexed.tokens tree → ⊥
+  pub fault : SyntaxFault
+  pub has_fault : HasFault dialect lexed.text lexed.tokens fault
+  pub is_at : syntax_offset fault ≡ Some at
 
 -- an answer: no fault, or the offset of one
 abbrev pub IsAnswer : Dialect → (bytes : List ℕ) → Option ℕ → Type 0
 IsAnswer dialect bytes None = HasTree dialect bytes
-IsAnswer dialect bytes (Some at) = IsUnlexed bytes at ⊎ IsUnparsed dialect bytes
+IsAnswer dialect bytes (Some at) = IsUnlexed bytes at ⊎ IsUnparsed dialect bytes at

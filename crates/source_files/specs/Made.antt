@@ -28,7 +28,7 @@ pub record StopsBehind (before after : Made) (files : List MadeFile) : Type 0 wh
   pub added : Adds before.files after.files files
   pub refused : after.refusals ≡ one_more before.refusals
 
--- one is made, or it is refused, or memory runs out before
+-- one is made, or it is refused; or memory ran out: none of the known files is made, and none is refused
 abbrev pub Makes : {E : Type 0} → (before after : Made) → (path bytes : List ℕ) → Result Bool E → Type 0
 Makes before after path bytes (Ok true) = MakesAll before after (record { path = path; bytes = bytes } ∷ [])
 Makes before after path bytes (Ok false) = StopsBehind before after []

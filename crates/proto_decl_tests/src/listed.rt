@@ -5,7 +5,7 @@ use proto_decl::{
     Component, Declaration, DeclarationKind, DeclarationStep, FileFacts, Imported, Use,
 };
 use proto_lex::Span;
-use proto_parse::{CustomOptions, Dialect, ImportKind};
+use proto_parse::ImportKind;
 use std::alloc::Global;
 
 /// Every kind of import, of declaration, each with a text before and behind it, and of use.
@@ -73,131 +73,6 @@ const COMMENTED: &str =
 const COMMENTS_LISTED: &str = "package
 message A (A): message A; [One.\nTwo.] [tail]
 field A.x (x): message A; field x; [] [ unit ]
-";
-
-/// Comments beside one another, one beside a declaration, and one of more than 256 bytes.
-const BESIDE: &str = "syntax = \"proto3\"; // zero
-/* one */ /* two */
-/* beside */ message A { /* three */ // four
-}
-/* Five:
-0123456789012345678901234567890123456789012345678901234567890123456789
-0123456789012345678901234567890123456789012345678901234567890123456789
-0123456789012345678901234567890123456789012345678901234567890123456789
-0123456789012345678901234567890123456789012345678901234567890123456789
-*/
-message B {}
-";
-
-/// The comments on the line above lead `A`, and so does the long one `B`.
-const BESIDE_LISTED: &str = "package
-message A (A): message A; [ one \n two ] [ three ]
-message B (B): message B; [ Five:
-0123456789012345678901234567890123456789012345678901234567890123456789
-0123456789012345678901234567890123456789012345678901234567890123456789
-0123456789012345678901234567890123456789012345678901234567890123456789
-0123456789012345678901234567890123456789012345678901234567890123456789
-] []
-";
-
-/// A comment that begins beside a token, an empty line below others, and more than 16 comments, or tokens, from the first
-/// token of a declaration to what comes next.
-const APART: &str = "syntax = \"proto3\"; /* beside
-the statement */
-// One.
-
-// Two.\r
-// Three.\r
-message A { // a
-}
-// Far.
-
-message B { /* b
-and on */
-} /* beside
-the brace */
-message /**/ /**/ /**/ /**/ /**/ /**/ /**/ /**/ /**/ /**/ /**/ /**/ /**/ /**/ /**/ /**/ /**/ C { // c
-  int32 x = 1 [a = 1, b = 2, c = 3, d = 4];
-  // y.
-  int32 y = 2;
-}
-";
-
-/// Only the two comments directly above `A` lead it, and none leads `B` or `C`.
-const APART_LISTED: &str = "package
-message A (A): message A; [Two.
-Three.] [a]
-message B (B): message B; [] [ b
-and on ]
-message C (C): message C; [] [c]
-field C.x (x): message C; field x; [] []
-field C.y (y): message C; field y; [y.] []
-";
-
-/// Groups in a message, in a group, in a oneof and in an extend; extends in a message and in the file; and an extend of
-/// the type that an extension declares.
-const PROTO2: &str = "syntax = \"proto2\"; package a;
-message M {
-  // g.
-  optional group HTTPResult = 1 { // g
-    required M back = 2;
-    repeated group Inner = 3 {
-      optional HTTPResult up = 4;
-    }
-  }
-  oneof choice {
-    group Picked = 5 {
-      optional Picked same = 6;
-    }
-    M other = 7;
-  }
-  extend N.Deep {
-    // x.
-    optional M x = 100; // x
-  }
-  extensions 100 to max;
-}
-// top.
-extend .a.M {
-  repeated group Wide = 101 {
-    optional Wide w = 1;
-    extensions 2;
-  }
-}
-extend Wide {
-  optional int32 deep = 2;
-}
-";
-
-/// Its line of `httpresult` reads: the field `a.M.httpresult` is at the word `group`. That of `N.Deep` reads: the scope
-/// of the type that is extended is the message around the `extend`.
-const PROTO2_LISTED: &str = "package a
-message a.M (M): message M; [] []
-field a.M.httpresult (group): message M; field httpresult; [g.] [g]
-message a.M.HTTPResult (HTTPResult): message M; message HTTPResult; [g.] [g]
-field a.M.HTTPResult.back (back): message M; message HTTPResult; field back; [] []
-field a.M.HTTPResult.inner (group): message M; message HTTPResult; field inner; [] []
-message a.M.HTTPResult.Inner (Inner): message M; message HTTPResult; message Inner; [] []
-field a.M.HTTPResult.Inner.up (up): message M; message HTTPResult; message Inner; field up; [] []
-oneof a.M.choice (choice): message M; oneof choice; [] []
-field a.M.picked (group): message M; field picked; [] []
-message a.M.Picked (Picked): message M; message Picked; [] []
-field a.M.Picked.same (same): message M; message Picked; field same; [] []
-field a.M.other (other): message M; field other; [] []
-field a.M.x (x): message M; field x; [x.] [x]
-field a.wide (group): field wide; [] []
-message a.Wide (Wide): message Wide; [] []
-field a.Wide.w (w): message Wide; field w; [] []
-field a.deep (deep): field deep; [] []
-use M: M in a.M.HTTPResult
-use HTTPResult: HTTPResult in a.M.HTTPResult.Inner
-use Picked: Picked in a.M.Picked
-use M: M in a.M
-use N.Deep: N Deep in a.M
-use M: M in a.M
-use .a.M: . a M in a
-use Wide: Wide in a.Wide
-use Wide: Wide in a
 ";
 
 /// Appends a part. One that memory isn't there for is left out, and then the listing is another.
@@ -310,17 +185,7 @@ pub(crate) fn is_listed(alloc: Global, source: &str, facts: &FileFacts, want: &s
 
 #[test]
 fn facts_of_sources(rt: HostRuntime) {
-    let proto3 = Dialect::Proto3(CustomOptions::Refuse);
-    for (source, dialect, want) in [
-        (EVERY_KIND, proto3, LISTED),
-        (COMMENTED, proto3, COMMENTS_LISTED),
-        (BESIDE, proto3, BESIDE_LISTED),
-        (APART, proto3, APART_LISTED),
-        (PROTO2, Dialect::All, PROTO2_LISTED),
-    ] {
-        assert!(rt;
-            is_source_listed(rt.alloc(), source, dialect, want),
-            "{want}"
-        );
+    for (source, want) in [(EVERY_KIND, LISTED), (COMMENTED, COMMENTS_LISTED)] {
+        assert!(rt; is_source_listed(rt.alloc(), source, want), "{want}");
     }
 }

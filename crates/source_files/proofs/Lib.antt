@@ -1,4 +1,9 @@
 pub mod KeptLemmas
+pub mod EntryLemmas
+pub mod PartLemmas
+pub mod WalkLemmas
+pub mod WalkLawLemmas
+pub mod OneListingLemmas
 pub mod ReadingLemmas
 pub mod LoadLemmas
 pub mod FolderLemmas

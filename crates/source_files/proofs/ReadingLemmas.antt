@@ -1,5 +1,5 @@
 -- What a phase answers, source by source, and the parts in which sources are read.
-use Rattle.std.proofs.Common.{◌≡◌, ◌∙◌, ℕ, zero, suc, ◌<◌, List, [], ◌∷◌, ◌++◌, map, length, Option, Some, None}
+use Rattle.std.proofs.Common.{◌≡◌, ◌∙◌, ℕ, zero, suc, ◌<◌, List, [], ◌∷◌, ◌++◌, map, length, Option, None}
 use Rattle.std.proofs.Common.{Result, Ok, Err, refl, sym, ap, ap₂, subst, string_bytes, append_assoc, arith}
 use Rattle.std.specs.List.{All, slice_get}
 use Rattle.std.specs.Option.{IfSome}
@@ -8,10 +8,13 @@ use Rattle.std.proofs.lemmas.List.{map-append}
 use Rattle.std.proofs.lemmas.List.Elements.{All-nil, All-cons, All-append}
 use Rattle.index_pool.specs.Phase.{AnswersEach, IsLeastFault}
 use Rattle.source_tree.specs.Files.{SourceFile, paths_of}
+use Rattle.source_files.specs.Entries.{Entry}
 use Rattle.source_files.specs.declared.load_fault.LoadFault.{LoadFault}
 use Rattle.source_files.specs.declared.load_fault.LoadFault.TheVariants as load
-use Rattle.source_files.specs.Roots.{path_below, IsHeld, AreBelow, of_source}
+use Rattle.source_files.specs.Roots.{path_below, IsHeld, AreBelow, IsUnreadable, of_root, of_source}
 use Rattle.source_files.specs.RootFaults.{MayStop}
+use Rattle.source_files.specs.Walks.{AreListed, IsUnlisted}
+use Rattle.source_files.specs.WalkSteps.{MayNotList}
 use Rattle.source_files.specs.Reading.{GivesSource, AreSourcesAt, AddsSources, IsFirstUnreadable, MayStopAt}
 
 -- the texts of a list in two parts
@@ -19,7 +22,7 @@ pub texts_of_parts : {S : Type 0} (text : S → List ℕ) (part behind rest : Li
     → map text part ++ map text behind ≡ map text rest
 texts_of_parts text part behind rest parts = sym (map-append text part behind) ∙ ap (map text) parts
 
-module _ (lists : List ℕ → Option (List (List ℕ)) → Type 0) (gives : List ℕ → Option (List ℕ) → Type 0)
+module _ (lists : List ℕ → List ℕ → Option (List Entry) → Type 0) (gives : List ℕ → Option (List ℕ) → Type 0)
     (root : List ℕ) where
   module _ {S : Type 0} (text : S → List ℕ) where
     abbrev pub gives_each : List S → ℕ → Result SourceFile LoadFault → Type 0
@@ -130,26 +133,36 @@ module _ (lists : List ℕ → Option (List (List ℕ)) → Type 0) (gives : Lis
   part_stops paths rest part behind sources load.Memory parts read stop = tt
 
   -- the sources with the paths of a listing are those below the root
-  pub sources_below : (paths : List (List ℕ)) (sources : List SourceFile) → lists root (Some paths)
+  pub sources_below : (paths : List (List ℕ)) (sources : List SourceFile) → AreListed (lists root) paths
       → AreSourcesAt lists gives root paths sources → AreBelow lists gives root sources
   sources_below paths sources listed at = record {
-    listed = subst (λ (ps : List (List ℕ)). lists root (Some ps)) (sym at.0) listed;
+    listed = subst (AreListed (lists root)) (sym at.0) listed;
     held = at.1;
   }
 
   -- and why they aren't read is why those below the root aren't
-  pub root_stops : (paths : List (List ℕ)) (fault : LoadFault) → lists root (Some paths)
+  pub root_stops : (paths : List (List ℕ)) (fault : LoadFault) → AreListed (lists root) paths
       → MayStopAt lists gives root paths fault → MayStop lists gives root fault
   root_stops paths (load.Unreadable name) listed stop =
       of_source stop.sources (string_bytes name) stop.behind
-      (subst (λ (ps : List (List ℕ)). lists root (Some ps)) stop.paths_are listed) stop.held stop.unreadable
+      (subst (AreListed (lists root)) stop.paths_are listed) stop.held stop.unreadable
   root_stops paths load.TooMany listed stop = absurd stop
   root_stops paths (load.BadPath name) listed stop = absurd stop
   root_stops paths (load.SamePath name) listed stop = absurd stop
   root_stops paths load.Memory listed stop = tt
 
   pub stops_if_err : {A : Type 0} (Holds : A → Type 0) (paths : List (List ℕ)) (result : Result A LoadFault)
-      → lists root (Some paths) → MatchResult result Holds (MayStopAt lists gives root paths)
+      → AreListed (lists root) paths → MatchResult result Holds (MayStopAt lists gives root paths)
       → IfErr result (MayStop lists gives root)
   stops_if_err Holds paths (Ok answer) listed holds = tt
   stops_if_err Holds paths (Err fault) listed stop = root_stops paths fault listed stop
+
+  -- nor are they read if they can't be listed
+  pub unlisted_stops : (fault : LoadFault) → MayNotList (IsUnlisted (lists root) []) root fault
+      → MayStop lists gives root fault
+  unlisted_stops (load.Unreadable name) stop =
+      subst (IsUnreadable lists gives root) (sym stop.0) (of_root stop.1)
+  unlisted_stops load.TooMany stop = absurd stop
+  unlisted_stops (load.BadPath name) stop = absurd stop
+  unlisted_stops (load.SamePath name) stop = absurd stop
+  unlisted_stops load.Memory stop = tt

@@ -1,6 +1,11 @@
 -- what may be kept of a source
 pub mod Source
 pub mod SystemFiles
+-- what folders have, and what is listed below a root
+pub mod Entries
+pub mod Walks
+pub mod WalkLaws
+pub mod WalkSteps
 -- what the sources below a root are, and which can't be read
 pub mod Roots
 pub mod RootFaults

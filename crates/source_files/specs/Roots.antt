@@ -2,27 +2,30 @@
 use Rattle.std.specs.Prelude.{◌≡◌, ℕ, List, [], ◌∷◌, ◌++◌, Option, Some, None, All, map}
 use Rattle.std.specs.List.{AllZip, flat_map}
 use Rattle.source_tree.specs.Files.{SourceFile, paths_of}
+use Rattle.source_files.specs.Entries.{Entry}
 use Rattle.source_files.specs.Source.{MayKeep}
+use Rattle.source_files.specs.Walks.{AreListed, IsUnlisted}
 
 -- the path of a file below a root, for the system; two `/` in a row are one to it
 abbrev pub path_below : List ℕ → List ℕ → List ℕ
 path_below root path = root ++ (47 ∷ path)
 
-module _ (lists : List ℕ → Option (List (List ℕ)) → Type 0) (gives : List ℕ → Option (List ℕ) → Type 0) where
+module _ (lists : List ℕ → List ℕ → Option (List Entry) → Type 0) (gives : List ℕ → Option (List ℕ) → Type 0) where
   -- a source has what its file below the root gave, as far as that is kept
   abbrev pub IsHeld : (root : List ℕ) → SourceFile → Type 0
   IsHeld root source = MayKeep (gives (path_below root source.path)) (Some source.bytes)
 
-  -- the sources below a root: those that its listing names, with what they hold
+  -- the sources below a root: those that are listed there, with what they hold
   pub record AreBelow (root : List ℕ) (sources : List SourceFile) : Type 0 where
-    pub listed : lists root (Some (paths_of sources))
+    pub listed : AreListed (lists root) (paths_of sources)
     pub held : All (IsHeld root) sources
 
-  -- what can't be read first: the root, which can't be listed, or a source, those before which can be read
+  -- what can't be read first: the root, if it or a folder found below it can't be listed, or a source, those before
+  -- which can be read
   pub data IsUnreadable (root : List ℕ) : List ℕ → Type 0 where
-    of_root : lists root None → IsUnreadable root root
+    of_root : IsUnlisted (lists root) [] → IsUnreadable root root
     of_source : (sources : List SourceFile) (path : List ℕ) (behind : List (List ℕ))
-        → lists root (Some (paths_of sources ++ path ∷ behind))
+        → AreListed (lists root) (paths_of sources ++ path ∷ behind)
         → All (IsHeld root) sources
         → gives (path_below root path) None → IsUnreadable root path
 

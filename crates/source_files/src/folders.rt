@@ -34,7 +34,7 @@ pub(crate) fn paths_of(alloc: Global, files: &[Source]) -> Result<Vec<String>, A
     Ok(paths)
 }
 
-// Adds the paths of files, as one list.
+/// Adds the paths of files, as one list.
 fn add_paths(
     alloc: Global,
     lists: &mut Vec<Vec<String>>,
@@ -47,7 +47,7 @@ fn add_paths(
     Ok(())
 }
 
-// Adds the files below a folder.
+/// Adds the files below a folder.
 fn add_folder<R: Threads + Wait, G: Gate, F: ReadFiles + Sync>(
     readers: &Readers<'_, R, G, F>,
     folders: &mut Folders,

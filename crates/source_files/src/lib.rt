@@ -3,7 +3,10 @@
 #![tactic(auto)]
 
 mod empty_folders;
+mod entry;
 mod folders;
+mod found;
+mod laws;
 mod load;
 mod load_fault;
 mod make_files;
@@ -14,9 +17,12 @@ mod readers;
 mod reading;
 mod root;
 mod system_files;
+mod system_folders;
 mod walk;
 
 pub use empty_folders::EmptyFolders;
+pub use entry::FolderEntry;
+pub use laws::{listed_paths_stay_below, roots_have_one_listing};
 pub use load::{LoadedTree, load_tree, load_tree_with_paths};
 pub use load_fault::LoadFault;
 pub use make_files::MakeFiles;

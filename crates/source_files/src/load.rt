@@ -31,7 +31,7 @@ use std::alloc::Global;
 use std::sync::Wait;
 use std::thread::Threads;
 
-// The files below roots, root by root.
+/// The files below roots, root by root.
 fn read_roots<R: Threads + Wait, G: Gate, F: ReadFiles + Sync>(
     readers: &Readers<'_, R, G, F>,
     roots: &[String],
@@ -49,7 +49,7 @@ fn read_roots<R: Threads + Wait, G: Gate, F: ReadFiles + Sync>(
     Ok(sources)
 }
 
-// The path of the file with a number.
+/// The path of the file with a number.
 fn path_of(files: Vec<Source>, number: usize) -> String
     requires { number < length files.items }
     ensures { option_map (λ file. file.path) (slice_get files.items number) ≡ Some (string_bytes result) }
@@ -58,7 +58,7 @@ fn path_of(files: Vec<Source>, number: usize) -> String
     files.swap_remove(number).path
 }
 
-// The path of the file with a number, through the sources and then the included files.
+/// The path of the file with a number, through the sources and then the included files.
 fn path_among(sources: Vec<Source>, included: Vec<Source>, number: usize) -> String
     requires { number < length sources.items + length included.items }
     ensures { option_map (λ file. file.path) (slice_get (sources.items ++ included.items) number)
@@ -72,7 +72,7 @@ fn path_among(sources: Vec<Source>, included: Vec<Source>, number: usize) -> Str
     }
 }
 
-// The tree of files that were read.
+/// The tree of files that were read.
 fn make_tree(alloc: Global, sources: Vec<Source>, included: Vec<Source>) -> Result<Tree, LoadFault>
     ensures { MatchResult result (IsTreeOf sources.items included.items) (MayRefuseFiles sources.items included.items) }
 {

@@ -40,13 +40,13 @@ impl<'a, S: Files> OutFile<'a, S> {
         }
     }
 
-    // A file that holds nothing, if the system has it.
+    /// A file that holds nothing, if the system has it.
     fn nothing(&self) -> Option<S::File> {
         File::open(self.system, "/dev/null").ok()
     }
 
-    // Makes the file. The system gives it the least number that is free, which is that of a standard stream if one is
-    // closed: so what is said would be written to it. Other files take these numbers before.
+    /// Makes the file. The system gives it the least number that is free, which is that of a standard stream if one is
+    /// closed: so what is said would be written to it. Other files take these numbers before.
     fn make(&mut self) -> io::Result<()>
         ensures failures { self.new.failures ≡ self.old.failures }
     {
@@ -55,7 +55,7 @@ impl<'a, S: Files> OutFile<'a, S> {
         Ok(())
     }
 
-    // Makes the file if it isn't made yet, and writes to it.
+    /// Makes the file if it isn't made yet, and writes to it.
     fn write_to_file(&mut self, bytes: &[u8]) -> io::Result<usize>
         ensures bound { IfOk result (λ count. count ≤ length bytes.now) }
         ensures failures { self.new.failures ≡ self.old.failures }
@@ -90,7 +90,7 @@ impl<'a, S: Files> Sink for OutFile<'a, S> {
     }
 }
 
-// Whether a folder is there after an attempt to make it.
+/// Whether a folder is there after an attempt to make it.
 fn is_there(made: io::Result<()>) -> Result<bool, AllocError> {
     match made {
         Err(error) if error.kind() == ErrorKind::AlreadyExists => Ok(true),
@@ -98,8 +98,8 @@ fn is_there(made: io::Result<()>) -> Result<bool, AllocError> {
     }
 }
 
-// Makes a folder, and those on the way to it that aren't there, at most `room`. Begins with the folder itself, since
-// most of the way is there mostly. False if the system refuses that.
+/// Makes a folder, and those on the way to it that aren't there, at most `room`. Begins with the folder itself, since
+/// most of the way is there mostly. False if the system refuses that.
 fn make_folder<S: Files>(system: &S, folder: &str, room: usize) -> Result<bool, AllocError> {
     if folder.is_empty() || is_there(fs::create_dir(system, folder))? {
         return Ok(true);
@@ -112,7 +112,7 @@ fn make_folder<S: Files>(system: &S, folder: &str, room: usize) -> Result<bool, 
     }
 }
 
-// Makes the folders on the way to a file. False if the system refuses that.
+/// Makes the folders on the way to a file. False if the system refuses that.
 fn make_folders<S: Files>(system: &S, path: &str) -> Result<bool, AllocError> {
     match path.rsplit_once('/') {
         Some((folder, _)) => make_folder(system, folder, folder.len()),
@@ -120,7 +120,7 @@ fn make_folders<S: Files>(system: &S, path: &str) -> Result<bool, AllocError> {
     }
 }
 
-// Makes the folders on the way to a file, and the file.
+/// Makes the folders on the way to a file, and the file.
 fn make_with_folders<S: Files>(system: &S, path: &str, bytes: &[u8]) -> Result<bool, AllocError> {
     if make_folders(system, path)? {
         Ok(given(fs::write(system, path, bytes))?.is_some())
@@ -129,7 +129,7 @@ fn make_with_folders<S: Files>(system: &S, path: &str, bytes: &[u8]) -> Result<b
     }
 }
 
-// Makes a file, and the folders on the way to it if one isn't there. False if the system refuses that.
+/// Makes a file, and the folders on the way to it if one isn't there. False if the system refuses that.
 fn make_whole<S: Files>(system: &S, path: &str, bytes: &[u8]) -> Result<bool, AllocError> {
     match fs::write(system, path, bytes) {
         Err(error) if error.kind() == ErrorKind::NotFound => make_with_folders(system, path, bytes),

@@ -1,26 +1,36 @@
 //! What files are read by.
 
-ghost use Rattle.std.specs.Prelude.{ℕ, List, Option, IfOk, map, string_bytes};
+ghost use Rattle.std.specs.Prelude.{ℕ, List, Option, IfOk};
 ghost use Rattle.std.specs.Option.{option_map};
+ghost use Rattle.source_files.specs.Entries.{Entry};
 ghost use Rattle.source_files.specs.Source.{MayKeep};
 
+use crate::entry::FolderEntry;
 use std::alloc::{AllocError, Global};
 
-/// Lists the sources below roots, and reads files.
+/// Lists the folders below roots, and reads files.
 ///
 /// A file or a folder can't be read if there is none, or the system doesn't open it, or a read of it fails, or an
 /// entry of the folder has a name that isn't UTF-8.
 pub trait ReadFiles {
-    // What listing a root may give: the paths below it, or none.
-    ghost lists: { Self → List ℕ → Option (List (List ℕ)) → Type 0 };
+    // What listing a folder below a root may give: its entries, or none.
+    ghost lists: { Self → List ℕ → List ℕ → Option (List Entry) → Type 0 };
 
     // What reading the file with a path may give: its bytes, or none.
     ghost gives: { Self → List ℕ → Option (List ℕ) → Type 0 };
 
-    /// The paths below a root of the regular files there whose names end in `.proto`, by their bytes. None if the
-    /// root, or a folder below it, can't be read.
-    fn list_sources(&self, alloc: Global, root: &str) -> Result<Option<Vec<String>>, AllocError>
-        ensures { IfOk result (λ listed. lists self.now root.now (option_map (λ paths. map string_bytes paths.items)
+    /// The entries of a folder, in any order. None if it can't be read.
+    ///
+    /// The folder is the root itself if its path below the root is empty; else this ends in `/`. A root may be a link
+    /// to a folder, and can't be read if it is neither. Below it what is a link or no folder has no entries. All
+    /// regular files whose names end in `.proto` are said to be files. Others may be left out, as may links.
+    fn list_folder(
+        &self,
+        alloc: Global,
+        root: &str,
+        folder: &str,
+    ) -> Result<Option<Vec<FolderEntry>>, AllocError>
+        ensures { IfOk result (λ listed. lists self.now root.now folder.now (option_map (λ entries. entries.items)
             listed)) };
 
     /// The bytes of the file with a path. None if it can't be read.

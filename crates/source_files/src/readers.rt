@@ -3,8 +3,8 @@
 use index_pool::Workers;
 use std::alloc::Global;
 
-/// What files are read on: threads of a runtime, so many workers, a gate whose calls come round each file, and the
-/// system of files.
+/// What files are read on: threads of a runtime, so many workers, a gate whose calls come round each folder and each
+/// file, and the system of files.
 #[derive(Drop)]
 pub struct Readers<'a, R, G, F> {
     /// The runtime whose threads read.
@@ -13,7 +13,7 @@ pub struct Readers<'a, R, G, F> {
     pub alloc: Global,
     /// How many threads read, at most.
     pub workers: Workers,
-    /// What is called before and after each file.
+    /// What is called before and after each folder and each file.
     pub gate: &'a G,
     /// The system of files.
     pub files: &'a F,

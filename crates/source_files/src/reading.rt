@@ -17,7 +17,7 @@ use std::alloc::{AllocError, Global};
 use std::sync::Wait;
 use std::thread::Threads;
 
-// A path below a root, for the system.
+/// A path below a root, for the system.
 fn path_below(alloc: Global, root: &str, path: &str) -> Result<String, AllocError>
     ensures { IfOk result (λ below. string_bytes below ≡ path_below root.now path.now) }
 {
@@ -27,7 +27,7 @@ fn path_below(alloc: Global, root: &str, path: &str) -> Result<String, AllocErro
     Ok(below)
 }
 
-// The bytes of a source below a root. None if it can't be read.
+/// The bytes of a source below a root. None if it can't be read.
 fn read_below<F: ReadFiles>(
     alloc: Global,
     files: &F,
@@ -41,7 +41,7 @@ fn read_below<F: ReadFiles>(
     files.read_source(alloc, below.as_str())
 }
 
-// The source with a path below a root.
+/// The source with a path below a root.
 fn source_below<F: ReadFiles>(
     alloc: Global,
     files: &F,
@@ -57,7 +57,7 @@ fn source_below<F: ReadFiles>(
     }
 }
 
-// The source with each of these paths below a root.
+/// The source with each of these paths below a root.
 #[derive(Drop)]
 struct ReadEach<'a, F: ReadFiles + Sync> {
     alloc: Global,
@@ -85,7 +85,7 @@ impl<'a, F: ReadFiles + Sync> Job for ReadEach<'a, F> {
     }
 }
 
-// The sources with these paths below a root.
+/// The sources with these paths below a root.
 fn read_part<R: Threads + Wait, G: Gate, F: ReadFiles + Sync>(
     readers: &Readers<'_, R, G, F>,
     root: &str,
@@ -119,7 +119,7 @@ fn read_part<R: Threads + Wait, G: Gate, F: ReadFiles + Sync>(
     }
 }
 
-// Adds the sources with these paths.
+/// Adds the sources with these paths.
 fn add_part<R: Threads + Wait, G: Gate, F: ReadFiles + Sync>(
     readers: &Readers<'_, R, G, F>,
     root: &str,
@@ -138,7 +138,7 @@ fn add_part<R: Threads + Wait, G: Gate, F: ReadFiles + Sync>(
     Ok(())
 }
 
-// The first of these paths, as many as a phase has inputs at most, and those behind them.
+/// The first of these paths, as many as a phase has inputs at most, and those behind them.
 fn part_of(paths: &[String]) -> (&[String], &[String])
     ensures parts { result.0.now ++ result.1.now ≡ paths.now }
     ensures few { length result.0.now ≤ MAX_INPUTS }

@@ -8,15 +8,17 @@ use crate::load_fault::LoadFault;
 use crate::read_files::ReadFiles;
 use crate::readers::Readers;
 use crate::reading::read_each;
+use crate::walk::list_sources;
 use index_pool::Gate;
 use source_tree::Source;
 use std::sync::Wait;
 use std::thread::Threads;
 
-/// The sources below a root, by path, read on workers: on the calling thread alone if a thread can't be started.
+/// The sources below a root, by path. Folders are listed and sources read on workers: on the calling thread alone if a
+/// thread can't be started.
 ///
-/// `Unreadable`: the root, which can't be listed, or else the first source that can't be read. Beside it
-/// `Memory` may come, and no other fault.
+/// `Unreadable`: the root, where it or a folder below it can't be listed, or else the first source that can't be read.
+/// Beside it `Memory` may come, and no other fault.
 pub fn read_root<R: Threads + Wait, G: Gate, F: ReadFiles + Sync>(
     readers: &Readers<'_, R, G, F>,
     root: &str,
@@ -25,11 +27,6 @@ pub fn read_root<R: Threads + Wait, G: Gate, F: ReadFiles + Sync>(
         root.now sources.items) }
     ensures err { IfErr result (MayStop (F.lists readers.now.files.now) (F.gives readers.now.files.now) root.now) }
 {
-    match readers.files.list_sources(readers.alloc, root)? {
-        Some(paths) => read_each(readers, root, &paths),
-        None => {
-            let name = String::from_str(readers.alloc, root)?;
-            Err(LoadFault::Unreadable(name))
-        }
-    }
+    let paths = list_sources(readers, root)?;
+    read_each(readers, root, &paths)
 }

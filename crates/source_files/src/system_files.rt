@@ -3,8 +3,9 @@
 ghost use Rattle.source_files.specs.SystemFiles.{IsGiven};
 
 use crate::empty_folders::EmptyFolders;
+use crate::entry::FolderEntry;
 use crate::read_files::ReadFiles;
-use crate::walk;
+use crate::system_folders::entries_of;
 use source_tree::read_source;
 use std::alloc::{AllocError, Global};
 use std::fs::File;
@@ -45,12 +46,17 @@ pub(crate) fn given<T: Drop>(answer: io::Result<T>) -> Result<Option<T>, AllocEr
 impl<'a, S: Files + AllocGlobal + Clone + Drop> ReadFiles for SystemFiles<'a, S> {
     ghost use Rattle.std.specs.Prelude.{⊤};
 
-    ghost lists = { λ _ _ _. ⊤ };
+    ghost lists = { λ _ _ _ _. ⊤ };
 
     ghost gives = { λ _ _ _. ⊤ };
 
-    fn list_sources(&self, _alloc: Global, root: &str) -> Result<Option<Vec<String>>, AllocError> {
-        given(walk::list_sources(self.system, root))
+    fn list_folder(
+        &self,
+        _alloc: Global,
+        root: &str,
+        folder: &str,
+    ) -> Result<Option<Vec<FolderEntry>>, AllocError> {
+        given(entries_of(self.system, root, folder))
     }
 
     fn read_file(&self, _alloc: Global, path: &str) -> Result<Option<Vec<u8>>, AllocError> {
@@ -65,7 +71,7 @@ impl<'a, S: Files + AllocGlobal + Clone + Drop> ReadFiles for SystemFiles<'a, S>
     }
 }
 
-// Whether a folder has no entries.
+/// Whether a folder has no entries.
 fn has_no_entries<S: Files + AllocGlobal + Clone + Drop>(
     system: &S,
     path: &str,

@@ -1,183 +1,204 @@
-//! The sources below a root.
+//! The sources below a root are listed, on workers.
 
+ghost use Rattle.std.specs.Prelude.{◌≡◌, ◌++◌, ◌≤◌, [], ◌∷◌, IfOk, IsPermutation, MatchResult, None, length, map};
+ghost use Rattle.std.specs.Prelude.{string_bytes};
+ghost use Rattle.std.specs.Cmp.Lexicographic.{slice_cmp};
+ghost use Rattle.std.specs.List.{flat_map};
+ghost use Rattle.std.specs.List.Sorted.{IsSorted};
+ghost use Rattle.std.specs.Ordering.{nat_cmp};
+ghost use Rattle.index_pool.specs.declared.workers.TheConstants.{MAX_INPUTS};
+ghost use Rattle.source_files.specs.Walks.{AreListed, Has, IsUnlisted};
+ghost use Rattle.source_files.specs.WalkSteps.{GoesOn, Have, IsStopped, MayNotList};
+
+use crate::found::{Found, found_in};
+use crate::load_fault::LoadFault;
+use crate::phases::run_anyway;
+use crate::read_files::ReadFiles;
+use crate::readers::Readers;
+use index_pool::{Gate, Job, MAX_INPUTS, PoolFault, Ticket, Workers};
 use std::alloc::{AllocError, Global};
-use std::io::{Error, ErrorKind, Read};
-use std::rt::Files;
-use std::{fs, io};
+use std::sync::Wait;
+use std::thread::Threads;
 
-// What the names of sources end in.
-const ENDING: &str = ".proto";
+/// A thread is started for so many folders.
+const FOLDERS_OF_A_WORKER: usize = 8;
 
-// So many bytes of a folder's names are read at once.
-const NAMES_LENGTH: usize = 32_768;
-
-// What comes before the names of a folder's entries: in their paths for the system, and in their paths below the
-// root. Each is empty or ends in `/`.
-#[derive(Drop)]
-struct Fronts {
-    path: String,
-    below: String,
-}
-
-// Folders that are still to be listed, among what may be none, by what would come before the names of their entries;
-// and the paths below the root of the sources found.
-#[derive(Drop)]
-struct Walk {
-    folders: Vec<Fronts>,
-    paths: Vec<String>,
-}
-
-// Three texts, one behind the other.
-fn joined(alloc: Global, front: &str, name: &str, end: &str) -> Result<String, AllocError> {
-    let length = front.len().saturating_add(name.len());
-    let mut path = String::with_capacity(alloc, length.saturating_add(end.len()))?;
-    path.push_str(front)?;
-    path.push_str(name)?;
-    path.push_str(end)?;
-    Ok(path)
-}
-
-// What comes before the names of the root's entries. By the `/` a root that is a link is followed.
-fn root_fronts(alloc: Global, root: &str) -> Result<Fronts, AllocError> {
-    let end = if root.is_empty() || root.ends_with('/') {
-        ""
-    } else {
-        "/"
-    };
-    Ok(Fronts {
-        path: joined(alloc, root, "", end)?,
-        below: String::new(alloc),
-    })
-}
-
-// Whether this is said of what is no folder: of a file, or of a link, also one to a folder.
-fn is_of_no_folder(error: &Error) -> bool {
-    matches!(
-        error.kind(),
-        ErrorKind::NotADirectory | ErrorKind::FilesystemLoop
-    )
-}
-
-impl Walk {
-    // Lists an open folder, by a buffer for names.
-    fn list_names<S: Files + AllocGlobal>(
-        &mut self,
-        system: &S,
-        mut folder: S::Dir,
-        fronts: &Fronts,
-        buffer: &mut [u8],
-    ) -> io::Result<()> {
-        // A bound for the proof: the names end.
-        for _ in 0..usize::MAX {
-            let count = folder.read(buffer)?;
-            if count == 0 {
-                break;
-            }
-            self.add_names(system, fronts, &buffer[..count])?;
-        }
-        Ok(())
-    }
-
-    // Adds entries, whose names each end in a NUL.
-    fn add_names<S: Files + AllocGlobal>(
-        &mut self,
-        system: &S,
-        fronts: &Fronts,
-        names: &[u8],
-    ) -> io::Result<()> {
-        for name in names.split(|byte| *byte == 0) {
-            self.add_entry(system, fronts, name)?;
-        }
-        Ok(())
-    }
-
-    // Adds an entry, but not the folder itself nor the one that it is in.
-    fn add_entry<S: Files + AllocGlobal>(
-        &mut self,
-        system: &S,
-        fronts: &Fronts,
-        name: &[u8],
-    ) -> io::Result<()> {
-        match str::from_utf8(name) {
-            Ok("" | "." | "..") => Ok(()),
-            Ok(name) => self.add_named(system, fronts, name),
-            Err(_) => Err(Error::from(ErrorKind::InvalidFilename)),
-        }
-    }
-
-    // Adds an entry. Only a name that a source may have is looked at: whether another is a folder is
-    // seen when it is opened.
-    fn add_named<S: Files + AllocGlobal>(
-        &mut self,
-        system: &S,
-        fronts: &Fronts,
-        name: &str,
-    ) -> io::Result<()> {
-        let alloc = system.alloc();
-        let mut is_folder = true;
-        if name.ends_with(ENDING) {
-            let path = joined(alloc, fronts.path.as_str(), name, "")?;
-            let kind = fs::symlink_metadata(system, path.as_str())?.file_type();
-            is_folder = kind.is_dir();
-            if kind.is_file() {
-                let path = joined(alloc, fronts.below.as_str(), name, "")?;
-                self.paths.push(path)?;
-            }
-        }
-        if is_folder {
-            let fronts = Fronts {
-                path: joined(alloc, fronts.path.as_str(), name, "/")?,
-                below: joined(alloc, fronts.below.as_str(), name, "/")?,
-            };
-            self.folders.push(fronts)?;
-        }
-        Ok(())
-    }
-
-    // Lists what may be a folder. Links, also those to folders, and what is neither a folder nor a
-    // regular file, are passed over.
-    fn list_found<S: Files + AllocGlobal>(
-        &mut self,
-        system: &S,
-        fronts: &Fronts,
-        buffer: &mut [u8],
-    ) -> io::Result<()> {
-        match system.open_dir(fronts.path.trim_end_matches('/')) {
-            Ok(folder) => self.list_names(system, folder, fronts, buffer),
-            Err(error) => {
-                if is_of_no_folder(&error) {
-                    Ok(())
-                } else {
-                    Err(error)
-                }
-            }
-        }
-    }
-}
-
-// The paths below a root of the regular files there whose names end in `.proto`, by their bytes.
-// The root may be a link; below it links aren't followed.
-pub(crate) fn list_sources<S: Files + AllocGlobal>(
-    system: &S,
+/// What a folder below a root has.
+fn list_one<F: ReadFiles>(
+    alloc: Global,
+    files: &F,
     root: &str,
-) -> io::Result<Vec<String>> {
-    let alloc = system.alloc();
-    let mut walk = Walk {
-        folders: Vec::new(alloc),
-        paths: Vec::new(alloc),
-    };
-    let mut buffer = [0u8; NAMES_LENGTH];
-    let fronts = root_fronts(alloc, root)?;
-    let folder = system.open_dir(fronts.path.as_str())?;
-    walk.list_names(system, folder, &fronts, &mut buffer)?;
-    // A bound for the proof: the walk ends if no folder is left.
-    for _ in 0..usize::MAX {
-        let Some(fronts) = walk.folders.pop() else {
-            break;
-        };
-        walk.list_found(system, &fronts, &mut buffer)?;
+    folder: &str,
+) -> Result<Found, LoadFault>
+    ensures { MatchResult result (λ found. Has (F.lists files.now root.now) folder.now
+        (map string_bytes found.folders.items) (map string_bytes found.paths.items))
+        (MayNotList (F.lists files.now root.now folder.now None) root.now) }
+{
+    match files.list_folder(alloc, root, folder)? {
+        Some(entries) => Ok(found_in(alloc, folder, &entries)?),
+        None => {
+            let name = String::from_str(alloc, root)?;
+            Err(LoadFault::Unreadable(name))
+        }
     }
-    let mut paths = walk.paths;
+}
+
+/// What each of these folders below a root has.
+#[derive(Drop)]
+struct ListEach<'a, F: ReadFiles + Sync> {
+    alloc: Global,
+    files: &'a F,
+    root: &'a str,
+    folders: &'a [String],
+}
+
+impl<'a, F: ReadFiles + Sync> Job for ListEach<'a, F> {
+    ghost use Rattle.std.specs.Prelude.{IfSome, MatchResult, None, length, map, slice_get, string_bytes};
+    ghost use Rattle.source_files.specs.Walks.{Has};
+    ghost use Rattle.source_files.specs.WalkSteps.{MayNotList};
+
+    type Out = Found;
+
+    type Fault = LoadFault;
+
+    ghost inputs = { λ s. length s.folders.now };
+
+    ghost gives = { λ s number result. IfSome (slice_get s.folders.now number)
+        (λ folder. MatchResult result (λ found. Has (F.lists s.files.now s.root.now) (string_bytes folder)
+        (map string_bytes found.folders.items) (map string_bytes found.paths.items))
+        (MayNotList (F.lists s.files.now s.root.now (string_bytes folder) None) s.root.now)) };
+
+    fn run(&self, ticket: Ticket) -> Result<Found, LoadFault> {
+        let folder = self.folders[ticket.number()].as_str();
+        list_one(self.alloc, self.files, self.root, folder)
+    }
+}
+
+/// These workers, but no more than folders keep busy.
+fn workers_for(workers: Workers, folders: usize) -> Workers {
+    let enough = folders / FOLDERS_OF_A_WORKER + 1;
+    Workers::new(enough.min(workers.count())).unwrap()
+}
+
+/// What each of these folders below a root has.
+fn list_each<R: Threads + Wait, G: Gate, F: ReadFiles + Sync>(
+    readers: &Readers<'_, R, G, F>,
+    root: &str,
+    folders: &[String],
+) -> Result<Vec<Found>, LoadFault>
+    requires { length folders.now ≤ MAX_INPUTS }
+    ensures { MatchResult result
+        (λ all. Have (F.lists readers.now.files.now root.now) (map string_bytes folders.now)
+        (flat_map (λ found. map string_bytes found.folders.items) all.items)
+        (flat_map (λ found. map string_bytes found.paths.items) all.items))
+        (MayNotList (IsStopped (F.lists readers.now.files.now root.now) (map string_bytes folders.now)) root.now) }
+{
+    let job = ListEach {
+        alloc: readers.alloc,
+        files: readers.files,
+        root,
+        folders,
+    };
+    match run_anyway(
+        readers.rt,
+        readers.alloc,
+        &job,
+        folders.len(),
+        workers_for(readers.workers, folders.len()),
+        readers.gate,
+    ) {
+        Ok(all) => Ok(all),
+        Err(PoolFault::Spawn) => unreachable!(),
+        Err(PoolFault::Memory) => Err(LoadFault::Memory),
+        Err(PoolFault::Job(_, fault)) => Err(fault),
+    }
+}
+
+/// What folders have, one behind the other.
+fn join(alloc: Global, all: Vec<Found>) -> Result<Found, AllocError>
+    ensures { IfOk result (λ joined.
+        (map string_bytes joined.folders.items ≡ flat_map (λ found. map string_bytes found.folders.items) all.items)
+        × (map string_bytes joined.paths.items ≡ flat_map (λ found. map string_bytes found.paths.items) all.items)) }
+{
+    let mut folders = Vec::new(alloc);
+    let mut paths = Vec::new(alloc);
+    for found in all {
+        let mut found = found;
+        folders.append(&mut found.folders)?;
+        paths.append(&mut found.paths)?;
+    }
+    Ok(Found { folders, paths })
+}
+
+/// Takes the last folders, as many as a phase has inputs at most.
+fn take_part(folders: &mut Vec<String>) -> Result<Vec<String>, AllocError>
+    ensures parts { IfOk result (λ part. folders.new.items ++ part.items ≡ folders.old.items) }
+    ensures few { IfOk result (λ part. length part.items ≤ MAX_INPUTS) }
+{
+    folders.split_off(folders.len().saturating_sub(MAX_INPUTS))
+}
+
+/// Lists the last of the folders that are left.
+fn go_on<R: Threads + Wait, G: Gate, F: ReadFiles + Sync>(
+    readers: &Readers<'_, R, G, F>,
+    root: &str,
+    walk: &mut Found,
+) -> Result<(), LoadFault>
+    ensures { MatchResult result (λ _. GoesOn (F.lists readers.now.files.now root.now)
+        (map string_bytes walk.old.folders.items) (map string_bytes walk.new.folders.items)
+        (map string_bytes walk.old.paths.items) (map string_bytes walk.new.paths.items))
+        (MayNotList (IsStopped (F.lists readers.now.files.now root.now) (map string_bytes walk.old.folders.items))
+        root.now) }
+{
+    let part = take_part(&mut walk.folders)?;
+    let all = list_each(readers, root, &part)?;
+    let mut more = join(readers.alloc, all)?;
+    walk.folders.append(&mut more.folders)?;
+    walk.paths.append(&mut more.paths)?;
+    Ok(())
+}
+
+/// The root is left to be listed.
+fn begin(alloc: Global) -> Result<Found, AllocError>
+    ensures { IfOk result (λ walk. (map string_bytes walk.folders.items ≡ [] ∷ [])
+        × (map string_bytes walk.paths.items ≡ [])) }
+{
+    let mut folders = Vec::new(alloc);
+    folders.push(String::new(alloc))?;
+    let paths = Vec::new(alloc);
+    Ok(Found { folders, paths })
+}
+
+/// Paths by their bytes.
+fn by_bytes(paths: Vec<String>) -> Result<Vec<String>, AllocError>
+    ensures complete { IfOk result (λ sorted. IsPermutation (map string_bytes paths.items)
+        (map string_bytes sorted.items)) }
+    ensures ascends { IfOk result (λ sorted. IsSorted (slice_cmp nat_cmp) (map string_bytes sorted.items)) }
+{
+    let mut paths = paths;
     paths.sort()?;
     Ok(paths)
+}
+
+/// The paths below a root of the sources found there, by their bytes.
+///
+/// `Unreadable`, with the root: the root or a folder found below it can't be listed. Beside it `Memory` may come, and
+/// no other fault.
+pub(crate) fn list_sources<R: Threads + Wait, G: Gate, F: ReadFiles + Sync>(
+    readers: &Readers<'_, R, G, F>,
+    root: &str,
+) -> Result<Vec<String>, LoadFault>
+    ensures { MatchResult result
+        (λ paths. AreListed (F.lists readers.now.files.now root.now) (map string_bytes paths.items))
+        (MayNotList (IsUnlisted (F.lists readers.now.files.now root.now) []) root.now) }
+{
+    let mut walk = begin(readers.alloc)?;
+    // A bound for the proof: each time a folder is listed, and there aren't so many.
+    for _ in 0..usize::MAX {
+        if walk.folders.is_empty() {
+            return Ok(by_bytes(walk.paths)?);
+        }
+        go_on(readers, root, &mut walk)?;
+    }
+    Err(LoadFault::Memory)
 }

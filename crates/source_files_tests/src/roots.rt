@@ -16,32 +16,47 @@ fn see_text(rt: &impl Abort, found: &str, due: &str) {
     assert!(rt; found == due, "{found} in place of {due}");
 }
 
-/// The paths, each with a space behind it.
-fn listing(alloc: Global, paths: &[String]) -> Result<String, AllocError> {
+/// The paths of the sources, each with a space behind it.
+fn listing(alloc: Global, sources: &[Source]) -> Result<String, AllocError> {
     let mut text = String::new(alloc);
-    for path in paths {
-        text.push_str(path.as_str())?;
+    for source in sources {
+        text.push_str(source.path.as_str())?;
         text.push(' ')?;
     }
     Ok(text)
 }
 
-fn text_of(alloc: Global, answer: Option<Vec<String>>) -> Result<String, AllocError> {
+/// The paths of the sources that were read, or what couldn't be, with the fault behind it.
+fn text_of(alloc: Global, answer: Result<Vec<Source>, LoadFault>) -> Result<String, AllocError> {
     match answer {
-        Some(paths) => listing(alloc, &paths),
-        None => String::from_str(alloc, "Unreadable"),
+        Ok(sources) => listing(alloc, &sources),
+        Err(LoadFault::Unreadable(name)) => {
+            let mut text = name;
+            text.push_str(": Unreadable")?;
+            Ok(text)
+        }
+        Err(fault) => String::from_str(alloc, fault.name()),
     }
 }
 
-/// The paths of the sources below a root. Where memory ran out it is called again, and the second answer
-/// counts; so it is with the call below.
-fn list_again<F: ReadFiles>(
+/// Reads the sources below a root on workers. Where memory ran out it is called again, and the second answer counts;
+/// so it is with the call below.
+fn read_again<R: Threads + Wait, F: ReadFiles + Sync>(
+    rt: &R,
     alloc: Global,
+    workers: Workers,
     files: &F,
     root: &str,
-) -> Result<Option<Vec<String>>, AllocError> {
-    match files.list_sources(alloc, root) {
-        Err(AllocError) => files.list_sources(alloc, root),
+) -> Result<Vec<Source>, LoadFault> {
+    let readers = Readers {
+        rt,
+        alloc,
+        workers,
+        gate: &NoGate,
+        files,
+    };
+    match read_root(&readers, root) {
+        Err(LoadFault::Memory) => read_root(&readers, root),
         answer => answer,
     }
 }
@@ -54,16 +69,20 @@ fn remove_again<S: Files + AllocGlobal>(system: &S, path: &str) -> io::Result<()
     }
 }
 
-/// Sees that below a root these sources are listed, or why none are.
-fn see_listed<F: ReadFiles>(
-    rt: &impl Abort,
+/// Sees that below a root these sources are read, or what can't be: on one worker and on more.
+pub(crate) fn see_read<R: Threads + Wait + Abort, F: ReadFiles + Sync>(
+    rt: &R,
     alloc: Global,
     files: &F,
     root: &str,
     due: &str,
 ) -> Result<(), AllocError> {
-    let found = text_of(alloc, list_again(alloc, files, root)?)?;
-    see_text(rt, found.as_str(), due);
+    for count in &[1usize, 3, 16] {
+        if let Some(workers) = Workers::new(*count) {
+            let found = text_of(alloc, read_again(rt, alloc, workers, files, root))?;
+            see_text(rt, found.as_str(), due);
+        }
+    }
     Ok(())
 }
 
@@ -77,49 +96,32 @@ fn are_five(sources: &[Source]) -> bool {
     sources.len() == 5
 }
 
-/// Whether these five are read on so many workers.
-fn are_read<R: Threads + Wait, F: ReadFiles + Sync>(
-    rt: &R,
-    alloc: Global,
-    workers: Workers,
-    files: &F,
-    root: &str,
-) -> bool {
-    let readers = Readers {
-        rt,
-        alloc,
-        workers,
-        gate: &NoGate,
-        files,
-    };
-    let answer = match read_root(&readers, root) {
-        Err(LoadFault::Memory) => read_root(&readers, root),
-        answer => answer,
-    };
-    match answer {
-        Ok(sources) => are_five(&sources),
-        Err(_) => false,
-    }
-}
-
-/// Sees that they are, on one worker and on more.
-fn see_read<R: Threads + Wait + Abort, F: ReadFiles + Sync>(
+/// Sees that each source is read from its file.
+fn see_held<R: Threads + Wait + Abort, F: ReadFiles + Sync>(
     rt: &R,
     alloc: Global,
     files: &F,
     root: &str,
 ) {
-    for count in &[1usize, 3, 16] {
-        let read = match Workers::new(*count) {
-            Some(workers) if are_read(rt, alloc, workers, files, root) => "read",
-            _ => "not so",
+    if let Some(workers) = Workers::new(4) {
+        let held = match read_again(rt, alloc, workers, files, root) {
+            Ok(sources) => are_five(&sources),
+            Err(_) => false,
         };
-        see_text(rt, read, "read");
+        see_text(rt, if held { "held" } else { "not so" }, "held");
     }
 }
 
 /// The sources below `walk`.
 const SOURCES: &str = ".proto a.proto deep/er/c.proto x.proto/b.proto z.proto ";
+
+/// Roots that can't be listed, and what is told.
+const UNREAD: [(&str, &str); 4] = [
+    ("walk/a.proto", "walk/a.proto: Unreadable"),
+    ("nowhere", "nowhere: Unreadable"),
+    ("", ": Unreadable"),
+    ("walk/link.proto", "walk/link.proto: Unreadable"),
+];
 
 #[test]
 fn regular_files_by_path(rt: HostRuntime) -> Result<(), Fail> {
@@ -147,12 +149,12 @@ fn regular_files_by_path(rt: HostRuntime) -> Result<(), Fail> {
     rt.symlink("walk", "root")?;
     let files = SystemFiles::new(&rt);
     for root in &["walk", "walk/", "./walk", "root"] {
-        see_listed(&rt, rt.alloc(), &files, root, SOURCES)?;
+        see_read(&rt, rt.alloc(), &files, *root, SOURCES)?;
     }
-    for root in &["walk/a.proto", "nowhere", "", "walk/link.proto"] {
-        see_listed(&rt, rt.alloc(), &files, root, "Unreadable")?;
+    for (root, due) in &UNREAD {
+        see_read(&rt, rt.alloc(), &files, *root, *due)?;
     }
-    see_read(&rt, rt.alloc(), &files, "walk");
+    see_held(&rt, rt.alloc(), &files, "walk");
     fs::remove_file(&rt, "root")?;
     remove_again(&rt, "walk")?;
     Ok(())

@@ -1,4 +1,3 @@
-use Rattle.std.proofs.Common.{ℕ}
 use Rattle.source_files.proofs.out_file.+make_folder.Given as goal
 
 -- so many folders may still be missing

@@ -1,0 +1,36 @@
+-- What the paths that are listed below a root are like, and that they are one list.
+use Rattle.std.specs.Prelude.{◌≡◌, ℕ, List, [], ◌∷◌, ◌++◌, Option, All, codes}
+use Rattle.std.specs.List.{flat_map}
+use Rattle.source_files.specs.Entries.{Entry, IsName}
+use Rattle.source_files.specs.Walks.{AreListed, IsUnlisted}
+
+-- the names of folders, each with `/` behind it
+abbrev pub folder_path : List (List ℕ) → List ℕ
+folder_path names = flat_map (λ name. name ++ 47 ∷ []) names
+
+-- A path of a source below its root: the names of folders, each with `/` behind it, and then a name that ends in
+-- `.proto`. So it doesn't leave the root.
+pub record StaysBelow (path : List ℕ) : Type 0 where
+  pub folders : List (List ℕ)
+  pub name : List ℕ
+  pub front : List ℕ
+  pub named_folders : All IsName folders
+  pub named : IsName name
+  pub ending : name ≡ front ++ codes ".proto"
+  pub path_is : path ≡ folder_path folders ++ name
+
+-- so it is with each path that is listed below a root
+abbrev pub ListedStayBelow : (List ℕ → List ℕ → Option (List Entry) → Type 0) → Type 0
+ListedStayBelow lists = (root : List ℕ) (paths : List (List ℕ)) → AreListed (lists root) paths → All StaysBelow paths
+
+-- each folder has one listing at most, or can't be listed
+abbrev pub ListOnce : (List ℕ → List ℕ → Option (List Entry) → Type 0) → Type 0
+ListOnce lists = (root folder : List ℕ) (one other : Option (List Entry)) → lists root folder one
+    → lists root folder other → one ≡ other
+
+-- then what is listed below a root is one list at most; and if there is one, no folder there can't be listed
+pub record OneListing (lists : List ℕ → List ℕ → Option (List Entry) → Type 0) : Type 0 where
+  pub one : ListOnce lists → (root : List ℕ) (paths others : List (List ℕ)) → AreListed (lists root) paths
+      → AreListed (lists root) others → paths ≡ others
+  pub whole : ListOnce lists → (root : List ℕ) (paths : List (List ℕ)) → AreListed (lists root) paths
+      → ¬ (IsUnlisted (lists root) [])

@@ -1,0 +1,15 @@
+//! Laws about what is listed below roots, each the contract of an empty function.
+
+ghost use Rattle.source_files.specs.WalkLaws.{ListedStayBelow, OneListing};
+
+use crate::read_files::ReadFiles;
+
+/// What is listed below a root has a path of names that doesn't leave the root, and whose last name ends in `.proto`.
+pub fn listed_paths_stay_below<F: ReadFiles>(files: &F)
+    ensures { ListedStayBelow (F.lists files.now) }
+{}
+
+/// If each folder has one listing at most, what is listed below a root is one list at most.
+pub fn roots_have_one_listing<F: ReadFiles>(files: &F)
+    ensures { OneListing (F.lists files.now) }
+{}

@@ -25,6 +25,7 @@ pub mod TenthByteLemmas
 pub mod SpelledVarintLemmas
 pub mod SaturatedLemmas
 pub mod OutputLemmas
+pub mod ShortenedLemmas
 pub mod BufferLemmas
 pub mod EncodeLemmas
 pub mod PieceLemmas

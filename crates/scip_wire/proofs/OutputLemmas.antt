@@ -9,7 +9,8 @@ use Rattle.std.proofs.lemmas.Grind.{flat_map-append}
 use Rattle.std.specs.List.{flat_map, concat}
 use Rattle.scip_model.specs.Range.{RangeNumbers}
 use Rattle.scip_wire.specs.Fields.{Field}
-use Rattle.scip_wire.specs.Spelling.{varint, bytes_of, field_bytes, number_fields, int_fields, text_fields, range_numbers}
+use Rattle.scip_wire.specs.Spelling.{varint, bytes_of, field_bytes, number_fields, int_fields, text_fields}
+use Rattle.scip_wire.specs.Spelling.{range_numbers}
 use Rattle.scip_wire.specs.Outputs.{IsPut, put, HasGained, IsFilled}
 
 -- ---- the records of a message, one put behind another
@@ -93,7 +94,8 @@ numbers_by : (r : RangeNumbers) (same : Bool)
     → varint r.start_line ++ (varint r.start_column ++ (cond same [] (varint r.end_line) ++ varint r.end_column))
     ≡ flat_map varint (cond same (r.start_line ∷ r.start_column ∷ r.end_column ∷ [])
     (r.start_line ∷ r.start_column ∷ r.end_line ∷ r.end_column ∷ []))
-numbers_by r true = ap (λ l. varint r.start_line ++ (varint r.start_column ++ l)) (sym (append-nil (varint r.end_column)))
+numbers_by r true = ap (λ l. varint r.start_line ++ (varint r.start_column ++ l))
+    (sym (append-nil (varint r.end_column)))
 numbers_by r false = ap (λ l. varint r.start_line ++ (varint r.start_column ++ (varint r.end_line ++ l)))
     (sym (append-nil (varint r.end_column)))
 

@@ -95,7 +95,8 @@ too_high start (suc limit) byte high bytes rest below b goes_on v h =
     split (nat_lt limit 8)
     (λ few.
     let fits : high < 128 ^ suc limit = varint_below (suc limit) b v in
-    let most : 128 ^ suc limit ≤ 128 ^ 8 = pow-le-pow_right (omega arith) {i = suc limit} {j = 8} (omega (arith, ltb-true limit 8 few)) in
+    let most : 128 ^ suc limit ≤ 128 ^ 8 =
+    pow-le-pow_right (omega arith) {i = suc limit} {j = 8} (omega (arith, ltb-true limit 8 few)) in
     absurd (omega (arith, fits, most, h)))
     (λ many.
     let eight : limit ≡ 8 = omega (arith, below, ltb-false limit 8 many) in

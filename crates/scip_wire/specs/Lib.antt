@@ -15,6 +15,7 @@ pub mod Gives
 -- What the writer computes and answers.
 pub mod Saturated
 pub mod Outputs
+pub mod Shortened
 pub mod Buffered
 pub mod Writing
 -- what is said about a fault

@@ -16,7 +16,7 @@ pub use laws::{
 };
 pub use pieces::write_pieces;
 pub use read::read_index;
-pub use spell::spell_document;
+pub use spell::{DocumentRecord, spell_document};
 pub use wire_fault::WireFault;
 pub use write::{MAX_INDEX_LEN, encoded_len, spell_index, write_index};
 pub use write_fault::{TooLarge, WriteFault};

@@ -6,7 +6,7 @@ ghost use Rattle.scip_wire.specs.Spelling.{joined_pieces, max_index_len};
 ghost use Rattle.scip_wire.specs.WellFormed.{IsFitInfo, IsFitMetadata};
 ghost use Rattle.scip_wire.specs.Writing.{Leaves};
 
-use crate::spell::{Buffer, encode_pieces, pieces_len};
+use crate::spell::{Buffer, DocumentRecord, encode_pieces, pieces_len};
 use crate::write::MAX_INDEX_LEN;
 use crate::write_fault::WriteFault;
 use scip_model::{Metadata, SymbolInformation};
@@ -16,7 +16,7 @@ use streams::{CutOff, Sink};
 /// Writes pieces that aren't too long.
 fn write_in_order<W: Sink>(
     metadata: &Option<Metadata>,
-    documents: &[Sequence<u8>],
+    documents: &[DocumentRecord],
     external_symbols: &Sequence<SymbolInformation>,
     sink: &mut W,
 ) -> Result<(), CutOff>
@@ -32,10 +32,10 @@ fn write_in_order<W: Sink>(
 }
 
 /// Writes the spelling of an index of which each document is spelled: its record is one of `documents`, in
-/// order. They are written as they are, one after another. Takes no memory.
+/// order. They are written in full, one after another. Takes no memory.
 pub fn write_pieces<W: Sink>(
     metadata: &Option<Metadata>,
-    documents: &[Sequence<u8>],
+    documents: &[DocumentRecord],
     external_symbols: &Sequence<SymbolInformation>,
     sink: &mut W,
 ) -> Result<(), WriteFault>

@@ -1,7 +1,7 @@
 //! Calls of the encoding that are made again after want of memory, where the second answer counts.
 
-use scip_model::Index;
-use scip_wire::{WireFault, encoded_len, read_index, spell_index};
+use scip_model::{Document, Index};
+use scip_wire::{DocumentRecord, WireFault, encoded_len, read_index, spell_document, spell_index};
 use std::alloc::{AllocError, Global};
 use std::process::Abort;
 
@@ -27,6 +27,14 @@ pub fn decoded(alloc: Global, bytes: &[u8]) -> Result<Index, WireFault> {
 pub fn spelled(alloc: Global, index: &Index) -> Result<Option<Vec<u8>>, AllocError> {
     match spell_index(alloc, index) {
         Err(AllocError) => spell_index(alloc, index),
+        answer => answer,
+    }
+}
+
+/// The record of a document. It is spelled again after want of memory.
+pub fn record(alloc: Global, document: &Document) -> Result<DocumentRecord, AllocError> {
+    match spell_document(alloc, document) {
+        Err(AllocError) => spell_document(alloc, document),
         answer => answer,
     }
 }

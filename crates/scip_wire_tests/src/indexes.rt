@@ -26,6 +26,15 @@ pub const EVERYTHING: &[u8; 104] = b"\x0A\x1E\x08\xFF\xFF\xFF\xFF\xFF\xFF\xFF\xF
 \x12\x00\
 \x1A\x00";
 
+/// The index of a file `a` with a message `A` in the package `p` and its field `b`, whose type is of another package:
+/// all other symbols begin with `s . . . p/A#`.
+pub const PREFIXED: &[u8; 114] = b"\x12\x70\x0A\x01a\
+\x12\x15\x0A\x03\x01\x08\x09\x12\x0Cs . . . p/A#\x18\x01\
+\x12\x17\x0A\x03\x02\x08\x09\x12\x0Es . . . p/A#b.\x18\x01\
+\x12\x13\x0A\x03\x02\x01\x02\x12\x0Cs . . . q/C#\
+\x1A\x11\x0A\x0Cs . . . p/A#\x32\x01A\
+\x1A\x13\x0A\x0Es . . . p/A#b.\x32\x01b";
+
 /// Document `a` with one occurrence `[1, 8, 9]` of `x`, role 1: the range one number a record, the
 /// last number in two bytes, and an unknown field, 99, with a 0 in two bytes.
 pub const UNPACKED: &[u8; 23] =

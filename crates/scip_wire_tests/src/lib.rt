@@ -10,7 +10,7 @@ mod indexes;
 #[cfg(test)]
 mod large;
 #[cfg(test)]
-mod nested;
+mod pieces;
 #[cfg(test)]
 mod refusals;
 #[cfg(test)]

@@ -20,7 +20,7 @@ fn is_printed(alloc: Global, fault: WireFault) -> bool {
 }
 
 /// Whether bytes are refused with this fault.
-pub(crate) fn is_refused(alloc: Global, bytes: &[u8], want: WireFault) -> bool {
+fn is_refused(alloc: Global, bytes: &[u8], want: WireFault) -> bool {
     match decoded(alloc, bytes) {
         Ok(_) => false,
         Err(fault) => fault == want && is_printed(alloc, fault),
@@ -59,7 +59,7 @@ fn cut_bytes_are_refused(rt: HostRuntime) {
 }
 
 // The first row: a byte 0x0B is the tag of field 1 with the start of a group, which is refused at byte 0.
-static REFUSALS: [Refusal<'static>; 27] = [
+static REFUSALS: [Refusal<'static>; 44] = [
     // Of tags.
     (b"\x0B", WireFault::Group(0)),
     (b"\x0C", WireFault::Group(0)),
@@ -74,7 +74,16 @@ static REFUSALS: [Refusal<'static>; 27] = [
         b"\x08\xFF\xFF\xFF\xFF\xFF\xFF\xFF\xFF\xFF\x02",
         WireFault::Varint(0),
     ),
+    // A varint of eleven bytes.
+    (
+        b"\x08\x80\x80\x80\x80\x80\x80\x80\x80\x80\x80\x80",
+        WireFault::Varint(0),
+    ),
+    // The same in a document.
     (b"\x12\x01\x0B\x00", WireFault::Group(2)),
+    (b"\x12\x02\x00\x00", WireFault::FieldZero(2)),
+    (b"\x12\x01\x0E", WireFault::WireType(2)),
+    (b"\x12\x05\x80\x80\x80\x80\x10", WireFault::Varint(2)),
     // Of messages.
     (b"\x0A\x00\x0A\x00", WireFault::Repeated(2)),
     (b"\x0A\x04\x12\x00\x12\x00", WireFault::Repeated(4)),
@@ -87,6 +96,20 @@ static REFUSALS: [Refusal<'static>; 27] = [
         b"\x12\x10\x12\x0E\x0A\x0C\x01\x08\xFF\xFF\xFF\xFF\xFF\xFF\xFF\xFF\xFF\x01",
         WireFault::BadRange(2),
     ),
+    // Each text of each message.
+    (b"\x0A\x03\x1A\x01\xFF", WireFault::Utf8(2)),
+    (b"\x0A\x05\x12\x03\x0A\x01\xFF", WireFault::Utf8(4)),
+    (b"\x0A\x05\x12\x03\x12\x01\xFF", WireFault::Utf8(4)),
+    (b"\x0A\x05\x12\x03\x1A\x01\xFF", WireFault::Utf8(4)),
+    (b"\x12\x03\x0A\x01\xFF", WireFault::Utf8(2)),
+    (b"\x12\x03\x22\x01\xFF", WireFault::Utf8(2)),
+    (b"\x12\x05\x12\x03\x12\x01\xFF", WireFault::Utf8(4)),
+    (b"\x12\x05\x1A\x03\x0A\x01\xFF", WireFault::Utf8(4)),
+    (b"\x12\x05\x1A\x03\x1A\x01\xFF", WireFault::Utf8(4)),
+    (b"\x12\x05\x1A\x03\x32\x01\xFF", WireFault::Utf8(4)),
+    (b"\x1A\x03\x0A\x01\xFF", WireFault::Utf8(2)),
+    (b"\x1A\x03\x1A\x01\xFF", WireFault::Utf8(2)),
+    (b"\x1A\x03\x32\x01\xFF", WireFault::Utf8(2)),
     // Lengths that bytes only claim.
     (b"\x12\xFF\xFF\xFF\xFF\x07", WireFault::Truncated(0)),
     (

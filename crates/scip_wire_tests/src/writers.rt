@@ -2,7 +2,7 @@
 
 use crate::calls::see;
 use scip_model::Index;
-use scip_wire::{WriteFault, write_index};
+use scip_wire::{DocumentRecord, WriteFault, write_index, write_pieces};
 use std::io;
 use std::io::Write;
 use std::process::Abort;
@@ -26,7 +26,7 @@ impl Write for Counting<'_> {
     }
 }
 
-/// What `write_index` answers, how many bytes its writer then has, and how often it was called.
+/// What a call that writes answers, how many bytes its writer then has, and how often it was called.
 #[derive(Clone, Copy)]
 pub struct Outcome {
     pub answer: Result<(), WriteFault>,
@@ -39,6 +39,19 @@ pub fn written(index: &Index, room: &mut [u8]) -> Outcome {
     let size = room.len();
     let mut sink = Std::new(Counting { room, calls: 0 });
     let answer = write_index(index, &mut sink);
+    let writer = sink.into_inner();
+    Outcome {
+        answer,
+        count: size.saturating_sub(writer.room.len()),
+        calls: writer.calls,
+    }
+}
+
+/// What becomes of an index with this room, if it is written in pieces and these are the records of its documents.
+pub fn pieces_written(index: &Index, records: &[DocumentRecord], room: &mut [u8]) -> Outcome {
+    let size = room.len();
+    let mut sink = Std::new(Counting { room, calls: 0 });
+    let answer = write_pieces(&index.metadata, records, &index.external_symbols, &mut sink);
     let writer = sink.into_inner();
     Outcome {
         answer,

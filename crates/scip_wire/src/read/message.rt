@@ -79,7 +79,8 @@ pub fn take_only<M: Decode>(
     ensures reads { Gives (λ _. place.new) result (only_after (λ b. fold_at field_at M.step b M.none) place.old
         bytes.now) }
     ensures fault { Blames result
-        (only_fault (λ end bytes. message_fault M.step M.step_fault end bytes M.none) start end place.old (Delimited bytes.now)) }
+        (only_fault (λ end bytes. message_fault M.step M.step_fault end bytes M.none) start end place.old
+        (Delimited bytes.now)) }
 {
     if place.is_some() {
         return Err(WireFault::Repeated(start));

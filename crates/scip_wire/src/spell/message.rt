@@ -39,6 +39,24 @@ pub(super) fn message_len<M: Encode>(number: u64, message: &M) -> u64
     record_len(number, message.encoded_len())
 }
 
+/// Puts a message's record. The message has this length.
+pub(super) fn encode_message_of_len<M: Encode, W, O: Output<W>>(
+    out: &mut O,
+    sink: &mut W,
+    number: u64,
+    message: &M,
+    len: u64,
+)
+    requires number { number ≤ max_field_number }
+    requires len { len ≡ fields_len (M.fields message.now) }
+    ensures { IsPut O.holds sink.old out.old sink.new out.new (bytes_of (bytes_field number
+        (bytes_of (M.fields message.now)) ∷ [])) }
+{
+    encode_varint(out, sink, 8 * number + 2);
+    encode_varint(out, sink, len);
+    message.encode(out, sink);
+}
+
 /// Puts a message's record.
 pub(super) fn encode_message<M: Encode, W, O: Output<W>>(
     out: &mut O,
@@ -51,9 +69,7 @@ pub(super) fn encode_message<M: Encode, W, O: Output<W>>(
     ensures { IsPut O.holds sink.old out.old sink.new out.new (bytes_of (bytes_field number
         (bytes_of (M.fields message.now)) ∷ [])) }
 {
-    encode_varint(out, sink, 8 * number + 2);
-    encode_varint(out, sink, message.encoded_len());
-    message.encode(out, sink);
+    encode_message_of_len(out, sink, number, message, message.encoded_len());
 }
 
 /// The length of the record of a message that may be absent.

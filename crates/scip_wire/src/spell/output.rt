@@ -3,7 +3,8 @@
 ghost use Rattle.std.specs.Prelude.{ℕ, List, [], ◌∷◌};
 ghost use Rattle.scip_wire.specs.Outputs.{IsPut};
 
-/// What bytes are put into: a list, or a buffer in front of a sink, which is passed along. A list has no sink.
+/// What bytes are put into: a list, which may be shortened, or a buffer in front of a sink, which is passed along. A
+/// list has no sink.
 ///
 /// Nothing is answered, so that nobody has to ask after each byte: what comes of a failed write is kept.
 pub(crate) trait Output<W> {

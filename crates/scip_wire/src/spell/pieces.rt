@@ -7,33 +7,61 @@ ghost use Rattle.scip_wire.specs.Saturated.{saturated};
 ghost use Rattle.scip_wire.specs.Spelling.{document_record, joined_pieces, max_index_len};
 ghost use Rattle.scip_wire.specs.WellFormed.{IsFitDocument, IsFitInfo, IsFitMetadata};
 
+use super::document_record::DocumentRecord;
+use super::fields::record_len;
 use super::message::{
-    encode_message, encode_messages, encode_optional_message, message_len, messages_len,
+    Encode, encode_message_of_len, encode_messages, encode_optional_message, messages_len,
     optional_message_len,
 };
 use super::output::Output;
+use super::shortened::Shortened;
 use scip_model::{Document, Metadata, SymbolInformation};
 use sequences::Sequence;
 use std::alloc::{AllocError, Global};
 
+/// What most symbols of a document begin with: that of its middle entry, before the last `/`.
+fn common_prefix(document: &Document) -> &str {
+    let entries = document.symbols.as_slice();
+    match entries.get(entries.len() / 2) {
+        None => "",
+        Some(entry) => match entry.symbol.as_str().rsplit_once('/') {
+            None => "",
+            Some((prefix, _)) => prefix,
+        },
+    }
+}
+
+/// How many symbols a document has, in its occurrences and its entries.
+fn symbol_count(document: &Document) -> usize {
+    let occurrences = document.occurrences.as_slice().len();
+    occurrences.saturating_add(document.symbols.as_slice().len())
+}
+
 /// A document's record, as in the spelling of an index, with its tag and length.
-pub fn spell_document(alloc: Global, document: &Document) -> Result<Sequence<u8>, AllocError>
+pub fn spell_document(alloc: Global, document: &Document) -> Result<DocumentRecord, AllocError>
     ensures bytes { IfOk result (λ bytes. bytes ≡ document_record document.now) }
     ensures known { IsFitDocument document.now }
 {
-    let len = message_len(2, document);
-    let mut bytes = Vec::with_capacity(alloc, len as usize)?;
-    encode_message(&mut bytes, &mut (), 2, document);
-    Ok(Sequence::from_vec(bytes))
+    let len = document.encoded_len();
+    let room = record_len(2, len) as usize;
+    let prefix = common_prefix(document).as_bytes();
+    let places = if prefix.is_empty() {
+        0
+    } else {
+        symbol_count(document)
+    };
+    let mut bytes = Shortened::with_room(alloc, prefix, room, places)?;
+    encode_message_of_len(&mut bytes, &mut (), 2, document, len);
+    Ok(DocumentRecord::new(bytes, room))
 }
 
 /// The length of records, up to `u64::MAX`.
-fn records_len(records: &[Sequence<u8>]) -> u64
+fn records_len(records: &[DocumentRecord]) -> u64
     ensures { result ≡ saturated (length (concat records.now)) }
 {
     let mut len = 0u64;
     'records: for record in records {
-        len = len.saturating_add(record.as_slice().len() as u64);
+        len = len.saturating_add(record.len() as u64);
     }
     len
 }
@@ -41,7 +69,7 @@ fn records_len(records: &[Sequence<u8>]) -> u64
 /// The length of an index in pieces, up to `u64::MAX`. Takes no memory.
 pub(crate) fn pieces_len(
     metadata: &Option<Metadata>,
-    documents: &[Sequence<u8>],
+    documents: &[DocumentRecord],
     external_symbols: &Sequence<SymbolInformation>,
 ) -> u64
     ensures value { result ≡ saturated (length (joined_pieces metadata.now documents.now external_symbols.now)) }
@@ -55,11 +83,11 @@ pub(crate) fn pieces_len(
 }
 
 /// Puts records that are spelled.
-fn encode_records<W, O: Output<W>>(out: &mut O, sink: &mut W, records: &[Sequence<u8>])
+fn encode_records<W, O: Output<W>>(out: &mut O, sink: &mut W, records: &[DocumentRecord])
     ensures { IsPut O.holds sink.old out.old sink.new out.new (concat records.now) }
 {
     'records: for record in records {
-        out.put(sink, record.as_slice());
+        record.put(out, sink);
     }
 }
 
@@ -68,7 +96,7 @@ pub(crate) fn encode_pieces<W, O: Output<W>>(
     out: &mut O,
     sink: &mut W,
     metadata: &Option<Metadata>,
-    documents: &[Sequence<u8>],
+    documents: &[DocumentRecord],
     external_symbols: &Sequence<SymbolInformation>,
 )
     requires { length (joined_pieces metadata.now documents.now external_symbols.now) ≤ max_index_len }

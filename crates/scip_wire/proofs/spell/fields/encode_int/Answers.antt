@@ -16,4 +16,5 @@ returns-else-bits-ne0 g c =
     let k = c.args.number in
     let same : to_z w32 (of_z w32 c.args.value) ≡ c.args.value = search rules in
     alike (number_none k _ (omega (arith, c.if-bits-ne0.false))
-    ∙ ap (λ n. bytes_of (number_fields k n)) c.in_64_bits-bits.ensures ∙ ap (λ z. bytes_of (int_fields k z)) same) nothing
+    ∙ ap (λ n. bytes_of (number_fields k n)) c.in_64_bits-bits.ensures ∙ ap (λ z. bytes_of (int_fields k z)) same)
+    nothing

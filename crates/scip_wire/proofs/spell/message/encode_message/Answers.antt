@@ -1,11 +1,5 @@
-use Rattle.std.proofs.Common.{arith, ◌≡◌, length, sym, ap, append-nil}
-use Rattle.scip_wire.specs.Spelling.{bytes_of, varint}
-use Rattle.scip_wire.proofs.OutputLemmas.{alike, both}
+use Rattle.std.proofs.Common.{arith}
 use Rattle.scip_wire.proofs.spell.message.encode_message.Goals as goal
 
-pub returns : goal.returns
-returns g c =
-    let bytes = bytes_of (g.M.Encode.fields c.args.message.now) in
-    let len : c.encoded_len.result ≡ length bytes = omega (arith, c.encoded_len.ensures.value, c.requires.short) in
-    alike (sym (append-nil _))
-    (both c.encode_varint.ensures (both (alike (ap varint len) c.encode_varint-2.ensures) c.encode.ensures))
+pub encode_message_of_len-requires-clause-len : goal.encode_message_of_len-requires-clause-len
+encode_message_of_len-requires-clause-len g c = omega (arith, c.encoded_len.ensures.value, c.requires.short)

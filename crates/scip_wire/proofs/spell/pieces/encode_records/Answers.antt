@@ -3,10 +3,9 @@ use Rattle.scip_wire.proofs.spell.pieces.encode_records.Goals as goal
 
 pub records-preserved : goal.records-preserved
 records-preserved g c =
-    let step = alike c.as_slice.ensures c.put.ensures in
     λ sink out left. c.records.invariant sink out
     (alike (texts_more c.args.records.now c.records.record-index c.record-item.result c.records-test.true
-    c.record-item.is) (both step left))
+    c.record-item.is) (both c.put.ensures left))
 
 pub returns : goal.returns
 returns g c =

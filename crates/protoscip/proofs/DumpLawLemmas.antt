@@ -1,11 +1,11 @@
 -- A source has one listing, and is refused for want of memory alone where it has one.
-use Rattle.std.proofs.Common.{◌≡◌, ◌∙◌, ℕ, ◌<◌, List, ap, sym, subst, refl, arith}
+use Rattle.std.proofs.Common.{◌≡◌, ◌∙◌, ℕ, false, ◌<◌, List, ap, sym, subst, refl, arith}
 use Rattle.proto_parse.specs.tree.Dialect.{Dialect}
 use Rattle.scip_wire.specs.Decodes.{Decodes}
 use Rattle.protoscip.specs.Dump.{dump_tree, dump_settings, default_choices, IsListing, IsRefusal}
 use Rattle.protoscip.specs.DumpLaws.{OneListing, ListedUnlessMemory}
 use Rattle.protoscip.specs.DumpText.{dump_text}
-use Rattle.protoscip.specs.IndexLaws.{AllowOneChoice, OneIndexing, OneIndexingHasNoFault, reason_of, outside}
+use Rattle.protoscip.specs.IndexLaws.{AllowOneChoice, OneIndexing, OneIndexingHasNoFault, is_of_tree}
 use Rattle.protoscip.specs.declared.fault.Fault.{Fault}
 use Rattle.protoscip.specs.declared.fault.Fault.TheVariants as fault
 
@@ -25,7 +25,7 @@ one_listing one dialect bytes listing other is also =
 
 module _ (accepted : OneIndexingHasNoFault default_choices default_choices) where
   none : (dialect : Dialect) (bytes listing : List ℕ) (e : Fault) → IsListing dialect bytes listing
-      → IsRefusal dialect bytes e → reason_of e ≡ outside
+      → IsRefusal dialect bytes e → is_of_tree e ≡ false
   none dialect bytes listing e is refused =
       accepted (dump_settings dialect) (dump_tree bytes) 1 is.recorded is.spelling e one_choice is.indexed refused
 

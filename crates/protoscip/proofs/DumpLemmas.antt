@@ -142,7 +142,8 @@ module _ (dialect : Dialect) (bytes : List ℕ) where
 
   of_readings : (P : List TreeFile → List ReadFile → Type 0)
       → (readings : List ReadFile)
-      × AreReadingsOf Refuse dialect default_choices (dump_tree (kept_bytes bytes)) readings × P (dump_tree (kept_bytes bytes)) readings
+      × AreReadingsOf Refuse dialect default_choices (dump_tree (kept_bytes bytes)) readings
+      × P (dump_tree (kept_bytes bytes)) readings
       → (readings : List ReadFile) × AreReadingsOf Refuse dialect default_choices (dump_tree bytes) readings
       × P (dump_tree bytes) readings
   of_readings P of =

@@ -2,8 +2,7 @@
 
 use scip_build::DocumentForm;
 use scip_model::Document;
-use scip_wire::spell_document;
-use sequences::Sequence;
+use scip_wire::{DocumentRecord, spell_document};
 use std::alloc::{AllocError, Global};
 
 /// For each document, its record in the bytes of the index is kept.
@@ -13,11 +12,11 @@ pub(crate) struct AsBytes;
 impl DocumentForm for AsBytes {
     ghost use Rattle.protoscip.specs.Writing.{IsRecordOf};
 
-    type Kept = Sequence<u8>;
+    type Kept = DocumentRecord;
 
     ghost is_kept = { IsRecordOf };
 
-    fn keep(&self, alloc: Global, document: Document) -> Result<Sequence<u8>, AllocError> {
+    fn keep(&self, alloc: Global, document: Document) -> Result<DocumentRecord, AllocError> {
         spell_document(alloc, &document)
     }
 }

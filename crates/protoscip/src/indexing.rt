@@ -21,9 +21,9 @@ use index_hooks::Chooses;
 use index_pool::Gate;
 use scip_build::{BuiltParts, Parts, Run, Settings, build_in_form};
 use scip_wire::{
-    bytes_decode_to_one_index, spelling_decodes_to_its_index, spelling_is_of_pieces, write_pieces,
+    DocumentRecord, bytes_decode_to_one_index, spelling_decodes_to_its_index,
+    spelling_is_of_pieces, write_pieces,
 };
-use sequences::Sequence;
 use source_tree::Tree;
 use std::sync::Wait;
 use std::thread::Threads;
@@ -32,7 +32,7 @@ use streams::Sink;
 /// Writes the bytes of an index, of whose documents the records are given.
 ///
 /// `TooLarge`: it has more than `MAX_INDEX_LEN`. `Write(count)`: a write failed after `count` of them.
-fn write_spelled<W: Sink>(parts: &Parts<Sequence<u8>>, out: &mut W) -> Result<(), Fault>
+fn write_spelled<W: Sink>(parts: &Parts<DocumentRecord>, out: &mut W) -> Result<(), Fault>
     ensures { (index : Index) → ArePartsOf IsRecordOf index parts.now → WritesIndex W.contents W.failures index out.old
         out.new result }
 {
@@ -53,7 +53,7 @@ fn write_spelled<W: Sink>(parts: &Parts<Sequence<u8>>, out: &mut W) -> Result<()
 #[derive(Drop)]
 pub struct KeptIndex<'a> {
     /// Its parts, and what was recorded beside it.
-    pub built: BuiltParts<'a, Sequence<u8>>,
+    pub built: BuiltParts<'a, DocumentRecord>,
     /// The report of what it lacks, as `told_text` gives it; nothing if it lacks nothing.
     pub text: Option<String>,
 }

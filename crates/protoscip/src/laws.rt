@@ -3,7 +3,7 @@
 
 ghost use Rattle.protoscip.specs.DumpLaws.{OneListing, ListedUnlessMemory};
 ghost use Rattle.protoscip.specs.Headline.{Headline, HeadlineOfTree};
-ghost use Rattle.protoscip.specs.IndexLaws.{OneReason, OneFileFault, IndexedHasNoFault, OneIndexing};
+ghost use Rattle.protoscip.specs.IndexLaws.{OneFault, IndexedHasNoFault, OneIndexing};
 ghost use Rattle.protoscip.specs.IndexLaws.{OneIndexingHasNoFault};
 ghost use Rattle.protoscip.specs.NameLaws.{LawsOfNames};
 ghost use Rattle.protoscip.specs.UseLaws.{EachUseHasATarget};
@@ -12,27 +12,18 @@ use crate::dumping::DefaultChoices;
 use index_hooks::Chooses;
 use proto_decl::{names_are_identifiers, prefixes_are_entities, scopes_are_known};
 use proto_link::one_declaration_a_name;
-use scip_build::{Settings, built_has_no_fault, file_faults_are_alike, one_build_fault, one_built};
+use scip_build::{Settings, built_has_no_fault, one_build_fault, one_built};
 use scip_document::symbols_name_one_entity_in_packages;
 use scip_symbol::files_are_without_clash;
 use source_tree::Tree;
 
-/// Two faults of a tree name the same, whatever was chosen.
-pub fn one_reason<C: Chooses, D: Chooses>(chooser: &C, other: &D)
-    ensures { OneReason (C.allows chooser.now) (D.allows other.now) }
+/// A tree has one fault at most, whatever was chosen.
+pub fn one_fault<C: Chooses, D: Chooses>(chooser: &C, other: &D)
+    ensures { OneFault (C.allows chooser.now) (D.allows other.now) }
 {
     one_build_fault(chooser, other);
     built_has_no_fault(chooser, other);
     built_has_no_fault(other, chooser);
-}
-
-/// If a file's text has no lexing, that is the one fault of a tree, whatever was chosen; so there is no fault of
-/// syntax beside it.
-pub fn one_file_fault<C: Chooses, D: Chooses>(chooser: &C, other: &D)
-    ensures { OneFileFault (C.allows chooser.now) (D.allows other.now) }
-{
-    one_reason(chooser, other);
-    file_faults_are_alike(chooser, other);
 }
 
 /// A tree that is indexed has no fault, whatever was chosen; but with other choices its index may have too many
@@ -43,8 +34,8 @@ pub fn indexed_has_no_fault<C: Chooses, D: Chooses>(chooser: &C, other: &D)
     built_has_no_fault(chooser, other);
 }
 
-/// If only one choice is allowed for each declaration, the choices and the bytes of an index are one function of the
-/// tree, of what is allowed and of the settings, and nothing else is answered.
+/// If only one choice is allowed for each declaration, the choices, what is told and the bytes of an index are one
+/// function of the tree, of what is allowed and of the settings, and nothing else is answered.
 pub fn one_indexing<C: Chooses, D: Chooses>(chooser: &C, other: &D)
     ensures one { OneIndexing (C.allows chooser.now) (D.allows other.now) }
     ensures accepted { OneIndexingHasNoFault (C.allows chooser.now) (D.allows other.now) }

@@ -38,7 +38,7 @@ pub use fault_lines::fault_line;
 pub use indexing::{KeptIndex, index_and_keep, index_tree};
 pub use laws::{
     each_use_has_a_target, headline, indexed_has_no_fault, laws_of_names, listed_unless_memory,
-    one_file_fault, one_indexing, one_listing, one_reason,
+    one_fault, one_indexing, one_listing,
 };
 pub use lines::{path_line, placed_line, plain_line};
 pub use output::write_text;

@@ -3,7 +3,7 @@
 use index_hooks::Registry;
 use protoscip::{
     each_use_has_a_target, headline, indexed_has_no_fault, laws_of_names, listed_unless_memory,
-    one_file_fault, one_indexing, one_listing, one_reason,
+    one_fault, one_indexing, one_listing,
 };
 
 #[test]
@@ -11,8 +11,7 @@ fn laws_of_indexes(rt: HostRuntime) {
     let registry = Registry::new(rt.alloc());
     headline(&registry);
     each_use_has_a_target();
-    one_reason(&registry, &registry);
-    one_file_fault(&registry, &registry);
+    one_fault(&registry, &registry);
     indexed_has_no_fault(&registry, &registry);
     one_indexing(&registry, &registry);
     laws_of_names();

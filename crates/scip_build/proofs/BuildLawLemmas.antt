@@ -32,8 +32,8 @@ use Rattle.scip_build.specs.Readings.{HasContents, AreReadingsOf, IsFirstFaulty}
 use Rattle.scip_build.specs.Linking.{linked_files}
 use Rattle.scip_build.specs.Documents.{IsLeastUnresolved}
 use Rattle.scip_build.specs.Builds.{OfReadings, IsBuildFault}
-use Rattle.scip_build.specs.Laws.{FaultsAreAlike, OneFirstFaulty, OneLinking, NoReadingsWhereFaulty}
-use Rattle.scip_build.specs.BuildLaws.{cause_of, BuiltHasNoFault, OneBuildFault, FileFaultsAreAlike}
+use Rattle.scip_build.specs.Laws.{OneFileFault, OneFirstFaulty, OneLinking, NoReadingsWhereFaulty}
+use Rattle.scip_build.specs.BuildLaws.{cause_of, BuiltHasNoFault, OneBuildFault}
 use Rattle.scip_build.proofs.ReadingLemmas.{at_number}
 use Rattle.scip_build.proofs.ReadyLemmas.{whole_at, have_origins}
 
@@ -158,6 +158,13 @@ reason faulty dialect allows tree workers (build.MissingImport place) (refuse, i
 reason faulty dialect allows tree workers (build.Unresolved place) (refuse, is) not =
     (refuse, inr (is.0, is.1, inr (is.2.0, place, refl, is.2.1)))
 
+-- two faults of a build have one cause
+abbrev OneCause : (allows others : Seen → Choice → Type 0) → Type 0
+OneCause allows others =
+    (faulty : Faulty) (dialect : Dialect) (tree : List TreeFile) (workers more : ℕ) (fault other : BuildFault)
+    → IsBuildFault allows faulty dialect tree workers fault → IsBuildFault others faulty dialect tree more other
+    → cause_of fault ≢ link.Memory → cause_of other ≢ link.Memory → cause_of fault ≡ cause_of other
+
 module _ (allows others : Seen → Choice → Type 0) (one_linking : OneLinking allows others)
     (none : NoReadingsWhereFaulty allows) (none_others : NoReadingsWhereFaulty others) where
   pub built_has_no_fault : BuiltHasNoFault allows others
@@ -175,8 +182,8 @@ module _ (allows others : Seen → Choice → Type 0) (one_linking : OneLinking 
             none_refuses (linked_files is.all) good.linked good.resolved (cause_of fault) here not)
       ]
 
-  pub one_build_fault : OneFirstFaulty → OneRefusal → OneBuildFault allows others
-  one_build_fault one_first one_refusal faulty dialect tree workers more fault other is also not nor =
+  cause_is_one : OneFirstFaulty → OneRefusal → OneCause allows others
+  cause_is_one one_first one_refusal faulty dialect tree workers more fault other is also not nor =
       both (reason faulty dialect allows tree workers fault is not).1
       (reason faulty dialect others tree more other also nor).1
     where
@@ -211,10 +218,83 @@ named faulty dialect allows tree workers number fault (refuse, inr later) =
     let contents = subst Contents has.unread (later.1.each number there.0 has.reading there.1 has.numbered).contents in
     record { file = there.0; numbered = there.1; unreadable = contents.1 }
 
-pub file_faults_are_alike : FaultsAreAlike → (allows others : Seen → Choice → Type 0) → FileFaultsAreAlike allows others
-file_faults_are_alike alike allows others faulty dialect tree workers more number fault other is also =
+-- two faults of the file that is named are one
+file_fault_is_one : OneFileFault → (allows others : Seen → Choice → Type 0) (faulty : Faulty) (dialect : Dialect)
+    (tree : List TreeFile) (workers more number : ℕ) (fault other : FileFault)
+    → IsBuildFault allows faulty dialect tree workers (build.File number fault)
+    → IsBuildFault others faulty dialect tree more (build.File number other) → fault ≡ other
+file_fault_is_one one allows others faulty dialect tree workers more number fault other is also =
     let first = named faulty dialect allows tree workers number fault is in
     let second = named faulty dialect others tree more number other also in
     let same : first.file ≡ second.file = same_Some first.file second.file (sym first.numbered ∙ second.numbered) in
     let Of : TreeFile → Type 0 = λ file. IsUnreadable dialect file.bytes other in
-    alike dialect first.file.bytes fault other first.unreadable (subst Of (sym same) second.unreadable)
+    one dialect first.file.bytes fault other first.unreadable (subst Of (sym same) second.unreadable)
+
+-- the fault that a cause says, but of a file
+of_cause : LinkFault → BuildFault
+of_cause (link.Broken number) = build.Memory
+of_cause (link.Duplicate first second) = build.Duplicate first second
+of_cause (link.MissingImport place) = build.MissingImport place
+of_cause (link.Unresolved place) = build.Unresolved place
+of_cause link.Memory = build.Memory
+
+-- a fault is the one that its cause says, or that of a file
+by_cause : (fault : BuildFault) → cause_of fault ≢ link.Memory
+    → (fault ≡ of_cause (cause_of fault)) ⊎ ((number : ℕ) × (of : FileFault) × (fault ≡ build.File number of))
+unfolding of_cause
+by_cause build.Spawn not = absurd (not refl)
+by_cause build.Memory not = absurd (not refl)
+by_cause (build.File number of) not = inr (number, of, refl)
+by_cause (build.Duplicate first second) not = inl refl
+by_cause (build.MissingImport place) not = inl refl
+by_cause (build.Unresolved place) not = inl refl
+
+-- the fault that its cause says hasn't the cause of one of a file
+of_no_file : (fault other : BuildFault) (number : ℕ) (of : FileFault) → cause_of fault ≢ link.Memory
+    → fault ≡ of_cause (cause_of fault) → other ≡ build.File number of → cause_of fault ≡ cause_of other → ⊥
+unfolding of_cause
+of_no_file fault other number of not said is same = not (ap cause_of (said ∙ ap of_cause (same ∙ ap cause_of is)))
+
+same_number : {n m : ℕ} → link.Broken n ≡ link.Broken m → n ≡ m
+same_number e = cc
+
+same_file_fault : {n m : ℕ} {f g : FileFault} → n ≡ m → f ≡ g → build.File n f ≡ build.File m g
+same_file_fault e h = cc
+
+module _ (one : OneFileFault) (allows others : Seen → Choice → Type 0) (faulty : Faulty) (dialect : Dialect)
+    (tree : List TreeFile) (workers more : ℕ) where
+  -- two faults of files with one cause are one
+  of_files : (number again : ℕ) (fault other : FileFault)
+      → IsBuildFault allows faulty dialect tree workers (build.File number fault)
+      → IsBuildFault others faulty dialect tree more (build.File again other)
+      → number ≡ again → build.File number fault ≡ build.File again other
+  of_files number again fault other is also same =
+      let here = subst (λ (n : ℕ). IsBuildFault allows faulty dialect tree workers (build.File n fault)) same is in
+      same_file_fault same
+      (file_fault_is_one one allows others faulty dialect tree workers more again fault other here also)
+
+  of_one_cause : (fault other : BuildFault) → IsBuildFault allows faulty dialect tree workers fault
+      → IsBuildFault others faulty dialect tree more other
+      → cause_of fault ≢ link.Memory → cause_of other ≢ link.Memory → cause_of fault ≡ cause_of other
+      → fault ≡ other
+  of_one_cause fault other is also not nor same = elim (by_cause fault not) [
+    | inl said ↦ elim (by_cause other nor) [
+      | inl says ↦ said ∙ (ap of_cause same ∙ sym says)
+      | inr of ↦ absurd (of_no_file fault other of.0 of.1 not said of.2 same)
+    ]
+    | inr of ↦ elim (by_cause other nor) [
+      | inl says ↦ absurd (of_no_file other fault of.0 of.1 nor says of.2 (sym same))
+      | inr more_of ↦ of.2 ∙ (of_files of.0 more_of.0 of.1 more_of.1
+          (subst (IsBuildFault allows faulty dialect tree workers) of.2 is)
+          (subst (IsBuildFault others faulty dialect tree more) more_of.2 also)
+          (same_number (sym (ap cause_of of.2) ∙ (same ∙ ap cause_of more_of.2))) ∙ sym more_of.2)
+    ]
+  ]
+
+module _ (allows others : Seen → Choice → Type 0) (one_linking : OneLinking allows others)
+    (none : NoReadingsWhereFaulty allows) (none_others : NoReadingsWhereFaulty others) where
+  pub one_build_fault : OneFirstFaulty → OneRefusal → OneFileFault → OneBuildFault allows others
+  one_build_fault one_first one_refusal one faulty dialect tree workers more fault other is also not nor =
+      of_one_cause one allows others faulty dialect tree workers more fault other is also not nor
+      (cause_is_one allows others one_linking none none_others one_first one_refusal faulty dialect tree workers more
+      fault other is also not nor)

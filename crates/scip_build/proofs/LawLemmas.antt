@@ -15,6 +15,7 @@ use Rattle.proto_parse.specs.tree.Dialect.{Dialect}
 use Rattle.proto_parse.specs.tree.File.{File}
 use Rattle.proto_parse.specs.fault.SyntaxFault.{SyntaxFault}
 use Rattle.proto_parse.specs.Derives.{Derives}
+use Rattle.proto_parse.specs.Refused.{HasFault}
 use Rattle.proto_decl.specs.Facts.{Facts, AreFactsOf}
 use Rattle.proto_decl.specs.Laws.{OneFacts}
 use Rattle.scip_build.specs.declared.fault.FileFault.{FileFault}
@@ -22,12 +23,20 @@ use Rattle.scip_build.specs.declared.fault.FileFault.TheVariants.{Lex, Syntax}
 use Rattle.scip_build.specs.Parsed.{HasLexing, AreFactsIn, IsUnlexed, IsUnparsed}
 use Rattle.source_tree.specs.Files.{TreeFile}
 use Rattle.scip_build.specs.Readings.{IsFirstFaulty}
-use Rattle.scip_build.specs.Laws.{OneListOfFacts, NoFactsWhereUnreadable, LexedWhereUnparsed, FaultsAreAlike}
+use Rattle.scip_build.specs.Laws.{OneListOfFacts, NoFactsWhereUnreadable, LexedWhereUnparsed, OneFileFault}
 use Rattle.scip_build.specs.Laws.{OneFirstFaulty}
 
 abbrev pub OneTree : Type 0
 OneTree = (dialect : Dialect) (text : List ℕ) (tokens : List Token) (file other : File)
     → Derives dialect text tokens file → Derives dialect text tokens other → file ≡ other
+
+abbrev pub OneSyntaxFault : Type 0
+OneSyntaxFault = (dialect : Dialect) (text : List ℕ) (tokens : List Token) (fault other : SyntaxFault)
+    → HasFault dialect text tokens fault → HasFault dialect text tokens other → fault ≡ other
+
+abbrev pub NoFaultWhereItDerives : Type 0
+NoFaultWhereItDerives = (dialect : Dialect) (text : List ℕ) (tokens : List Token) (file : File) (fault : SyntaxFault)
+    → Derives dialect text tokens file → HasFault dialect text tokens fault → ⊥
 
 -- a text isn't called none
 text_is_text : (bytes : List ℕ) (fault : LexFault) → IsText bytes → IsNoText bytes fault → ⊥
@@ -81,15 +90,6 @@ one_unlexed one bytes fault other (inl a) (inr b) = absurd (text_is_text bytes f
 one_unlexed one bytes fault other (inr a) (inl b) = absurd (text_is_text bytes other a.0 b)
 one_unlexed one bytes fault other (inr a) (inr b) = one bytes fault other a.1 b.1
 
--- so two faults of one file are alike
-pub faults_are_alike : OneFirstFault → LexedWhereUnparsed → FaultsAreAlike
-faults_are_alike one apart dialect bytes (Lex fault) (Lex other) is also = one_unlexed one bytes fault other is also
-faults_are_alike one apart dialect bytes (Lex fault) (Syntax other) is also =
-    absurd (apart dialect bytes fault other also is)
-faults_are_alike one apart dialect bytes (Syntax fault) (Lex other) is also =
-    absurd (apart dialect bytes other fault is also)
-faults_are_alike one apart dialect bytes (Syntax fault) (Syntax other) is also = tt
-
 module _ (one_tokens : OneTokens) (one_comments : OneComments) where
   -- a file has one lexing
   same_lexing : (bytes : List ℕ) (lexed other : Lexed) → HasLexing bytes lexed → HasLexing bytes other → lexed ≡ other
@@ -113,14 +113,30 @@ module _ (one_tokens : OneTokens) (one_comments : OneComments) where
       let Of : File → Type 0 = λ tree. AreFactsOf number a.lexed tree other in
       one_facts number a.lexed a.tree facts other a.lexing.is_lexed a.of_tree (subst Of (sym trees) moved.1)
 
-  -- tokens of a file that derive a tree aren't said to derive none
-  parsed_is_parsed : (dialect : Dialect) (number : ℕ) (bytes : List ℕ) (facts : Facts) (fault : SyntaxFault)
-      → AreFactsIn dialect number bytes facts → IsUnparsed dialect bytes fault → ⊥
-  parsed_is_parsed dialect number bytes facts fault has un =
-      let Here : Lexed → Type 0 = λ lexed. Derives dialect lexed.text lexed.tokens has.tree in
-      un.no_tree has.tree (subst Here (same_lexing bytes has.lexed un.lexed has.lexing un.lexing) has.derives)
+  -- so two faults of one file are one
+  pub one_file_fault : OneFirstFault → OneSyntaxFault → LexedWhereUnparsed → OneFileFault
+  one_file_fault one one_syntax apart dialect bytes (Lex fault) (Lex other) is also =
+      ap Lex (one_unlexed one bytes fault other is also)
+  one_file_fault one one_syntax apart dialect bytes (Lex fault) (Syntax other) is also =
+      absurd (apart dialect bytes fault other also is)
+  one_file_fault one one_syntax apart dialect bytes (Syntax fault) (Lex other) is also =
+      absurd (apart dialect bytes other fault is also)
+  one_file_fault one one_syntax apart dialect bytes (Syntax fault) (Syntax other) is also =
+      let Here : Lexed → Type 0 = λ lexed. HasFault dialect lexed.text lexed.tokens other in
+      let same = same_lexing bytes is.lexed also.lexed is.lexing also.lexing in
+      ap Syntax (one_syntax dialect is.lexed.text is.lexed.tokens fault other is.has_fault
+      (subst Here (sym same) also.has_fault))
 
-  module _ (no_fault : NoFaultWhereItLexes) where
+  module _ (no_fault : NoFaultWhereItLexes) (no_syntax_fault : NoFaultWhereItDerives) where
+    -- tokens of a file that derive a tree have no fault
+    parsed_is_parsed : (dialect : Dialect) (number : ℕ) (bytes : List ℕ) (facts : Facts) (fault : SyntaxFault)
+        → AreFactsIn dialect number bytes facts → IsUnparsed dialect bytes fault → ⊥
+    parsed_is_parsed dialect number bytes facts fault has un =
+        let Here : Lexed → Type 0 = λ lexed. HasFault dialect lexed.text lexed.tokens fault in
+        let same = same_lexing bytes has.lexed un.lexed has.lexing un.lexing in
+        no_syntax_fault dialect has.lexed.text has.lexed.tokens has.tree fault has.derives
+        (subst Here (sym same) un.has_fault)
+
     -- a file with a lexing isn't said to have none
     lexed_is_lexed : (bytes : List ℕ) (lexed : Lexed) (fault : LexFault) → HasLexing bytes lexed → IsUnlexed bytes fault
         → ⊥

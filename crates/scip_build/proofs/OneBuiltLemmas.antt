@@ -8,7 +8,7 @@ use Rattle.std.specs.Ordering.{on}
 use Rattle.std.specs.List.{AllByRecursion, Contains, slice_get}
 use Rattle.std.specs.List.Sorted.{IsStrictlySortedBy}
 use Rattle.std.specs.Option.{option_map}
-use Rattle.std.proofs.lemmas.List.{length-map}
+use Rattle.std.proofs.lemmas.List.{length-map, map-id}
 use Rattle.std.proofs.lemmas.Option.{same_Some, slice_get-map, slice_get_within}
 use Rattle.proto_parse.specs.tree.Dialect.{Dialect}
 use Rattle.proto_decl.specs.Facts.{Facts}
@@ -31,7 +31,6 @@ use Rattle.source_tree.specs.Files.{TreeFile}
 use Rattle.scip_build.specs.declared.settings.Settings.{Settings}
 use Rattle.scip_build.specs.declared.built.Built.{Built}
 use Rattle.scip_build.specs.declared.faulty.Faulty.{Faulty}
-use Rattle.scip_build.specs.declared.faulty.Faulty.TheVariants.{Refuse}
 use Rattle.scip_build.specs.declared.fault.FileFault.{FileFault}
 use Rattle.scip_build.specs.declared.fault.BuildFault.{BuildFault}
 use Rattle.scip_build.specs.declared.fault.BuildFault.TheVariants as build
@@ -43,8 +42,8 @@ use Rattle.scip_build.specs.Documents.{text_in, text_of, texts_of, IsUnresolvedA
 use Rattle.scip_build.specs.Kept.{IsLeftFor, place_among_all, IsTold, Key, told_key, key_cmp}
 use Rattle.scip_build.specs.Kept.IsTold.{of_file, of_import, of_use}
 use Rattle.scip_build.specs.Builds.{IsBuilt}
-use Rattle.scip_build.specs.Laws.{OneListOfFacts, NoFactsWhereUnreadable, AreAlike, FaultsAreAlike}
-use Rattle.scip_build.specs.BuildLaws.{cause_of, SetTheSame, AllowOne, OneBuilt}
+use Rattle.scip_build.specs.Laws.{OneListOfFacts, NoFactsWhereUnreadable, OneFileFault}
+use Rattle.scip_build.specs.BuildLaws.{SetTheSame, AllowOne, OneBuilt}
 use Rattle.scip_document.proofs.SortLemmas.{one-ascending}
 use Rattle.scip_build.proofs.ReadingLemmas.{at_number}
 use Rattle.scip_build.proofs.LinkingLemmas.{same_mapped, one_linking}
@@ -131,7 +130,7 @@ kept_same f all again readings others a b first second omissions whole =
     ∙ (ap (kept_of a) whole ∙ (ap (λ o. kept_of o (map f again)) omissions
     ∙ (sym (map_kept f b again) ∙ ap (map f) (sym second)))))
 
-module _ (one : OneListOfFacts) (apart : NoFactsWhereUnreadable) (alike : FaultsAreAlike) (one_list : OneOmissionList)
+module _ (one : OneListOfFacts) (apart : NoFactsWhereUnreadable) (one_fault : OneFileFault) (one_list : OneOmissionList)
     (one_index : OneIndex) (allows others : Seen → Choice → Type 0) (agree : AllowOne allows others)
     (settings another : Settings) (tree : List TreeFile) (built other : Built)
     (same : SetTheSame settings another) (is : IsBuilt allows settings tree built)
@@ -206,32 +205,27 @@ module _ (one : OneListOfFacts) (apart : NoFactsWhereUnreadable) (alike : Faults
 
   -- ---- what is told
 
-  -- what is told of one is told of the other, but for the fault of a file that can't be read
-  record IsToldAlike (told : BuildFault) : Type 0 where
-    pub more : BuildFault
-    pub is_told : IsTold again b more
-    pub key : told_key told ≡ told_key more
-    pub cause : cause_of told ≡ cause_of more
+  -- two faults of a file that can't be read are one
+  same_unread : (number : ℕ) (fault more : FileFault) → HasFault all number fault → HasFault again number more
+      → fault ≡ more
+  same_unread number fault more has too =
+      let x = unreadable settings.faulty settings.dialect allows tree all is.read number fault has in
+      let y = unreadable another.faulty another.dialect others tree again also.read number more too in
+      let file : x.0 ≡ y.0 = same_Some x.0 y.0 (sym x.1 ∙ y.1) in
+      let bytes = subst (λ (f : TreeFile). IsUnreadable another.dialect f.bytes more) (sym file) y.2 in
+      one_fault settings.dialect x.0.bytes fault more x.2
+      (subst (λ c. IsUnreadable c x.0.bytes more) (sym same.dialect) bytes)
 
   of_left : (number : ℕ) (omission : Option LinkFault) (told : BuildFault) → slice_get b number ≡ Some omission
-      → IsOmission (linked_files again) b number omission → IsLeftFor all omission told → IsToldAlike told
+      → IsOmission (linked_files again) b number omission → IsLeftFor all omission told → IsTold again b told
   of_left number None told at out left = absurd left
   of_left number (Some (link.Broken k)) told at out left =
       let unread = subst (IsUnread (linked_files again)) (sym out.0) out.1 in
       let fault = fault_of again k unread in
-      record {
-        more = build.File k fault.0;
-        is_told = of_file number (Some (link.Broken k)) at (fault.0, fault.1, refl);
-        key = ap told_key left.2;
-        cause = ap cause_of left.2;
-      }
+      let here = subst (HasFault again k) (sym (same_unread k left.0 fault.0 left.1 fault.1)) fault.1 in
+      of_file number (Some (link.Broken k)) at (left.0, here, left.2)
   of_left number (Some (link.Duplicate first second)) told at out left =
-      record {
-        more = told;
-        is_told = of_file number (Some (link.Duplicate first second)) at left;
-        key = refl;
-        cause = refl;
-      }
+      of_file number (Some (link.Duplicate first second)) at left
   of_left number (Some (link.MissingImport place)) told at out left = absurd left
   of_left number (Some (link.Unresolved place)) told at out left = absurd left
   of_left number (Some link.Memory) told at out left = absurd left
@@ -240,70 +234,26 @@ module _ (one : OneListOfFacts) (apart : NoFactsWhereUnreadable) (alike : Faults
   kept_files = map_kept linked_file a all ∙ (ap (kept_of a) all_linked
       ∙ (ap (λ o. kept_of o (linked_files again)) same_omissions ∙ sym (map_kept linked_file b again)))
 
-  told_alike : (told : BuildFault) → IsTold all a told → IsToldAlike told
-  told_alike told (of_file n o at left) =
+  -- what is told of one is told of the other
+  told_too : (told : BuildFault) → IsTold all a told → IsTold again b told
+  told_too told (of_file n o at left) =
       let there : slice_get b n ≡ Some o = subst (λ (x : Omissions). slice_get x n ≡ Some o) same_omissions at in
       of_left n o told there (also.of_files.kept.left_out.each n o there) left
-  told_alike _ (of_import p missing) =
+  told_too _ (of_import p missing) =
       let place : place_among_all a p ≡ place_among_all b p = ap (λ o. place_among_all o p) same_omissions in
-      let it = build.MissingImport (place_among_all a p) in
       let missing_too = subst (λ fs. IsMissing fs p) kept_files missing in
-      record {
-        more = it;
-        is_told = subst (IsTold again b) (ap build.MissingImport (sym place)) (of_import p missing_too);
-        key = refl;
-        cause = refl;
-      }
-  told_alike _ (of_use p is_use) =
+      subst (IsTold again b) (ap build.MissingImport (sym place)) (of_import p missing_too)
+  told_too _ (of_use p is_use) =
       let place : place_among_all a p ≡ place_among_all b p = ap (λ o. place_among_all o p) same_omissions in
-      let it = build.Unresolved (place_among_all a p) in
       let use_too = subst (λ fs. IsUnresolvedAt fs p) kept_files is_use in
-      record {
-        more = it;
-        is_told = subst (IsTold again b) (ap build.Unresolved (sym place)) (of_use p use_too);
-        key = refl;
-        cause = refl;
-      }
+      subst (IsTold again b) (ap build.Unresolved (sym place)) (of_use p use_too)
 
   keys_there : (key : Key) → Contains (map told_key built.told) key → Contains (map told_key other.told) key
   keys_there key there =
       let of = of_mapped told_key built.told key there in
-      let more = told_alike of.0 ((is.of_files.kept.told_is.exact of.0).0 of.1) in
-      let listed = (also.of_files.kept.told_is.exact more.more).1 more.is_told in
-      subst (Contains (map told_key other.told)) (sym more.key ∙ of.2) (is_mapped told_key other.told more.more listed)
-
--- a file that can't be read is told for its fault
-file_told : (all : List ReadFile) (omissions : Omissions) (told : BuildFault) → IsTold all omissions told
-    → (number : ℕ) (fault : FileFault) → told ≡ build.File number fault → HasFault all number fault
-file_told all omissions told (of_file n o at left) number fault file = by o left
-  where
-    number_in : {n m : ℕ} {f g : FileFault} → build.File n f ≡ build.File m g → n ≡ m
-    number_in e = cc
-
-    fault_in : {n m : ℕ} {f g : FileFault} → build.File n f ≡ build.File m g → f ≡ g
-    fault_in e = cc
-
-    no_file : {p q : FilePlace} → build.Duplicate p q ≡ build.File number fault → ⊥
-    no_file e = cc
-
-    by : (omission : Option LinkFault) → IsLeftFor all omission told → HasFault all number fault
-    by None is = absurd is
-    by (Some (link.Broken k)) is =
-        let same = sym is.2 ∙ file in
-        subst (HasFault all number) (fault_in same)
-        (subst (λ n. HasFault all n is.0) (number_in same) is.1)
-    by (Some (link.Duplicate p q)) is = absurd (no_file (sym is ∙ file))
-    by (Some (link.MissingImport place)) is = absurd is
-    by (Some (link.Unresolved place)) is = absurd is
-    by (Some link.Memory) is = absurd is
-file_told all omissions _ (of_import p missing) number fault file = absurd (apart file)
-  where
-    apart : {q : FilePlace} → build.MissingImport q ≡ build.File number fault → ⊥
-    apart e = cc
-file_told all omissions _ (of_use p is) number fault file = absurd (apart file)
-  where
-    apart : {q : FilePlace} → build.Unresolved q ≡ build.File number fault → ⊥
-    apart e = cc
+      let listed = (also.of_files.kept.told_is.exact of.0).1
+      (told_too of.0 ((is.of_files.kept.told_is.exact of.0).0 of.1)) in
+      subst (Contains (map told_key other.told)) of.2 (is_mapped told_key other.told of.0 listed)
 
 -- the keys of a list in order are in order
 module _ {X K : Type 0} (f : X → K) (cmp : K → K → Ordering) where
@@ -317,13 +267,6 @@ module _ {X K : Type 0} (f : X → K) (cmp : K → K → Ordering) where
   ascends_mapped [] up = tt
   ascends_mapped (x ∷ xs) up = (all_mapped x xs up.0, ascends_mapped xs up.1)
 
-none_mapped : {X Y : Type 0} (f : X → Y) (xs : List X) → map f xs ≡ [] → xs ≡ []
-none_mapped f [] e = refl
-none_mapped f (x ∷ xs) e = absurd (apart e)
-  where
-    apart : {Y : Type 0} {y : Y} {ys : List Y} → y ∷ ys ≡ [] → ⊥
-    apart e = cc
-
 set_the_same : (settings another : Settings) → SetTheSame settings another → SetTheSame another settings
 set_the_same settings another same = record {
   project_root = sym same.project_root;
@@ -335,39 +278,35 @@ set_the_same settings another same = record {
 allow_one : (allows others : Seen → Choice → Type 0) → AllowOne allows others → AllowOne others allows
 allow_one allows others agree seen choice another is also = sym (agree seen another choice also is)
 
-module _ (one : OneListOfFacts) (apart : NoFactsWhereUnreadable) (alike : FaultsAreAlike) (one_list : OneOmissionList)
+module _ (one : OneListOfFacts) (apart : NoFactsWhereUnreadable) (one_fault : OneFileFault) (one_list : OneOmissionList)
     (one_index : OneIndex) (allows others : Seen → Choice → Type 0) where
   pub one_built : OneBuilt allows others
-  one_built settings another tree built other agree same is also = (
-    whole,
-    record {
-      index = index;
-      choices = choices;
-      told = told;
-      faults = faults;
-    },
-  )
+  one_built settings another tree built other agree same is also =
+      λ i. record { index = index i; choices = choices i; told = told i }
     where
       index : built.index ≡ other.index
-      index = index_is one apart alike one_list one_index allows others agree settings another tree built other same is
+      index = index_is one apart one_fault one_list one_index allows others agree settings another tree built other same
+          is
           also
 
       choices : built.choices ≡ other.choices
-      choices = choices_are one apart alike one_list one_index allows others agree settings another tree built other
+      choices = choices_are one apart one_fault one_list one_index allows others agree settings another tree built other
           same is also
 
       keys : map told_key built.told ≡ map told_key other.told
       keys = one-ascending key_total (map told_key built.told) (map told_key other.told)
           (ascends_mapped told_key key_cmp built.told is.of_files.kept.told_is.ascends)
           (ascends_mapped told_key key_cmp other.told also.of_files.kept.told_is.ascends)
-          (keys_there one apart alike one_list one_index allows others agree settings another tree built other same is
+          (keys_there one apart one_fault one_list one_index allows others agree settings another tree built other same
+          is
           also)
-          (keys_there one apart alike one_list one_index others allows (allow_one allows others agree) another settings
+          (keys_there one apart one_fault one_list one_index others allows
+          (allow_one allows others agree) another settings
           tree other built (set_the_same settings another same) also is)
 
-      -- what stands at one place of the two lists names the same
+      -- what is at one place of the two lists is one
       at_one_place : (k : ℕ) (x y : BuildFault) → slice_get built.told k ≡ Some x → slice_get other.told k ≡ Some y
-          → cause_of x ≡ cause_of y
+          → x ≡ y
       at_one_place k x y at and =
           let key_x : slice_get (map told_key built.told) k ≡ Some (told_key x) =
           slice_get-map told_key built.told k ∙ ap (option_map told_key) at in
@@ -377,35 +316,14 @@ module _ (one : OneListOfFacts) (apart : NoFactsWhereUnreadable) (alike : Faults
           (sym key_x ∙ (ap (λ (l : List Key). slice_get l k) keys ∙ key_y)) in
           let told_x = (is.of_files.kept.told_is.exact x).0 (contained built.told k x at) in
           let told_y = (also.of_files.kept.told_is.exact y).0 (contained other.told k y and) in
-          let more = told_alike one apart alike one_list one_index allows others agree settings another tree built
+          let too = told_too one apart one_fault one_list one_index allows others agree settings another tree built
           other same is also x told_x in
-          let one_of = one_told also.all also.of_files.kept.omissions also.of_files.kept.left_out more.more y
-          more.is_told told_y (of_same (told_key more.more) (told_key y) (sym more.key ∙ key)) in
-          more.cause ∙ ap cause_of one_of
+          one_told also.all also.of_files.kept.omissions also.of_files.kept.left_out x y too told_y
+          (of_same (told_key x) (told_key y) key)
 
       count : length built.told ≡ length other.told
       count = sym (length-map built.told told_key) ∙ (ap length keys ∙ length-map other.told told_key)
 
-      told : map cause_of built.told ≡ map cause_of other.told
-      told = same_mapped cause_of built.told other.told count at_one_place
-
-      faults : (number : ℕ) (fault more : FileFault) → Contains built.told (build.File number fault)
-          → Contains other.told (build.File number more) → AreAlike fault more
-      faults number fault more there too =
-          let first = file_told is.all is.of_files.kept.omissions (build.File number fault)
-          ((is.of_files.kept.told_is.exact (build.File number fault)).0 there) number fault refl in
-          let second = file_told also.all also.of_files.kept.omissions (build.File number more)
-          ((also.of_files.kept.told_is.exact (build.File number more)).0 too) number more refl in
-          let a = unreadable settings.faulty settings.dialect allows tree is.all is.read number fault first in
-          let b = unreadable another.faulty another.dialect others tree also.all also.read number more second in
-          let file : a.0 ≡ b.0 = same_Some a.0 b.0 (sym a.1 ∙ b.1) in
-          let bytes = subst (λ (f : TreeFile). IsUnreadable another.dialect f.bytes more) (sym file) b.2 in
-          let dialect = subst (λ c. IsUnreadable c a.0.bytes more) (sym same.dialect) bytes in
-          alike settings.dialect a.0.bytes fault more a.2 dialect
-
-      whole : settings.faulty ≡ Refuse → built ≡ other
-      whole refuse =
-          let none = (is.of_files.refused refuse).none in
-          let none_too : other.told ≡ [] = none_mapped cause_of other.told (sym told ∙ ap (map cause_of) none) in
-          let same_told : built.told ≡ other.told = none ∙ sym none_too in
-          λ i. record { index = index i; choices = choices i; told = same_told i }
+      told : built.told ≡ other.told
+      told = sym (map-id built.told)
+          ∙ (same_mapped (λ (x : BuildFault). x) built.told other.told count at_one_place ∙ map-id other.told)

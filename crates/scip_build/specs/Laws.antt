@@ -1,5 +1,5 @@
 -- What the definitions say about readings and faults, whatever the code does.
-use Rattle.std.specs.Prelude.{◌≡◌, ℕ, ⊤, List}
+use Rattle.std.specs.Prelude.{◌≡◌, ℕ, List}
 use Rattle.proto_lex.specs.declared.fault.LexFault.{LexFault}
 use Rattle.proto_parse.specs.tree.Dialect.{Dialect}
 use Rattle.proto_parse.specs.fault.SyntaxFault.{SyntaxFault}
@@ -9,7 +9,6 @@ use Rattle.index_hooks.specs.declared.choice.Choice.{Choice}
 use Rattle.scip_build.specs.declared.faulty.Faulty.{Faulty}
 use Rattle.scip_build.specs.declared.faulty.Faulty.TheVariants.{Refuse}
 use Rattle.scip_build.specs.declared.fault.FileFault.{FileFault}
-use Rattle.scip_build.specs.declared.fault.FileFault.TheVariants.{Lex, Syntax}
 use Rattle.scip_build.specs.Parsed.{AreFactsIn, IsUnlexed, IsUnparsed, IsUnreadable}
 use Rattle.proto_visibility.specs.Files as link
 use Rattle.source_tree.specs.Files.{TreeFile}
@@ -35,17 +34,10 @@ abbrev pub LexedWhereUnparsed : Type 0
 LexedWhereUnparsed = (dialect : Dialect) (bytes : List ℕ) (lexing : LexFault) (parsing : SyntaxFault)
     → IsUnparsed dialect bytes parsing → IsUnlexed bytes lexing → ⊥
 
--- Two faults of one file are alike: two of lexing are one fault; two of syntax may differ, and tests show which one
--- comes.
-abbrev pub AreAlike : FileFault → FileFault → Type 0
-AreAlike (Lex fault) (Lex other) = fault ≡ other
-AreAlike (Lex fault) (Syntax other) = ⊥
-AreAlike (Syntax fault) (Lex other) = ⊥
-AreAlike (Syntax fault) (Syntax other) = ⊤
-
-abbrev pub FaultsAreAlike : Type 0
-FaultsAreAlike = (dialect : Dialect) (bytes : List ℕ) (fault other : FileFault) → IsUnreadable dialect bytes fault
-    → IsUnreadable dialect bytes other → AreAlike fault other
+-- It has one fault at most.
+abbrev pub OneFileFault : Type 0
+OneFileFault = (dialect : Dialect) (bytes : List ℕ) (fault other : FileFault) → IsUnreadable dialect bytes fault
+    → IsUnreadable dialect bytes other → fault ≡ other
 
 -- One of the sources that can't be read is the first.
 abbrev pub OneFirstFaulty : Type 0

@@ -1,17 +1,14 @@
 -- What the bytes of a file say, and why they say nothing (proto3 and proto2 language specifications).
-use Rattle.std.specs.Prelude.{◌≡◌, ◌≢◌, ◌⊎◌, ℕ, false, List}
+use Rattle.std.specs.Prelude.{◌≡◌, ◌⊎◌, ℕ, List}
 use Rattle.proto_lex.specs.Text.{IsText, IsNoText}
 use Rattle.proto_lex.specs.Lexed.{Lexed, IsLexed}
 use Rattle.proto_lex.specs.Faults.{IsFirstFault}
 use Rattle.proto_lex.specs.declared.fault.LexFault.{LexFault}
-use Rattle.proto_parse.specs.tree.CustomOptions.TheVariants.{Skip}
 use Rattle.proto_parse.specs.tree.Dialect.{Dialect}
 use Rattle.proto_parse.specs.tree.File.{File}
 use Rattle.proto_parse.specs.fault.SyntaxFault.{SyntaxFault}
-use Rattle.proto_parse.specs.fault.SyntaxFault.TheVariants.{Memory}
 use Rattle.proto_parse.specs.Derives.{Derives}
-use Rattle.proto_parse.specs.Faults.{is_of_custom_options}
-use Rattle.proto_parse.specs.Syntax.{custom_in}
+use Rattle.proto_parse.specs.Refused.{HasFault}
 use Rattle.proto_decl.specs.Facts.{Facts, AreFactsOf}
 use Rattle.scip_build.specs.declared.fault.FileFault.{FileFault}
 use Rattle.scip_build.specs.declared.fault.FileFault.TheVariants.{Lex, Syntax}
@@ -34,14 +31,11 @@ pub record AreFactsIn (dialect : Dialect) (number : ℕ) (bytes : List ℕ) (fac
 abbrev pub IsUnlexed : List ℕ → LexFault → Type 0
 IsUnlexed bytes fault = IsNoText bytes fault ⊎ (IsText bytes × IsFirstFault bytes fault)
 
--- The text has a lexing, but its tokens derive no tree. Which fault it is, tests show: not Memory, and none of custom
--- options and `extend` unless the dialect refuses these.
+-- the text has a lexing, but its tokens have this fault of the grammar
 pub record IsUnparsed (dialect : Dialect) (bytes : List ℕ) (fault : SyntaxFault) : Type 0 where
   pub lexed : Lexed
   pub lexing : HasLexing bytes lexed
-  pub no_tree : (tree : File) → Derives dialect lexed.text lexed.tokens tree → ⊥
-  pub not_memory : fault ≢ Memory
-  pub skipped : custom_in dialect ≡ Skip → is_of_custom_options fault ≡ false
+  pub has_fault : HasFault dialect lexed.text lexed.tokens fault
 
 -- why a file with these bytes has no facts
 abbrev pub IsUnreadable : Dialect → List ℕ → FileFault → Type 0

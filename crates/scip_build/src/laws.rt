@@ -1,17 +1,17 @@
 //! Laws: what the definitions say about readings and faults, whatever the code does.
 
-ghost use Rattle.scip_build.specs.BuildLaws.{BuiltHasNoFault, OneBuildFault, FileFaultsAreAlike, OneBuilt};
+ghost use Rattle.scip_build.specs.BuildLaws.{BuiltHasNoFault, OneBuildFault, OneBuilt};
 ghost use Rattle.scip_build.specs.BuildLaws.{BuiltWhereNothingIsTold};
 ghost use Rattle.scip_build.specs.Kept.{NothingIsToldOfAGoodTree};
 ghost use Rattle.scip_build.specs.KeptUses.{KeptResolvesAlike};
-ghost use Rattle.scip_build.specs.Laws.{OneListOfFacts, NoFactsWhereUnreadable, LexedWhereUnparsed, FaultsAreAlike};
+ghost use Rattle.scip_build.specs.Laws.{OneListOfFacts, NoFactsWhereUnreadable, LexedWhereUnparsed, OneFileFault};
 ghost use Rattle.scip_build.specs.Laws.{OneFirstFaulty, NoReadingsWhereFaulty, ReadingsHaveOwnPaths, OneLinking};
 
 use index_hooks::Chooses;
 use proto_decl::one_list_of_facts;
 use proto_lex::{one_first_fault, one_lexing};
 use proto_link::{nothing_is_left_out_of_good_files, one_omission_list, one_refusal};
-use proto_parse::one_tree;
+use proto_parse::{no_fault_where_it_derives, one_syntax_fault, one_tree};
 use scip_document::one_index;
 
 /// A file has one list of facts at most.
@@ -30,14 +30,16 @@ pub fn faults_exclude_facts()
 {
     one_lexing();
     one_first_fault();
+    no_fault_where_it_derives();
 }
 
-/// Two faults of one file are alike: both are of lexing, and then they are one fault; or both are of syntax, and then
-/// tests show which one comes.
-pub fn faults_are_alike()
-    ensures { FaultsAreAlike }
+/// A file has one fault at most, of lexing or of syntax.
+pub fn one_fault_a_file()
+    ensures { OneFileFault }
 {
+    one_lexing();
     one_first_fault();
+    one_syntax_fault();
     faults_exclude_facts();
 }
 
@@ -77,8 +79,7 @@ pub fn built_has_no_fault<C: Chooses, D: Chooses>(chooser: &C, other: &D)
     readings_exclude_faults(other);
 }
 
-/// The files of a tree have one fault at most, whatever was chosen; but which fault of a
-/// file that can't be read says `file_faults_are_alike`.
+/// The files of a tree have one fault at most, whatever was chosen.
 pub fn one_build_fault<C: Chooses, D: Chooses>(chooser: &C, other: &D)
     ensures { OneBuildFault (C.allows chooser.now) (D.allows other.now) }
 {
@@ -87,13 +88,7 @@ pub fn one_build_fault<C: Chooses, D: Chooses>(chooser: &C, other: &D)
     readings_exclude_faults(other);
     one_first_faulty();
     one_refusal();
-}
-
-/// Two faults of the file of a tree that is named are alike, whatever was chosen.
-pub fn file_faults_are_alike<C: Chooses, D: Chooses>(chooser: &C, other: &D)
-    ensures { FileFaultsAreAlike (C.allows chooser.now) (D.allows other.now) }
-{
-    faults_are_alike();
+    one_fault_a_file();
 }
 
 /// Nothing is told of a tree if and only if it wouldn't be refused. Then the same is built, whether faults are
@@ -118,7 +113,7 @@ pub fn one_built<C: Chooses, D: Chooses>(chooser: &C, other: &D)
 {
     one_list_of_facts_a_file();
     faults_exclude_facts();
-    faults_are_alike();
+    one_fault_a_file();
     one_omission_list();
     one_index();
 }

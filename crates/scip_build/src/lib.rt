@@ -32,8 +32,8 @@ pub use document_form::{AsRecords, DocumentForm};
 pub use fault::{BuildFault, FileFault};
 pub use faulty::Faulty;
 pub use laws::{
-    built_has_no_fault, faults_are_alike, faults_exclude_facts, file_faults_are_alike,
-    kept_resolves_alike, nothing_is_left_out_of_a_good_tree, one_build_fault, one_built,
+    built_has_no_fault, faults_exclude_facts, kept_resolves_alike,
+    nothing_is_left_out_of_a_good_tree, one_build_fault, one_built, one_fault_a_file,
     one_first_faulty, one_linking, one_list_of_facts_a_file, readings_exclude_faults,
     readings_have_own_paths,
 };

@@ -1,8 +1,8 @@
 //! What is built from trees, and why nothing is.
 
-use crate::calls::tree_of;
-use index_hooks::Chooses;
-use index_pool::Gate;
+use crate::asking::Asking;
+use index_hooks::Registry;
+use index_pool::{Gate, Workers};
 use proto_lex::Encoding;
 use proto_parse::{CustomOptions, Dialect};
 use scip_build::{BuildFault, Built, Faulty, Run, Settings, build};
@@ -15,6 +15,12 @@ use std::alloc::{AllocError, Global};
 use std::process::Abort;
 use std::sync::Wait;
 use std::thread::Threads;
+use test_kit::tree_of;
+
+/// Sees that what a case says holds. (A formatted assertion is proved once, here.)
+pub(crate) fn see(rt: &impl Abort, holds: bool, case: &str) {
+    assert!(rt; holds, "{case}");
+}
 
 /// Appends a line for an occurrence: where it begins and ends, its roles, and its symbol without the
 /// scheme and the empty package.
@@ -49,57 +55,82 @@ fn listing_of(alloc: Global, built: &Built) -> Result<String, AllocError> {
     Ok(text)
 }
 
-/// A tree, and the settings that it is built with.
+/// A tree, the settings that it is built with, and the callbacks that are asked.
 #[derive(Drop)]
-pub(crate) struct Site {
+pub(crate) struct Site<'a> {
     pub(crate) tree: Tree,
     pub(crate) settings: Settings,
+    pub(crate) registry: &'a Registry,
 }
 
-/// The tree of files, with plain settings, and with this done where it has faults.
-pub(crate) fn site_of(
-    rt: &impl Abort,
-    alloc: Global,
-    files: &str,
-    faulty: Faulty,
-) -> Result<Site, AllocError> {
+/// Plain settings, with this done with faults.
+fn settings_of(rt: &impl Abort, alloc: Global, faulty: Faulty) -> Result<Settings, AllocError> {
     let parts = [String::new(alloc), String::new(alloc), String::new(alloc)];
     let id = PackageId::new(parts).ok().expect(rt, "good parts");
-    let settings = Settings {
+    Ok(Settings {
         project_root: OwnedText::copy_of(alloc, "file:///")?,
         package: FilePackages::of_run(alloc, id),
         encoding: Encoding::Utf8,
         dialect: Dialect::Proto3(CustomOptions::Refuse),
         faulty,
-    };
-    let tree = tree_of(rt, alloc, files)?;
-    Ok(Site { tree, settings })
+    })
 }
 
-/// What is built on so many workers, or why nothing is, as `Debug` prints it; not for want of memory or
-/// of a thread.
-fn told<R: Threads + Wait, C: Chooses + Sync, G: Gate>(
+/// The tree of files, as `test_kit` takes them, with plain settings, and with this done with faults.
+pub(crate) fn site_of<'a>(
+    rt: &impl Abort,
+    registry: &'a Registry,
+    alloc: Global,
+    files: &str,
+    faulty: Faulty,
+) -> Result<Site<'a>, AllocError> {
+    let settings = settings_of(rt, alloc, faulty)?;
+    let tree = tree_of(alloc, files)?.expect(rt, "files with good paths of their own");
+    Ok(Site {
+        tree,
+        settings,
+        registry,
+    })
+}
+
+/// A run by so many workers, which are 1 to 16, round each file of which this gate is called.
+pub(crate) fn run_of<'a, R: Abort, G>(
+    rt: &'a R,
+    alloc: Global,
+    count: usize,
+    gate: &'a G,
+) -> Run<'a, R, G> {
+    let workers = Workers::new(count).expect(rt, "1 to 16 workers");
+    Run {
+        rt,
+        alloc,
+        workers,
+        gate,
+    }
+}
+
+/// What is built, or why nothing is, as `Debug` prints it; not for want of memory or of a thread.
+fn told<R: Threads + Wait, G: Gate>(
     run: &Run<'_, R, G>,
     site: &Site,
-    chooser: &C,
+    chooser: &Asking,
 ) -> Result<String, AllocError> {
-    let (tree, settings) = (&site.tree, &site.settings);
-    match build(run, tree, chooser, settings) {
+    match build(run, &site.tree, chooser, &site.settings) {
         Ok(built) => listing_of(run.alloc, &built),
         Err(BuildFault::Memory) | Err(BuildFault::Spawn) => Err(AllocError),
         Err(fault) => format!(in run.alloc; "{fault:?}"),
     }
 }
 
-/// Whether this is what is built, or why nothing is.
-pub(crate) fn is_told<R: Threads + Wait, C: Chooses + Sync, G: Gate>(
+/// How often the callbacks are asked for what is due; none where something else is built.
+pub(crate) fn asked_for<R: Threads + Wait, G: Gate>(
     run: &Run<'_, R, G>,
     site: &Site,
-    chooser: &C,
     due: &str,
-) -> bool {
-    match told(run, site, chooser) {
-        Ok(text) => text.as_str() == due,
-        Err(AllocError) => false,
+) -> Option<u64> {
+    let asking = Asking::new(site.registry);
+    match told(run, site, &asking) {
+        Ok(text) if text.as_str() == due => Some(asking.count()),
+        _ => None,
     }
 }

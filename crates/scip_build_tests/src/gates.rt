@@ -1,11 +1,9 @@
 //! A gate round both phases.
 
-use crate::asking::Asking;
-use crate::built::{Site, is_told, site_of};
-use crate::calls::{see, workers};
+use crate::built::{Site, asked_for, run_of, see, site_of};
 use index_hooks::Registry;
-use index_pool::{Gate, Workers};
-use scip_build::{Faulty, Run};
+use index_pool::Gate;
+use scip_build::Faulty;
 use std::alloc::{AllocError, Global};
 use std::process::Abort;
 use std::sync::Wait;
@@ -73,13 +71,7 @@ b.proto
 ";
 
 /// Whether the index that is due is built, by two workers that meet in each phase.
-fn is_met<R: Threads + Wait + Clock + Sync>(
-    rt: &R,
-    alloc: Global,
-    site: &Site,
-    registry: &Registry,
-    workers: Workers,
-) -> bool {
+fn is_met<R: Threads + Wait + Clock + Sync + Abort>(rt: &R, alloc: Global, site: &Site) -> bool {
     let gate = Meeting {
         clock: rt,
         first: AtomicU64::new(0),
@@ -87,15 +79,8 @@ fn is_met<R: Threads + Wait + Clock + Sync>(
         left: AtomicU64::new(0),
         run_outs: AtomicU64::new(0),
     };
-    let chooser = Asking::new(registry);
-    let run = Run {
-        rt,
-        alloc,
-        workers,
-        gate: &gate,
-    };
-    is_told(&run, site, &chooser, DUE)
-        && chooser.count() == 4
+    let run = run_of(rt, alloc, 2, &gate);
+    asked_for(&run, site, DUE) == Some(4)
         && gate.first.load(Ordering::SeqCst) == 2
         && gate.second.load(Ordering::SeqCst) == 2
         && gate.left.load(Ordering::SeqCst) == 4
@@ -107,9 +92,8 @@ fn see_met<R: Threads + Wait + Clock + Sync + Abort>(
     alloc: Global,
     registry: &Registry,
 ) -> Result<(), AllocError> {
-    let two = workers(rt, 2);
-    let site = site_of(rt, alloc, EACH_OTHER, Faulty::Refuse)?;
-    let met = is_met(rt, alloc, &site, registry, two) || is_met(rt, alloc, &site, registry, two);
+    let site = site_of(rt, registry, alloc, EACH_OTHER, Faulty::Refuse)?;
+    let met = is_met(rt, alloc, &site) || is_met(rt, alloc, &site);
     see(rt, met, "two met");
     Ok(())
 }

@@ -1,12 +1,10 @@
 //! What is built by callbacks, and how often they are asked: which no contract says.
 
-use crate::asking::Asking;
-use crate::built::{Site, is_told, site_of};
-use crate::calls::{see, workers};
+use crate::built::{Site, asked_for, run_of, see, site_of};
 use index_hooks::{AnyAnswer, Filter, FilterCallback, KindIn, Kinds, Registry};
-use index_pool::{NoGate, Workers};
+use index_pool::NoGate;
 use proto_decl::{DeclView, DeclarationKind};
-use scip_build::{Faulty, Run};
+use scip_build::Faulty;
 use std::alloc::{AllocError, Global};
 use std::process::Abort;
 use std::sync::Wait;
@@ -51,26 +49,6 @@ impl FilterCallback for EachSecond {
     }
 }
 
-/// How often a registry is asked for what is due; none where something else is built.
-fn asked_for<R: Threads + Wait>(
-    rt: &R,
-    alloc: Global,
-    site: &Site,
-    registry: &Registry,
-    workers: Workers,
-    due: &str,
-) -> Option<u64> {
-    let asking = Asking::new(registry);
-    let run = Run {
-        rt,
-        alloc,
-        workers,
-        gate: &NoGate,
-    };
-    let is_due = is_told(&run, site, &asking, due);
-    is_due.then_some(asking.count())
-}
-
 /// Files, and what is done with their faults; what is built of them, or why nothing is; and how often a registry
 /// is asked for it.
 struct Row {
@@ -80,19 +58,14 @@ struct Row {
     asked: u64,
 }
 
-/// Sees that a registry is asked so often for what is due, on 1, 2 and 16 workers. After want of memory or of a
-/// thread it is asked again.
-fn see_site<R: Threads + Wait + Abort>(
-    rt: &R,
-    alloc: Global,
-    site: &Site,
-    registry: &Registry,
-    row: &Row,
-) {
+/// Sees that callbacks are asked so often for what is due, on 1, 2 and 16 workers. After want of memory or of a
+/// thread they are asked again.
+fn see_site<R: Threads + Wait + Abort>(rt: &R, alloc: Global, site: &Site, row: &Row) {
     for count in &[1, 2, 16] {
-        let workers = workers(rt, *count);
-        let asked = match asked_for(rt, alloc, site, registry, workers, row.due) {
-            None => asked_for(rt, alloc, site, registry, workers, row.due),
+        let gate = NoGate;
+        let run = run_of(rt, alloc, *count, &gate);
+        let asked = match asked_for(&run, site, row.due) {
+            None => asked_for(&run, site, row.due),
             asked => asked,
         };
         see(rt, asked == Some(row.asked), row.due);
@@ -105,8 +78,8 @@ fn see_row<R: Threads + Wait + Abort>(
     registry: &Registry,
     row: &Row,
 ) -> Result<(), AllocError> {
-    let site = site_of(rt, alloc, row.files, row.faulty)?;
-    see_site(rt, alloc, &site, registry, row);
+    let site = site_of(rt, registry, alloc, row.files, row.faulty)?;
+    see_site(rt, alloc, &site, row);
     Ok(())
 }
 
@@ -199,8 +172,10 @@ fn are_second_ones<R: Threads + Wait + Abort>(
     alloc: Global,
     registry: &Registry,
 ) -> Result<bool, AllocError> {
-    let site = site_of(rt, alloc, SEVEN, Faulty::Refuse)?;
-    Ok(asked_for(rt, alloc, &site, registry, workers(rt, 1), SECOND_ONES) == Some(7))
+    let site = site_of(rt, registry, alloc, SEVEN, Faulty::Refuse)?;
+    let gate = NoGate;
+    let run = run_of(rt, alloc, 1, &gate);
+    Ok(asked_for(&run, &site, SECOND_ONES) == Some(7))
 }
 
 /// Whether a filter that alternates is asked about each of seven declarations once, and its answers serve

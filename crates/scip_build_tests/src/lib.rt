@@ -6,8 +6,6 @@ mod asking;
 #[cfg(test)]
 mod built;
 #[cfg(test)]
-mod calls;
-#[cfg(test)]
 mod gates;
 #[cfg(test)]
 mod hooks;

@@ -7,11 +7,13 @@ loop-fault-init c = none_so_far c.args.explain c.args.tree.now c.args.told.now (
 
 pub loop-fault-preserved : goal.loop-fault-preserved
 loop-fault-preserved c =
-    one_more c.args.explain c.args.tree.now c.args.told.now (string_bytes c.args.out.now) (string_bytes c.loop-fault.out)
+    one_more c.args.explain c.args.tree.now c.args.told.now (string_bytes c.args.out.now)
+    (string_bytes c.loop-fault.out)
     (string_bytes c.push_told.new.out) c.loop-fault.fault-index _ c.loop-fault-test.true c.loop-fault.invariant
     c.in_ok-push_told.ensures
 
 pub returns : goal.returns
 returns c =
-    all_lines c.args.explain c.args.tree.now c.args.told.now (string_bytes c.args.out.now) (string_bytes c.loop-fault.out)
+    all_lines c.args.explain c.args.tree.now c.args.told.now (string_bytes c.args.out.now)
+    (string_bytes c.loop-fault.out)
     c.loop-fault.fault-index c.loop-fault-test.false c.loop-fault.invariant

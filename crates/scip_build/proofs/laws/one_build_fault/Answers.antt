@@ -6,4 +6,4 @@ returns g c =
     one_build_fault (g.C.Chooses.allows c.args.chooser.now)
     (g.D.Chooses.allows c.args.other.now) c.one_linking.ensures c.readings_exclude_faults.ensures
     c.readings_exclude_faults-2.ensures
-    c.one_first_faulty.ensures c.one_refusal.ensures.refusal
+    c.one_first_faulty.ensures c.one_refusal.ensures.refusal c.one_fault_a_file.ensures

@@ -17,7 +17,8 @@ use Rattle.scip_pages.specs.Plain.{plain, plain_behind}
 use Rattle.scip_pages.specs.Runs.{same_mark, onto_runs, runs_of}
 use Rattle.scip_pages.specs.Code.{Piece, link_of, pieces_of, text_of, mark, attribute, target_code, linked, piece_code}
 use Rattle.scip_pages.specs.Code.{line_mark, line_code, line_codes, code_of}
-use Rattle.scip_pages.specs.CodeLaws.{CodeShowsTheLines, CodeShowsTheSource, PiecesHaveTheText, PiecesHaveTheLinks, links_in}
+use Rattle.scip_pages.specs.CodeLaws.{CodeShowsTheLines, CodeShowsTheSource, PiecesHaveTheText, PiecesHaveTheLinks}
+use Rattle.scip_pages.specs.CodeLaws.{links_in}
 use Rattle.scip_pages.proofs.EscapeLemmas.{IsNoMark, has_no_marks, shows_the_rest}
 
 -- code that shows a text, whatever stands behind it

@@ -96,4 +96,5 @@ names_have_no_fault path all =
     λ name so. none_named name (components path) (weaker IsName (λ other. other ≢ name) so (components path) all) in
     no_fault_by (starts_with nat_eq path (codes "/")) (has_name (codes "") path) (has_name (codes ".") path)
     (has_name (codes "..") path) (not_absolute path all)
-    (is_none (codes "") (λ other is. is.0)) (is_none (codes ".") (λ other is. is.1)) (is_none (codes "..") (λ other is. is.2))
+    (is_none (codes "") (λ other is. is.0)) (is_none (codes ".") (λ other is. is.1))
+    (is_none (codes "..") (λ other is. is.2))

@@ -1,6 +1,7 @@
 -- What a page's code shows: its text, without its marks, and with its references undone.
 -- (HTML Standard, 13.2.5 "Tokenization", of pages whose marks have no `>` but the one that ends them)
-use Rattle.std.specs.Prelude.{ℕ, ◌+◌, ◌-◌, ◌==◌, not, ◌||◌, cond, List, [], ◌∷◌, ◌++◌, length, Option, None, Some, nat_eq}
+use Rattle.std.specs.Prelude.{ℕ, ◌+◌, ◌-◌, ◌==◌, not, ◌||◌, cond, List, [], ◌∷◌, ◌++◌, length, Option, None, Some}
+use Rattle.std.specs.Prelude.{nat_eq}
 use Rattle.std.specs.List.{find, prefix_len, starts_with}
 use Rattle.scip_pages.specs.Escapes.{Reference, references}
 

@@ -8,8 +8,8 @@ use Rattle.scip_pages.specs.Snapshot.{flat_byte, lines_of, snapshot_of}
 abbrev pub ended_lines : List ℕ → List (List ℕ)
 ended_lines text = take (length (lines_of text) - 1) (lines_of text)
 
--- the source in a snapshot: the lines that don't begin with the sign of a comment, each without its first two bytes, and
--- the last without its end
+-- the source in a snapshot: the lines that don't begin with the sign of a comment, each without its first two bytes,
+-- and the last without its end
 abbrev pub is_source_line : List ℕ → Bool
 is_source_line line = not (starts_with nat_eq line (codes "//"))
 

@@ -48,8 +48,8 @@ fn push_plain<'a>(page: &mut Vec<u8>, text: &'a [u8]) -> Result<&'a [u8], AllocE
     Ok(behind)
 }
 
-/// Appends a text to a page, so that all of it is text and nothing of it becomes a mark, also in
-/// the value of an attribute between quotes (HTML Standard, 13.1.4 "Character references"). For a NUL stands its picture.
+/// Appends a text to a page, so that all of it is text and nothing of it becomes a mark, also in the value of an
+/// attribute between quotes (HTML Standard, 13.1.4 "Character references"). A NUL becomes its picture.
 pub fn push_escaped(page: &mut Vec<u8>, text: &[u8]) -> Result<(), AllocError>
     ensures { OnOk result (page.new.items ≡ page.old.items ++ escape text.now) }
 {

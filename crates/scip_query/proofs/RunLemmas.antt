@@ -1,6 +1,6 @@
 -- A run of a table: what compares as equal, which stands together where the table rises.
-use Rattle.std.proofs.Common.{◌≡◌, ℕ, zero, suc, ◌+◌, ◌≤◌, ◌<◌, Bool, true, false, not, ◌&&◌, List, [], ◌∷◌, length, take}
-use Rattle.std.proofs.Common.{drop, get_or, refl, sym, ◌∙◌, ap, subst, arith}
+use Rattle.std.proofs.Common.{◌≡◌, ℕ, zero, suc, ◌+◌, ◌-◌, ◌≤◌, ◌<◌, Bool, true, false, not, ◌&&◌, List, [], ◌∷◌}
+use Rattle.std.proofs.Common.{length, take, drop, get_or, refl, sym, ◌∙◌, ap, subst, arith}
 use Rattle.std.specs.List.{filter, find, slice_get, All, AllWithin}
 use Rattle.std.specs.List.Sorted.{IsPermutation, IsSortedBy, IsStableBy, ties, IsPartitionedBy, IsPartitionPoint}
 use Rattle.std.specs.List.Sorted.{IsNonDecreasingBy}
@@ -132,12 +132,22 @@ length-few zero xs = omega arith
 length-few (suc k) [] = omega arith
 length-few (suc k) (x ∷ xs) = omega (arith, length-few k xs)
 
+pub most-few : {X : Type 0} (k : ℕ) (xs : List X) → length (take k xs) ≤ k
+most-few zero xs = omega arith
+most-few (suc k) [] = omega arith
+most-few (suc k) (x ∷ xs) = omega (arith, most-few k xs)
+
 within_few : {X : Type 0} (k : ℕ) (xs : List X) (j : ℕ) → j < k → j < length xs → j < length (take k xs)
 within_few zero xs j few inside = absurd (omega (arith, few))
 within_few (suc k) [] j few inside = absurd (omega (arith, inside))
 within_few (suc k) (x ∷ xs) zero few inside = omega arith
 within_few (suc k) (x ∷ xs) (suc j) few inside =
     omega (arith, within_few k xs j (omega (arith, few)) (omega (arith, inside)))
+
+length-take-within : {X : Type 0} (k : ℕ) (xs : List X) → k ≤ length xs → length (take k xs) ≡ k
+length-take-within zero xs inside = refl
+length-take-within (suc k) [] inside = absurd (omega (arith, inside))
+length-take-within (suc k) (x ∷ xs) inside = ap suc (length-take-within k xs (omega (arith, inside)))
 
 few_within : {X : Type 0} (k : ℕ) (xs : List X) (j : ℕ) → j < length (take k xs) → (j < k) × (j < length xs)
 few_within zero xs j inside = absurd (omega (arith, inside))
@@ -146,11 +156,19 @@ few_within (suc k) (x ∷ xs) zero inside = (omega arith, omega arith)
 few_within (suc k) (x ∷ xs) (suc j) inside =
     let two = few_within k xs j (omega (arith, inside)) in (omega (arith, two.0), omega (arith, two.1))
 
-pub parted_take : {X : Type 0} (p : X → Bool) (k : ℕ) (xs : List X) → IsPartitionedBy p xs → IsPartitionedBy p (take k xs)
+pub parted_take : {X : Type 0} (p : X → Bool) (k : ℕ) (xs : List X) → IsPartitionedBy p xs
+    → IsPartitionedBy p (take k xs)
 parted_take p k xs parted i j d before inside passes =
     let two = few_within k xs j inside in
     rw (get_or-take k xs i d (omega (arith, before, two.0)))
     (parted i j d before two.1 (subst (λ x. p x ≡ true) (get_or-take k xs j d two.0) passes))
+
+pub parted_drop : {X : Type 0} (p : X → Bool) (k : ℕ) (xs : List X) → IsPartitionedBy p xs
+    → IsPartitionedBy p (drop k xs)
+parted_drop p k xs parted i j d before inside passes =
+    rw (get_or-drop k xs i d)
+    (parted (k + i) (k + j) d (omega (arith, before)) (omega (arith, inside, length-drop k xs))
+    (subst (λ x. p x ≡ true) (get_or-drop k xs j d) passes))
 
 -- where they end among the first few, they end in all
 pub near_point : {X : Type 0} (p : X → Bool) (k : ℕ) (xs : List X) (n : ℕ) → IsPartitionedBy p xs
@@ -176,6 +194,15 @@ near_point {X = X} p k xs n parted point few = (before, behind)
             let clash : true ≡ false = sym first ∙ fails d (omega (arith, low, high)) in absurd cc
         by false e = e
 
+-- a filter that keeps none of the first
+pub filter_behind : {X : Type 0} (p : X → Bool) (k : ℕ) (xs : List X) → AllWithin (λ x. p x ≡ false) xs 0 k
+    → filter p xs ≡ filter p (drop k xs)
+filter_behind p zero xs fail = refl
+filter_behind p (suc k) [] fail = refl
+filter_behind p (suc k) (x ∷ xs) fail =
+    rw (fail zero x (omega arith) (omega arith))
+    (filter_behind p k xs (λ j d low high. fail (suc j) d (omega arith) (omega (arith, high))))
+
 -- what one call answers
 pub answer_of : {F X R : Type 0} (g : Mut F X R) (P : X → R → Type 0) (f : F) (a : X) (r : R) (f' : F)
     → Called g f a r f' → AlwaysReturns g P f → P a r
@@ -194,6 +221,42 @@ module _ {N : Type 0} (to : N → Ordering) (xs : List N) (rises : Rises to xs) 
       (equal_below (to (get_or xs (from + i) d)) (to (get_or xs (from + j) d))
       (rises (from + i) (from + j) d (omega arith) (omega (arith, length-drop from xs)))
       (least (from + i) d (omega arith) (omega (arith, length-drop from xs))) (rw (get_or-drop from xs j d) at equal))
+
+  pub last_parted : (k m : ℕ) → IsPartitionedBy (λ n. is_lt (to n)) (drop m (take k xs))
+  last_parted k m =
+      parted_drop (λ n. is_lt (to n)) m (take k xs) (parted_take (λ n. is_lt (to n)) k xs less_first)
+
+  -- where the last of the first is less, all of them are
+  first_less : (k less : ℕ) → k ≤ length xs
+      → AllWithin (λ n. is_lt (to n) ≡ true) (drop (length (take k xs) - 1) (take k xs)) 0 less
+      → length (drop (length (take k xs) - 1) (take k xs)) ≤ less
+      → AllWithin (λ n. is_eq (to n) ≡ false) xs 0 k
+  first_less k less inside last all j d low high =
+      let count : length (take k xs) ≡ k = length-take-within k xs inside in
+      let one : 0 < length (drop (length (take k xs) - 1) (take k xs)) =
+      omega (arith, length-drop (length (take k xs) - 1) (take k xs), count, high) in
+      let there : get_or (drop (length (take k xs) - 1) (take k xs)) 0 d ≡ get_or xs (k - 1) d =
+      get_or-drop (length (take k xs) - 1) (take k xs) 0 d
+      ∙ ap (λ at. get_or (take k xs) at d) (omega (arith, count, high))
+      ∙ get_or-take k xs (k - 1) d (omega (arith, high)) in
+      let last_less : is_lt (to (get_or xs (k - 1) d)) ≡ true =
+      subst (λ n. is_lt (to n) ≡ true) there (last 0 d (omega arith) (omega (arith, one, all))) in
+      less_not_equal (to (get_or xs j d))
+      (less_first j (k - 1) d (omega (arith, high)) (omega (arith, high, inside)) last_less)
+
+  pub near_behind : (k less : ℕ) → k ≤ length xs
+      → IsPartitionPoint (λ n. is_lt (to n) ≡ true) (λ n. is_lt (to n) ≡ false)
+      (drop (length (take k xs) - 1) (take k xs)) less
+      → length (drop (length (take k xs) - 1) (take k xs)) ≤ less
+      → filter (λ n. is_eq (to n)) xs ≡ filter (λ n. is_eq (to n)) (drop k xs)
+  near_behind k less inside point all =
+      filter_behind (λ n. is_eq (to n)) k xs (first_less k less inside point.0 all)
+
+  -- the others rise, too
+  pub rises_behind : (k : ℕ) → Rises to (drop k xs)
+  rises_behind k i j d before inside =
+      rw (get_or-drop k xs i d, get_or-drop k xs j d)
+      (rises (k + i) (k + j) d (omega (arith, before)) (omega (arith, inside, length-drop k xs)))
 
   pub is_run : (from n : ℕ) → IsPartitionPoint (λ m. is_lt (to m) ≡ true) (λ m. is_lt (to m) ≡ false) xs from
       → IsPartitionPoint (λ m. is_eq (to m) ≡ true) (λ m. is_eq (to m) ≡ false) (drop from xs) n

@@ -11,11 +11,14 @@ ghost use Rattle.scip_query.specs.References.{references_at, definitions_of, def
 ghost use Rattle.scip_query.specs.Documentation.{entries_for, texts_of, documentation_at, symbols_of};
 ghost use Rattle.scip_query.specs.BySymbol.{subject_in, references_in, definitions_in, documentation_in};
 ghost use Rattle.scip_query.specs.Outcomes.{Gives};
-ghost use Rattle.scip_query.specs.Tables.{defines_listed};
+ghost use Rattle.std.specs.Ordering.{nat_cmp, is_eq};
+ghost use Rattle.std.specs.Cmp.Lexicographic.{slice_cmp};
+ghost use Rattle.scip_query.specs.declared.place.EntryPlace.{EntryPlace};
+ghost use Rattle.scip_query.specs.Tables.{defines_listed, entry_symbol_listed, entry_places_from};
 ghost use Rattle.scip_query.specs.Views.{subject_view};
 
 use crate::listed::occurrence_listed;
-use crate::place::Place;
+use crate::place::{EntryPlace, Place};
 use crate::position::Position;
 use crate::queries::{Named, Queries, Subject, is_local};
 use crate::query_fault::{QueryFault, fault_of};
@@ -97,6 +100,26 @@ impl Queries {
         defining(alloc, self.documents(), self.places_about(subject))
     }
 
+    /// The first entry of a subject, of the places of the entries with its symbol.
+    fn entry_among(
+        &self,
+        subject: &Subject<'_>,
+        places: &[EntryPlace],
+    ) -> Option<&SymbolInformation>
+        requires listed { slice_get self.now.documents subject.now.asked.number ≡ Some subject.now.asked.document.now }
+        requires places { places.now ≡ filter (λ (place : EntryPlace). is_eq (slice_cmp nat_cmp
+            (entry_symbol_listed self.now place) subject.now.symbol.now)) (entry_places_from 0
+            self.now.external_symbols self.now.documents) }
+        ensures { option_copied result ≡ find (λ (entry : SymbolInformation). bytes_eq entry.symbol
+            subject.now.symbol.now) (entries_for self.now (subject_view subject.now)) }
+    {
+        if is_local(subject.symbol) {
+            self.first_entry(entry_places_in(places, subject.asked.number))
+        } else {
+            self.first_entry(places)
+        }
+    }
+
     /// The entry in which a subject's documentation is: the first with its symbol, in the documents in their order
     /// and then among the external symbols; a local symbol is looked for only in its document.
     fn entry_of(&self, subject: &Subject<'_>) -> Option<&SymbolInformation>
@@ -104,12 +127,18 @@ impl Queries {
         ensures { option_copied result ≡ find (λ (entry : SymbolInformation). bytes_eq entry.symbol
             subject.now.symbol.now) (entries_for self.now (subject_view subject.now)) }
     {
-        let places = self.entry_places_with(subject.symbol);
-        if is_local(subject.symbol) {
-            self.first_entry(entry_places_in(places, subject.asked.number))
-        } else {
-            self.first_entry(places)
-        }
+        self.entry_among(subject, self.entry_places_with(subject.symbol))
+    }
+
+    /// The same. It is looked for first behind so many entries; with it comes behind how many to look for the next
+    /// symbol's.
+    fn entry_near(&self, near: usize, subject: &Subject<'_>) -> (usize, Option<&SymbolInformation>)
+        requires { slice_get self.now.documents subject.now.asked.number ≡ Some subject.now.asked.document.now }
+        ensures { option_copied result.1 ≡ find (λ (entry : SymbolInformation). bytes_eq entry.symbol
+            subject.now.symbol.now) (entries_for self.now (subject_view subject.now)) }
+    {
+        let (from, places) = self.entry_places_near(near, subject.symbol);
+        (from, self.entry_among(subject, places))
     }
 
     /// The places of all occurrences of the symbol at a position, definitions included, in the index's order. A local
@@ -205,6 +234,17 @@ impl Queries {
         }
     }
 
+    /// The same places. They are looked for first behind so many of `places_by_symbol`: a caller that goes through them
+    /// finds those of each symbol at once.
+    pub fn references_near(&self, near: usize, document: usize, symbol: &str) -> &[Place]
+        ensures { result.now ≡ references_in self.now document symbol.now }
+    {
+        match self.subject_in(document, symbol) {
+            Some(subject) => self.places_about_near(near, &subject),
+            None => &[],
+        }
+    }
+
     /// The places where a symbol, asked for in the document with this number, is defined: those of its references
     /// whose role has the bit of a definition.
     pub fn definitions_in(
@@ -221,14 +261,33 @@ impl Queries {
         }
     }
 
-    /// The texts of a symbol's documentation, asked for in the document with this number: those of its first entry; none
-    /// if it has no entry, or the index has no such document.
+    /// The texts of a symbol's documentation, asked for in the document with this number: those of its first entry;
+    /// none if it has no entry, or the index has no such document.
     pub fn documentation_texts(&self, document: usize, symbol: &str) -> &[OwnedText]
         ensures { result.now ≡ documentation_in self.now document symbol.now }
     {
         match self.subject_in(document, symbol) {
             Some(subject) => texts_of(self.entry_of(&subject)),
             None => &[],
+        }
+    }
+
+    /// The same texts. They are looked for first behind so many symbol entries, in the order of their symbols' bytes;
+    /// with them comes behind how many to look for those of the next symbol.
+    pub fn documentation_near(
+        &self,
+        near: usize,
+        document: usize,
+        symbol: &str,
+    ) -> (usize, &[OwnedText])
+        ensures { result.1.now ≡ documentation_in self.now document symbol.now }
+    {
+        match self.subject_in(document, symbol) {
+            Some(subject) => {
+                let (from, entry) = self.entry_near(near, &subject);
+                (from, texts_of(entry))
+            }
+            None => (near, &[]),
         }
     }
 

@@ -20,6 +20,7 @@ ghost use Rattle.scip_query.specs.Tables.{
   places_from,
   entry_places_from,
   IsInnermostFirst,
+  IsBySymbol,
 };
 ghost use Rattle.scip_query.specs.Views.{named_view, subject_view};
 
@@ -28,7 +29,9 @@ use crate::listed::entry_listed;
 use crate::miss::Miss;
 use crate::place::{EntryPlace, Place};
 use crate::position::Position;
-use crate::search::{entry_places_of, number_named, places_in, places_of};
+use crate::search::{
+    entry_places_near, entry_places_of, number_named, places_in, places_near, places_of,
+};
 use crate::tables::{Tables, tables_of};
 use scip_model::{Document, Index, Occurrence, SymbolInformation};
 use sequences::Sequence;
@@ -195,16 +198,51 @@ impl Queries {
         places_of(self.documents(), self.tables.by_symbol.as_slice(), symbol)
     }
 
-    /// The places of a subject's occurrences, in the index's order.
-    pub(crate) fn places_about(&self, subject: &Subject<'_>) -> &[Place]
+    /// As `places_with`. They are looked for first behind so many.
+    fn places_near(&self, near: usize, symbol: &str) -> &[Place]
+        ensures { result.now ≡ filter (λ (place : Place). is_eq (slice_cmp nat_cmp
+            (symbol_listed self.now.documents place) symbol.now)) (places_from 0 self.now.documents) }
+    {
+        places_near(
+            self.documents(),
+            self.tables.by_symbol.as_slice(),
+            near,
+            symbol,
+        )
+    }
+
+    /// Those of the places with a subject's symbol that are the subject's.
+    fn among<'a>(&'a self, subject: &Subject<'_>, places: &'a [Place]) -> &'a [Place]
+        requires { places.now ≡ filter (λ (place : Place). is_eq (slice_cmp nat_cmp
+            (symbol_listed self.now.documents place) subject.now.symbol.now)) (places_from 0 self.now.documents) }
         ensures { result.now ≡ map (λ (site : Site). site.place) (references_of self.now (subject_view subject.now)) }
     {
-        let places = self.places_with(subject.symbol);
         if is_local(subject.symbol) {
             places_in(places, subject.asked.number)
         } else {
             places
         }
+    }
+
+    /// The places of a subject's occurrences, in the index's order.
+    pub(crate) fn places_about(&self, subject: &Subject<'_>) -> &[Place]
+        ensures { result.now ≡ map (λ (site : Site). site.place) (references_of self.now (subject_view subject.now)) }
+    {
+        self.among(subject, self.places_with(subject.symbol))
+    }
+
+    /// The same. They are looked for first behind so many places.
+    pub(crate) fn places_about_near(&self, near: usize, subject: &Subject<'_>) -> &[Place]
+        ensures { result.now ≡ map (λ (site : Site). site.place) (references_of self.now (subject_view subject.now)) }
+    {
+        self.among(subject, self.places_near(near, subject.symbol))
+    }
+
+    /// The places of all occurrences, those of one symbol one after another, in the order of the symbols' bytes.
+    pub fn places_by_symbol(&self) -> &[Place]
+        ensures { IsBySymbol self.now.documents result.now }
+    {
+        self.tables.by_symbol.as_slice()
     }
 
     /// The places of the symbol entries with a symbol, those of external symbols last.
@@ -216,6 +254,20 @@ impl Queries {
         entry_places_of(
             &self.index,
             self.tables.entries_by_symbol.as_slice(),
+            symbol,
+        )
+    }
+
+    /// As `entry_places_with`. They are looked for first behind so many; with them comes behind how many they are.
+    pub(crate) fn entry_places_near(&self, near: usize, symbol: &str) -> (usize, &[EntryPlace])
+        ensures { result.1.now ≡ filter (λ (place : EntryPlace). is_eq (slice_cmp nat_cmp
+            (entry_symbol_listed self.now place) symbol.now)) (entry_places_from 0 self.now.external_symbols
+            self.now.documents) }
+    {
+        entry_places_near(
+            &self.index,
+            self.tables.entries_by_symbol.as_slice(),
+            near,
             symbol,
         )
     }

@@ -21,7 +21,7 @@ ghost use Rattle.scip_query.specs.declared.place.EntryPlace.{EntryPlace};
 
 use crate::listed::{entry_symbol_listed, path_listed, symbol_listed};
 use crate::place::{EntryPlace, Place};
-use crate::run::run_of;
+use crate::run::{run_near, run_of};
 use scip_model::{Document, Index};
 
 /// The numbers of the documents with a path, in the index's order.
@@ -59,6 +59,25 @@ pub(crate) fn places_of<'a>(
     )
 }
 
+/// As `places_of`. They are looked for first behind so many.
+pub(crate) fn places_near<'a>(
+    documents: &[Document],
+    by_symbol: &'a [Place],
+    near: usize,
+    symbol: &str,
+) -> &'a [Place]
+    requires { IsBySymbol documents.now by_symbol.now }
+    ensures { result.now ≡ filter (λ (place : Place). is_eq (slice_cmp nat_cmp (symbol_listed documents.now place)
+        symbol.now)) (places_from 0 documents.now) }
+{
+    let (_, places) = run_near(
+        by_symbol,
+        near,
+        |place| symbol_listed(documents, *place).cmp(symbol),
+    );
+    places
+}
+
 /// The places in a document, of some that are listed document by document.
 pub(crate) fn places_in<'a>(places: &'a [Place], document: usize) -> &'a [Place]
     requires { IsNonDecreasingBy (λ (place : Place). place.document) places.now }
@@ -81,6 +100,25 @@ pub(crate) fn entry_places_of<'a>(
 {
     run_of(
         entries_by_symbol,
+        |place| entry_symbol_listed(index, *place).cmp(symbol),
+    )
+}
+
+/// As `entry_places_of`. They are looked for first behind so many; with them comes behind how many they are.
+pub(crate) fn entry_places_near<'a>(
+    index: &Index,
+    entries_by_symbol: &'a [EntryPlace],
+    near: usize,
+    symbol: &str,
+) -> (usize, &'a [EntryPlace])
+    requires { AreEntriesBySymbol index.now entries_by_symbol.now }
+    ensures { result.1.now ≡ filter (λ (place : EntryPlace). is_eq (slice_cmp nat_cmp
+        (entry_symbol_listed index.now place) symbol.now)) (entry_places_from 0 index.now.external_symbols
+        index.now.documents) }
+{
+    run_near(
+        entries_by_symbol,
+        near,
         |place| entry_symbol_listed(index, *place).cmp(symbol),
     )
 }

@@ -66,7 +66,8 @@ shared_known script first = (
   ),
 )
 
-all_known : (index : Index) (sources : Sources) (order : List ℕ) → AllByRecursion IsKnown (site_files index sources order)
+all_known : (index : Index) (sources : Sources) (order : List ℕ)
+    → AllByRecursion IsKnown (site_files index sources order)
 all_known index sources order =
     let script : List ℕ = script_text index sources in
     let first : List ℕ = first_page (paths_in index.documents sources order) in

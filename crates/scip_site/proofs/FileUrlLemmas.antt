@@ -1,6 +1,6 @@
 -- The URLs that stand in pages lead to files that are made.
-use Rattle.std.proofs.Common.{◌≡◌, ◌∙◌, sym, refl, ap, subst, ℕ, ◌+◌, ◌<◌, Bool, true, false, cond, List, [], ◌∷◌, ◌++◌, length}
-use Rattle.std.proofs.Common.{arith, inl, inr}
+use Rattle.std.proofs.Common.{◌≡◌, ◌∙◌, sym, refl, ap, subst, ℕ, ◌+◌, ◌<◌, Bool, true, false, cond, List, [], ◌∷◌, ◌++◌}
+use Rattle.std.proofs.Common.{length, arith, inl, inr}
 use Rattle.std.specs.Prelude.{codes, Option, None, Some}
 use Rattle.std.specs.List.{AllByRecursion, Contains, flat_map, slice_get}
 use Rattle.std.specs.Option.{is_some, option_map_or, unwrap_or}
@@ -37,7 +37,8 @@ all_weaker : (P Q : List ℕ → Type 0) (xs : List (List ℕ)) → ((x : List �
 all_weaker P Q [] weaker all = tt
 all_weaker P Q (x ∷ xs) weaker all = (weaker x all.0, all_weaker P Q xs weaker all.1)
 
-in_flat_map : {X Y : Type 0} (f : X → List Y) (x : X) (y : Y) (xs : List X) → In x xs → In y (f x) → In y (flat_map f xs)
+in_flat_map : {X Y : Type 0} (f : X → List Y) (x : X) (y : Y) (xs : List X) → In x xs → In y (f x)
+    → In y (flat_map f xs)
 in_flat_map f x y [] is has = absurd is
 in_flat_map f x y (z ∷ xs) (inl same) has = in_left y (f z) (flat_map f xs) (subst (λ w. In y (f w)) same has)
 in_flat_map f x y (z ∷ xs) (inr is) has = in_right y (f z) (flat_map f xs) (in_flat_map f x y xs is has)
@@ -61,7 +62,8 @@ module _ (index : Index) (sources : Sources) (order : List ℕ) where
   page_file_is : (number : ℕ) (d : Document) (source : List ℕ) → slice_get index.documents number ≡ Some d
       → slice_get sources number ≡ Some (Some source)
       → Contains files
-      (file (page_path (path_listed index.documents number)) (page_of index sources number d (unit_in d) (lines_of source)))
+      (file (page_path (path_listed index.documents number))
+      (page_of index sources number d (unit_in d) (lines_of source)))
   page_file_is number d source stands has =
       let path : List ℕ = path_listed index.documents number in
       let page : List ℕ = page_of index sources number d (unit_in d) (lines_of source) in
@@ -102,7 +104,8 @@ module _ (index : Index) (sources : Sources) (order : List ℕ) where
         let listed : In number all =
         subst (λ (k : ℕ). In k all) same
         (in_range 0 (length index.documents) number (get_inside index.documents number d stands)) in
-        from_contained order number (Contains-permutation all order number by_path.permutation (contained all number listed))
+        from_contained order number
+        (Contains-permutation all order number by_path.permutation (contained all number listed))
 
     in_paths : (number : ℕ) (d : Document) (source : List ℕ) → slice_get index.documents number ≡ Some d
         → slice_get sources number ≡ Some (Some source) → In d.relative_path paths
@@ -113,14 +116,16 @@ module _ (index : Index) (sources : Sources) (order : List ℕ) where
         let listed : making.path_or_none index.documents sources number ≡ d.relative_path ∷ [] =
         ap (λ (b : Bool). cond b (path_listed index.documents number ∷ []) []) shown
         ∙ ap (λ (p : List ℕ). p ∷ []) its_path in
-        in_flat_map (making.path_or_none index.documents sources) number d.relative_path order (in_order number d stands)
+        in_flat_map (making.path_or_none index.documents sources) number d.relative_path order
+        (in_order number d stands)
         (subst (In d.relative_path) (sym listed) (inl refl))
 
     page_url : (number : ℕ) (d : Document) (source url : List ℕ) → slice_get index.documents number ≡ Some d
         → slice_get sources number ≡ Some (Some source) → IsUrl index sources number d.relative_path url
         → LeadsTo files (page_path d.relative_path) url
     page_url number d source url stands has (to_place leads) =
-        subst (λ (path : List ℕ). LeadsTo files (page_path path) url) (ap path_or_none stands) (leads_on number url leads)
+        subst (λ (path : List ℕ). LeadsTo files (page_path path) url) (ap path_or_none stands)
+        (leads_on number url leads)
     page_url number d source url stands has to_style = to_file (is_shared _ (inl refl))
     page_url number d source url stands has to_first = to_file (is_shared _ (inr (inr (inr (inl refl)))))
     page_url number d source url stands has (to_folder {folder = folder} is) =
@@ -184,7 +189,8 @@ first_urls_lead index sources order by_path = first_urls index sources order by_
 
 pub listed_urls_lead : ListedUrlsLead
 listed_urls_lead index sources order fit number d source stands has = record {
-  page = subst (λ (path : List ℕ). LeadsTo (site_files index sources order) (codes "index.html") (encoded (page_path path)))
+  page = subst (λ (path : List ℕ). LeadsTo (site_files index sources order) (codes "index.html")
+      (encoded (page_path path)))
       (ap path_or_none stands) (to_file (page_file_is index sources order number d source stands has));
   lines = λ place is.
       let one = its index sources fit number d source stands has place

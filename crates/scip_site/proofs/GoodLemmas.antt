@@ -1,6 +1,6 @@
 -- Documents that have pages.
-use Rattle.std.proofs.Common.{◌≡◌, ◌∙◌, sym, refl, ap, subst, ℕ, zero, suc, ◌+◌, ◌<◌, ◌≤◌, Bool, true, false, cond, List, []}
-use Rattle.std.proofs.Common.{◌∷◌, ◌++◌, length, map, get_or, arith, inl, inr, Ok, Err}
+use Rattle.std.proofs.Common.{◌≡◌, ◌∙◌, sym, refl, ap, subst, ℕ, zero, suc, ◌+◌, ◌<◌, ◌≤◌, Bool, true, false, cond}
+use Rattle.std.proofs.Common.{List, [], ◌∷◌, ◌++◌, length, map, get_or, arith, inl, inr, Ok, Err}
 use Rattle.std.specs.Prelude.{◌⊎◌, Option, None, Some, Result}
 use Rattle.std.specs.List.{AllByRecursion, flat_map, list_any, slice_get}
 use Rattle.std.specs.Option.{unwrap_or}
@@ -24,12 +24,13 @@ use Rattle.scip_site.specs.declared.no_page.NoPage.TheVariants.{NotText}
 use Rattle.source_page.specs.Ids.{unit_in, AllFit}
 use Rattle.scip_site.specs.Repeats.{has_path, is_repeated}
 use Rattle.source_page.specs.Site.{Sources, page_path}
-use Rattle.scip_site.specs.Reading.{Outcome, fit_or_misfit, in_unit, of_source, IsRead, fault_of, Read, AreRead, none, next}
-use Rattle.scip_site.specs.Reading.{source_or_none, sources_of}
+use Rattle.scip_site.specs.Reading.{Outcome, fit_or_misfit, in_unit, of_source, IsRead, fault_of, Read, AreRead, none}
+use Rattle.scip_site.specs.Reading.{next, source_or_none, sources_of}
 use Rattle.scip_site.specs.Making.{page_or_none, page_at, source_at, page_file, page_file_at, pages, shared, site_files}
 use Rattle.scip_site.specs.Making.{script_text, paths_in}
 use Rattle.scip_site.specs.Tree.{first_page}
-use Rattle.scip_site.specs.FolderLaws.{IsGood, AllAreGood, ReadsAreGood, GoodSourcesFit, FilesStayBelow, PagesAreMadeOnce}
+use Rattle.scip_site.specs.FolderLaws.{IsGood, AllAreGood, ReadsAreGood, GoodSourcesFit, FilesStayBelow}
+use Rattle.scip_site.specs.FolderLaws.{PagesAreMadeOnce}
 use Rattle.scip_site.proofs.PagePathLemmas.{has_a_good_path, has_its_own_path}
 
 -- ---- a document that has a page
@@ -56,7 +57,8 @@ fits_of d None source e = absurd cc
 fits_of d (Some bytes) source e = by (is_utf8 bytes) e
   where
     by : (b : Bool)
-        → source_or_none (cond b (in_unit (unit_of d.position_encoding) d.occurrences bytes) (Err NotText)) ≡ Some source
+        → source_or_none (cond b (in_unit (unit_of d.position_encoding) d.occurrences bytes) (Err NotText))
+        ≡ Some source
         → Fits d source
     by true e = fits_in d bytes source (unit_of d.position_encoding) refl e
     by false e = absurd cc

@@ -1,6 +1,6 @@
 -- Files that are made one after another.
-use Rattle.std.proofs.Common.{◌≡◌, ◌∙◌, sym, refl, ap, subst, ℕ, zero, suc, ◌+◌, ◌<◌, ◌≤◌, ◌-◌, List, [], ◌∷◌, ◌++◌, map}
-use Rattle.std.proofs.Common.{append-nil, append_assoc, arith, Ok, Err, inl, inr}
+use Rattle.std.proofs.Common.{◌≡◌, ◌∙◌, sym, refl, ap, subst, ℕ, zero, suc, ◌+◌, ◌<◌, ◌≤◌, ◌-◌, List, [], ◌∷◌, ◌++◌}
+use Rattle.std.proofs.Common.{map, append-nil, append_assoc, arith, Ok, Err, inl, inr}
 use Rattle.std.specs.Prelude.{Result, Option, length}
 use Rattle.std.specs.List.{flat_map, range_with_len}
 use Rattle.std.proofs.lemmas.Grind.{flat_map-append}
@@ -15,8 +15,8 @@ use Rattle.scip_snapshot.proofs.ShowLemmas.{makes_both, makes_none, stops_behind
 use Rattle.source_page.specs.Site.{Sources}
 use Rattle.scip_site.specs.Tree.{first_page}
 use Rattle.scip_site.specs.Reading.{ReadsInto, AllAreKept, none}
-use Rattle.scip_site.specs.Making.{AllOf, AllThenNone, PartOf, MakesFiles, MakesSite, file, in_folder, pages, shared, script_text}
-use Rattle.scip_site.specs.Making.{paths_in, site_files}
+use Rattle.scip_site.specs.Making.{AllOf, AllThenNone, PartOf, MakesFiles, MakesSite, file, in_folder, pages, shared}
+use Rattle.scip_site.specs.Making.{script_text, paths_in, site_files}
 use Rattle.source_page.proofs.CodeLemmas.{range_more}
 
 -- ---- some files, and others behind them

@@ -1,11 +1,13 @@
 -- What a reader makes of the first page.
-use Rattle.std.proofs.Common.{◌≡◌, ◌∙◌, sym, refl, ap, subst, ℕ, zero, suc, ◌-◌, ◌+◌, ◌==◌, ◌≤◌, Bool, true, false, cond}
-use Rattle.std.proofs.Common.{List, [], ◌∷◌, ◌++◌, map, take, drop, length, arith, append_assoc, append-nil, inl, inr}
+use Rattle.std.proofs.Common.{◌≡◌, ◌∙◌, sym, refl, ap, subst, ℕ, zero, suc, ◌-◌, ◌+◌, ◌==◌, ◌≤◌, Bool, true, false}
+use Rattle.std.proofs.Common.{cond, List, [], ◌∷◌, ◌++◌, map, take, drop, length, arith, append_assoc, append-nil, inl}
+use Rattle.std.proofs.Common.{inr}
 use Rattle.std.specs.Prelude.{codes}
 use Rattle.std.specs.List.{flat_map, range_with_len}
 use Rattle.std.specs.Str.{bytes_eq}
 use Rattle.std.proofs.lemmas.Bool.Decides.{nat_tests}
-use Rattle.std.proofs.lemmas.List.{length-map, length-take-le, map-append, take-append-drop, take-map, take-take, take_all}
+use Rattle.std.proofs.lemmas.List.{length-map, length-take-le, map-append, take-append-drop, take-map, take-take}
+use Rattle.std.proofs.lemmas.List.{take_all}
 use Rattle.scip_pages.specs.Code.{attribute}
 use Rattle.scip_pages.specs.Escapes.{escape}
 use Rattle.scip_pages.specs.Paths.{components}
@@ -52,7 +54,8 @@ open_reads above name = by (length above == 0)
     named : (mark : List ℕ)
         → Reads Data (start ++ mark ++ codes "><summary>") Data
         (bare (codes "li") ∷ (details id ∷ (bare (codes "summary") ∷ [])))
-        → Reads Data (start ++ mark ++ codes "><summary>" ++ escape name ++ codes "/</summary><ul>\n") Data (open_tags id)
+        → Reads Data (start ++ mark ++ codes "><summary>" ++ escape name ++ codes "/</summary><ul>\n") Data
+        (open_tags id)
     named mark reads =
         chain (start ++ mark ++ codes "><summary>" ++ escape name) (codes "/</summary><ul>\n")
         (chain (start ++ mark ++ codes "><summary>") (escape name) reads (escaped_reads name))
@@ -80,7 +83,8 @@ leaf_reads path names =
     let url : List ℕ = encoded (page_path path) in
     let one : List ℕ = link url (last_of names) in
     chain (codes "<li>" ++ one) (codes "</li>\n")
-    (chain (codes "<li>") one (record { ends = refl; are = refl }) (link_reads url (last_of names) (clean_encoded (page_path path))))
+    (chain (codes "<li>") one (record { ends = refl; are = refl })
+    (link_reads url (last_of names) (clean_encoded (page_path path))))
     (record { ends = refl; are = refl })
 
 -- ---- its URLs
@@ -193,11 +197,17 @@ closed : (open_ : List (List ℕ)) (a n : ℕ)
     → Nests open_ (flat_map (λ (n : ℕ). codes "</ul></details></li>\n") (range_with_len a n)) []
     (take (length open_ - n) open_)
 closed open_ a zero =
-    record { tags = []; reads = record { ends = refl; are = refl }; shown = refl; left = sym (take_all (length open_ - 0) open_ (omega arith)) }
+    record {
+      tags = [];
+      reads = record { ends = refl; are = refl };
+      shown = refl;
+      left = sym (take_all (length open_ - 0) open_ (omega arith));
+    }
 closed open_ a (suc n) =
     let one : List ℕ = codes "</ul></details></li>\n" in
     let shorter : List (List ℕ) = take (length open_ - 1) open_ in
-    subst (λ (after : List (List ℕ)). Nests open_ (one ++ flat_map (λ (n : ℕ). one) (range_with_len (a + 1) n)) [] after)
+    subst (λ (after : List (List ℕ)). Nests open_
+    (one ++ flat_map (λ (n : ℕ). one) (range_with_len (a + 1) n)) [] after)
     (taken open_ n)
     (nest one (flat_map (λ (n : ℕ). one) (range_with_len (a + 1) n))
     (record { tags = tags_of one; reads = record { ends = refl; are = refl }; shown = refl; left = refl })
@@ -301,7 +311,8 @@ stepped before path =
     nest (closes (length open_ - k) ++ opens k [] names) (leaf_with path (components path)) begun
     (leaf_nests (open_on path) path (components path))
 
-tree_nests : (before : List ℕ) (paths : List (List ℕ)) → Nests (open_on before) (tree before paths) (map leaf_of paths) []
+tree_nests : (before : List ℕ) (paths : List (List ℕ))
+    → Nests (open_on before) (tree before paths) (map leaf_of paths) []
 tree_nests before [] =
     let len : length (open_on before) ≡ length (folder_of before) =
     length-map (folders_on [] (folder_of before)) folder_id ∙ folders_long [] (folder_of before) in

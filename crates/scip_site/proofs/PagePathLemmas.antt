@@ -1,6 +1,6 @@
 -- Paths of pages.
-use Rattle.std.proofs.Common.{◌≡◌, ◌∙◌, sym, refl, ap, ℕ, ◌+◌, ◌<◌, ◌==◌, Bool, true, false, ◌||◌, cond, List, [], ◌∷◌, ◌++◌}
-use Rattle.std.proofs.Common.{nat_eq, length, drop, arith}
+use Rattle.std.proofs.Common.{◌≡◌, ◌∙◌, sym, refl, ap, ℕ, ◌+◌, ◌<◌, ◌==◌, Bool, true, false, ◌||◌, cond, List, [], ◌∷◌}
+use Rattle.std.proofs.Common.{◌++◌, nat_eq, length, drop, arith}
 use Rattle.std.specs.Prelude.{codes, Option, None, Some}
 use Rattle.std.specs.List.{list_any, onto_first, starts_with}
 use Rattle.std.specs.Str.{bytes_eq}
@@ -23,7 +23,8 @@ record IsLonger (path : List ℕ) : Type 0 where
 
 -- a byte in front of a path that isn't a slash
 front : (b : ℕ) (before : List (List ℕ)) (last : List ℕ) (path : List ℕ)
-    → components path ≡ before ++ last ∷ [] → components (path ++ codes ".html") ≡ before ++ (last ++ codes ".html") ∷ []
+    → components path ≡ before ++ last ∷ []
+    → components (path ++ codes ".html") ≡ before ++ (last ++ codes ".html") ∷ []
     → (b == 47) ≡ false → IsLonger (b ∷ path)
 front b [] last path are become e = record {
   before = [];

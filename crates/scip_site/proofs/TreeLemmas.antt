@@ -1,6 +1,6 @@
 -- The tree of folders.
-use Rattle.std.proofs.Common.{◌≡◌, ◌∙◌, sym, refl, ap, ℕ, zero, suc, ◌+◌, ◌-◌, Bool, true, false, cond, List, [], ◌∷◌, ◌++◌}
-use Rattle.std.proofs.Common.{map, length, take, drop, arith, append_assoc}
+use Rattle.std.proofs.Common.{◌≡◌, ◌∙◌, sym, refl, ap, ℕ, zero, suc, ◌+◌, ◌-◌, Bool, true, false, cond, List, [], ◌∷◌}
+use Rattle.std.proofs.Common.{◌++◌, map, length, take, drop, arith, append_assoc}
 use Rattle.std.specs.Prelude.{codes, Option, None, Some}
 use Rattle.std.specs.Borrow.{Bor}
 use Rattle.std.specs.List.{flat_map, range_with_len, slice_get}
@@ -35,7 +35,8 @@ one_same [] names at e = absurd cc
 one_same (a ∷ open_) [] at e =
     let clash : false ≡ true = sym (never_same (slice_get (a ∷ open_) at) at) ∙ e in absurd cc
 one_same (a ∷ open_) (b ∷ names) zero e = rw e refl
-one_same (a ∷ open_) (b ∷ names) (suc at) e = rw (up at) (one_same open_ names at (behind_one (slice_get open_ at) b names at ∙ e))
+one_same (a ∷ open_) (b ∷ names) (suc at) e =
+    rw (up at) (one_same open_ names at (behind_one (slice_get open_ at) b names at ∙ e))
 
 pub none_same : (open_ names : List (List ℕ)) (at : ℕ) → same_at open_ names at ≡ false
     → common (drop at open_) (drop at names) ≡ 0

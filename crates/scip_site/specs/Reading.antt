@@ -1,7 +1,7 @@
 -- The sources of an index's documents, and why a document has no page.
 -- `gives` is what reading a file may give.
-use Rattle.std.specs.Prelude.{◌≡◌, ℕ, Bool, true, false, cond, List, [], ◌∷◌, ◌++◌, length, map, codes, Vec, Option, None, Some}
-use Rattle.std.specs.Prelude.{Result, Ok, Err}
+use Rattle.std.specs.Prelude.{◌≡◌, ℕ, Bool, true, false, cond, List, [], ◌∷◌, ◌++◌, length, map, codes, Vec, Option}
+use Rattle.std.specs.Prelude.{None, Some, Result, Ok, Err}
 use Rattle.std.specs.List.{flat_map, slice_get}
 use Rattle.std.specs.Str.{is_utf8}
 use Rattle.scip_model.specs.declared.records.Document.{Document}

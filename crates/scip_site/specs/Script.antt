@@ -1,13 +1,15 @@
 -- The list of symbols that the first page searches.
 -- (ECMAScript, 12.9.4 "String Literals", 13.2.4 "Array Initializer")
-use Rattle.std.specs.Prelude.{ℕ, ◌+◌, ◌-◌, ◌*◌, ◌/◌, ◌%◌, ◌==◌, Bool, nat_lt, ◌||◌, cond, List, [], ◌∷◌, ◌++◌, drop, codes}
+use Rattle.std.specs.Prelude.{ℕ, ◌+◌, ◌-◌, ◌*◌, ◌/◌, ◌%◌, ◌==◌, Bool, nat_lt, ◌||◌, cond, List, [], ◌∷◌, ◌++◌, drop}
+use Rattle.std.specs.Prelude.{codes}
 use Rattle.std.specs.List.{flat_map}
 use Rattle.std.specs.Fmt.{decimal}
 use Rattle.scip_model.specs.declared.records.Index.{Index}
-use Rattle.scip_query.specs.Tables.{occurrence_listed}
+use Rattle.scip_query.specs.Tables.{occurrence_listed, symbol_listed}
 use Rattle.scip_query.specs.declared.place.Place.{Place}
 use Rattle.scip_pages.specs.declared.columns.ColumnUnit.{ColumnUnit}
 use Rattle.scip_pages.specs.Urls.{encoded}
+use Rattle.source_page.specs.Shown.{shown_symbol}
 use Rattle.source_page.specs.Site.{line_listed, page_path}
 use Rattle.source_page.specs.Uses.{name_of}
 
@@ -24,19 +26,23 @@ quoted_byte b = cond (is_coded b) (codes "\\u00" ++ digit (b / 16) ∷ (digit (b
 abbrev pub quoted : List ℕ → List ℕ
 quoted text = codes "\"" ++ flat_map quoted_byte text ++ codes "\""
 
--- a definition: its line, and its name, if it has one
-abbrev pub line_and_name : ℕ → List ℕ → List ℕ
-line_and_name line name = codes "[" ++ decimal line ++ codes "," ++ quoted name ++ codes "],"
+-- a definition: its line, its name, if it has one, and its symbol as it is shown
+abbrev pub name_and_symbol : (name symbol : List ℕ) → List ℕ
+name_and_symbol name symbol = quoted name ++ codes "," ++ quoted symbol ++ codes "],"
 
-abbrev pub name_text : ℕ → List ℕ → List ℕ
-name_text line [] = []
-name_text line (byte ∷ name) = line_and_name line (byte ∷ name)
+abbrev pub named_line : ℕ → (name symbol : List ℕ) → List ℕ
+named_line line name symbol = codes "[" ++ decimal line ++ codes "," ++ name_and_symbol name symbol
+
+abbrev pub name_text : ℕ → (name symbol : List ℕ) → List ℕ
+name_text line [] symbol = []
+name_text line (byte ∷ name) symbol = named_line line (byte ∷ name) symbol
 
 abbrev pub named_text : Index → ColumnUnit → List (List ℕ) → Place → List ℕ
 named_text index unit lines place =
     name_text (line_listed index.documents place) (name_of unit lines (occurrence_listed index.documents place))
+    (shown_symbol (symbol_listed index.documents place))
 
--- a page: its URL, its path, and the names that it defines first
+-- a page: its URL, its path, and what it defines first
 abbrev pub page_text : List ℕ → List ℕ
 page_text path = codes "[" ++ quoted (encoded (page_path path)) ++ codes "," ++ quoted path ++ codes ",["
 

@@ -23,8 +23,8 @@ StyleAsks =
     ∷ (codes "@media (prefers-color-scheme: dark)" ∷ (codes "@media (max-width:" ∷ [])))
     STYLE.now
 
--- It names no other file. (CSS Values and Units: `url()`, `src()`; CSS Images: `image()`; CSS Cascading and Inheritance:
--- `@import`)
+-- It names no other file. (CSS Values and Units: `url()`, `src()`; CSS Images: `image()`; CSS Cascading and
+-- Inheritance: `@import`)
 abbrev pub StyleIsAlone : Type 0
 StyleIsAlone =
     HasNone (codes "url" ∷ (codes "src" ∷ (codes "image" ∷ (codes "@import" ∷ [])))) STYLE.now

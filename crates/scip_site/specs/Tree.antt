@@ -1,5 +1,6 @@
 -- The first page: the tree of folders.
-use Rattle.std.specs.Prelude.{ℕ, ◌+◌, ◌-◌, ◌==◌, Bool, false, cond, List, [], ◌∷◌, ◌++◌, codes, length, take, Option, None, Some}
+use Rattle.std.specs.Prelude.{ℕ, ◌+◌, ◌-◌, ◌==◌, Bool, false, cond, List, [], ◌∷◌, ◌++◌, codes, length, take, Option}
+use Rattle.std.specs.Prelude.{None, Some}
 use Rattle.std.specs.List.{flat_map, range_with_len, slice_get}
 use Rattle.std.specs.Str.{bytes_eq}
 use Rattle.scip_pages.specs.Code.{attribute}

@@ -246,13 +246,16 @@ fn first_of(alloc: Global, site: &Site<'_>, order: &[usize]) -> Result<Vec<u8>, 
     first_page(alloc, &paths)
 }
 
-/// Nothing is known, and nothing is listed.
-fn nothing_listed<'a>(alloc: Global, queries: &Queries) -> Result<Listed<'a>, AllocError>
-    ensures facts { IfOk result (λ listed. listed.facts.facts.items ≡ []) }
+/// What is known of all symbols, of which none is listed.
+fn nothing_listed<'a>(alloc: Global, site: &Site<'a>) -> Result<Listed<'a>, AllocError>
+    ensures facts { IfOk result (λ listed. AreRight site.now.queries.now site.now.sources.now
+        listed.facts.facts.items) }
     ensures script { IfOk result (λ listed. listed.script.items ≡ spec.script_start) }
 {
+    let mut facts = Facts::new(alloc, site.queries)?;
+    facts.find_all(site)?;
     Ok(Listed {
-        facts: Facts::new(alloc, queries)?,
+        facts,
         script: Vec::from_slice(alloc, b"const sources = [\n")?,
     })
 }
@@ -276,7 +279,7 @@ fn make_all<O: MakeFiles>(
         (spec.site_files site.now.queries.now site.now.sources.now order.now)) result }
 {
     let first = first_of(alloc, site, order)?;
-    let mut listed = nothing_listed(alloc, site.queries)?;
+    let mut listed = nothing_listed(alloc, site)?;
     make_each(alloc, folder, site, &mut listed, made)?;
     push_end(&mut listed.script)?;
     make_shared(alloc, folder, &listed.script, &first, made)

@@ -5,9 +5,11 @@ ghost use Rattle.std.specs.Borrow.{Bor};
 ghost use Rattle.std.specs.List.{flat_map};
 ghost use Rattle.scip_site.specs.Script as spec;
 
-use scip_pages::push_encoded;
+use scip_pages::{push_decimal, push_encoded};
 use scip_query::Place;
-use source_page::{Asked, Site, line_listed, name_of, occurrence_listed, page_path};
+use source_page::{
+    Asked, Site, line_listed, name_of, occurrence_listed, page_path, shown_symbol, symbol_listed,
+};
 use std::alloc::{AllocError, Global};
 
 /// A hexadecimal digit.
@@ -56,39 +58,48 @@ pub(crate) fn push_quoted(script: &mut Vec<u8>, text: &[u8]) -> Result<(), Alloc
     script.extend_from_slice(b"\"")
 }
 
-/// Appends the line and the name of a definition.
-fn push_line_and_name(
-    alloc: Global,
-    script: &mut Vec<u8>,
-    line: usize,
-    name: &[u8],
-) -> Result<(), AllocError>
-    ensures { OnOk result (script.new.items ≡ script.old.items ++ spec.line_and_name line name.now) }
+/// Appends the name and the symbol of a definition.
+fn push_name_and_symbol(script: &mut Vec<u8>, name: &[u8], symbol: &[u8]) -> Result<(), AllocError>
+    ensures { OnOk result (script.new.items ≡ script.old.items ++ spec.name_and_symbol name.now symbol.now) }
 {
-    let head = format!(in alloc; "[{line},")?;
-    script.extend_from_slice(head.as_bytes())?;
     push_quoted(script, name)?;
+    script.extend_from_slice(b",")?;
+    push_quoted(script, symbol)?;
     script.extend_from_slice(b"],")
 }
 
-/// Appends them, if it has a name.
-fn push_name(
-    alloc: Global,
+/// Appends a definition: its line, its name and its symbol.
+fn push_named_line(
     script: &mut Vec<u8>,
     line: usize,
     name: &[u8],
+    symbol: &[u8],
 ) -> Result<(), AllocError>
-    ensures { OnOk result (script.new.items ≡ script.old.items ++ spec.name_text line name.now) }
+    ensures { OnOk result (script.new.items ≡ script.old.items ++ spec.named_line line name.now symbol.now) }
+{
+    script.extend_from_slice(b"[")?;
+    push_decimal(script, line)?;
+    script.extend_from_slice(b",")?;
+    push_name_and_symbol(script, name, symbol)
+}
+
+/// Appends it, if it has a name.
+fn push_name(
+    script: &mut Vec<u8>,
+    line: usize,
+    name: &[u8],
+    symbol: &[u8],
+) -> Result<(), AllocError>
+    ensures { OnOk result (script.new.items ≡ script.old.items ++ spec.name_text line name.now symbol.now) }
 {
     match name {
         [] => Ok(()),
-        [_, ..] => push_line_and_name(alloc, script, line, name),
+        [_, ..] => push_named_line(script, line, name, symbol),
     }
 }
 
-/// Appends the name at a place.
+/// Appends what is defined at a place.
 fn push_named(
-    alloc: Global,
     script: &mut Vec<u8>,
     site: &Site<'_>,
     asked: &Asked<'_>,
@@ -99,12 +110,12 @@ fn push_named(
 {
     let documents = site.queries.documents();
     let name = name_of(asked.unit, asked.lines, occurrence_listed(documents, place));
-    push_name(alloc, script, line_listed(documents, place), name)
+    let symbol = shown_symbol(symbol_listed(documents, place).as_bytes());
+    push_name(script, line_listed(documents, place), name, symbol)
 }
 
-/// Appends the names at places.
+/// Appends what is defined at places.
 fn push_all_named(
-    alloc: Global,
     script: &mut Vec<u8>,
     site: &Site<'_>,
     asked: &Asked<'_>,
@@ -114,7 +125,7 @@ fn push_all_named(
         asked.now.unit (map (λ (l : Bor (List ℕ)). l.now) asked.now.lines.now)) firsts.now) }
 {
     for place in firsts {
-        push_named(alloc, script, site, asked, *place)?;
+        push_named(script, site, asked, *place)?;
     }
     Ok(())
 }
@@ -146,6 +157,6 @@ pub(crate) fn push_listing(
         (map (λ (l : Bor (List ℕ)). l.now) asked.now.lines.now) path.now firsts.now) }
 {
     push_page(alloc, script, path)?;
-    push_all_named(alloc, script, site, asked, firsts)?;
+    push_all_named(script, site, asked, firsts)?;
     script.extend_from_slice(b"]],\n")
 }

@@ -61,15 +61,29 @@ pub(crate) const SEARCH: &str = "\
     item.append(link, behind);
     return item;
   };
+  // The names in a text, from the outermost: `library/Book#Copy#` is `.library.book.copy.`.
+  const dotted = (text) => ('.' + text.toLowerCase()).replace(/[/#.:!`()[\\]]+/g, '.');
+  // Of a definition: 0 if its name, or those of its symbol from one of them on, begin with what is wanted; 1 if that is
+  // further inside; -1 if it isn't there.
+  const rank = (name, symbol, wanted, within) => {
+    const at = name.toLowerCase().indexOf(wanted);
+    if (at >= 0) return at === 0 ? 0 : 1;
+    if (within === '') return -1;
+    const whole = dotted(symbol);
+    const inside = whole.lastIndexOf(within);
+    if (inside < 0) return -1;
+    return whole.slice(inside + within.length, -1).includes('.') ? 1 : 0;
+  };
   const search = () => {
     const wanted = query.value.trim().toLowerCase();
+    const within = /[.#]/.test(wanted) ? dotted(wanted) : '';
     const ranks = [[], [], []];
     if (wanted !== '') {
       for (const [url, path, names] of sources) {
         if (path.toLowerCase().includes(wanted)) ranks[2].push([url, path, '']);
-        for (const [line, name] of names) {
-          const at = name.toLowerCase().indexOf(wanted);
-          if (at >= 0) ranks[at === 0 ? 0 : 1].push([url + '#L' + line, name, path + ':' + line]);
+        for (const [line, name, symbol] of names) {
+          const fit = rank(name, symbol, wanted, within);
+          if (fit >= 0) ranks[fit].push([url + '#L' + line, name, path + ':' + line]);
         }
       }
     }

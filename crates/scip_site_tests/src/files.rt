@@ -1,6 +1,6 @@
 //! Files in memory.
 
-use source_files::{MakeFiles, ReadFiles};
+use source_files::{FolderEntry, MakeFiles, ReadFiles};
 use std::alloc::{AllocError, Global};
 use streams::{Std, write_all};
 
@@ -23,11 +23,16 @@ fn bytes_at(path: &str) -> Option<&'static [u8]> {
 impl ReadFiles for Files {
     ghost use Rattle.std.specs.Prelude.{⊤};
 
-    ghost lists = { λ _ _ _. ⊤ };
+    ghost lists = { λ _ _ _ _. ⊤ };
 
     ghost gives = { λ _ _ _. ⊤ };
 
-    fn list_sources(&self, _alloc: Global, _root: &str) -> Result<Option<Vec<String>>, AllocError> {
+    fn list_folder(
+        &self,
+        _alloc: Global,
+        _root: &str,
+        _folder: &str,
+    ) -> Result<Option<Vec<FolderEntry>>, AllocError> {
         Ok(None)
     }
 

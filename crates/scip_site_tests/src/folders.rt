@@ -99,7 +99,7 @@ const MADE: &str = "[out/src/b/x.html]<!DOCTYPE html>
 [out/pages.css]
 [out/search.js]
 [out/symbols.js]const sources = [
-[\"src/b/x.html\",\"b/x\",[[1,\"S\"],]],
+[\"src/b/x.html\",\"b/x\",[[1,\"S\",\"S#\"],]],
 [\"src/a/y.html\",\"a/y\",[]],
 [\"src/b/a%25/z.html\",\"b/a%/z\",[]],
 ];

@@ -25,7 +25,8 @@ pub no_text : (index : Index) (number : ℕ) (bytes : List ℕ) → (IsUtf8 byte
     → Err NotText ≡ of_source index number (Some bytes)
 no_text index number bytes refused = by (is_utf8 bytes) refl
   where
-    by : (b : Bool) → is_utf8 bytes ≡ b → Err NotText ≡ cond b (of_snapshot (snapshot_of index number bytes)) (Err NotText)
+    by : (b : Bool) → is_utf8 bytes ≡ b
+        → Err NotText ≡ cond b (of_snapshot (snapshot_of index number bytes)) (Err NotText)
     by true e = absurd (refused (IsUtf8-from_is_utf8 bytes e))
     by false e = refl
 

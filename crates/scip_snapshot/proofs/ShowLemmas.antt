@@ -1,6 +1,6 @@
 -- Documents that are shown one after another.
-use Rattle.std.proofs.Common.{◌≡◌, ◌+◌, ◌<◌, ◌≤◌, ℕ, suc, List, [], ◌∷◌, ◌++◌, length, take, get_or, refl, sym, ap, subst, ◌∙◌}
-use Rattle.std.proofs.Common.{arith, append-nil, append_assoc, Bool, true, false}
+use Rattle.std.proofs.Common.{◌≡◌, ◌+◌, ◌<◌, ◌≤◌, ℕ, suc, List, [], ◌∷◌, ◌++◌, length, take, get_or, refl, sym, ap}
+use Rattle.std.proofs.Common.{subst, ◌∙◌, arith, append-nil, append_assoc, Bool, true, false}
 use Rattle.std.specs.Prelude.{Option, None, Some, Result, Ok, Err, OnOk, IfErr, codes}
 use Rattle.std.specs.List.{flat_map}
 use Rattle.std.proofs.lemmas.Grind.{flat_map-append}
@@ -14,8 +14,8 @@ use Rattle.scip_model.specs.declared.records.Index.{Index}
 use Rattle.scip_model.specs.declared.records.Document.{Document}
 use Rattle.scip_snapshot.specs.declared.show_fault.ShowFault.{ShowFault}
 use Rattle.scip_snapshot.specs.declared.show_fault.ShowFault.TheVariants.{Write, Memory}
-use Rattle.scip_snapshot.specs.Snapshots.{Shown, Outcome, IsOutcome, AreShown, none, next, told_by, printed_by, filed_by}
-use Rattle.scip_snapshot.specs.Snapshots.{printed, filed, told}
+use Rattle.scip_snapshot.specs.Snapshots.{Shown, Outcome, IsOutcome, AreShown, none, next, told_by, printed_by}
+use Rattle.scip_snapshot.specs.Snapshots.{filed_by, printed, filed, told}
 use Rattle.scip_snapshot.specs.Showing.{IsSaid, entire, cut_short, AreSaid, silent, said, AreTold, ArePrinted}
 use Rattle.scip_snapshot.specs.Showing.{AreCutOff, AreFiled, AreFiledButOne, maker}
 use Rattle.scip_snapshot.specs.Showing.{Goes, IsShownBy, SaysLine, ShowsOne, AreShownBy, Shows, writer}
@@ -32,7 +32,8 @@ one_before number many = omega arith
 
 module _ (gives : List ℕ → Option (List ℕ) → Type 0) (root : List ℕ) (index : Index) where
   -- one document more
-  pub shown_more : {number : ℕ} {documents : List Document} {shown : List Shown} (document : Document) (outcome : Outcome)
+  pub shown_more : {number : ℕ} {documents : List Document} {shown : List Shown} (document : Document)
+      (outcome : Outcome)
       → AreShown gives root index number documents shown
       → IsOutcome gives root index (number + length documents) document.relative_path outcome
       → AreShown gives root index number (documents ++ document ∷ [])
@@ -69,7 +70,8 @@ module _ {M : Type 0} (contents : M → Option (List ℕ)) (failures : M → ℕ
       })
 
 -- lines behind others
-pub said_more : {M : Type 0} (contents : M → Option (List ℕ)) (failures : M → ℕ) {lines : List (List ℕ)} {before now : M}
+pub said_more : {M : Type 0} (contents : M → Option (List ℕ))
+    (failures : M → ℕ) {lines : List (List ℕ)} {before now : M}
     (more : List (List ℕ)) (after : M)
     → AreSaid contents failures lines before now → AreSaid contents failures more now after
     → AreSaid contents failures (lines ++ more) before after
@@ -162,7 +164,8 @@ module _ {O : Type 0} (made : O → Made) (folder : List ℕ) (first now after :
 
   -- one more goes to a file
   pub filed_more : (item : Shown) → AreFiled (maker made first now) folder shown
-      → AreFiled (maker made now after) folder (item ∷ []) → AreFiled (maker made first after) folder (shown ++ item ∷ [])
+      → AreFiled (maker made now after) folder (item ∷ [])
+      → AreFiled (maker made first after) folder (shown ++ item ∷ [])
   filed_more item before one = subst (MakesAll (made first) (made after)) (sym (filed_behind item))
       (makes_both (made first) (made now) (made after) (filed folder shown) (filed folder (item ∷ [])) before one)
 
@@ -177,21 +180,24 @@ pub filed_but_one : {O : Type 0} (made : O → Made) (folder : List ℕ) (first 
     → AreFiled (maker made first now) folder shown → AreFiledButOne (maker made now after) folder (item ∷ [])
     → AreFiledButOne (maker made first after) folder (shown ++ item ∷ [])
 filed_but_one made folder first now after shown item before one =
-    let alone = last_of_one one.others item (record { path = one.path; outcome = Ok one.text }) one.shown_are in record {
+    let alone = last_of_one one.others item (record { path = one.path; outcome = Ok one.text }) one.shown_are in
+    record {
       others = shown;
       path = one.path;
       text = one.text;
       shown_are = ap (λ (s : Shown). shown ++ s ∷ []) alone.1;
       stops = subst (StopsBehind (made first) (made after)) (append-nil (filed folder shown))
           (stops_behind_both (made first) (made now) (made after) (filed folder shown) [] before
-          (subst (λ (others : List Shown). StopsBehind (made now) (made after) (filed folder others)) alone.0 one.stops));
+          (subst (λ (others : List Shown). StopsBehind (made now) (made after) (filed folder others)) alone.0
+          one.stops));
     }
 
 -- ---- the next of the documents of an index
 
 -- those before it are shown
 abbrev pub Stands : {M : Type 0} → (heard : M → Option (List ℕ)) → (unheard : M → ℕ)
-    → (List ℕ → Option (List ℕ) → Type 0) → (root : List ℕ) → Index → (start here : M) → (List Shown → Type 0) → ℕ → Type 0
+    → (List ℕ → Option (List ℕ) → Type 0) → (root : List ℕ) → Index → (start here : M) → (List Shown → Type 0) → ℕ
+    → Type 0
 Stands heard unheard gives root index start here goes many =
     AreShownBy gives root index (take many index.documents) goes (writer heard unheard start here)
 

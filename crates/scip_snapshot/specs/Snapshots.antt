@@ -1,7 +1,8 @@
 -- What becomes of the documents of an index whose sources are below a root: which snapshots are printed, and which
 -- documents are left out.
 -- `gives` is what reading a file may give.
-use Rattle.std.specs.Prelude.{◌≡◌, ℕ, ◌+◌, cond, List, [], ◌∷◌, ◌++◌, map, Vec, Option, Some, None, Result, Ok, Err, codes}
+use Rattle.std.specs.Prelude.{◌≡◌, ℕ, ◌+◌, cond, List, [], ◌∷◌, ◌++◌, map, Vec, Option, Some, None, Result, Ok, Err}
+use Rattle.std.specs.Prelude.{codes}
 use Rattle.std.specs.List.{flat_map}
 use Rattle.std.specs.Str.{is_utf8}
 use Rattle.scip_model.specs.declared.records.Index.{Index}

@@ -1,6 +1,7 @@
 -- Lists of numbers, tables of them, and lines that they mark.
 use Rattle.std.proofs.Common.{◌≡◌, ◌∙◌, sym, refl, ap, ℕ, zero, suc, ◌+◌, ◌-◌, ◌<◌, ◌≤◌, ◌==◌, Bool, true, false, cond}
-use Rattle.std.proofs.Common.{List, [], ◌∷◌, ◌++◌, map, append-nil, subst, get_or, slice_set, arith, All, map-id, length}
+use Rattle.std.proofs.Common.{List, [], ◌∷◌, ◌++◌, map, append-nil, subst, get_or, slice_set, arith, All, map-id}
+use Rattle.std.proofs.Common.{length}
 use Rattle.std.specs.Prelude.{Vec}
 use Rattle.std.specs.List.{flat_map, range_with_len}
 use Rattle.std.proofs.lemmas.Bool.Decides.{nat_tests}
@@ -75,6 +76,7 @@ pub same_lines : (unit : ColumnUnit) (occurrences : List Occurrence) (links : Li
     → flat_map (line_by unit occurrences links lines on) (range_with_len 1 count)
     ≡ flat_map (line_by unit occurrences links lines (beginning occurrences)) (range_with_len 1 count)
 same_lines unit occurrences links lines on count same =
-    same_flat (line_by unit occurrences links lines on) (line_by unit occurrences links lines (beginning occurrences)) 1 count
+    same_flat (line_by unit occurrences links lines on)
+    (line_by unit occurrences links lines (beginning occurrences)) 1 count
     (λ k least most. ap (λ (marking : List ℕ). line_text unit occurrences links lines marking k)
     (same (k - 1) (omega (arith, least, most))))

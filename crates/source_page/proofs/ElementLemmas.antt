@@ -1,6 +1,6 @@
 -- Elements of lists.
-use Rattle.std.proofs.Common.{◌≡◌, ◌∙◌, sym, refl, ap, subst, ℕ, zero, suc, ◌+◌, ◌<◌, ◌≤◌, Bool, true, false, cond, List, [], ◌∷◌}
-use Rattle.std.proofs.Common.{◌++◌, map, length, arith, ◌⊎◌, inl, inr}
+use Rattle.std.proofs.Common.{◌≡◌, ◌∙◌, sym, refl, ap, subst, ℕ, zero, suc, ◌+◌, ◌<◌, ◌≤◌, Bool, true, false, cond}
+use Rattle.std.proofs.Common.{List, [], ◌∷◌, ◌++◌, map, length, arith, ◌⊎◌, inl, inr}
 use Rattle.std.specs.Prelude.{Option, None, Some, slice_index_or}
 use Rattle.std.specs.List.{Contains, enumerate_from, filter, flat_map, position_from, range_with_len, slice_get}
 use Rattle.std.specs.Option.{option_and_then, unwrap_or}
@@ -45,7 +45,8 @@ from_append x (z ∷ xs) ys (inr is) = by (from_append x xs ys is)
 pub from_flat_map : {X Y : Type 0} (f : X → List Y) (y : Y) (xs : List X) → In y (flat_map f xs)
     → (x : X) × In x xs × In y (f x)
 from_flat_map f y [] is = absurd is
-from_flat_map {X = X} f y (x ∷ xs) is = by (from_append y (f x) (flat_map f xs) is) (λ there. from_flat_map f y xs there)
+from_flat_map {X = X} f y (x ∷ xs) is =
+    by (from_append y (f x) (flat_map f xs) is) (λ there. from_flat_map f y xs there)
   where
     by : In y (f x) ⊎ In y (flat_map f xs) → (In y (flat_map f xs) → (z : X) × In z xs × In y (f z))
         → (z : X) × In z (x ∷ xs) × In y (f z)

@@ -1,6 +1,6 @@
 -- Facts that serve for a symbol.
-use Rattle.std.proofs.Common.{◌≡◌, ◌∙◌, sym, refl, ap, ℕ, zero, suc, ◌<◌, ◌==◌, Bool, true, false, not, ◌&&◌, ◌||◌, cond}
-use Rattle.std.proofs.Common.{List, [], ◌∷◌, ◌++◌, map, length, arith}
+use Rattle.std.proofs.Common.{◌≡◌, ◌∙◌, sym, refl, ap, ℕ, zero, suc, ◌<◌, ◌==◌, Bool, true, false, not, ◌&&◌, ◌||◌}
+use Rattle.std.proofs.Common.{cond, List, [], ◌∷◌, ◌++◌, map, length, arith}
 use Rattle.std.specs.Prelude.{Option, Some, nat_lt}
 use Rattle.std.specs.List.{find, flat_map, slice_get, filter}
 use Rattle.std.specs.Option.{option_map, unwrap_or}
@@ -65,10 +65,12 @@ described index symbol =
 texts_in_all : (index : Index) (symbol : List ℕ) (number : ℕ) (document : Document) → is_local symbol ≡ false
     → slice_get index.documents number ≡ Some document → documentation_in index number symbol ≡ described index symbol
 texts_in_all index symbol number document global listed =
-    ap (λ (o : Option Document). unwrap_or (option_map (documentation_of index) (option_map (asked_in number symbol) o)) [])
+    ap (λ (o : Option Document). unwrap_or
+    (option_map (documentation_of index) (option_map (asked_in number symbol) o)) [])
     listed
     ∙ ap (λ (b : Bool). texts_of (find (λ (entry : SymbolInformation). bytes_eq entry.symbol symbol)
-    (cond b document.symbols (flat_map (λ (d : Document). d.symbols) index.documents ++ index.external_symbols)))) global
+    (cond b document.symbols (flat_map (λ (d : Document). d.symbols) index.documents ++ index.external_symbols))))
+    global
 
 -- so what is asked of it is the same in all documents
 alike : {Y : Type 0} (index : Index) (symbol : List ℕ) (asked : ℕ → Y) (answer : Y)
@@ -78,7 +80,8 @@ alike : {Y : Type 0} (index : Index) (symbol : List ℕ) (asked : ℕ → Y) (an
 alike {Y = Y} index symbol asked answer anywhere a b e = by (a == b) (is_local symbol) refl refl e
   where
     by : (same local : Bool) → (a == b) ≡ same → is_local symbol ≡ local
-        → cond same true (cond local false (nat_lt a (length index.documents) && nat_lt b (length index.documents))) ≡ true
+        → cond same true (cond local false (nat_lt a (length index.documents) && nat_lt b (length index.documents)))
+        ≡ true
         → asked a ≡ asked b
     by true local s l e = ap asked (same_number a b s)
     by false true s l e = absurd cc

@@ -1,6 +1,6 @@
 -- The marks of the folders on a path, as they are found byte by byte.
-use Rattle.std.proofs.Common.{◌≡◌, ◌∙◌, sym, refl, ap, subst, ℕ, suc, ◌-◌, ◌==◌, Bool, true, false, cond, List, [], ◌∷◌, ◌++◌}
-use Rattle.std.proofs.Common.{◌<◌, take, drop, length, nat_eq, append_assoc, append-nil, arith}
+use Rattle.std.proofs.Common.{◌≡◌, ◌∙◌, sym, refl, ap, subst, ℕ, suc, ◌-◌, ◌==◌, Bool, true, false, cond, List, [], ◌∷◌}
+use Rattle.std.proofs.Common.{◌++◌, ◌<◌, take, drop, length, nat_eq, append_assoc, append-nil, arith}
 use Rattle.std.specs.Prelude.{codes}
 use Rattle.std.specs.List.{AllByRecursion, ends_with, flat_map, join_with_byte, onto_first, starts_with}
 use Rattle.std.proofs.lemmas.Bool.Decides.{Decides-eqb}

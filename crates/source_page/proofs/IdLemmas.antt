@@ -22,7 +22,8 @@ use Rattle.scip_pages.specs.Snapshot.{lines_of, misfit, fits, is_ordered, offset
 use Rattle.source_page.specs.Site.{Sources, line_or_first, line_listed, same_place}
 use Rattle.source_page.specs.Targets.{definition_of, target_of, place_url, uses_id, uses_url, is_at, is_first}
 use Rattle.source_page.specs.CodeText.{beginning, pieces_with, line_at, lead, line_text, line_by, code_text}
-use Rattle.source_page.specs.Uses.{places_text, name_of, label_at, defined_head, defined_text, uses_text, all_defined}
+use Rattle.source_page.specs.Uses.{places_text, label_at, defined_head, defined_name, defined_text, uses_text}
+use Rattle.source_page.specs.Uses.{all_defined}
 use Rattle.source_page.specs.Page.{links_of, firsts_of, start_text, main_text, page_of}
 use Rattle.source_page.specs.Ids.{HasId, IsPage, AllFit, IsShown, Leads, within, across, unit_in}
 use Rattle.source_page.specs.Laws.{LeadsToDefinition, LinksLead, UsesLead, DefinitionsLead}
@@ -31,8 +32,8 @@ use Rattle.source_page.specs.Tags.{bare, tag_with}
 use Rattle.source_page.proofs.LawLemmas.{leads_to_a_page}
 use Rattle.source_page.proofs.TagLemmas.{EndsInText, Fine, end_a, ends_both, escaped_reads, fine_each, has_among}
 use Rattle.source_page.proofs.TagLemmas.{has_before, has_behind, has_in, tag_a}
-use Rattle.source_page.proofs.PartLemmas.{fine_all_defined, fine_code, fine_defined, fine_front, fine_head_of, fine_lead}
-use Rattle.source_page.proofs.PartLemmas.{fine_line, fine_start, line_mark_reads, places_reads}
+use Rattle.source_page.proofs.PartLemmas.{fine_all_defined, fine_code, fine_defined, fine_front, fine_head_of}
+use Rattle.source_page.proofs.PartLemmas.{fine_lead, fine_line, fine_start, line_mark_reads, places_reads}
 
 -- ---- lines
 
@@ -92,7 +93,7 @@ module _ (index : Index) (sources : Sources) (unit : ColumnUnit) (lines : List (
       let id : List ℕ = uses_id place.occurrence in
       let line : ℕ = line_listed index.documents place in
       let start : List ℕ = places_text place.occurrence line in
-      let text : List ℕ = name_of unit lines (occurrence_listed index.documents place) in
+      let text : List ℕ = defined_name index unit lines place in
       let name : List ℕ = escape text in
       let middle : List ℕ = codes "</b> <span>" in
       let label : List ℕ = escape (label_at links place.occurrence) in
@@ -118,12 +119,14 @@ module _ (index : Index) (sources : Sources) (unit : ColumnUnit) (lines : List (
       fine_each Any (defined_text index sources unit lines links) firsts (λ other there. defined_fine other) in
       has_before id (title ++ each) (codes "</dl>\n</aside>\n") (ends_both title each refl fine.reads.ends)
       (has_behind id title each refl
-      (has_among id (defined_text index sources unit lines links) (λ other. (defined_fine other).reads.ends) place firsts
+      (has_among id (defined_text index sources unit lines links)
+      (λ other. (defined_fine other).reads.ends) place firsts
       is (defined_has place)))
 
 -- ---- pages
 
-module _ (index : Index) (sources : Sources) (number : ℕ) (d : Document) (unit : ColumnUnit) (lines : List (List ℕ)) where
+module _ (index : Index) (sources : Sources) (number : ℕ) (d : Document) (unit : ColumnUnit)
+    (lines : List (List ℕ)) where
   abbrev its_links : List Link
   its_links = links_of index sources number d
 

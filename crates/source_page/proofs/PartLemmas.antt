@@ -1,13 +1,13 @@
 -- What a reader makes of the parts of a page, whose URLs are of a kind.
-use Rattle.std.proofs.Common.{◌≡◌, ◌∙◌, sym, refl, ap, subst, ℕ, suc, ◌+◌, ◌-◌, ◌==◌, Bool, true, false, not, cond, List, []}
-use Rattle.std.proofs.Common.{◌∷◌, ◌++◌, take, drop, length, arith, inl, inr}
+use Rattle.std.proofs.Common.{◌≡◌, ◌∙◌, sym, refl, ap, subst, ℕ, suc, ◌+◌, ◌-◌, ◌==◌, Bool, true, false, not, cond}
+use Rattle.std.proofs.Common.{List, [], ◌∷◌, ◌++◌, take, drop, length, arith, inl, inr}
 use Rattle.std.specs.Prelude.{codes, Option, None, Some}
 use Rattle.std.specs.List.{flat_map, range_with_len, slice_get}
 use Rattle.std.specs.Fmt.{decimal}
 use Rattle.scip_model.specs.declared.records.Index.{Index}
 use Rattle.scip_model.specs.declared.records.Occurrence.{Occurrence}
 use Rattle.scip_query.specs.BySymbol.{references_in}
-use Rattle.scip_query.specs.Tables.{occurrence_listed, path_listed, symbol_listed}
+use Rattle.scip_query.specs.Tables.{path_listed, symbol_listed}
 use Rattle.scip_query.specs.declared.place.Place.{Place}
 use Rattle.scip_pages.specs.declared.columns.ColumnUnit.{ColumnUnit}
 use Rattle.scip_pages.specs.declared.code.Link.{Link}
@@ -23,7 +23,7 @@ use Rattle.source_page.specs.Targets.{place_url, uses_id}
 use Rattle.source_page.specs.CodeText.{beginning, code_text, lead, line_at, line_by, line_text, spans_of}
 use Rattle.source_page.specs.Crumbs.{crumbs_text, file_url, folder_text, folder_url, folders_on, head_text, last_text}
 use Rattle.source_page.specs.Crumbs.{names_text, style_text}
-use Rattle.source_page.specs.Uses.{all_defined, defined_head, defined_text, is_use, label_at, name_of, places_text}
+use Rattle.source_page.specs.Uses.{all_defined, defined_head, defined_name, defined_text, is_use, label_at, places_text}
 use Rattle.source_page.specs.Uses.{use_link, use_name, use_or_none, use_text, uses_text}
 use Rattle.source_page.specs.Page.{main_text, start_text}
 use Rattle.source_page.specs.Tags.{Tag, Data, bare, tag_with}
@@ -147,7 +147,8 @@ module _ (P : List ℕ → Type 0) where
             urls = (leads l url refl e, tt);
           }
 
-  module _ (links : List Link) (leads : (l : Link) (url : List ℕ) → In l links → l.target ≡ Some url → P (pictured url)) where
+  module _ (links : List Link)
+      (leads : (l : Link) (url : List ℕ) → In l links → l.target ≡ Some url → P (pictured url)) where
     fine_of : (occurrence : Option ℕ) (text : List ℕ) → Fine P (linked (link_of links occurrence) text)
     fine_of None text = fine_escape P text
     fine_of (Some k) text =
@@ -222,14 +223,14 @@ module _ (P : List ℕ → Type 0) where
         → Fine P (defined_head index unit lines links place)
     fine_head_of unit lines links place p =
         let start : List ℕ = places_text place.occurrence (line_listed index.documents place) in
-        let name : List ℕ = escape (name_of unit lines (occurrence_listed index.documents place)) in
+        let name : List ℕ = escape (defined_name index unit lines place) in
         let middle : List ℕ = codes "</b> <span>" in
         let label : List ℕ = escape (label_at links place.occurrence) in
         both P (start ++ name ++ middle ++ label) (codes "</span></a></dt>\n")
         (both P (start ++ name ++ middle) label
         (both P (start ++ name) middle
         (both P start name (fine_places place.occurrence (line_listed index.documents place) p)
-        (fine_escape P (name_of unit lines (occurrence_listed index.documents place))))
+        (fine_escape P (defined_name index unit lines place)))
         (fine_const P middle refl refl))
         (fine_escape P (label_at links place.occurrence)))
         (fine_const P (codes "</span></a></dt>\n") refl refl)
@@ -291,7 +292,8 @@ module _ (P : List ℕ → Type 0) where
       let folder : List ℕ = above ++ name in
       both P (folder_text from folder name) (names_text from (folder ++ codes "/") (other ∷ others))
       (both P (link (folder_url from folder) name) (codes "/<wbr>")
-      (fine_link P (folder_url from folder) name (clean_folder_url from folder) (leads folder (inl refl))) (fine_const P (codes "/<wbr>") refl refl))
+      (fine_link P (folder_url from folder) name (clean_folder_url from folder) (leads folder (inl refl)))
+      (fine_const P (codes "/<wbr>") refl refl))
       (fine_names from (folder ++ codes "/") (other ∷ others) (λ f is. leads f (inr is)))
 
   pub fine_crumbs : (from path : List ℕ) → P (file_url from (codes "index.html"))
@@ -320,7 +322,8 @@ module _ (P : List ℕ → Type 0) where
         tags = tag_with tag (codes "href") url ∷ [];
         reads = chain (codes "<link rel=\"stylesheet\" href=\"" ++ (escape url ++ codes "\"")) (codes ">\n")
             (chain (codes "<link rel=\"stylesheet\" href=\"") (escape url ++ codes "\"")
-            (record { ends = refl; are = refl }) (quoted_clean tag (codes "href") url (clean_file_url from (codes "pages.css") refl)))
+            (record { ends = refl; are = refl })
+            (quoted_clean tag (codes "href") url (clean_file_url from (codes "pages.css") refl)))
             (record { ends = refl; are = refl });
         urls = (p, tt);
       }

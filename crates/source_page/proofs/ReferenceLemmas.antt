@@ -63,7 +63,8 @@ references_are_listed index document symbol place is = by (slice_get index.docum
   where
     by : (o : Option Document)
         → In place (unwrap_or (option_map (λ (s : Subject). map (λ (site : Site). site.place) (references_of index s))
-        (option_map (λ (d : Document). record { asked = record { number = document; document = d }; symbol = symbol }) o))
+        (option_map (λ (d : Document). record { asked = record { number = document; document = d }; symbol = symbol })
+        o))
         [])
         → IsOf index document symbol place
     by None none = absurd none

@@ -11,8 +11,8 @@ use Rattle.scip_pages.specs.Escapes.{escape, pictured}
 use Rattle.scip_pages.specs.Plain.{plain}
 use Rattle.scip_pages.proofs.EscapeLemmas.{IsNoMark, has_no_marks, shows_the_text}
 use Rattle.source_page.specs.Marks.{link}
-use Rattle.source_page.specs.Tags.{Tag, State, Data, TagName, AttributeName, Value, bare, tag_with, next, ended, tags_behind}
-use Rattle.source_page.specs.Tags.{tags_of, is_id, is_url, values_of, ids_of, urls_of}
+use Rattle.source_page.specs.Tags.{Tag, State, Data, TagName, AttributeName, Value, bare, tag_with, next, ended}
+use Rattle.source_page.specs.Tags.{tags_behind, tags_of, is_id, is_url, values_of, ids_of, urls_of}
 use Rattle.source_page.proofs.CleanLemmas.{IsClean}
 use Rattle.source_page.proofs.ElementLemmas.{In}
 
@@ -62,7 +62,8 @@ pub escaped_reads : (text : List ℕ) → Reads Data (escape text) Data []
 escaped_reads text = text_reads (escape text) (has_no_marks text)
 
 value_reads : (tag : Tag) (name value text : List ℕ) → AllByRecursion IsNoMark text
-    → Reads (Value tag name value) (text ++ codes "\"") (AttributeName (tag_with tag name (plain (value ++ text))) []) []
+    → Reads (Value tag name value) (text ++ codes "\"")
+    (AttributeName (tag_with tag name (plain (value ++ text))) []) []
 value_reads tag name value [] all = record {
   ends = ap (λ (v : List ℕ). AttributeName (tag_with tag name (plain v)) []) (sym (append-nil value));
   are = refl;
@@ -82,13 +83,15 @@ value_reads tag name value (b ∷ text) all =
 pub quoted_reads : (tag : Tag) (name text : List ℕ)
     → Reads (Value tag name []) (escape text ++ codes "\"") (AttributeName (tag_with tag name (pictured text)) []) []
 quoted_reads tag name text =
-    subst (λ (v : List ℕ). Reads (Value tag name []) (escape text ++ codes "\"") (AttributeName (tag_with tag name v) []) [])
+    subst (λ (v : List ℕ). Reads (Value tag name []) (escape text ++ codes "\"")
+    (AttributeName (tag_with tag name v) []) [])
     (shows_the_text text) (value_reads tag name [] (escape text) (has_no_marks text))
 
 pub quoted_clean : (tag : Tag) (name text : List ℕ) → IsClean text
     → Reads (Value tag name []) (escape text ++ codes "\"") (AttributeName (tag_with tag name text) []) []
 quoted_clean tag name text clean =
-    subst (λ (v : List ℕ). Reads (Value tag name []) (escape text ++ codes "\"") (AttributeName (tag_with tag name v) []) [])
+    subst (λ (v : List ℕ). Reads (Value tag name []) (escape text ++ codes "\"")
+    (AttributeName (tag_with tag name v) []) [])
     clean (quoted_reads tag name text)
 
 -- ---- marks

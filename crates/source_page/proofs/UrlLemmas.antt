@@ -1,5 +1,6 @@
 -- URLs of pages, by the paths of their documents.
-use Rattle.std.proofs.Common.{◌≡◌, ◌∙◌, refl, ap, ℕ, Bool, true, false, cond, List, [], ◌∷◌, ◌++◌, append-nil, sym, nat_eq}
+use Rattle.std.proofs.Common.{◌≡◌, ◌∙◌, refl, ap, ℕ, Bool, true, false, cond, List, [], ◌∷◌, ◌++◌, append-nil, sym}
+use Rattle.std.proofs.Common.{nat_eq}
 use Rattle.std.specs.Prelude.{codes}
 use Rattle.std.specs.List.{ends_with, flat_map}
 use Rattle.std.proofs.lemmas.Grind.{flat_map-append}

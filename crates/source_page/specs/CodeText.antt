@@ -1,5 +1,6 @@
 -- The code of a page.
-use Rattle.std.specs.Prelude.{ℕ, ◌-◌, ◌==◌, Bool, false, cond, List, [], ◌∷◌, ◌++◌, codes, length, filter, Option, None, Some}
+use Rattle.std.specs.Prelude.{ℕ, ◌-◌, ◌==◌, Bool, false, cond, List, [], ◌∷◌, ◌++◌, codes, length, filter, Option, None}
+use Rattle.std.specs.Prelude.{Some}
 use Rattle.std.specs.List.{flat_map, slice_get, range_with_len}
 use Rattle.std.specs.Option.{unwrap_or}
 use Rattle.scip_model.specs.declared.records.Occurrence.{Occurrence}

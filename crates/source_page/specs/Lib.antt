@@ -1,6 +1,7 @@
 pub mod Marks
 pub mod Tags
 pub mod Site
+pub mod Shown
 pub mod Targets
 pub mod Facts
 pub mod CodeText

@@ -10,6 +10,7 @@ use Rattle.scip_query.specs.declared.place.Place.{Place}
 use Rattle.scip_pages.specs.declared.code.Link.{Link}
 use Rattle.scip_pages.specs.Urls.{url_of}
 use Rattle.source_page.specs.declared.facts.Known.{Known}
+use Rattle.source_page.specs.Shown.{shown_symbol}
 use Rattle.source_page.specs.Site.{Sources, has_page, line_listed, page_path, same_place}
 
 -- whether a definition that has a page is at a place
@@ -21,12 +22,12 @@ abbrev pub definition_of : Index → Sources → ℕ → List ℕ → Option Pla
 definition_of index sources document symbol =
     find (is_shown_definition index sources) (references_in index document symbol)
 
--- what is shown where a pointer hovers: the symbol, and its documentation below
+-- what is shown where a pointer hovers: the symbol, as it is shown, and its documentation below
 abbrev pub below : List ℕ → List ℕ
 below text = codes "\n" ++ text
 
 abbrev pub label_of : List ℕ → List (List ℕ) → List ℕ
-label_of symbol documentation = symbol ++ flat_map below documentation
+label_of symbol documentation = shown_symbol symbol ++ flat_map below documentation
 
 -- what is known of a symbol that is asked for in a document
 abbrev pub known_of : Index → Sources → ℕ → List ℕ → Known

@@ -1,5 +1,5 @@
 -- What a page defines, and who uses it.
-use Rattle.std.specs.Prelude.{ℕ, Bool, not, ◌&&◌, cond, List, [], ◌++◌, codes, Option, None, Some}
+use Rattle.std.specs.Prelude.{ℕ, Bool, not, ◌&&◌, cond, List, [], ◌∷◌, ◌++◌, codes, Option, None, Some}
 use Rattle.std.specs.List.{flat_map, slice_get}
 use Rattle.std.specs.Option.{option_map_or}
 use Rattle.std.specs.Fmt.{decimal}
@@ -48,6 +48,16 @@ abbrev pub name_of : ColumnUnit → List (List ℕ) → Option Occurrence → Li
 name_of unit lines None = []
 name_of unit lines (Some o) = inside_in unit (line_at lines o.range.start_line) o.range
 
+-- the name of what is defined at a place: that text, and if it is empty the path of the document
+abbrev pub name_or_path : (path name : List ℕ) → List ℕ
+name_or_path path [] = path
+name_or_path path (byte ∷ name) = byte ∷ name
+
+abbrev pub defined_name : Index → ColumnUnit → List (List ℕ) → Place → List ℕ
+defined_name index unit lines place =
+    name_or_path (path_listed index.documents place.document)
+    (name_of unit lines (occurrence_listed index.documents place))
+
 -- the label of the link with a number
 abbrev pub label_at : List Link → ℕ → List ℕ
 label_at links number = option_map_or (λ (l : Link). l.label) (slice_get links number) []
@@ -61,7 +71,7 @@ places_text occurrence line =
 abbrev pub defined_head : Index → ColumnUnit → List (List ℕ) → List Link → Place → List ℕ
 defined_head index unit lines links place =
     places_text place.occurrence (line_listed index.documents place)
-    ++ escape (name_of unit lines (occurrence_listed index.documents place)) ++ codes "</b> <span>"
+    ++ escape (defined_name index unit lines place) ++ codes "</b> <span>"
     ++ escape (label_at links place.occurrence) ++ codes "</span></a></dt>\n"
 
 abbrev pub defined_text : Index → Sources → ColumnUnit → List (List ℕ) → List Link → Place → List ℕ

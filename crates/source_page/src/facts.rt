@@ -9,6 +9,8 @@ ghost use Rattle.source_page.specs.Facts.{AreRight, IsFact, Tells};
 ghost use Rattle.source_page.specs.Facts as served;
 
 use crate::definitions::definition_among;
+use crate::places::symbol_listed;
+use crate::shown::shown_symbol;
 use crate::site::Site;
 use scip_query::{Place, Queries};
 use sequences::{OwnedText, Sequence};
@@ -22,7 +24,7 @@ const LABEL_ROOM: usize = 192;
 pub struct Known {
     /// The place of its first definition that has a page.
     pub definition: Option<Place>,
-    /// The symbol, and its documentation below.
+    /// The symbol as it is shown, and its documentation below.
     pub label: Sequence<u8>,
 }
 
@@ -38,6 +40,15 @@ pub struct Fact<'a> {
     pub definition: Option<Place>,
     /// The texts of its documentation.
     pub documentation: &'a [OwnedText],
+}
+
+/// How far a walk through all places is, in the order of symbols.
+#[derive(Drop)]
+struct Walk {
+    /// The symbols of so many places are found.
+    until: usize,
+    /// Behind so many symbol entries that of the next symbol is looked for first.
+    entry: usize,
 }
 
 /// Where an index's symbols are, as far as that is known, and for each occurrence where the fact of its symbol may be.
@@ -120,6 +131,29 @@ fn new_fact<'a>(site: &Site<'a>, document: usize, symbol: &'a str) -> Fact<'a>
     }
 }
 
+/// Finds where it is, and looks for it first behind so many of all places and of all symbol entries, in the order of
+/// symbols. With it comes behind how many entries to look for the next symbol.
+fn fact_near<'a>(
+    site: &Site<'a>,
+    place: usize,
+    entry: usize,
+    document: usize,
+    symbol: &'a str,
+) -> (usize, Fact<'a>)
+    ensures { IsFact site.now.queries.now site.now.sources.now result.1 }
+{
+    let places = site.queries.references_near(place, document, symbol);
+    let (next, documentation) = site.queries.documentation_near(entry, document, symbol);
+    let fact = Fact {
+        document,
+        symbol,
+        places,
+        definition: definition_among(site, places),
+        documentation,
+    };
+    (next, fact)
+}
+
 /// Appends a fact.
 fn push_fact<'a>(
     site: &Site<'_>,
@@ -166,12 +200,12 @@ fn hint_all(hints: &mut Vec<Vec<usize>>, places: &[Place], number: usize) {
     }
 }
 
-/// A symbol, and its documentation below.
+/// A symbol as it is shown, and its documentation below.
 fn label_of(alloc: Global, symbol: &str, documentation: &[OwnedText]) -> Result<Vec<u8>, AllocError>
     ensures { IfOk result (λ label. label.items ≡ spec.label_of symbol.now documentation.now) }
 {
     let mut label = Vec::with_capacity(alloc, symbol.len().saturating_add(LABEL_ROOM))?;
-    label.extend_from_slice(symbol.as_bytes())?;
+    label.extend_from_slice(shown_symbol(symbol.as_bytes()))?;
     push_documentation(&mut label, documentation)?;
     Ok(label)
 }
@@ -233,6 +267,51 @@ impl<'a> Facts<'a> {
         })
     }
 
+    /// Keeps a fact, and notes it for all places of its symbol.
+    fn keep(&mut self, site: &Site<'_>, fact: Fact<'a>) -> Result<(), AllocError>
+        requires facts { AreRight site.now.queries.now site.now.sources.now self.old.facts.items }
+        requires fact { IsFact site.now.queries.now site.now.sources.now fact }
+        ensures { AreRight site.now.queries.now site.now.sources.now self.new.facts.items }
+    {
+        let number = self.facts.len();
+        push_fact(site, &mut self.facts, fact)?;
+        hint_all(&mut self.hints, fact.places, number);
+        Ok(())
+    }
+
+    /// Finds where the symbol at a place is, which has a number in the order of symbols, if it isn't found yet.
+    fn find_at(
+        &mut self,
+        site: &Site<'a>,
+        walk: &mut Walk,
+        number: usize,
+        place: Place,
+    ) -> Result<(), AllocError>
+        requires { AreRight site.now.queries.now site.now.sources.now self.old.facts.items }
+        ensures { AreRight site.now.queries.now site.now.sources.now self.new.facts.items }
+    {
+        if number < walk.until {
+            return Ok(());
+        }
+        let symbol = symbol_listed(site.queries.documents(), place);
+        let (entry, fact) = fact_near(site, number, walk.entry, place.document, symbol);
+        walk.entry = entry;
+        walk.until = number.saturating_add(fact.places.len());
+        self.keep(site, fact)
+    }
+
+    /// Finds where each symbol of the index is, in the order of symbols: so one is found near the one before it.
+    pub fn find_all(&mut self, site: &Site<'a>) -> Result<(), AllocError>
+        requires { AreRight site.now.queries.now site.now.sources.now self.old.facts.items }
+        ensures { AreRight site.now.queries.now site.now.sources.now self.new.facts.items }
+    {
+        let mut walk = Walk { until: 0, entry: 0 };
+        for (number, place) in site.queries.places_by_symbol().iter().enumerate() {
+            self.find_at(site, &mut walk, number, *place)?;
+        }
+        Ok(())
+    }
+
     /// Finds where the symbol at a place is, and notes it for all its places.
     fn found(
         &mut self,
@@ -245,9 +324,7 @@ impl<'a> Facts<'a> {
         ensures tells { IfOk result (λ fact. Tells site.now.queries.now site.now.sources.now document symbol.now fact) }
     {
         let fact = new_fact(site, document, symbol);
-        let number = self.facts.len();
-        push_fact(site, &mut self.facts, fact)?;
-        hint_all(&mut self.hints, fact.places, number);
+        self.keep(site, fact)?;
         Ok(fact)
     }
 

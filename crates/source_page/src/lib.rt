@@ -11,6 +11,7 @@ mod laws;
 mod links;
 mod marks;
 mod places;
+mod shown;
 mod site;
 mod urls;
 mod uses;
@@ -24,7 +25,8 @@ pub use laws::{
     uses_lead_to_definitions,
 };
 pub use marks::push_link;
-pub use places::{line_listed, occurrence_listed, path_listed};
+pub use places::{line_listed, occurrence_listed, path_listed, symbol_listed};
+pub use shown::shown_symbol;
 pub use site::{Site, has_page, page_path};
 pub use urls::push_folder_id;
 pub use uses::name_of;

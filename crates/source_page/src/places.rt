@@ -29,7 +29,7 @@ pub fn occurrence_listed(documents: &[Document], place: Place) -> Option<&Occurr
 }
 
 /// The symbol at a place; no text where there is none.
-pub(crate) fn symbol_listed(documents: &[Document], place: Place) -> &str
+pub fn symbol_listed(documents: &[Document], place: Place) -> &str
     ensures { result.now ≡ symbol_listed documents.now place }
 {
     match occurrence_listed(documents, place) {

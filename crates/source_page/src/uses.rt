@@ -134,6 +134,26 @@ pub fn name_of<'a>(
     }
 }
 
+/// A name, and if it is empty a path.
+fn name_or_path<'a>(path: &'a str, name: &'a [u8]) -> &'a [u8]
+    ensures { result.now ≡ spec.name_or_path path.now name.now }
+{
+    match name {
+        [] => path.as_bytes(),
+        [_, ..] => name,
+    }
+}
+
+/// The name of what is defined at a place: the text that is marked, and if that is empty the path of the document.
+fn defined_name<'a>(site: &Site<'a>, code: &Code<'a>, place: Place) -> &'a [u8]
+    ensures { result.now ≡ spec.defined_name site.now.queries.now code.now.unit
+        (map (λ (l : Bor (List ℕ)). l.now) code.now.lines.now) place }
+{
+    let documents = site.queries.documents();
+    let name = name_of(code.unit, code.lines, occurrence_listed(documents, place));
+    name_or_path(path_listed(documents, place.document), name)
+}
+
 /// The label of the link with a number.
 fn label_at(links: &[Link], number: usize) -> &[u8]
     ensures { result.now ≡ spec.label_at links.now number }
@@ -192,9 +212,9 @@ fn push_defined_head(
     ensures { OnOk result (page.new.items ≡ page.old.items ++ spec.defined_head site.now.queries.now code.now.unit
         (map (λ (l : Bor (List ℕ)). l.now) code.now.lines.now) code.now.links.now place) }
 {
-    let documents = site.queries.documents();
-    let name = name_of(code.unit, code.lines, occurrence_listed(documents, place));
-    push_places(alloc, page, place.occurrence, line_listed(documents, place))?;
+    let name = defined_name(site, code, place);
+    let line = line_listed(site.queries.documents(), place);
+    push_places(alloc, page, place.occurrence, line)?;
     push_escaped(page, name)?;
     page.extend_from_slice(b"</b> <span>")?;
     push_escaped(page, label_at(code.links, place.occurrence))?;

@@ -44,4 +44,5 @@ returns g c =
     (c.in_ok-make_each.ensures.listed ∙ ap (λ (l : List ℕ). l ++ listed) c.in_ok-listed.ensures.script) in
     all_shared g.O.MakeFiles.made c.args.folder.now index sources c.args.order.now c.args.made.now
     c.make_each.new.made c.in_ok-make_each.ensures.files c.make_shared.new.made c.deref.result.now
-    c.deref-2.result.now script (c.deref-2.ensures.value ∙ c.in_ok-first.ensures) c.make_shared.result c.make_shared.ensures
+    c.deref-2.result.now script
+    (c.deref-2.ensures.value ∙ c.in_ok-first.ensures) c.make_shared.result c.make_shared.ensures

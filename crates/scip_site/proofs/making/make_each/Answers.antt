@@ -1,4 +1,5 @@
-use Rattle.std.proofs.Common.{◌≡◌, ◌∙◌, ◌<◌, ap, sym, subst, refl, ℕ, List, ◌++◌, map, length, Err, Ok, append_assoc, append-nil, arith}
+use Rattle.std.proofs.Common.{◌≡◌, ◌∙◌, ◌<◌, ap, sym, subst, refl, ℕ, List, ◌++◌, map, length, Err, Ok, append_assoc}
+use Rattle.std.proofs.Common.{append-nil, arith}
 use Rattle.std.proofs.lemmas.Result.{err_from_is_err_and}
 use Rattle.scip_model.specs.declared.records.Document.{Document}
 use Rattle.scip_query.specs.Tables.{numbers}
@@ -23,10 +24,12 @@ loop-number-preserved g c =
     record {
       right = c.make_page.ensures.right;
       files = more_made (page_file_at index sources) (in_folder c.args.folder.now) g.O.MakeFiles.made c.args.made.now
-          c.loop-number.made c.make_page.new.made n c.loop-number.invariant.files (Ok tt) c.in_ok-make_page.ensures.files;
+          c.loop-number.made c.make_page.new.made n c.loop-number.invariant.files
+          (Ok tt) c.in_ok-make_page.ensures.files;
       listed = c.in_ok-make_page.ensures.listed
           ∙ ap (λ (l : List ℕ). l ++ listing_at index sources n) c.loop-number.invariant.listed
-          ∙ append_assoc c.args.listed.now.script.items (listings index sources (numbers n)) (listing_at index sources n)
+          ∙ append_assoc c.args.listed.now.script.items (listings index sources (numbers n))
+          (listing_at index sources n)
           ∙ ap (λ (l : List ℕ). c.args.listed.now.script.items ++ l) (sym (one_more (listing_at index sources) n));
     }
 

@@ -25,7 +25,8 @@ returns-in_err-make-2 g c =
     let folder = c.args.folder.now in
     let css = one folder (codes "pages.css") STYLE.now in
     let search = one folder (codes "search.js") SEARCH.now in
-    let others = one folder (codes "symbols.js") c.args.script.now ++ one folder (codes "index.html") c.args.first.now in
+    let others = one folder (codes "symbols.js") c.args.script.now
+    ++ one folder (codes "index.html") c.args.first.now in
     let fault = c.in_err-make-2.field-0.0 in
     rw (p.1, p.2) (both made c.args.made.now c.make.new.made c.make-2.new.made css (search ++ others)
     (same_text made c.args.made.now c.make.new.made folder (codes "pages.css") c.as_bytes.result.now STYLE.now

@@ -16,6 +16,7 @@ returns-clause-page c =
     ap (map (λ (l : Bor (List ℕ)). l.now)) c.deref.ensures.value ∙ c.in_ok-lines.ensures in
     IfOk-weaker c.listed_page.result _ _
     (λ p e. e
-    ∙ ap (λ (u : ColumnUnit). page_of index sources c.args.number d u (map (λ (l : Bor (List ℕ)). l.now) c.deref.result.now))
+    ∙ ap (λ (u : ColumnUnit). page_of index sources c.args.number d u
+    (map (λ (l : Bor (List ℕ)). l.now) c.deref.result.now))
     c.unit_in.ensures
     ∙ ap (page_of index sources c.args.number d (unit_in d)) lines) c.listed_page.ensures.page

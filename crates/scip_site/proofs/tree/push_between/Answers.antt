@@ -9,7 +9,8 @@ pub returns : goal.returns
 returns c =
     on_ok_weaker c.push_leaf.result
     (λ e. e ∙ between c.args.page.now.items c.push_closes.new.page.items c.push_opens.new.page.items
-    (map (λ (n : Bor (List ℕ)). n.now) c.args.here.now) (map (λ (n : Bor (List ℕ)). n.now) c.folders_in-folders.result.now)
+    (map (λ (n : Bor (List ℕ)). n.now) c.args.here.now)
+    (map (λ (n : Bor (List ℕ)). n.now) c.folders_in-folders.result.now)
     (map (λ (n : Bor (List ℕ)). n.now) c.args.names.now) c.args.path.now c.common-kept.result c.saturating_sub.result
     c.folders_in-folders.ensures c.common-kept.ensures
     (c.saturating_sub.ensures

@@ -12,4 +12,5 @@ returns c =
     (λ e. e
     ∙ ap (λ (n : ℕ). page ++ closes n) (sym (length-map c.folders_in.result.now (λ (n : Bor (List ℕ)). n.now)))
     ∙ ap (λ (names : List (List ℕ)). page ++ closes (length names))
-    (c.folders_in.ensures ∙ ap but_last (ap (map (λ (n : Bor (List ℕ)). n.now)) c.deref.ensures.value ∙ c.in_ok-open.ensures))) c.push_closes.ensures
+    (c.folders_in.ensures ∙ ap but_last
+    (ap (map (λ (n : Bor (List ℕ)). n.now)) c.deref.ensures.value ∙ c.in_ok-open.ensures))) c.push_closes.ensures

@@ -11,6 +11,8 @@ returns c =
     on_ok_weaker c.push_between.result
     (λ e. e
     ∙ ap (λ (names : List (List ℕ)). page ++ step_with
-    (map (λ (n : Bor (List ℕ)). n.now) c.folders_in.result.now) c.args.path.now names) (ap (map (λ (n : Bor (List ℕ)). n.now)) c.deref-2.ensures.value ∙ c.in_ok-names.ensures)
+    (map (λ (n : Bor (List ℕ)). n.now) c.folders_in.result.now) c.args.path.now names)
+    (ap (map (λ (n : Bor (List ℕ)). n.now)) c.deref-2.ensures.value ∙ c.in_ok-names.ensures)
     ∙ ap (λ (names : List (List ℕ)). page ++ step_with names c.args.path.now (components c.args.path.now))
-    (c.folders_in.ensures ∙ ap but_last (ap (map (λ (n : Bor (List ℕ)). n.now)) c.deref.ensures.value ∙ c.in_ok-open.ensures))) c.push_between.ensures
+    (c.folders_in.ensures ∙ ap but_last
+    (ap (map (λ (n : Bor (List ℕ)). n.now)) c.deref.ensures.value ∙ c.in_ok-open.ensures))) c.push_between.ensures

@@ -69,8 +69,10 @@ returns-in_err-file_one g c =
 
 pub returns : goal.returns
 returns g c =
-    let past : length c.documents-document-items.result.now ≤ c.loop-number.number = omega (arith, c.loop-number-test.false) in
+    let past : length c.documents-document-items.result.now ≤ c.loop-number.number =
+    omega (arith, c.loop-number-test.false) in
     all_are g.M.Sink.contents g.M.Sink.failures (g.F.ReadFiles.gives c.args.files.now) c.args.folders.now.root.now
     c.args.queries.now c.args.messages.now c.loop-number.messages c.loop-number.number
     (subst (λ (ds : List Document). length ds ≤ c.loop-number.number) c.documents-document-items.ensures past)
-    (AreFiled (maker g.O.MakeFiles.made c.args.made.now c.loop-number.made) c.args.folders.now.to.now) c.loop-number.invariant
+    (AreFiled (maker g.O.MakeFiles.made c.args.made.now c.loop-number.made) c.args.folders.now.to.now)
+    c.loop-number.invariant

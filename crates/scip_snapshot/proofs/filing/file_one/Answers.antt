@@ -12,11 +12,13 @@ returns-in-Ok g c =
     let files = maker g.O.MakeFiles.made c.args.made.now c.file_text.new.made in
     let folder = c.args.folder.now in
     shown_so g.M.Sink.contents g.M.Sink.failures gives asked.root.now asked.queries.now asked.number asked.path.now
-    (AreFiled files folder) (AreFiledButOne files folder) (AreFiled files folder []) c.args.messages.now c.in-Ok.text.items
+    (AreFiled files folder) (AreFiledButOne files folder)
+    (AreFiled files folder []) c.args.messages.now c.in-Ok.text.items
     (subst (λ o. IsOutcome gives asked.root.now asked.queries.now asked.number asked.path.now (outcome_view o))
     c.in-Ok.is c.in_ok-text.ensures)
     c.file_text.result
-    (subst (λ (t : List ℕ). Goes (AreFiled files folder) (AreFiledButOne files folder) (AreFiled files folder []) asked.path.now t c.file_text.result)
+    (subst (λ (t : List ℕ). Goes (AreFiled files folder) (AreFiledButOne files folder)
+    (AreFiled files folder []) asked.path.now t c.file_text.result)
     c.as_slice.ensures.value c.file_text.ensures)
 
 pub returns-in-Err : goal.returns-in-Err

@@ -30,7 +30,8 @@ loop-number-preserved g c =
     c.documents-document-items.ensures
     (c.as_str.ensures ∙ ap (λ (d : Document). d.relative_path) c.document-item.is) in
     goes_on g.M.Sink.contents g.M.Sink.failures (g.F.ReadFiles.gives c.args.files.now) c.args.root.now
-    c.args.queries.now c.args.messages.now c.loop-number.messages c.print_one.new.messages n document c.as_str.result.now
+    c.args.queries.now c.args.messages.now c.loop-number.messages c.print_one.new.messages n document
+    c.as_str.result.now
     (subst (λ (ds : List Document). n < length ds) c.documents-document-items.ensures c.loop-number-test.true) path
     (ArePrinted (writer contents failures first now)) before
     (ArePrinted (writer contents failures first after)) (AreCutOff (writer contents failures first after))
@@ -58,7 +59,8 @@ returns-in_err-print_one g c =
     (c.as_str.ensures ∙ ap (λ (d : Document). d.relative_path) c.document-item.is) in
     rw (p.1, p.2) (stops g.M.Sink.contents g.M.Sink.failures (g.F.ReadFiles.gives c.args.files.now)
     c.args.root.now
-    c.args.queries.now c.args.messages.now c.loop-number.messages c.print_one.new.messages n document c.as_str.result.now
+    c.args.queries.now c.args.messages.now c.loop-number.messages c.print_one.new.messages n document
+    c.as_str.result.now
     (subst (λ (ds : List Document). n < length ds) c.documents-document-items.ensures c.loop-number-test.true) path
     (ArePrinted (writer contents failures first now)) before
     (ArePrinted (writer contents failures first after)) (AreCutOff (writer contents failures first after))
@@ -71,7 +73,8 @@ returns-in_err-print_one g c =
 
 pub returns : goal.returns
 returns g c =
-    let past : length c.documents-document-items.result.now ≤ c.loop-number.number = omega (arith, c.loop-number-test.false) in
+    let past : length c.documents-document-items.result.now ≤ c.loop-number.number =
+    omega (arith, c.loop-number-test.false) in
     all_are g.M.Sink.contents g.M.Sink.failures (g.F.ReadFiles.gives c.args.files.now) c.args.root.now
     c.args.queries.now c.args.messages.now c.loop-number.messages c.loop-number.number
     (subst (λ (ds : List Document). length ds ≤ c.loop-number.number) c.documents-document-items.ensures past)

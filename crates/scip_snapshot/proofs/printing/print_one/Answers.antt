@@ -15,7 +15,8 @@ returns-in-Ok g c =
     (subst (λ o. IsOutcome gives asked.root.now asked.queries.now asked.number asked.path.now (outcome_view o))
     c.in-Ok.is c.in_ok-text.ensures)
     c.print_text.result
-    (subst (λ (t : List ℕ). Goes (ArePrinted out) (AreCutOff out) (c.print_text.new.out ≡ c.args.out.now) asked.path.now t c.print_text.result)
+    (subst (λ (t : List ℕ). Goes (ArePrinted out) (AreCutOff out)
+    (c.print_text.new.out ≡ c.args.out.now) asked.path.now t c.print_text.result)
     c.as_slice.ensures.value c.print_text.ensures)
 
 pub returns-in-Err : goal.returns-in-Err

@@ -17,7 +17,8 @@ returns c =
     let here : List ℕ = c.as_bytes-line.result.now in
     let same : here ≡ line =
     c.as_bytes-line.ensures.value ∙ c.line_at.ensures ∙ ap (line_at lines) c.saturating_sub.ensures in
-    let runs : c.deref-2.result.now ≡ runs_of (marks_of (spans_of code.unit code.occurrences.now here marking) (length here)) =
+    let runs : c.deref-2.result.now
+    ≡ runs_of (marks_of (spans_of code.unit code.occurrences.now here marking) (length here)) =
     c.deref-2.ensures.value ∙ c.in_ok-runs.ensures
     ∙ ap (λ ss. runs_of (marks_of ss (length here))) (c.deref.ensures.value ∙ c.in_ok-spans.ensures) in
     on_ok_weaker c.push_line.result

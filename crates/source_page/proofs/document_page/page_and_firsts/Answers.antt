@@ -30,7 +30,8 @@ returns-clause-page c =
     (λ page h. h
     ∙ ap (λ (path : List ℕ). start_text path ++ main_text index sources asked.unit occurrences links lines firsts)
     c.as_str-path.ensures
-    ∙ ap (λ (os : List Occurrence). start ++ main_text index sources asked.unit os links lines firsts) c.as_slice.ensures
+    ∙ ap (λ (os : List Occurrence). start ++ main_text index sources asked.unit os links lines firsts)
+    c.as_slice.ensures
     ∙ ap (λ (ls : List Link). start ++ main_text index sources asked.unit d.occurrences ls lines firsts) linked
     ∙ ap (λ (fs : List Place). start ++ main_text index sources asked.unit d.occurrences
     (links_of index sources asked.number d) lines fs) listed) c.page_with.ensures

@@ -9,5 +9,6 @@ abbrev pub invariant-loop-place : goal.invariant-loop-place
 invariant-loop-place l = record {
   right : AreRight l.site.queries.now l.site.sources.now l.facts.facts.items;
   links : l.linked.links.items ≡ map (link_at l.site.queries.now l.site.sources.now) (take l.place-index l.places);
-  firsts : l.linked.firsts.items ≡ filter (is_first l.site.queries.now l.site.sources.now) (take l.place-index l.places);
+  firsts : l.linked.firsts.items
+      ≡ filter (is_first l.site.queries.now l.site.sources.now) (take l.place-index l.places);
 }

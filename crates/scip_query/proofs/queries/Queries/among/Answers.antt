@@ -7,11 +7,11 @@ use Rattle.scip_query.specs.References.{references_of}
 use Rattle.scip_query.specs.Tables.{symbol_listed, places_from}
 use Rattle.scip_query.specs.Views.{subject_view}
 use Rattle.scip_query.proofs.SiteLemmas.{places_are, global_places, local_places, passing_rise}
-use Rattle.scip_query.proofs.queries.Queries.places_about.Goals as goal
+use Rattle.scip_query.proofs.queries.Queries.among.Goals as goal
 
 pub places_in-requires : goal.places_in-requires
 places_in-requires c =
-    rw c.places_with-places.ensures
+    rw c.requires
     (passing_rise c.args.self.now.documents
     (λ (place : Place). is_eq
     (slice_cmp nat_cmp (symbol_listed c.args.self.now.documents place) c.args.subject.now.symbol.now)))
@@ -24,7 +24,7 @@ returns-then-is_local c =
     (λ (place : Place). is_eq (slice_cmp nat_cmp (symbol_listed index.documents place) subject.symbol))
     (places_from 0 index.documents) in
     let in_document = λ (place : Place). is_eq (nat_cmp place.document subject.asked.number) in
-    c.places_in.ensures ∙ ap (filter in_document) c.places_with-places.ensures
+    c.places_in.ensures ∙ ap (filter in_document) c.requires
     ∙ places_are index.documents (filter in_document with_symbol) (references_of index subject)
     (local_places index subject (sym c.is_local.ensures ∙ c.if-is_local.true))
 
@@ -35,6 +35,6 @@ returns-else-is_local c =
     let with_symbol = filter
     (λ (place : Place). is_eq (slice_cmp nat_cmp (symbol_listed index.documents place) subject.symbol))
     (places_from 0 index.documents) in
-    c.places_with-places.ensures
+    c.requires
     ∙ places_are index.documents with_symbol (references_of index subject)
     (global_places index subject (sym c.is_local.ensures ∙ c.if-is_local.false))

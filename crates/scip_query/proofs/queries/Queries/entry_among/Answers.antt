@@ -5,11 +5,11 @@ use Rattle.scip_query.specs.declared.place.EntryPlace.{EntryPlace}
 use Rattle.scip_query.specs.Tables.{entry_listed}
 use Rattle.scip_query.specs.Views.{subject_view}
 use Rattle.scip_query.proofs.EntryLemmas.{has_symbol, is_in, found_globally, found_locally, passing_rise}
-use Rattle.scip_query.proofs.queries.Queries.entry_of.Goals as goal
+use Rattle.scip_query.proofs.queries.Queries.entry_among.Goals as goal
 
 pub entry_places_in-requires : goal.entry_places_in-requires
 entry_places_in-requires c =
-    rw c.entry_places_with-places.ensures
+    rw c.requires.places
     (passing_rise c.args.self.now (has_symbol c.args.self.now c.args.subject.now.symbol.now))
 
 pub returns-then-is_local : goal.returns-then-is_local
@@ -18,8 +18,8 @@ returns-then-is_local c =
     let subject = subject_view c.args.subject.now in
     c.first_entry.ensures
     ∙ ap (λ (l : List EntryPlace). option_and_then (entry_listed index) (slice_get l 0))
-    (c.entry_places_in.ensures ∙ ap (filter (is_in subject.asked.number)) c.entry_places_with-places.ensures)
-    ∙ found_locally index subject (sym c.is_local.ensures ∙ c.if-is_local.true) c.requires
+    (c.entry_places_in.ensures ∙ ap (filter (is_in subject.asked.number)) c.requires.places)
+    ∙ found_locally index subject (sym c.is_local.ensures ∙ c.if-is_local.true) c.requires.listed
 
 pub returns-else-is_local : goal.returns-else-is_local
 returns-else-is_local c =
@@ -27,5 +27,5 @@ returns-else-is_local c =
     let subject = subject_view c.args.subject.now in
     c.first_entry-else-is_local.ensures
     ∙ ap (λ (l : List EntryPlace). option_and_then (entry_listed index) (slice_get l 0))
-    c.entry_places_with-places.ensures
+    c.requires.places
     ∙ found_globally index subject (sym c.is_local.ensures ∙ c.if-is_local.false)

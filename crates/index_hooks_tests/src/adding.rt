@@ -1,6 +1,6 @@
 //! Filters and rules that are added: the room of a registry, and what comes back.
 
-use crate::shared::{chooses, counting_filter, message, no_calls, see, see_added, ticket};
+use crate::shared::{chooses, message, no_calls, noting_filter, see, see_added, ticket};
 use index_hooks::{
     BoxedFilter, DocAlways, DocChoice, FilterHook, HookFault, MAX_HOOKS, Registry, one_choice,
 };
@@ -26,10 +26,10 @@ fn seventeenth_filter_comes_back(rt: HostRuntime) -> Result<(), Fail> {
     let alloc = rt.alloc();
     let calls = no_calls(alloc)?;
     let rule = Box::new(alloc, DocAlways(DocChoice::Both).rule())?;
-    let dropping = counting_filter(alloc, false, 0, &calls)?;
+    let dropping = noting_filter(alloc, false, 0, &calls)?;
     let mut registry = Registry::new(alloc);
     for _ in 0..MAX_HOOKS {
-        let filter = counting_filter(alloc, true, 0, &calls)?;
+        let filter = noting_filter(alloc, true, 0, &calls)?;
         if let Err((filter, _)) = registry.add_filter(filter) {
             see_added(&rt, registry.add_filter(filter));
         }

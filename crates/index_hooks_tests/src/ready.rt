@@ -1,9 +1,9 @@
-//! The ready promises and callbacks, once each, and the texts of faults.
+//! The ready promises and callbacks, once each.
 
 use crate::shared::{message, see, ticket};
 use index_hooks::{
     AnyAnswer, DocAlways, DocChoice, DocHook, DocOneOf, DocPromise, FilterHook, FilterPromise,
-    HookFault, KindIn, Kinds, NamePrefix,
+    KindIn, Kinds, NamePrefix,
 };
 use proto_decl::{DeclView, DeclarationKind};
 use std::alloc::{AllocError, Global};
@@ -45,16 +45,5 @@ fn ready_promises_and_callbacks(rt: HostRuntime) -> Result<(), Fail> {
     see(&rt, any_and_kinds(&view), "any answer, and kinds");
     see(&rt, under_a(rt.alloc(), &view)?, "names");
     see(&rt, both_alone(rt.alloc(), &view)?, "rules");
-    Ok(())
-}
-
-const FAULTS: [(HookFault, &str); 2] = [(HookFault::Full, "Full"), (HookFault::Memory, "Memory")];
-
-#[test]
-fn faults_are_printed_by_their_names(rt: HostRuntime) -> Result<(), Fail> {
-    for (fault, name) in &FAULTS {
-        let text = format!(in rt.alloc(); "{fault}")?;
-        see(&rt, text.as_str() == *name, name);
-    }
     Ok(())
 }

@@ -31,63 +31,72 @@ pub(crate) fn ticket() -> Ticket {
     turns.next()
 }
 
-/// How often each callback is called: each has a hexadecimal digit of its own.
+/// The calls of callbacks in order, a hexadecimal digit each: each callback has one of its own.
 pub(crate) type Calls = Arc<AtomicU64>;
 
-/// Counts of no calls.
+/// No calls.
 pub(crate) fn no_calls(alloc: Global) -> Result<Calls, AllocError> {
     Ok(Arc::new(alloc, AtomicU64::new(0))?)
 }
 
-/// Gives this answer, and counts its calls: each of them adds so much.
+/// Notes a call of the callback with this digit.
+fn note(calls: &AtomicU64, digit: u64) {
+    let before = calls.load(Ordering::SeqCst);
+    calls.store(
+        before.wrapping_mul(16).wrapping_add(digit),
+        Ordering::SeqCst,
+    );
+}
+
+/// Gives this answer, and notes each of its calls by its digit.
 #[derive(Drop)]
-pub(crate) struct Counting<T> {
+pub(crate) struct Noting<T> {
     pub answer: T,
-    pub adds: u64,
+    pub digit: u64,
     pub calls: Calls,
 }
 
-impl FilterCallback for Counting<bool> {
+impl FilterCallback for Noting<bool> {
     fn call(&self, _view: &DeclView<'_>) -> bool {
-        self.calls.fetch_add(self.adds, Ordering::SeqCst);
+        note(&self.calls, self.digit);
         self.answer
     }
 }
 
-impl DocCallback for Counting<DocChoice> {
+impl DocCallback for Noting<DocChoice> {
     fn call(&self, _view: &DeclView<'_>) -> DocChoice {
-        self.calls.fetch_add(self.adds, Ordering::SeqCst);
+        note(&self.calls, self.digit);
         self.answer
     }
 }
 
-/// A filter that gives this answer, and counts its calls by what each adds.
-pub(crate) fn counting_filter(
+/// A filter that gives this answer, and notes its calls.
+pub(crate) fn noting_filter(
     alloc: Global,
     answer: bool,
-    adds: u64,
+    digit: u64,
     calls: &Calls,
-) -> Result<Box<Filter<AnyAnswer, Counting<bool>>>, AllocError> {
+) -> Result<Box<Filter<AnyAnswer, Noting<bool>>>, AllocError> {
     let calls = Arc::try_clone(calls)?;
-    let callback = Counting {
+    let callback = Noting {
         answer,
-        adds,
+        digit,
         calls,
     };
     Ok(Box::new(alloc, Filter::new(AnyAnswer, callback))?)
 }
 
-/// A rule that gives this answer, and counts its calls, likewise.
-pub(crate) fn counting_rule(
+/// A rule that gives this answer, and notes its calls, likewise.
+pub(crate) fn noting_rule(
     alloc: Global,
     answer: DocChoice,
-    adds: u64,
+    digit: u64,
     calls: &Calls,
-) -> Result<Box<DocRule<AnyAnswer, Counting<DocChoice>>>, AllocError> {
+) -> Result<Box<DocRule<AnyAnswer, Noting<DocChoice>>>, AllocError> {
     let calls = Arc::try_clone(calls)?;
-    let callback = Counting {
+    let callback = Noting {
         answer,
-        adds,
+        digit,
         calls,
     };
     Ok(Box::new(alloc, DocRule::new(AnyAnswer, callback))?)

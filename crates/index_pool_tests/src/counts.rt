@@ -2,27 +2,17 @@
 
 ghost use Rattle.std.specs.Prelude.{◌≡◌, ◌*◌, Ok};
 
+use crate::called::{Counts, no_counts, none_if};
 use crate::calls::{see, workers};
 use index_pool::{
     Gate, Job, MAX_INPUTS, NoGate, PoolFault, Task, Ticket, Workers, run_phase, run_phase_refusing,
 };
 use std::alloc::{AllocError, Global};
 use std::sync::Wait;
-use std::sync::atomic::{AtomicU64, Ordering};
 use std::test::Fail;
 use std::thread::Threads;
 
 const INPUTS: usize = 100;
-
-/// Counts all calls of `run`, and the calls for each input: of the gate before it, of `run` where that
-/// one was before it, and of the gate after it where both were.
-#[derive(Drop)]
-struct Counts {
-    calls: AtomicU64,
-    runs: Vec<AtomicU64>,
-    before: Vec<AtomicU64>,
-    after: Vec<AtomicU64>,
-}
 
 impl Job for Counts {
     type Out = usize;
@@ -35,10 +25,7 @@ impl Job for Counts {
 
     fn run(&self, ticket: Ticket) -> Result<usize, ()> {
         let number = ticket.number();
-        self.calls.fetch_add(1, Ordering::SeqCst);
-        if is_one(&self.before, number) {
-            add_one(&self.runs, number);
-        }
+        self.add_run(number);
         Ok(2 * number)
     }
 }
@@ -47,53 +34,15 @@ impl Gate for Counts {
     type Entry = usize;
 
     fn before(&self, number: usize) -> usize {
-        add_one(&self.before, number);
+        self.add_before(number);
         number
     }
 
     fn after(&self, number: usize, entry: usize) {
-        if entry == number && is_one(&self.runs, number) {
-            add_one(&self.after, number);
+        if entry == number {
+            self.add_after(number);
         }
     }
-}
-
-fn add_one(counts: &Vec<AtomicU64>, number: usize) {
-    if number < counts.len() {
-        counts[number].fetch_add(1, Ordering::SeqCst);
-    }
-}
-
-fn is_one(counts: &Vec<AtomicU64>, number: usize) -> bool {
-    number < counts.len() && counts[number].load(Ordering::SeqCst) == 1
-}
-
-fn zeros(alloc: Global) -> Result<Vec<AtomicU64>, AllocError> {
-    let mut zeros = Vec::new(alloc);
-    for _ in 0..INPUTS {
-        zeros.push(AtomicU64::new(0))?;
-    }
-    Ok(zeros)
-}
-
-fn no_counts(alloc: Global) -> Result<Counts, AllocError> {
-    Ok(Counts {
-        calls: AtomicU64::new(0),
-        runs: zeros(alloc)?,
-        before: zeros(alloc)?,
-        after: zeros(alloc)?,
-    })
-}
-
-/// How many of the counts are this number.
-fn how_many(counts: &Vec<AtomicU64>, wanted: u64) -> usize {
-    let mut found = 0usize;
-    for count in counts {
-        if count.load(Ordering::SeqCst) == wanted {
-            found = found.wrapping_add(1);
-        }
-    }
-    found
 }
 
 /// Whether each answer is twice its number.
@@ -126,30 +75,12 @@ fn runs_each_once<R: Threads + Wait>(
     workers: Workers,
 ) -> Result<Option<bool>, AllocError> {
     let inputs = inputs.min(INPUTS);
-    let counts = no_counts(alloc)?;
+    let counts = no_counts(alloc, INPUTS)?;
     let answer = run_phase(rt, alloc, &counts, inputs, workers, &counts);
-    let once = once_below(&counts.runs, inputs)
-        && once_below(&counts.before, inputs)
-        && once_below(&counts.after, inputs);
     match told(answer, inputs) {
-        Some(right) => Ok(Some(right && once)),
-        None => Ok(none_if(are_ended(&counts))),
+        Some(right) => Ok(Some(right && counts.are_once(inputs))),
+        None => Ok(none_if(counts.are_ended())),
     }
-}
-
-/// Nothing, where a test is to call again because this holds; else a wrong answer.
-fn none_if(holds: bool) -> Option<bool> {
-    if holds { None } else { Some(false) }
-}
-
-/// Whether the counts below this number are 1, and the others 0.
-fn once_below(counts: &Vec<AtomicU64>, inputs: usize) -> bool {
-    for number in 0..counts.len() {
-        if counts[number].load(Ordering::SeqCst) != u64::from(number < inputs) {
-            return false;
-        }
-    }
-    true
 }
 
 #[test]
@@ -181,9 +112,9 @@ fn answers_the_most<R: Threads + Wait>(
     alloc: Global,
     workers: Workers,
 ) -> Result<Option<bool>, AllocError> {
-    let counts = no_counts(alloc)?;
+    let counts = no_counts(alloc, INPUTS)?;
     let answer = run_phase(rt, alloc, &counts, MAX_INPUTS, workers, &NoGate);
-    let calls = counts.calls.load(Ordering::SeqCst);
+    let calls = counts.calls();
     match told(answer, MAX_INPUTS) {
         Some(right) => Ok(Some(right && calls == MAX_INPUTS as u64)),
         None => Ok(none_if(calls <= MAX_INPUTS as u64)),
@@ -201,13 +132,6 @@ fn the_most_inputs_are_answered(rt: HostRuntime) -> Result<(), Fail> {
     Ok(())
 }
 
-/// Whether each input was run to its end, and at most once, if it was begun.
-fn are_ended(counts: &Counts) -> bool {
-    are_same(&counts.before, &counts.runs)
-        && are_same(&counts.before, &counts.after)
-        && how_many(&counts.before, 0).wrapping_add(how_many(&counts.before, 1)) == INPUTS
-}
-
 /// Whether a phase that has no start of this number answers, and any other says that a thread is
 /// refused; whether it leaves no run half done; and answers where no start is refused after it.
 /// Nothing where memory for the lanes or another thread is refused, or memory where no start is.
@@ -218,54 +142,43 @@ fn ends_with<R: Threads + Wait>(
     refused: usize,
     spawned: bool,
 ) -> Result<Option<bool>, AllocError> {
-    let counts = no_counts(alloc)?;
+    let counts = no_counts(alloc, INPUTS)?;
     let task = Task {
         alloc,
         job: &counts,
         gate: &counts,
     };
     let Ok(answer) = run_phase_refusing(rt, &task, INPUTS, workers, Some(refused)) else {
-        return Ok(none_if(how_many(&counts.before, 0) == INPUTS));
+        return Ok(none_if(counts.are_once(0)));
     };
     let is_refused = matches!(&answer, Err(PoolFault::Spawn));
     let is_due = match told(answer, INPUTS) {
-        None if spawned => return Ok(none_if(are_ended(&counts))),
+        None if spawned => return Ok(none_if(counts.are_ended())),
         None => is_refused,
         Some(right) => spawned && right,
     };
-    if !is_due || !are_ended(&counts) {
+    if !is_due || !counts.are_ended() {
         return Ok(Some(false));
     }
     let again = run_phase(rt, alloc, &counts, INPUTS, workers, &NoGate);
     Ok(told(again, INPUTS))
 }
 
-/// Whether there are as many calls of both kinds for each input.
-fn are_same(some: &Vec<AtomicU64>, others: &Vec<AtomicU64>) -> bool {
-    for number in 0..some.len() {
-        if number >= others.len()
-            || some[number].load(Ordering::SeqCst) != others[number].load(Ordering::SeqCst)
-        {
-            return false;
-        }
-    }
-    true
-}
-
 #[test]
 fn a_refused_start_is_spawn(rt: HostRuntime) -> Result<(), Fail> {
     // With 4 workers, three threads are to be started: there is no start 4.
-    for (count, refused, spawned) in [
-        (1, 1, true),
-        (2, 1, false),
-        (4, 1, false),
-        (4, 2, false),
-        (4, 3, false),
-        (4, 4, true),
-        (16, 1, false),
-        (16, 15, false),
-        (16, 16, true),
+    for (count, refused) in [
+        (1, 1),
+        (2, 1),
+        (4, 1),
+        (4, 2),
+        (4, 3),
+        (4, 4),
+        (16, 1),
+        (16, 15),
+        (16, 16),
     ] {
+        let spawned = refused >= count;
         let workers = workers(&rt, count);
         let ended = match ends_with(&rt, rt.alloc(), workers, refused, spawned)? {
             None => ends_with(&rt, rt.alloc(), workers, refused, spawned)?,

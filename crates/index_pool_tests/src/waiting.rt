@@ -2,9 +2,11 @@
 
 ghost use Rattle.std.specs.Prelude.{◌≡◌, ◌≤◌, Ok, length};
 
+use crate::called::{Counts, no_counts, none_if, zeros};
 use crate::calls::{see, workers};
 use index_pool::{Gate, Job, PoolFault, Ticket, Workers, run_phase};
 use std::alloc::{AllocError, Global};
+use std::process::Abort;
 use std::sync::Wait;
 use std::sync::atomic::{AtomicU64, Ordering};
 use std::test::Fail;
@@ -15,55 +17,17 @@ use std::time::{Clock, Duration};
 /// How many milliseconds a gate waits at most.
 const MOST_TURNS: u64 = 5000;
 
-/// Calls for inputs: how many there were, and a bit for each input, added up.
-#[derive(Drop)]
-struct Tally {
-    calls: AtomicU64,
-    bits: AtomicU64,
-}
-
-impl Tally {
-    fn new() -> Tally {
-        Tally {
-            calls: AtomicU64::new(0),
-            bits: AtomicU64::new(0),
-        }
-    }
-
-    /// Adds a call, and gives how many there were before.
-    fn add(&self, number: usize) -> u64 {
-        let ticket = self.calls.fetch_add(1, Ordering::SeqCst);
-        self.bits.fetch_add(bit_of(number), Ordering::SeqCst);
-        ticket
-    }
-
-    /// Whether there was at most one call for each input: so many powers of two add up to a number with
-    /// as many bits only where no two are the same.
-    fn is_none_twice(&self) -> bool {
-        let bits = self.bits.load(Ordering::SeqCst).count_ones();
-        self.calls.load(Ordering::SeqCst) == u64::from(bits)
-    }
-
-    /// Whether there was one call for each of the inputs: so many powers of two give all bits below
-    /// `inputs` only where they are one of each.
-    fn is_each_once(&self, inputs: usize) -> bool {
-        self.calls.load(Ordering::SeqCst) == inputs as u64
-            && self.bits.load(Ordering::SeqCst) == bit_of(inputs).wrapping_sub(1)
-    }
-}
-
 /// A job that does nothing, and its gate. Before an input is run, this waits until the inputs that
-/// the input awaits were entered: a bit for each. It keeps the order in which inputs are entered, how
-/// many waits ran out, and the calls for each input.
+/// the input awaits were entered: a bit for each. It keeps which were entered, a bit for each, how many were
+/// before each, how many waits ran out, and the calls for each input.
 #[derive(Drop)]
 struct Waiting<'a, C> {
     clock: C,
     awaited: &'a [u64],
+    entered: AtomicU64,
     order: Vec<AtomicU64>,
     run_outs: AtomicU64,
-    before: Tally,
-    runs: Tally,
-    after: Tally,
+    counts: Counts,
 }
 
 impl<'a, C: Clock + Sync> Job for Waiting<'a, C> {
@@ -76,7 +40,7 @@ impl<'a, C: Clock + Sync> Job for Waiting<'a, C> {
     ghost gives = { λ _ _ r. r ≡ Ok tt };
 
     fn run(&self, ticket: Ticket) -> Result<(), ()> {
-        self.runs.add(ticket.number());
+        self.counts.add_run(ticket.number());
         Ok(())
     }
 }
@@ -85,13 +49,14 @@ impl<'a, C: Clock + Sync> Gate for Waiting<'a, C> {
     type Entry = ();
 
     fn before(&self, number: usize) {
-        let ticket = self.before.add(number);
+        self.counts.add_before(number);
+        let earlier = self.entered.fetch_add(bit_of(number), Ordering::SeqCst);
         if number < self.order.len() {
-            self.order[number].store(ticket, Ordering::SeqCst);
+            self.order[number].store(u64::from(earlier.count_ones()), Ordering::SeqCst);
         }
         let awaited = self.awaited.get(number).copied().unwrap_or(0);
         for _ in 0..MOST_TURNS {
-            if self.before.bits.load(Ordering::SeqCst) & awaited == awaited {
+            if self.entered.load(Ordering::SeqCst) & awaited == awaited {
                 return;
             }
             thread::sleep(&self.clock, Duration::from_millis(1));
@@ -100,21 +65,12 @@ impl<'a, C: Clock + Sync> Gate for Waiting<'a, C> {
     }
 
     fn after(&self, number: usize, _entry: ()) {
-        self.after.add(number);
+        self.counts.add_after(number);
     }
 }
 
 fn bit_of(number: usize) -> u64 {
     if number < 64 { 1 << number } else { 0 }
-}
-
-/// A ticket for each of so many inputs.
-fn tickets(alloc: Global, inputs: usize) -> Result<Vec<AtomicU64>, AllocError> {
-    let mut order = Vec::new(alloc);
-    for _ in 0..inputs {
-        order.push(AtomicU64::new(0))?;
-    }
-    Ok(order)
 }
 
 fn waiting_gate<'a, C: Drop>(
@@ -125,119 +81,80 @@ fn waiting_gate<'a, C: Drop>(
     Ok(Waiting {
         clock,
         awaited,
-        order: tickets(alloc, awaited.len())?,
+        entered: AtomicU64::new(0),
+        order: zeros(alloc, awaited.len())?,
         run_outs: AtomicU64::new(0),
-        before: Tally::new(),
-        runs: Tally::new(),
-        after: Tally::new(),
+        counts: no_counts(alloc, awaited.len())?,
     })
 }
 
-/// Whether no wait ran out, and the job and the gate were called once for each of so many inputs.
-fn is_each_once<C>(gate: &Waiting<'_, C>, inputs: usize) -> bool {
-    gate.before.is_each_once(inputs)
-        && gate.runs.is_each_once(inputs)
-        && gate.after.is_each_once(inputs)
-        && gate.run_outs.load(Ordering::SeqCst) == 0
-}
-
-/// Whether the job and the gate were called at most once for each input.
-fn is_none_twice<C>(gate: &Waiting<'_, C>) -> bool {
-    gate.before.is_none_twice() && gate.runs.is_none_twice() && gate.after.is_none_twice()
-}
-
-/// When the first nine inputs were entered; `u64::MAX` of those that there aren't.
-fn tickets_of(order: &Vec<AtomicU64>) -> [u64; 9] {
-    let mut found = [u64::MAX; 9];
-    for (number, ticket) in found.iter_mut().enumerate() {
-        if number < order.len() {
-            *ticket = order[number].load(Ordering::SeqCst);
+/// Whether inputs were entered in this order.
+fn are_in_order(entries: &Vec<AtomicU64>, numbers: &[usize]) -> bool {
+    let mut least = 0u64;
+    for number in numbers {
+        if *number >= entries.len() {
+            return false;
         }
+        let earlier = entries[*number].load(Ordering::SeqCst);
+        if earlier < least {
+            return false;
+        }
+        least = earlier.saturating_add(1);
     }
-    found
+    true
 }
 
-/// What a gate saw of a phase: whether the phase answered, no wait ran out, and the job and the gate
-/// were called once for each input; and when the first nine inputs were entered.
-#[derive(Drop)]
-struct Seen {
-    met: bool,
-    order: [u64; 9],
-}
-
-/// What a gate sees of a phase of these inputs. Nothing where memory or a thread is refused, and no
-/// input was called for twice.
-fn watched_once<R: Threads + Wait + Clock + Sync>(
+/// Whether a phase answers, no wait runs out, the job and the gate are called once for each input, and some inputs are
+/// entered in this order. Nothing where memory or a thread is refused, and no input was called for twice.
+fn are_met<R: Threads + Wait + Clock + Sync>(
     rt: &R,
     alloc: Global,
     workers: Workers,
     awaited: &[u64],
-) -> Result<Option<Seen>, AllocError>
+    order: &[usize],
+) -> Result<Option<bool>, AllocError>
     requires { length awaited.now ≤ 64 }
 {
     let gate = waiting_gate(alloc, rt, awaited)?;
     let inputs = awaited.len();
     let answer = run_phase(rt, alloc, &gate, inputs, workers, &gate);
-    if matches!(&answer, Err(PoolFault::Memory | PoolFault::Spawn)) && is_none_twice(&gate) {
-        return Ok(None);
+    if matches!(&answer, Err(PoolFault::Memory | PoolFault::Spawn)) {
+        return Ok(none_if(gate.counts.are_ended()));
     }
-    Ok(Some(Seen {
-        met: answer.is_ok() && is_each_once(&gate, inputs),
-        order: tickets_of(&gate.order),
-    }))
+    let is_quiet = answer.is_ok() && gate.run_outs.load(Ordering::SeqCst) == 0;
+    Ok(Some(is_quiet && gate.counts.are_once(inputs) && are_in_order(&gate.order, order)))
 }
 
-/// The same, once more after want of memory or of a thread.
-fn watched<R: Threads + Wait + Clock + Sync>(
+/// Sees that they are, by so many workers; once more after want of memory or of a thread.
+fn see_met<R: Threads + Wait + Clock + Sync + Abort>(
     rt: &R,
     alloc: Global,
-    workers: Workers,
+    count: usize,
     awaited: &[u64],
-) -> Result<Option<Seen>, AllocError>
+    order: &[usize],
+) -> Result<(), AllocError>
     requires { length awaited.now ≤ 64 }
 {
-    match watched_once(rt, alloc, workers, awaited)? {
-        None => watched_once(rt, alloc, workers, awaited),
-        seen => Ok(seen),
-    }
-}
-
-/// Whether the phase met what it was to meet, and entered these inputs in this order.
-fn has_met(seen: &Option<Seen>, numbers: &[usize]) -> bool {
-    let Some(seen) = seen else {
-        return false;
+    let workers = workers(rt, count);
+    let met = match are_met(rt, alloc, workers, awaited, order)? {
+        None => are_met(rt, alloc, workers, awaited, order)?,
+        met => met,
     };
-    let mut least = 0u64;
-    for number in numbers {
-        let ticket = seen.order.get(*number).copied().unwrap_or(0);
-        if ticket < least {
-            return false;
-        }
-        least = ticket.saturating_add(1);
-    }
-    seen.met
+    see(rt, met == Some(true), "met, and entered in order");
+    Ok(())
 }
 
 #[test]
 fn sixteen_workers_wait_for_all(rt: HostRuntime) -> Result<(), Fail> {
-    let all = workers(&rt, 16);
-    let met = watched(&rt, rt.alloc(), all, &[0xffff; 16])?;
-    see(&rt, has_met(&met, &[]), "sixteen met");
-    Ok(())
+    Ok(see_met(&rt, rt.alloc(), 16, &[0xffff; 16], &[])?)
 }
 
 #[test]
 fn a_worker_empties_its_lane_and_then_steals(rt: HostRuntime) -> Result<(), Fail> {
     // Input 0 holds the first worker until 4 is entered: the second runs its own 1, 3 and 5, and then
     // steals 2 and 4.
-    let two = workers(&rt, 2);
-    let order = watched(&rt, rt.alloc(), two, &[0b1_0000, 0, 0, 0, 0, 0])?;
-    see(
-        &rt,
-        has_met(&order, &[1, 3, 5, 2, 4]),
-        "own lane, then stolen",
-    );
-    Ok(())
+    let awaited = [0b1_0000, 0, 0, 0, 0, 0];
+    Ok(see_met(&rt, rt.alloc(), 2, &awaited, &[1, 3, 5, 2, 4])?)
 }
 
 #[test]
@@ -245,13 +162,6 @@ fn each_of_three_steals_from_the_next(rt: HostRuntime) -> Result<(), Fail> {
     // Inputs 0 and 1 hold the first two workers until 6 and 7 are entered. The third, once both are
     // held, runs its own 2, 5 and 8 and steals 3 and 6 from the first; and that one, which finds its
     // own lane empty, steals 4 and 7 from the second.
-    let three = workers(&rt, 3);
     let awaited = [0b100_0000, 0b1000_0000, 0b11, 0, 0, 0, 0, 0, 0];
-    let order = watched(&rt, rt.alloc(), three, &awaited)?;
-    see(
-        &rt,
-        has_met(&order, &[2, 5, 8, 3, 6, 4, 7]),
-        "from the next",
-    );
-    Ok(())
+    Ok(see_met(&rt, rt.alloc(), 3, &awaited, &[2, 5, 8, 3, 6, 4, 7])?)
 }

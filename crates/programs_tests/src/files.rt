@@ -1,6 +1,6 @@
 //! Files in memory.
 
-use source_files::{EmptyFolders, ReadFiles};
+use source_files::{EmptyFolders, FolderEntry, ReadFiles};
 use source_tree::read_source;
 use std::alloc::{AllocError, Global};
 use streams::Std;
@@ -82,29 +82,39 @@ fn text_at(path: &str) -> Option<&'static str> {
     None
 }
 
-fn listed(alloc: Global, root: &str) -> Result<Vec<String>, AllocError> {
-    let mut paths = Vec::new(alloc);
+/// The files that are listed in a root.
+fn listed(alloc: Global, root: &str) -> Result<Vec<FolderEntry>, AllocError> {
+    let mut entries = Vec::new(alloc);
     for (above, path, _) in &ENTRIES {
         if *above == root {
-            paths.push(String::from_str(alloc, *path)?)?;
+            let name = String::from_str(alloc, *path)?;
+            entries.push(FolderEntry {
+                name,
+                is_file: true,
+            })?;
         }
     }
-    Ok(paths)
+    Ok(entries)
 }
 
 impl ReadFiles for Files {
     ghost use Rattle.std.specs.Prelude.{⊤};
 
-    ghost lists = { λ _ _ _. ⊤ };
+    ghost lists = { λ _ _ _ _. ⊤ };
 
     ghost gives = { λ _ _ _. ⊤ };
 
-    fn list_sources(&self, alloc: Global, root: &str) -> Result<Option<Vec<String>>, AllocError> {
-        let paths = listed(alloc, root)?;
-        if paths.is_empty() {
+    fn list_folder(
+        &self,
+        alloc: Global,
+        root: &str,
+        _folder: &str,
+    ) -> Result<Option<Vec<FolderEntry>>, AllocError> {
+        let entries = listed(alloc, root)?;
+        if entries.is_empty() {
             return Ok(None);
         }
-        Ok(Some(paths))
+        Ok(Some(entries))
     }
 
     fn read_file(&self, alloc: Global, path: &str) -> Result<Option<Vec<u8>>, AllocError> {

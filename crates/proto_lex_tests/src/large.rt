@@ -1,10 +1,11 @@
 //! Large texts, which no call may refuse for their size: that time and memory are there for them, no
 //! contract says.
 
-use crate::calls::{see, text_of, tokens_of};
+use crate::calls::see;
 use proto_lex::{LexFault, Text};
 use std::alloc::Global;
 use std::test::Fail;
+use test_kit::{text_of, tokens_of};
 
 /// How many tokens a source has.
 fn token_count(alloc: Global, source: &[u8]) -> Result<usize, LexFault> {

@@ -1,10 +1,11 @@
 //! Worked sources. The kinds, the spellings and the offsets are those that the proto3
 //! specification's lexical elements give by hand.
 
-use crate::calls::{see, text_of, tokens_of};
+use crate::calls::see;
 use proto_lex::{Comment, CommentKind, LexFault, TokenKind, Tokens};
-use std::alloc::{AllocError, Global};
+use std::alloc::Global;
 use std::test::Fail;
+use test_kit::{text_of, tokens_of};
 
 /// The fault of a source, if it has one.
 fn fault_of(alloc: Global, source: &[u8]) -> Option<LexFault> {
@@ -35,26 +36,9 @@ const FAULTS: [(&[u8], LexFault); 6] = [
     (b"\xFF", LexFault::NotUtf8(0)),
 ];
 
-/// The texts of these, of `TooLong` and of `Memory`.
-const TEXTS: &str =
-    "BadByte(0) OpenString(0) OpenComment(0) BadNumber(0) BadEscape(1) NotUtf8(0) TooLong Memory";
-
-/// The texts of faults, each with a space behind it.
-fn texts_of(alloc: Global, cases: &[(&[u8], LexFault)]) -> Result<String, AllocError> {
-    let mut text = String::new(alloc);
-    for (_, fault) in cases {
-        write!(text, "{fault} ")?;
-    }
-    write!(text, "{} {}", LexFault::TooLong, LexFault::Memory)?;
-    Ok(text)
-}
-
 #[test]
-fn faults_their_offsets_and_texts(rt: HostRuntime) -> Result<(), Fail> {
+fn faults_and_their_offsets(rt: HostRuntime) {
     see(&rt, first_other_fault(rt.alloc(), &FAULTS));
-    let is_so = texts_of(rt.alloc(), &FAULTS)?.as_str() == TEXTS;
-    see(&rt, if is_so { None } else { Some(0) });
-    Ok(())
 }
 
 /// A source with a token of each kind, and a comment of each.

@@ -1,31 +1,50 @@
 //! Positions of worked sources. The values come from outside: columns are those of the `utf-8` and
 //! `utf-16-le` codecs of Python.
 
-use crate::calls::{see, text_of};
+use crate::calls::see;
 use proto_lex::{Encoding, Text};
 use std::alloc::Global;
+use test_kit::text_of;
 
 /// A source and an offset in it; the line there, and the columns in UTF-8 and in UTF-16.
-type Place = (&'static str, usize, u32, u32, u32);
+struct Place {
+    source: &'static str,
+    offset: usize,
+    line: u32,
+    utf8: u32,
+    utf16: u32,
+}
 
 /// The first row reads: `A` stands behind an `é`, which takes two bytes of its line and one unit of UTF-16.
 static PLACES: [Place; 4] = [
-    (
-        "syntax = \"proto3\";\n/* é */ message A {}\n",
-        36,
-        1,
-        17,
-        16,
-    ),
-    (
-        "syntax = \"proto3\";\n/* 😀 */ message A {}\n",
-        38,
-        1,
-        19,
-        17,
-    ),
-    ("\u{FEFF}syntax = \"proto3\"; message A {}", 30, 0, 30, 28),
-    ("a\r\nb\rc\n\nd", 9, 3, 1, 1),
+    Place {
+        source: "syntax = \"proto3\";\n/* é */ message A {}\n",
+        offset: 36,
+        line: 1,
+        utf8: 17,
+        utf16: 16,
+    },
+    Place {
+        source: "syntax = \"proto3\";\n/* 😀 */ message A {}\n",
+        offset: 38,
+        line: 1,
+        utf8: 19,
+        utf16: 17,
+    },
+    Place {
+        source: "\u{FEFF}syntax = \"proto3\"; message A {}",
+        offset: 30,
+        line: 0,
+        utf8: 30,
+        utf16: 28,
+    },
+    Place {
+        source: "a\r\nb\rc\n\nd",
+        offset: 9,
+        line: 3,
+        utf8: 1,
+        utf16: 1,
+    },
 ];
 
 /// The line and the column of an offset of a text, if it stands between two characters.
@@ -39,11 +58,11 @@ fn position_of(text: &Text<'_>, offset: usize, encoding: Encoding) -> Option<(u3
 
 /// Whether a place is where it is said to be.
 fn is_right(alloc: Global, place: &Place) -> bool {
-    let (source, offset, line, utf8, utf16) = *place;
-    match text_of(alloc, source.as_bytes()) {
+    match text_of(alloc, place.source.as_bytes()) {
         Ok(text) => {
-            position_of(&text, offset, Encoding::Utf8) == Some((line, utf8))
-                && position_of(&text, offset, Encoding::Utf16) == Some((line, utf16))
+            position_of(&text, place.offset, Encoding::Utf8) == Some((place.line, place.utf8))
+                && position_of(&text, place.offset, Encoding::Utf16)
+                    == Some((place.line, place.utf16))
         }
         Err(_) => false,
     }

@@ -1,10 +1,11 @@
 //! Calls that are made again after `Memory`, and how a test tells what it saw. One function has the
 //! tree of a source, and all others borrow it.
 
-use proto_lex::{LexFault, Text, Tokens, lex};
+use proto_lex::{Text, Tokens};
 use proto_parse::{CustomOptions, Dialect, File, SyntaxFault, parse, parse_with};
 use std::alloc::{AllocError, Global};
 use std::process::Abort;
+use test_kit::{text_of, tokens_of};
 
 /// The statement that each source of proto3 begins with.
 pub const SYNTAX: &str = "syntax = \"proto3\";\n";
@@ -20,22 +21,6 @@ pub fn see(rt: &impl Abort, wrong: Option<usize>) {
     assert!(rt; wrong.is_none(), "wrong at {wrong:?}");
 }
 
-/// A text.
-pub fn text_of<'a>(alloc: Global, source: &'a [u8]) -> Result<Text<'a>, LexFault> {
-    match Text::new(alloc, source) {
-        Err(LexFault::Memory) => Text::new(alloc, source),
-        answer => answer,
-    }
-}
-
-/// The tokens of a text.
-pub fn tokens_of<'a>(alloc: Global, text: &'a Text<'a>) -> Result<Tokens<'a, 'a>, LexFault> {
-    match lex(alloc, text) {
-        Err(LexFault::Memory) => lex(alloc, text),
-        answer => answer,
-    }
-}
-
 /// What `parse` answers, or `parse_with` in another dialect.
 fn parse_so(alloc: Global, tokens: &Tokens<'_, '_>, dialect: Dialect) -> Result<File, SyntaxFault> {
     match dialect {
@@ -44,7 +29,12 @@ fn parse_so(alloc: Global, tokens: &Tokens<'_, '_>, dialect: Dialect) -> Result<
     }
 }
 
-fn tree_of(alloc: Global, tokens: &Tokens<'_, '_>, dialect: Dialect) -> Result<File, SyntaxFault> {
+/// The tree of tokens. After `Memory` it is made again, and the second answer counts.
+pub fn tree_of(
+    alloc: Global,
+    tokens: &Tokens<'_, '_>,
+    dialect: Dialect,
+) -> Result<File, SyntaxFault> {
     match parse_so(alloc, tokens, dialect) {
         Err(SyntaxFault::Memory) => parse_with(alloc, tokens, dialect),
         answer => answer,
@@ -76,9 +66,12 @@ fn fault_of_source(alloc: Global, source: &str, dialect: Dialect) -> Option<Synt
     }
 }
 
-/// Three texts, joined.
+/// Three texts, joined. After want of memory they are joined again.
 pub fn joined(alloc: Global, front: &str, middle: &str, end: &str) -> Result<String, AllocError> {
-    [front, middle, end].join(alloc, "")
+    match [front, middle, end].join(alloc, "") {
+        Err(AllocError) => [front, middle, end].join(alloc, ""),
+        text => text,
+    }
 }
 
 /// Why these three texts, joined, have no tree, if they have none.
@@ -109,8 +102,9 @@ fn is_printed(alloc: Global, fault: SyntaxFault, name: &str, offset: usize) -> b
     }
 }
 
-/// Whether a source, behind a front, has the fault with this name where its `^` is.
-fn is_refused(alloc: Global, front: &str, marked: &str, name: &str, dialect: Dialect) -> bool {
+/// Whether a source, behind a front, has the fault that it names where its `^` is.
+fn is_refused(alloc: Global, front: &str, row: &str, dialect: Dialect) -> bool {
+    let (name, marked) = row.split_once(": ").unwrap_or(("", row));
     let Some((before, behind)) = marked.split_once('^') else {
         return false;
     };
@@ -125,16 +119,15 @@ fn is_refused(alloc: Global, front: &str, marked: &str, name: &str, dialect: Dia
     }
 }
 
-/// The first source that has another fault than that with this name, or has it elsewhere.
+/// The first source that has another fault than it names, or has it elsewhere.
 pub fn first_other(
     alloc: Global,
     front: &str,
     sources: &[&str],
-    name: &str,
     dialect: Dialect,
 ) -> Option<usize> {
-    for (index, marked) in sources.iter().enumerate() {
-        if !is_refused(alloc, front, marked, name, dialect) {
+    for (index, row) in sources.iter().enumerate() {
+        if !is_refused(alloc, front, row, dialect) {
             return Some(index);
         }
     }

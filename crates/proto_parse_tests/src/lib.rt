@@ -4,10 +4,6 @@
 #[cfg(test)]
 mod calls;
 #[cfg(test)]
-mod dialects;
-#[cfg(test)]
 mod prefixes;
 #[cfg(test)]
-mod refused;
-#[cfg(test)]
-mod rich;
+mod sources;

@@ -1,9 +1,10 @@
 //! Each beginning of worked sources is a file, or is refused, in lexing or in parsing, no earlier than the shorter
 //! ones.
 
-use crate::calls::{PROTO3, fault_of_tokens, see, text_of, tokens_of};
+use crate::calls::{PROTO3, fault_of_tokens, see};
 use proto_lex::Text;
 use std::alloc::Global;
+use test_kit::{text_of, tokens_of};
 
 /// Sources, and how many of their beginnings are files. Of the first one these are eight: behind each of its statements,
 /// and behind each of their line ends.

@@ -1,4 +1,2 @@
-pub mod PathLemmas
-pub mod ReadingLemmas
-pub mod ResolveLemmas
+pub mod OneSourceLemmas
 pub mod RisingLemmas

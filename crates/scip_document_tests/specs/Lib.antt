@@ -1,2 +1,2 @@
--- what the sources of tests are read as
-pub mod Reads
+-- the source that the tests link
+pub mod OneSource

@@ -1,126 +1,215 @@
-//! What is made of the sources of a row.
+//! The document of one source, and what it says of included files. More files are linked in the tests of whole indexes.
 
-ghost use Rattle.std.specs.Prelude.{◌≡◌, length, map, All};
-ghost use Rattle.scip_document_tests.specs.Reads.{IsFine, linked_files, counts};
+ghost use Rattle.std.specs.Prelude.{◌≡◌, ◌∷◌, [], length, IfOk};
+ghost use Rattle.proto_visibility.specs.Files.{IsSource};
+ghost use Rattle.scip_document.specs.Chosen.{HaveChoices};
+ghost use Rattle.scip_document.specs.Conditions.{HaveGoodPaths};
+ghost use Rattle.scip_document.specs.Texts.{AreOfText, HasText};
+ghost use Rattle.scip_document_tests.specs.OneSource.{source_with};
 
-use crate::choosing::choices_of;
-use crate::linked::{add_all, files_of, link};
-use crate::listed::Listing;
-use crate::reading::{Reading, read_all};
-use proto_link::LinkFile;
-use scip_document::{Choices, FilePackages, RootPackage};
+use crate::listed::{add_document, add_externals};
+use index_hooks::{Choice, DocChoice};
+use proto_decl::{Declaration, FileFacts, declare};
+use proto_lex::{Encoding, Text, lex};
+use proto_link::{LinkFile, Linker, have_own_paths};
+use proto_parse::parse;
+use scip_document::{Choices, DocumentMaker, FilePackages, document, externals};
 use scip_symbol::PackageId;
 use std::alloc::{AllocError, Global};
 use std::process::Abort;
-
-/// Sources, as `read_all` takes them; roots with packages of their own, as `packages_of` takes them; and
-/// what is made of them, as a listing.
-pub(crate) struct Row {
-    pub(crate) sources: &'static str,
-    pub(crate) roots: &'static str,
-    pub(crate) listed: &'static str,
-}
-
-/// The package with this name, and without manager and version.
-fn package_of(alloc: Global, name: &str) -> Result<PackageId, AllocError> {
-    let name = String::from_str(alloc, name)?;
-    match PackageId::new([String::new(alloc), name, String::new(alloc)]) {
-        Ok(package) => Ok(package),
-        Err(_) => Err(AllocError),
-    }
-}
-
-/// Adds a root by the name of its package and, behind a space, the path of its file.
-fn add_root(alloc: Global, packages: &mut FilePackages, root: &str) -> Result<(), AllocError> {
-    let (name, path) = root.split_once(' ').unwrap_or((root, ""));
-    let path = String::from_str(alloc, path)?;
-    let mut made = RootPackage::new(alloc, package_of(alloc, name)?);
-    made.add(path)?;
-    packages.add(made)
-}
-
-/// The empty package for the run, and roots, with `|` between them.
-fn packages_of(alloc: Global, roots: &str) -> Result<FilePackages, AllocError> {
-    let mut packages = FilePackages::of_run(alloc, package_of(alloc, "")?);
-    for root in roots.split_terminator('|') {
-        add_root(alloc, &mut packages, root)?;
-    }
-    Ok(packages)
-}
-
-fn is_linked_right<'a>(
-    alloc: Global,
-    files: &'a [LinkFile<'a, '_>],
-    readings: &[Reading<'_>],
-    choices: &Choices,
-    package: &FilePackages,
-    listed: &str,
-) -> Result<bool, AllocError>
-    requires files { files.now ≡ linked_files readings.now }
-    requires fine { All IsFine readings.now }
-    requires choices { map (λ list. length list) choices.now ≡ counts readings.now }
-{
-    let linker = link(alloc, files)?;
-    let mut listing = Listing::new(alloc);
-    add_all(alloc, &mut listing, &linker, readings, choices, package)?;
-    listing.is(listed)
-}
-
-fn are_files_right(
-    alloc: Global,
-    readings: &[Reading<'_>],
-    choices: &Choices,
-    package: &FilePackages,
-    listed: &str,
-) -> Result<bool, AllocError>
-    requires fine { All IsFine readings.now }
-    requires choices { map (λ list. length list) choices.now ≡ counts readings.now }
-{
-    let files = files_of(alloc, readings)?;
-    is_linked_right(alloc, &files, readings, choices, package, listed)
-}
-
-fn is_chosen_right(
-    alloc: Global,
-    readings: &[Reading<'_>],
-    choices: &Choices,
-    row: &Row,
-) -> Result<bool, AllocError>
-    requires fine { All IsFine readings.now }
-    requires choices { map (λ list. length list) choices.now ≡ counts readings.now }
-{
-    let package = packages_of(alloc, row.roots)?;
-    are_files_right(alloc, readings, choices, &package, row.listed)
-}
-
-fn is_read_right(alloc: Global, readings: &[Reading<'_>], row: &Row) -> Result<bool, AllocError>
-    requires fine { All IsFine readings.now }
-{
-    let choices = choices_of(alloc, readings)?;
-    is_chosen_right(alloc, readings, &choices, row)
-}
-
-fn is_right_once(alloc: Global, row: &Row) -> Result<bool, AllocError> {
-    let readings = read_all(alloc, row.sources)?;
-    is_read_right(alloc, &readings, row)
-}
-
-/// Whether that is made of a row's sources, by what is chosen so, which it lists. After want of memory all
-/// of it is made again, and the second answer counts.
-fn is_right(alloc: Global, row: &Row) -> Result<bool, AllocError> {
-    match is_right_once(alloc, row) {
-        Err(_) => is_right_once(alloc, row),
-        answer => answer,
-    }
-}
+use std::test::Fail;
+use test_kit::{Draft, text_of};
 
 /// Sees that what a case says holds. (A formatted assertion is proved once, here.)
 pub(crate) fn see(rt: &impl Abort, holds: bool, case: &str) {
     assert!(rt; holds, "{case}");
 }
 
-/// Ends the test where another thing is made of a row's sources than it lists.
-pub(crate) fn see_row(rt: &impl Abort, alloc: Global, row: &Row) -> Result<(), AllocError> {
-    see(rt, is_right(alloc, row)?, row.listed);
+/// The facts of a text, which can be read: so reading tells of no fault but want of memory.
+fn facts_of<'t>(alloc: Global, text: &Text<'t>) -> Result<FileFacts<'t>, AllocError>
+    ensures { IfOk result (AreOfText text.now) }
+{
+    let Ok(lexed) = lex(alloc, text) else {
+        return Err(AllocError);
+    };
+    let Ok(tree) = parse(alloc, &lexed) else {
+        return Err(AllocError);
+    };
+    declare(alloc, 0, &lexed, &tree)
+}
+
+const KEPT: Choice = Choice {
+    keep: true,
+    doc: DocChoice::Leading,
+};
+
+/// Each declaration is kept, with the text before it.
+fn choose_each(alloc: Global, declarations: &[Declaration]) -> Result<Vec<Choice>, AllocError>
+    ensures { IfOk result (λ list. length list.items ≡ length declarations.now) }
+{
+    let mut list = Vec::with_capacity(alloc, declarations.len())?;
+    for _ in declarations {
+        list.push(KEPT)?;
+    }
+    Ok(list)
+}
+
+/// The choices for the declarations of a source that is linked alone.
+fn choices_of(alloc: Global, facts: &FileFacts) -> Result<Choices, AllocError>
+    ensures { IfOk result (HaveChoices (source_with facts.now ∷ [])) }
+{
+    let list = choose_each(alloc, facts.declarations())?;
+    let lists = Vec::from_array(alloc, [list])?;
+    Ok(Choices::new(lists))
+}
+
+/// The linker of files that can be linked.
+fn link<'a, 't>(alloc: Global, files: &'a [LinkFile<'a, 't>]) -> Result<Linker<'a, 't>, AllocError>
+    ensures { IfOk result (λ linker. linker ≡ files.now) }
+{
+    if !have_own_paths(alloc, files)? {
+        return Err(AllocError);
+    }
+    match Linker::new(alloc, files) {
+        Ok(linker) => Ok(linker),
+        Err(_) => Err(AllocError),
+    }
+}
+
+/// The empty package for each file.
+fn empty_package(alloc: Global) -> Result<FilePackages, AllocError> {
+    match PackageId::new([String::new(alloc), String::new(alloc), String::new(alloc)]) {
+        Ok(package) => Ok(FilePackages::of_run(alloc, package)),
+        Err(_) => Err(AllocError),
+    }
+}
+
+/// Adds what `document` answers.
+fn add_made(draft: &mut Draft, maker: &DocumentMaker) -> Result<(), AllocError>
+    requires source { IsSource maker.now.linker.now maker.now.source }
+    requires text { HasText maker.now.linker.now maker.now.source maker.now.text.now }
+    requires paths { HaveGoodPaths maker.now.linker.now }
+    requires choices { HaveChoices maker.now.linker.now maker.now.choices.now }
+{
+    match document(maker) {
+        Ok(document) => {
+            add_document(draft, &document);
+            Ok(())
+        }
+        Err(_) => Err(AllocError),
+    }
+}
+
+/// Adds the external entries.
+fn add_named(draft: &mut Draft, maker: &DocumentMaker) -> Result<(), AllocError>
+    requires choices { HaveChoices maker.now.linker.now maker.now.choices.now }
+{
+    let infos = externals(maker.alloc, maker.linker, maker.choices, maker.package)?;
+    add_externals(draft, infos.as_slice());
+    Ok(())
+}
+
+/// Whether a document and the external entries are listed so.
+fn is_listed(maker: &DocumentMaker, listed: &str) -> Result<bool, AllocError>
+    requires source { IsSource maker.now.linker.now maker.now.source }
+    requires text { HasText maker.now.linker.now maker.now.source maker.now.text.now }
+    requires paths { HaveGoodPaths maker.now.linker.now }
+    requires choices { HaveChoices maker.now.linker.now maker.now.choices.now }
+{
+    let mut draft = Draft::new(maker.alloc);
+    add_made(&mut draft, maker)?;
+    add_named(&mut draft, maker)?;
+    Ok(draft.finish()?.as_str() == listed)
+}
+
+fn is_linked_right(
+    alloc: Global,
+    text: &Text,
+    facts: &FileFacts,
+    choices: &Choices,
+    package: &FilePackages,
+    listed: &str,
+) -> Result<bool, AllocError>
+    requires text { AreOfText text.now facts.now }
+    requires choices { HaveChoices (source_with facts.now ∷ []) choices.now }
+{
+    let files = [LinkFile {
+        path: "a.proto",
+        facts: Some(facts),
+        included: false,
+    }];
+    let linker = link(alloc, &files)?;
+    let maker = DocumentMaker {
+        alloc,
+        linker: &linker,
+        choices,
+        package,
+        encoding: Encoding::Utf8,
+        source: 0,
+        text,
+    };
+    is_listed(&maker, listed)
+}
+
+fn is_chosen_right(
+    alloc: Global,
+    text: &Text,
+    facts: &FileFacts,
+    choices: &Choices,
+    listed: &str,
+) -> Result<bool, AllocError>
+    requires text { AreOfText text.now facts.now }
+    requires choices { HaveChoices (source_with facts.now ∷ []) choices.now }
+{
+    let package = empty_package(alloc)?;
+    is_linked_right(alloc, text, facts, choices, &package, listed)
+}
+
+fn is_declared_right(
+    alloc: Global,
+    text: &Text,
+    facts: &FileFacts,
+    listed: &str,
+) -> Result<bool, AllocError>
+    requires text { AreOfText text.now facts.now }
+{
+    let choices = choices_of(alloc, facts)?;
+    is_chosen_right(alloc, text, facts, &choices, listed)
+}
+
+fn is_text_right(alloc: Global, text: &Text, listed: &str) -> Result<bool, AllocError> {
+    let facts = facts_of(alloc, text)?;
+    is_declared_right(alloc, text, &facts, listed)
+}
+
+fn is_right_once(alloc: Global, source: &str, listed: &str) -> Result<bool, AllocError> {
+    match text_of(alloc, source.as_bytes()) {
+        Ok(text) => is_text_right(alloc, &text, listed),
+        Err(_) => Err(AllocError),
+    }
+}
+
+/// Whether this is made of the source `a.proto`, of which all is kept. After want of memory it is made again, and the
+/// second answer counts.
+fn is_right(alloc: Global, source: &str, listed: &str) -> Result<bool, AllocError> {
+    match is_right_once(alloc, source, listed) {
+        Err(_) => is_right_once(alloc, source, listed),
+        answer => answer,
+    }
+}
+
+/// A source, and what is made of it. It reads: the document `a.proto`, with columns in UTF-8 (1), has the file's own
+/// empty range, with role 1, and `p/` from 8 to 9 in line 1 with role 1; the use of `Foo` in line 3 has no role. `p/M#`
+/// has the name `M`, and the file's symbol that of its path. Nothing external is named.
+const SOURCE: &str =
+    "syntax = \"proto3\";\npackage p;\nmessage Foo {}\nmessage M { string Foo = 1; Foo x = 2; }\n";
+
+const LISTED: &str = "a.proto Protobuf 1  0 0 0 0 1 `a.proto`/; 1 8 1 9 1 p/; 2 8 2 11 1 p/Foo#; \
+3 8 3 9 1 p/M#; 3 19 3 22 1 p/M#Foo.; 3 28 3 31 0 p/Foo#; 3 32 3 33 1 p/M#x.;\n \
+`a.proto`/ a.proto; p/ p; p/Foo# Foo; p/M# M; p/M#Foo. Foo; p/M#x. x;\n+\n";
+
+#[test]
+fn a_field_named_like_its_type(rt: HostRuntime) -> Result<(), Fail> {
+    see(&rt, is_right(rt.alloc(), SOURCE, LISTED)?, LISTED);
     Ok(())
 }

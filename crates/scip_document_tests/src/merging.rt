@@ -97,13 +97,5 @@ fn pieces_in_any_order(rt: HostRuntime) -> Result<(), Fail> {
     for (paths, fault) in &ROWS {
         see(&rt, is_row_due(rt.alloc(), *paths, *fault)?, *paths);
     }
-    let (stranger, twice) = (MergeFault::Stranger(1), MergeFault::Twice(2));
-    let (missing, memory) = (MergeFault::Missing(3), MergeFault::Memory);
-    let text = format!(in rt.alloc(); "{stranger} {twice} {missing} {memory}")?;
-    see(
-        &rt,
-        text.as_str() == "Stranger(1) Twice(2) Missing(3) Memory",
-        "texts",
-    );
     Ok(())
 }

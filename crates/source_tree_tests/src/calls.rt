@@ -9,22 +9,6 @@ pub(crate) fn see(rt: &impl Abort, holds: bool, case: &str) {
     assert!(rt; holds, "{case}");
 }
 
-/// A file that holds a text.
-fn source(alloc: Global, path: &str, text: &str) -> Result<Source, AllocError> {
-    let path = String::from_str(alloc, path)?;
-    let bytes = Vec::from_slice(alloc, text.as_bytes())?;
-    Ok(Source { path, bytes })
-}
-
-/// Files, each of a path and a text.
-pub(crate) fn sources(alloc: Global, files: &[(&str, &str)]) -> Result<Vec<Source>, AllocError> {
-    let mut sources = Vec::new(alloc);
-    for (path, text) in files {
-        sources.push(source(alloc, path, text)?)?;
-    }
-    Ok(sources)
-}
-
 /// What sources are refused for, if they are.
 pub(crate) fn fault_of(
     alloc: Global,

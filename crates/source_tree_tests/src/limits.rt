@@ -1,9 +1,10 @@
 //! The most files of a tree, and the longest path.
 
-use crate::calls::{fault_of, see, sources};
+use crate::calls::{fault_of, see};
 use source_tree::{Source, Tree, TreeFault};
 use std::alloc::{AllocError, Global};
 use std::test::Fail;
+use test_kit::sources_of;
 
 /// So many files without a path, which take no memory of their own.
 fn nameless(alloc: Global, count: usize) -> Result<Vec<Source>, AllocError> {
@@ -29,7 +30,7 @@ fn fault_of_long(alloc: Global, before: usize) -> Result<Option<TreeFault>, Allo
         path.push('a')?;
     }
     path.push_str(".proto")?;
-    fault_of(alloc, sources(alloc, &[(path.as_str(), "")])?)
+    fault_of(alloc, sources_of(alloc, path.as_str())?)
 }
 
 /// Whether 65,536 files are judged by their paths, and one more is too many; and whether a path of

@@ -1,9 +1,10 @@
 //! A tree of sources and included files, and what is refused.
 
-use crate::calls::{fault_of, see, sources};
+use crate::calls::{fault_of, see};
 use source_tree::{Tree, TreeFault};
 use std::alloc::{AllocError, Global};
 use std::test::Fail;
+use test_kit::{sources_of, tree_of};
 
 // The first file: of the sources `z.proto` and `y.proto` comes `y.proto` first, which holds a 2. The last
 // two are included; one with a source's path doesn't count, and of two with one path the first listed does.
@@ -27,62 +28,49 @@ fn is_due(tree: &Tree) -> bool {
     tree.file_count() == 4 && tree.source_count() == 2
 }
 
-fn is_made(alloc: Global) -> Result<bool, AllocError> {
-    let of_sources = sources(alloc, &[("z.proto", "1"), ("y.proto", "2")])?;
-    let of_included = sources(
-        alloc,
-        &[
-            ("b.proto", "3"),
-            ("a.proto", "4"),
-            ("y.proto", "5"),
-            ("b.proto", "6"),
-        ],
-    )?;
-    match Tree::with_included(alloc, of_sources, of_included) {
-        Ok(tree) => Ok(is_due(&tree)),
-        Err((_, TreeFault::Memory)) => Err(AllocError),
-        Err(_) => Ok(false),
-    }
-}
+/// The files, in the form of `test_kit`.
+const FILES: &str = "z.proto\n1|y.proto\n2|+b.proto\n3|+a.proto\n4|+y.proto\n5|+b.proto\n6";
 
 #[test]
 fn sources_and_included_files(rt: HostRuntime) -> Result<(), Fail> {
-    let is = match is_made(rt.alloc()) {
-        Err(_) => is_made(rt.alloc())?,
-        Ok(is) => is,
+    let is = match tree_of(rt.alloc(), FILES)? {
+        Some(tree) => is_due(&tree),
+        None => false,
     };
     see(&rt, is, "tree");
     Ok(())
 }
 
-/// What two sources are refused for.
-fn fault_of_two(alloc: Global, one: &str, other: &str) -> Result<Option<TreeFault>, AllocError> {
-    fault_of(alloc, sources(alloc, &[(one, "1"), (other, "2")])?)
+/// What sources are refused for.
+fn fault_of_files(alloc: Global, files: &str) -> Result<Option<TreeFault>, AllocError> {
+    fault_of(alloc, sources_of(alloc, files)?)
 }
 
-fn fault_again(alloc: Global, one: &str, other: &str) -> Result<Option<TreeFault>, AllocError> {
-    match fault_of_two(alloc, one, other) {
-        Err(_) => fault_of_two(alloc, one, other),
+fn fault_again(alloc: Global, files: &str) -> Result<Option<TreeFault>, AllocError> {
+    match fault_of_files(alloc, files) {
+        Err(_) => fault_of_files(alloc, files),
         fault => fault,
     }
 }
 
-/// Paths that no file may have.
-const BAD: [&str; 5] = ["/a.proto", "a//b.proto", "../a.proto", "a.txt", ""];
+/// Two sources each, the first with a path that no file may have.
+const BAD: [&str; 5] = [
+    "/a.proto\n1|a.proto\n2",
+    "a//b.proto\n1|a.proto\n2",
+    "../a.proto\n1|a.proto\n2",
+    "a.txt\n1|a.proto\n2",
+    "\n1|a.proto\n2",
+];
 
 #[test]
 fn bad_paths_and_two_sources_with_one_path(rt: HostRuntime) -> Result<(), Fail> {
-    for path in &BAD {
-        let fault = fault_again(rt.alloc(), path, "a.proto")?;
-        see(&rt, fault == Some(TreeFault::BadPath(0)), path);
+    for files in &BAD {
+        let fault = fault_again(rt.alloc(), files)?;
+        see(&rt, fault == Some(TreeFault::BadPath(0)), files);
     }
-    let fault = fault_again(rt.alloc(), "a.proto", "a.proto")?;
+    let fault = fault_again(rt.alloc(), "a.proto\n1|a.proto\n2")?;
     see(&rt, fault == Some(TreeFault::SamePath(1)), "one path");
-    let told = format!(in rt.alloc(); "{} {}", TreeFault::SamePath(1), TreeFault::BadPath(2))?;
-    see(&rt, told.as_str() == "SamePath(1) BadPath(2)", "texts");
-    let told = format!(in rt.alloc(); "{} {}", TreeFault::TooMany, TreeFault::Memory)?;
-    see(&rt, told.as_str() == "TooMany Memory", "other texts");
-    let fault = fault_again(rt.alloc(), "a.proto", "b.proto")?;
+    let fault = fault_again(rt.alloc(), "a.proto\n1|b.proto\n2")?;
     see(&rt, fault.is_none(), "two paths");
     Ok(())
 }

@@ -2,8 +2,4 @@
 #![tactic(auto)]
 
 #[cfg(test)]
-mod calls;
-#[cfg(test)]
-mod dialects;
-#[cfg(test)]
-mod places;
+mod hints;

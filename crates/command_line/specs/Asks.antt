@@ -17,7 +17,8 @@ use Rattle.command_line.specs.declared.request.Request.TheVariants as request
 abbrev pub name_of : Option (Text × List Row) → Option Text
 name_of program = option_map (λ p. p.0) program
 
--- the program, with what it is given: `index`, `shell`, `query`, `snapshot`, `pages`, and else `dump`, the only other one
+-- the program, with what it is given: `index`, `shell`, `query`, `snapshot`, `pages`, and else
+-- `dump`, the only other one
 abbrev pub Names : Option (Text × List Row) → Request → Type 0
 Names program (request.Index options out quiet) = (name_of program ≡ Some (codes "index"))
     × Carries (rows_in program) options

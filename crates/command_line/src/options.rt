@@ -3,7 +3,8 @@
 ghost use Rattle.std.specs.Prelude.{◌≤◌};
 ghost use Rattle.index_pool.specs.declared.workers.TheConstants.{MAX_WORKERS};
 
-/// The values of the argument ROOT and of the options of `index` and `shell`. An option that isn't given has its default.
+/// The values of the argument ROOT and of the options of `index` and `shell`. An option that isn't given
+/// has its default.
 #[derive(Debug, Drop)]
 pub struct IndexOptions {
     /// The path of the folder whose sources are indexed, as it was written.

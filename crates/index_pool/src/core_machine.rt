@@ -118,7 +118,7 @@ impl Core {
         }
     }
 
-    // Gives the next input to its worker.
+    /// Gives the next input to its worker.
     fn seed(&mut self, number: usize) -> Result<Option<usize>, NotPossible>
         ensures { MatchResult result (λ answer. CoreStep self.old (Seed number) answer self.new)
             (λ _. (¬ MayHappen self.old (Seed number)) × (self.new ≡ self.old)) }
@@ -132,7 +132,7 @@ impl Core {
         Ok(None)
     }
 
-    // A worker takes the first of its own queue.
+    /// A worker takes the first of its own queue.
     fn pop(&mut self, worker: usize) -> Result<Option<usize>, NotPossible>
         ensures { MatchResult result (λ answer. CoreStep self.old (Pop worker) answer self.new)
             (λ _. (¬ MayHappen self.old (Pop worker)) × (self.new ≡ self.old)) }
@@ -146,7 +146,7 @@ impl Core {
         }
     }
 
-    // A worker notes that its own queue is empty.
+    /// A worker notes that its own queue is empty.
     fn note_empty(&mut self, worker: usize) -> Result<Option<usize>, NotPossible>
         ensures { MatchResult result (λ answer. CoreStep self.old (PopEmpty worker) answer self.new)
             (λ _. (¬ MayHappen self.old (PopEmpty worker)) × (self.new ≡ self.old)) }
@@ -158,7 +158,7 @@ impl Core {
         Ok(None)
     }
 
-    // A worker takes the first of its neighbour's queue.
+    /// A worker takes the first of its neighbour's queue.
     fn steal(&mut self, worker: usize) -> Result<Option<usize>, NotPossible>
         ensures { MatchResult result (λ answer. CoreStep self.old (Steal worker) answer self.new)
             (λ _. (¬ MayHappen self.old (Steal worker)) × (self.new ≡ self.old)) }
@@ -172,7 +172,7 @@ impl Core {
         }
     }
 
-    // A worker finds its neighbour's queue empty.
+    /// A worker finds its neighbour's queue empty.
     fn find_neighbour_empty(&self, worker: usize) -> Result<Option<usize>, NotPossible>
         ensures { MatchResult result (λ answer. CoreStep self.now (StealEmpty worker) answer self.now)
             (λ _. ¬ MayHappen self.now (StealEmpty worker)) }
@@ -184,7 +184,7 @@ impl Core {
         }
     }
 
-    // A worker tries in vain to steal.
+    /// A worker tries in vain to steal.
     fn retry(&self, worker: usize) -> Result<Option<usize>, NotPossible>
         ensures { MatchResult result (λ answer. CoreStep self.now (StealRetry worker) answer self.now)
             (λ _. ¬ MayHappen self.now (StealRetry worker)) }
@@ -198,21 +198,21 @@ impl Core {
 }
 
 impl Core {
-    // Every number is seeded, and there is such a worker.
+    /// Every number is seeded, and there is such a worker.
     fn is_ready(&self, worker: usize) -> bool
         ensures { IsTrue result ↔ IsReady self.now worker }
     {
         self.seeded == self.inputs && worker < self.workers.len()
     }
 
-    // The same, and the worker has noted that its queue is empty.
+    /// The same, and the worker has noted that its queue is empty.
     fn has_noted(&self, worker: usize) -> bool
         ensures { IsTrue result ↔ HasNoted self.now worker }
     {
         self.is_ready(worker) && self.workers[worker].has_noted()
     }
 
-    // Whether a worker's queue is empty.
+    /// Whether a worker's queue is empty.
     fn is_queue_empty(&self, worker: usize) -> bool
         requires { IsReady self.now worker }
         ensures { IsTrue result ↔ (queue_of self.now worker ≡ []) }
@@ -220,7 +220,7 @@ impl Core {
         self.workers[worker].is_queue_empty()
     }
 
-    // From whom a worker steals.
+    /// From whom a worker steals.
     fn neighbour(&self, worker: usize) -> usize
         requires { IsReady self.now worker }
         ensures value { result ≡ neighbour self.now worker }
@@ -230,7 +230,7 @@ impl Core {
         (worker + 1) % count
     }
 
-    // Moves the first number of one worker's queue to the end of another's takings.
+    /// Moves the first number of one worker's queue to the end of another's takings.
     fn take(&mut self, from: usize, to: usize) -> Option<usize>
         requires { IsReady self.old from × IsReady self.old to }
         ensures none { IfNone result ((queue_of self.old from ≡ []) × (self.new ≡ self.old)) }

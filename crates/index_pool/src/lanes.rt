@@ -83,7 +83,7 @@ pub fn lane(
     Ok((owner, thief))
 }
 
-// A deque with the lane's numbers, and room for them all from the start.
+/// A deque with the lane's numbers, and room for them all from the start.
 fn filled(
     alloc: Global,
     inputs: usize,
@@ -104,7 +104,7 @@ fn filled(
     Ok(deque)
 }
 
-// Pushes a number if there is room.
+/// Pushes a number if there is room.
 fn give(deque: &mut LaneWorker, number: usize)
     requires both { ((worker_view deque.old).owns ≡ true) × ((worker_view deque.old).steals ≡ true) }
     requires room { worker_index deque.old < worker_capacity deque.old }
@@ -189,7 +189,7 @@ impl LaneThief {
         }
     }
 
-    // How many tries are left.
+    /// How many tries are left.
     pub(crate) fn tries(&self) -> usize
         ensures { result ≡ tries_left self.now }
     {

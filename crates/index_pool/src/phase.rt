@@ -90,7 +90,7 @@ pub fn run_phase_refusing<R: Threads + Wait, J: Job, G: Gate>(
     }
 }
 
-// How many threads may be started before the start of this number, from 1.
+/// How many threads may be started before the start of this number, from 1.
 fn starts_before(refused: Option<usize>) -> usize
     ensures { (workers : ℕ) → IsStartRefused refused workers → result + 1 < workers }
 {
@@ -100,7 +100,7 @@ fn starts_before(refused: Option<usize>) -> usize
     }
 }
 
-// A result for each input, in the order in which they were gathered.
+/// A result for each input, in the order in which they were gathered.
 fn run_lanes<R: Threads + Wait, J: Job, G: Gate>(
     rt: &R,
     task: &Task<'_, J, G>,
@@ -128,7 +128,7 @@ fn run_lanes<R: Threads + Wait, J: Job, G: Gate>(
     Ok(results)
 }
 
-// The lanes of all workers but the first, in order.
+/// The lanes of all workers but the first, in order.
 fn further_lanes(
     alloc: Global,
     inputs: usize,
@@ -147,7 +147,7 @@ fn further_lanes(
     Ok(lanes)
 }
 
-// The scope of the workers' threads.
+/// The scope of the workers' threads.
 fn start_all<R: Threads + Wait, J: Job, G: Gate>(
     rt: &R,
     task: &Task<'_, J, G>,

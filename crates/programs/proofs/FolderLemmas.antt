@@ -1,6 +1,7 @@
 -- The packages of files, by the folders that they are read from.
 use Rattle.std.proofs.Common.{◌≡◌, ◌∙◌, ◌⊎◌, inl, inr, refl, sym, ap, subst, ℕ, Bool, true, false, List, [], ◌∷◌, ◌++◌}
-use Rattle.std.proofs.Common.{Option, map, length, ◌||◌, ◌<◌, ◌+◌, ◌==◌, suc, arith, take, drop, ap₂, get_or, add-one, drop-cons}
+use Rattle.std.proofs.Common.{Option, map, length, ◌||◌, ◌<◌, ◌+◌, ◌==◌, suc, arith, take, drop, ap₂, get_or, add-one}
+use Rattle.std.proofs.Common.{drop-cons}
 use Rattle.std.specs.Prelude.{All, if◌then◌else◌, string_bytes}
 use Rattle.std.specs.List.{AllZip, list_any}
 use Rattle.std.specs.Str.{bytes_eq}
@@ -15,6 +16,7 @@ use Rattle.scip_document.specs.Packages.{Root, Packages, with_path, package_amon
 use Rattle.command_line.specs.declared.options.IndexOptions.{IndexOptions}
 use Rattle.command_line.specs.declared.options.PackageFolder.{PackageFolder}
 use Rattle.source_tree.specs.Files.{SourceFile, TreeFile, paths_of}
+use Rattle.source_files.specs.Entries.{Entry}
 use Rattle.source_files.specs.Roots.{AreBelow, AreBelowEach, AreFolders, no_root, next_root}
 use Rattle.source_files.specs.Loads.{IsTreeBelow}
 use Rattle.programs.specs.Folders.{AreFolders as AreFoldersOf}
@@ -278,7 +280,7 @@ bad_at folders number folder fault below is good bad =
 -- ---- the tree of the files below folders
 
 -- the paths of the files below each included folder
-folders_each : (lists : List ℕ → Option (List (List ℕ)) → Type 0) (gives : List ℕ → Option (List ℕ) → Type 0)
+folders_each : (lists : List ℕ → List ℕ → Option (List Entry) → Type 0) (gives : List ℕ → Option (List ℕ) → Type 0)
     {roots : List (List ℕ)} {files : List SourceFile} → AreBelowEach lists gives roots files
     → (paths : List (List (List ℕ))) × (AreFolders lists gives roots files paths)
 folders_each lists gives no_root =
@@ -295,7 +297,8 @@ folders_each lists gives (next_root {here = here} below each) =
     )
 
 -- where no folder has a package of its own
-pub folders_of_run : (lists : List ℕ → Option (List (List ℕ)) → Type 0) (gives : List ℕ → Option (List ℕ) → Type 0)
+pub folders_of_run : (lists : List ℕ → List ℕ → Option (List Entry) → Type 0)
+    (gives : List ℕ → Option (List ℕ) → Type 0)
     (options : IndexOptions) (tree : List TreeFile) → options.include_packages.items ≡ []
     → IsTreeBelow lists gives (string_bytes options.root) (map string_bytes options.include.items) tree
     → AreFoldersOf lists gives options tree (record { run = package_in options; roots = [] })

@@ -6,8 +6,10 @@ use Rattle.protoscip.proofs.TreeLemmas.{tree_of_files}
 use Rattle.command_line.specs.declared.options.IndexOptions.{IndexOptions}
 use Rattle.programs.specs.OptionLaws.{HeadlineOfFiles}
 use Rattle.programs.specs.Settings.{allowed_by, settings_in}
+use Rattle.source_files.specs.Entries.{Entry}
 
-pub headline_of_files : (lists : List ℕ → Option (List (List ℕ)) → Type 0) (gives : List ℕ → Option (List ℕ) → Type 0)
+pub headline_of_files : (lists : List ℕ → List ℕ → Option (List Entry) → Type 0)
+    (gives : List ℕ → Option (List ℕ) → Type 0)
     (options : IndexOptions) → LawsOfNames → HeadlineOfFiles lists gives options
 headline_of_files lists gives options laws tree ids folders are =
     headline (allowed_by options) laws (settings_in options ids) tree

@@ -12,7 +12,8 @@ use Rattle.programs.specs.TreeRuns.{Ends}
 -- as a run over the tree of what is kept of the source: of the bytes that the reader tells that it has left; if it
 -- tells none, of some bytes
 pub record EndsDump {R M : Type 0} (remaining : R → Option (List ℕ)) (said : M → Option (List ℕ)) (unsaid : M → ℕ)
-    (explain : Option Dialect) (reader : R) (done : Result (Unit {0}) Fault) (before after : M) (status : ℕ) : Type 0 where
+    (explain : Option Dialect) (reader : R) (done : Result (Unit {0}) Fault) (before after : M)
+    (status : ℕ) : Type 0 where
   pub some : (kept : List ℕ)
       × Ends said unsaid (SaysOfSuccess said unsaid) explain (dump_tree kept) (λ _. []) done before after status
   pub told : (bytes : List ℕ) → remaining reader ≡ Some bytes

@@ -7,9 +7,10 @@ use Rattle.programs.specs.Messages.{SaysOfSuccess}
 use Rattle.programs.specs.Settings.{allowed_by, settings_in}
 use Rattle.scip_snapshot.specs.Showing.{Writer}
 use Rattle.programs.specs.TreeRuns.{IsRun}
+use Rattle.source_files.specs.Entries.{Entry}
 
 -- it doesn't start, and nothing is written; or the tree of the files is indexed into the file, as the options say
-abbrev pub Indexed : {W M : Type 0} → (lists : List ℕ → Option (List (List ℕ)) → Type 0)
+abbrev pub Indexed : {W M : Type 0} → (lists : List ℕ → List ℕ → Option (List Entry) → Type 0)
     → (gives : List ℕ → Option (List ℕ) → Type 0)
     → IndexOptions → Writer W → Writer M → (status : ℕ) → Type 0
 Indexed lists gives options out messages status =

@@ -8,10 +8,11 @@ use Rattle.programs.specs.Settings.{allowed_by, settings_in}
 use Rattle.programs.specs.Streams.{Reader}
 use Rattle.scip_snapshot.specs.Showing.{Writer}
 use Rattle.programs.specs.TreeRuns.{IsRun}
+use Rattle.source_files.specs.Entries.{Entry}
 
 -- it doesn't start, and nothing is read or written; or commands are answered from the index of the tree of the files,
 -- as the options say
-abbrev pub Served : {R W M : Type 0} → (lists : List ℕ → Option (List (List ℕ)) → Type 0)
+abbrev pub Served : {R W M : Type 0} → (lists : List ℕ → List ℕ → Option (List Entry) → Type 0)
     → (gives : List ℕ → Option (List ℕ) → Type 0)
     → IndexOptions → Reader R → Writer W → Writer M → (status : ℕ) → Type 0
 Served lists gives options commands answers messages status =

@@ -1,6 +1,7 @@
 -- Why a program about a tree doesn't start, by its options and the files.
 -- `lists` and `gives` are what the system of files gives.
 use Rattle.std.specs.Prelude.{◌≡◌, ℕ, List, Option, string_bytes}
+use Rattle.source_files.specs.Entries.{Entry}
 use Rattle.source_files.specs.declared.load_fault.LoadFault.TheVariants as load
 use Rattle.source_files.specs.Loads.{MayNotLoad}
 use Rattle.scip_symbol.specs.Package.{IsPackage}
@@ -35,7 +36,7 @@ HasNoPackage folders (Load fault) = ⊥
 
 -- the options name no package of the run, or none of a folder; or memory ran out; or they name packages, and there is
 -- no tree of the files
-abbrev pub MayNotStart : (lists : List ℕ → Option (List (List ℕ)) → Type 0)
+abbrev pub MayNotStart : (lists : List ℕ → List ℕ → Option (List Entry) → Type 0)
     → (gives : List ℕ → Option (List ℕ) → Type 0) → IndexOptions → StartFault → Type 0
 MayNotStart lists gives options BadPart = IsPackage (package_in options) → ⊥
 MayNotStart lists gives options (BadFolder path) =

@@ -21,6 +21,7 @@ use Rattle.programs.specs.Settings.{settings_in}
 use Rattle.programs.specs.StartExplanations.{told as start_told}
 use Rattle.programs.specs.StartFaults.{status_of as start_status}
 use Rattle.programs.specs.Starting.{MayNotStart}
+use Rattle.source_files.specs.Entries.{Entry}
 
 -- the end of a run that made an index which lacks this; `says` says how a text with a property is written after a
 -- success. If it lacks nothing, nothing is said; else a line for each, and their numbers
@@ -43,7 +44,7 @@ Ends said unsaid says explain tree told_of (Err fault) before after status =
 
 -- Either the program doesn't start, leaves all but the stream of messages `untouched`, and says why; or there is a
 -- tree of the files, and the run over it ends. `runs` says what the run answers.
-pub data IsRun {M : Type 0} (lists : List ℕ → Option (List (List ℕ)) → Type 0)
+pub data IsRun {M : Type 0} (lists : List ℕ → List ℕ → Option (List Entry) → Type 0)
     (gives : List ℕ → Option (List ℕ) → Type 0)
     (said : M → Option (List ℕ)) (unsaid : M → ℕ) (says : (List ℕ → Type 0) → M → M → (status : ℕ) → Type 0)
     (options : IndexOptions) (untouched : Type 0)

@@ -37,6 +37,5 @@ impl Gate for AskingAhead {
         }
     }
 
-    /// Does nothing.
     fn after(&self, _number: usize, _entry: ()) {}
 }

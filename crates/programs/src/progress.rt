@@ -58,7 +58,7 @@ impl<'a, T: Clock + Eprint> Progress<'a, T> {
         }
     }
 
-    // Shows how many files were read, and sources made.
+    /// Shows how many files were read, and sources made.
     fn show(&self, runs: u64) {
         let files = self.files;
         let read = runs.min(files);
@@ -69,7 +69,7 @@ impl<'a, T: Clock + Eprint> Progress<'a, T> {
         }
     }
 
-    // Shows it where that is due, which one worker alone is told.
+    /// Shows it where that is due, which one worker alone is told.
     fn show_if_due(&self, begun: &Instant, runs: u64) {
         let Ok(time) = begun.elapsed(self.terminal) else {
             return;

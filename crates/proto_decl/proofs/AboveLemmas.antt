@@ -56,7 +56,8 @@ module _ (lexed : Lexed) (offset : ℕ) (ordered : CommentsInOrder lexed.comment
         → line_of lexed.text offset ≤ line_of lexed.text (get_or lexed.comments k e).span.end
     one_fewer k e high (inl at) not =
         let is : count - 1 ≡ k = omega arith in
-        let no_less : line_of lexed.text (get_or lexed.comments (count - 1) d).span.end < line_of lexed.text offset → ⊥ =
+        let no_less : line_of lexed.text (get_or lexed.comments (count - 1) d).span.end < line_of lexed.text offset
+        → ⊥ =
         λ less. false≢true (sym not ∙ said.1 less) in
         let here : line_of lexed.text offset
         ≤ line_of lexed.text (get_or lexed.comments (count - 1) d).span.end = omega (arith, no_less) in

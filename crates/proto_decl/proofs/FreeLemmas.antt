@@ -31,7 +31,8 @@ free_at_start lexed first begun b none = (
 
 -- what is found behind the last token that begins before it, in the tokens and the text that the calls gave
 module _ (lexed : Lexed) (first : Span) (begun : Begun) (b : AreBegun lexed first.start begun)
-    (some : 0 < begun.tokens) (tokens : List Token) (same : tokens ≡ lexed.tokens) (ordered : TokensInOrder lexed.tokens)
+    (some : 0 < begun.tokens) (tokens : List Token) (same : tokens ≡ lexed.tokens)
+    (ordered : TokensInOrder lexed.tokens)
     (text : List ℕ) (same_text : text ≡ lexed.text) (d : Token) where
   at : IsAt lexed.tokens (begun.tokens - 1) (get_or lexed.tokens (begun.tokens - 1) d)
   at = at_index lexed.tokens (begun.tokens - 1) d (omega (arith, b.tokens_within))

@@ -115,7 +115,8 @@ module _ (text : List ℕ) where
         name.1,
       )
   leaf_on surrounding (leaf.MapField field) marks on_path h =
-      let behind = past_type Ident field.value (Name field.heading.name ∷ (Other field.heading.closing ∷ marks)) h.1 in (
+      let behind = past_type Ident field.value
+      (Name field.heading.name ∷ (Other field.heading.closing ∷ marks)) h.1 in (
         All-cons IsOnPath (outline_at text surrounding kind.Field field.heading) []
             (farther surrounding.path kind.Field field.heading on_path behind.0) (All-nil IsOnPath),
         behind.1,
@@ -134,7 +135,8 @@ module _ (text : List ℕ) where
       (step_named kind.Field (small_letters (part_of text group.heading.name))) on_path
       (identifier_small (part_of text group.heading.name) h.1.0) in
       let self = farther surrounding.path kind.Message group.heading on_path h.1.0 in (
-        All-cons IsOnPath (group_field text surrounding group) (outline_at text surrounding kind.Message group.heading ∷ [])
+        All-cons IsOnPath (group_field text surrounding group)
+            (outline_at text surrounding kind.Message group.heading ∷ [])
             field
             (All-cons IsOnPath (outline_at text surrounding kind.Message group.heading) [] self (All-nil IsOnPath)),
         self,
@@ -161,7 +163,8 @@ module _ (text : List ℕ) where
       let first = head_on surrounding head (body_then inner (body_then others marks)) on_path h in
       let below = body_on around inner (body_then others marks) first.1 first.2 in
       let rest = body_on surrounding others marks on_path below.1 in (
-        All-append IsOnPath (in_head text surrounding head) (in_body text around inner ++ in_body text surrounding others)
+        All-append IsOnPath (in_head text surrounding head)
+            (in_body text around inner ++ in_body text surrounding others)
             first.0 (All-append IsOnPath (in_body text around inner) (in_body text surrounding others) below.0 rest.0),
         rest.1,
       )

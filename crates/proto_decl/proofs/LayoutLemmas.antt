@@ -72,7 +72,8 @@ abbrev pub IsClearBehind : (text : List ℕ) → List Token → (offset : ℕ) �
 IsClearBehind text tokens offset =
     All (λ (t : Token). offset ≤ t.span.start → Touches text t.span (line_of text offset) → ⊥) tokens
 
-pub filled : (tokens : List Token) (i : ℕ) (t : Token) → TokensInOrder tokens → IsAt tokens i t → t.span.start < t.span.end
+pub filled : (tokens : List Token) (i : ℕ) (t : Token) → TokensInOrder tokens → IsAt tokens i t
+    → t.span.start < t.span.end
 filled tokens i t ordered at =
     held (λ x. x.span.start < x.span.end) tokens i t at
     (behind_place (λ (x : Token). x.span) 0 i t tokens ordered at.within).1

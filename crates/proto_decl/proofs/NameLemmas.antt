@@ -35,7 +35,8 @@ use Rattle.proto_decl.specs.declared.declaration.Outline.{Outline}
 use Rattle.proto_decl.specs.declared.surrounding.Surrounding.{Surrounding}
 use Rattle.proto_decl.proofs.SplitLemmas.{all_left, all_right}
 
-pub simple_name-push : (path : List DeclarationStep) (step : DeclarationStep) → simple_name (path ++ step ∷ []) ≡ step.name
+pub simple_name-push : (path : List DeclarationStep) (step : DeclarationStep)
+    → simple_name (path ++ step ∷ []) ≡ step.name
 simple_name-push [] step = refl
 simple_name-push (first ∷ []) step = refl
 simple_name-push (first ∷ (next ∷ others)) step = simple_name-push (next ∷ others) step

@@ -14,7 +14,8 @@ module _ {X : Type 0} (span : X → Span) (offset count : ℕ) (xs : List X) whe
 
   module _ (ordered : AreInOrder 0 (map span xs)) where
     -- they do if the last one does
-    pub begin_by_last : (d : X) → 0 < count → count ≤ length xs → ltb (span (get_or xs (count - 1) d)).start offset ≡ true
+    pub begin_by_last : (d : X) → 0 < count → count ≤ length xs
+        → ltb (span (get_or xs (count - 1) d)).start offset ≡ true
         → Begin count
     begin_by_last d some within is k e low high =
         let last = less _ _ is in

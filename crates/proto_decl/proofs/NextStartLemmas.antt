@@ -1,7 +1,7 @@
 -- Where the line behind that of an offset starts.
-use Rattle.std.proofs.Common.{◌≡◌, ◌∙◌, sym, refl, ℕ, suc, ◌+◌, ◌-◌, ◌<◌, ◌≤◌, ◌⊎◌, inl, inr}
-use Rattle.std.proofs.Common.{Bool, true, false, not, cond, IsTrue, ◌↔◌, Option, Some, None, position, List, [], ◌∷◌, length}
-use Rattle.std.proofs.Common.{get_or, take, drop, slice_range, arith}
+use Rattle.std.proofs.Common.{◌≡◌, ◌∙◌, sym, refl, ℕ, suc, ◌+◌, ◌-◌, ◌<◌, ◌≤◌, ◌⊎◌, inl, inr, Bool, true, false, not}
+use Rattle.std.proofs.Common.{cond, IsTrue, ◌↔◌, Option, Some, None, position, List, [], ◌∷◌, length, get_or, take}
+use Rattle.std.proofs.Common.{drop, slice_range, arith}
 use Rattle.std.specs.Prelude.{MatchOption}
 use Rattle.std.specs.List.{count_by}
 use Rattle.std.specs.Option.{is_some}
@@ -114,7 +114,8 @@ module _ (text : List ℕ) (from upto : ℕ) where
 
 -- whether a line ends near an offset, in the text that the call gave
 module _ (text text' : List ℕ) (same : text' ≡ text) (from near upto : ℕ) (le : near ≤ upto) where
-  pub seen : (start : Option ℕ) → MatchOption start (line_of text' near ≤ line_of text' from) (IsNextStart text' from near)
+  pub seen : (start : Option ℕ)
+      → MatchOption start (line_of text' near ≤ line_of text' from) (IsNextStart text' from near)
       → is_some start ≡ true → line_of text from < line_of text upto
   seen None none is = absurd (false≢true is)
   seen (Some start) next is =
@@ -126,7 +127,8 @@ module _ (text text' : List ℕ) (same : text' ≡ text) (from near upto : ℕ) 
         lines_rise text near upto le,
       )
 
-  pub unseen : (start : Option ℕ) → MatchOption start (line_of text' near ≤ line_of text' from) (IsNextStart text' from near)
+  pub unseen : (start : Option ℕ)
+      → MatchOption start (line_of text' near ≤ line_of text' from) (IsNextStart text' from near)
       → is_some start ≡ false → near ≡ upto → line_of text from < line_of text upto → ⊥
   unseen None none is end less =
       let none' : line_of text near ≤ line_of text from = rw same at none in

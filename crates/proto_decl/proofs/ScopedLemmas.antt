@@ -156,7 +156,8 @@ module _ (text : List ℕ) (K : List ℕ → Type 0) where
         name.1,
       )
   leaf_scoped surrounding (leaf.MapField field) marks known h =
-      let behind = past_type Simple field.value (Name field.heading.name ∷ (Other field.heading.closing ∷ marks)) h.1 in (
+      let behind = past_type Simple field.value
+      (Name field.heading.name ∷ (Other field.heading.closing ∷ marks)) h.1 in (
         All-cons (IsScoped K) (outline_at text surrounding kind.Field field.heading) []
             (scoped surrounding kind.Field field.heading known behind.0) (All-nil (IsScoped K)),
         behind.1,
@@ -215,7 +216,8 @@ module _ (text : List ℕ) (K : List ℕ → Type 0) where
       let behind = all_right Known declared (below ++ later) all in
       let first = head_scoped surrounding head (body_then inner (body_then others marks)) known
       (all_left Known declared (below ++ later) all) h in
-      let middle = body_scoped around inner (body_then others marks) first.1 (all_left Known below later behind) first.2 in
+      let middle = body_scoped around inner (body_then others marks) first.1
+      (all_left Known below later behind) first.2 in
       let rest = body_scoped surrounding others marks known (all_right Known below later behind) middle.1 in (
         All-append (IsScoped K) declared (below ++ later) first.0
             (All-append (IsScoped K) below later middle.0 rest.0),

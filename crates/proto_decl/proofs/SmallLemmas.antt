@@ -42,7 +42,8 @@ is_identifier _ = false
 
 pub identifier_small : (name : List ℕ) → Spells Identifier name → Spells Identifier (small_letters name)
 unfolding is_identifier
-identifier_small name (identifier {b} {others} e f) = identifier (letter_small b e) (all_small is_word word_small others f)
+identifier_small name (identifier {b} {others} e f) =
+    identifier (letter_small b e) (all_small is_word word_small others f)
 identifier_small name (sign {b} {k} e) =
     never (sym (sign_cases (λ b k. is_identifier k ≡ false) b k e refl refl refl refl refl refl refl refl refl refl refl
     refl refl refl refl refl))

@@ -65,8 +65,8 @@ fn documented<'t>(
     })
 }
 
-/// Declarations with the comments that document them. They are in the order of their first tokens, so each one's comments
-/// are looked for from those of the one before on.
+/// Declarations with the comments that document them. They are in the order of their first tokens, so each one's
+/// comments are looked for from those of the one before on.
 fn all_documented<'t>(
     alloc: Global,
     lexed: &Tokens<'_, 't>,

@@ -93,7 +93,8 @@ pub(crate) fn outline_methods<'t>(
 ) -> Result<(), AllocError>
     requires { All (OfMethod (IsPart text.now)) methods.now }
     ensures { OnOk result (outlines.new.items
-        ≡ outlines.old.items ++ map (λ method. spec.outline_at text.now surrounding.now DeclarationKind.Method method.heading) methods.now) }
+        ≡ outlines.old.items
+        ++ map (λ method. spec.outline_at text.now surrounding.now DeclarationKind.Method method.heading) methods.now) }
 {
     for method in methods {
         outlines.push(outline_at(

@@ -10,8 +10,8 @@ use std::fmt;
 /// Why the tokens of a text derive no tree of the grammar.
 ///
 /// Offsets are byte offsets from the text's start, of the token that can't be at its place, or the text's length if
-/// tokens are missing. It is at the first token with which what is in front of it can't be finished to a file. It is
-/// proved that a fault comes only if there is no tree, and that it is the one that the tokens have.
+/// tokens are missing. As a rule it is at the first token with which what is in front of it can't be finished to a
+/// file. It is proved that a fault comes only if there is no tree, and that it is the one that the tokens have.
 #[derive(Clone, Copy, Debug, Drop, PartialEq, Eq)]
 pub enum SyntaxFault {
     /// The first token is not the word `syntax` (its offset), or the syntax statement's literals do not spell `proto3`

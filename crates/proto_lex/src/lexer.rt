@@ -22,8 +22,8 @@ use crate::token::{Comment, Token};
 use crate::tokens::Tokens;
 use std::alloc::Global;
 
-/// There is room for a token for so many bytes, and for a comment, before there are more. Real sources have fewer tokens
-/// and comments.
+/// There is room for a token for so many bytes, and for a comment, before there are more. Real sources have fewer
+/// tokens and comments.
 const BYTES_A_TOKEN: usize = 16;
 
 const BYTES_A_COMMENT: usize = 64;

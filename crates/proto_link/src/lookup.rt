@@ -13,7 +13,7 @@ use proto_decl::{Component, Use, scope_around};
 use proto_visibility::{Namespace, Role};
 use std::alloc::{AllocError, Global};
 
-// Writes the full name of a name in a scope over a text.
+/// Writes the full name of a name in a scope over a text.
 fn put_under(text: &mut String, scope: &str, name: &str) -> Result<(), AllocError>
     ensures { OnOk result (string_bytes text.new ≡ qualified scope.now name.now) }
 {
@@ -25,12 +25,12 @@ fn put_under(text: &mut String, scope: &str, name: &str) -> Result<(), AllocErro
     text.push_str(name)
 }
 
-// The bytes of the full name of a name in a scope, and no fewer than those of the same name in a scope around it.
+/// The bytes of the full name of a name in a scope, and no fewer than those of the same name in a scope around it.
 fn room_under(scope: &str, name: &str) -> usize {
     scope.len().saturating_add(name.len()).saturating_add(1)
 }
 
-// Components joined by dots.
+/// Components joined by dots.
 fn joined(alloc: Global, components: &[Component]) -> Result<String, AllocError>
     ensures { IfOk result (λ text. string_bytes text ≡ dotted (map (λ component. component.name) components.now)) }
 {
@@ -40,7 +40,7 @@ fn joined(alloc: Global, components: &[Component]) -> Result<String, AllocError>
     }
 }
 
-// The same for a first component and others.
+/// The same for a first component and others.
 fn joined_behind(
     alloc: Global,
     first: &Component,
@@ -57,7 +57,7 @@ fn joined_behind(
     Ok(text)
 }
 
-// The full name of the type that a use of a file names.
+/// The full name of the type that a use of a file names.
 pub(crate) fn name_of(
     alloc: Global,
     namespace: &Namespace,
@@ -91,8 +91,8 @@ pub(crate) fn name_of(
     }
 }
 
-// The first of the scopes from this one on in which a file knows a word in this role. The text
-// is overwritten.
+/// The first of the scopes from this one on in which a file knows a word in this role. The text
+/// is overwritten.
 fn innermost<'s>(
     namespace: &Namespace,
     file: usize,
@@ -117,7 +117,7 @@ fn innermost<'s>(
     Ok(None)
 }
 
-// The full name of the type that a word names in these scopes.
+/// The full name of the type that a word names in these scopes.
 fn single(
     alloc: Global,
     namespace: &Namespace,
@@ -140,7 +140,7 @@ fn single(
     }
 }
 
-// The same for more words, of which this is the first.
+/// The same for more words, of which this is the first.
 fn compound(
     alloc: Global,
     namespace: &Namespace,
@@ -164,7 +164,7 @@ fn compound(
     }
 }
 
-// The text, if a file knows a type by it.
+/// The text, if a file knows a type by it.
 fn if_type(namespace: &Namespace, file: usize, text: String) -> Option<String>
     requires { file < length namespace.now }
     ensures { MatchOption result (KnowsAs namespace.now file is_type (string_bytes text) → ⊥)

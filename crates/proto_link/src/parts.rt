@@ -13,14 +13,14 @@ use proto_decl::{FileFacts, prefixes_are_entities};
 use proto_visibility::{Entity, Namespace};
 use std::alloc::{AllocError, Global};
 
-// The components of a full name.
+/// The components of a full name.
 fn components_in(alloc: Global, name: &str) -> Result<Vec<&str>, AllocError>
     ensures { IfOk result (λ parts. map (λ (part : Bor (List ℕ)). part.now) parts.items ≡ components_of name.now) }
 {
     name.split('.').collect(alloc)
 }
 
-// Adds a component to a prefix of this many.
+/// Adds a component to a prefix of this many.
 fn lengthen(prefix: &mut String, count: usize, component: &str) -> Result<(), AllocError>
     ensures { OnOk result (string_bytes prefix.new ≡ longer (string_bytes prefix.old) count component.now) }
 {
@@ -30,8 +30,8 @@ fn lengthen(prefix: &mut String, count: usize, component: &str) -> Result<(), Al
     prefix.push_str(component)
 }
 
-// What the last so many components of a type's full name name in the file with this number, which
-// declares it.
+/// What the last so many components of a type's full name name in the file with this number, which
+/// declares it.
 pub(crate) fn parts_in(
     alloc: Global,
     namespace: &Namespace,

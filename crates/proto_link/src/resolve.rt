@@ -14,7 +14,7 @@ use proto_visibility::{Entity, FilePlace, LinkFault, Namespace, Role};
 use sequences::{OwnedText, Sequence};
 use std::alloc::{AllocError, Global};
 
-// What a use names in a file's scopes.
+/// What a use names in a file's scopes.
 pub(crate) fn target_of(
     alloc: Global,
     namespace: &Namespace,
@@ -41,7 +41,7 @@ pub(crate) fn target_of(
     }
 }
 
-// What the last so many components of a type's full name name.
+/// What the last so many components of a type's full name name.
 fn parts_of(
     alloc: Global,
     namespace: &Namespace,

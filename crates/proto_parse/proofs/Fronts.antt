@@ -167,7 +167,8 @@ allows_none [] = (refl, refl)
 allows_none (s ∷ start) = tt
 
 -- what finishes the steps behind a front is allowed
-pub allows_finish : (by : Step) (start front : List Lexeme) (t : Lexeme) (a : List Lexeme) (next : List Step) (d now : Bool)
+pub allows_finish : (by : Step) (start front : List Lexeme) (t : Lexeme) (a : List Lexeme) (next : List Step)
+    (d now : Bool)
     → Allows start (front ++ t ∷ a) → Reads by [] false front d next now → Allows start (front ++ finish next)
 allows_finish by start [] t a next d now allows reads = none_left next now reads
   where

@@ -1,5 +1,7 @@
--- Why tokens derive no tree: which fault they have, and at which token. No reading is spoken of: the fault is at the
--- first token with which what is in front of it can't be finished to a file any more.
+-- Why tokens derive no tree: which fault they have, and at which token. No reading is spoken of: as a rule the fault is
+-- at the first token with which what is in front of it can't be finished to a file any more. But that no version is
+-- named is told at the first literal, a group that is too deep at its label, and what only a `.` can follow at itself
+-- if none does.
 use Rattle.std.specs.Prelude.{◌≡◌, ℕ, suc, Bool, true, false, cond, ◌||◌, is_some, List, [], ◌∷◌, ◌++◌, length, codes}
 use Rattle.proto_lex.specs.declared.token.TokenKind.TheVariants.{StringLiteral, Equals, OpenBrace, OpenParenthesis, Dot}
 use Rattle.proto_grammar.specs.declared.fault.SyntaxFault.{SyntaxFault}
@@ -18,8 +20,8 @@ use Rattle.proto_parse.specs.Grammar.Files.{SpellsJoined, IsFileWithin, IsFile}
 
 -- The front can be finished: some tokens behind it make a file, in which at most `levels` messages and groups are
 -- inside one another. If no `.` is next in the text, it can be finished without one next: only a `.` can come after a
--- scalar word as the type of a method, or of an extend that is kept. So such a word is itself at fault if no `.`
--- follows.
+-- scalar word as the type of a method, or of an extend that is kept, or after the word `group` inside so many levels.
+-- So such a word is itself at fault if no `.` follows.
 pub record GoesOn (levels : ℕ) (dialect : Dialect) (front behind : List Lexeme) : Type 0 where
   pub more : List Lexeme
   pub tree : File

@@ -18,7 +18,7 @@ use std::alloc::Global;
 /// The tree that the tokens derive where only proto3 is accepted and custom options are refused.
 ///
 /// It is Ok exactly where they derive one, but for want of memory. Otherwise the fault is the one that the tokens have:
-/// it is at the first token with which what is in front of it can't be finished to a file.
+/// as a rule it is at the first token with which what is in front of it can't be finished to a file.
 pub fn parse(alloc: Global, tokens: &Tokens<'_, '_>) -> Result<File, SyntaxFault>
     ensures found { IfOk result (λ file. Derives (Proto3 Refuse) tokens.now.text tokens.now.tokens file) }
     ensures only { (file : File) → Derives (Proto3 Refuse) tokens.now.text tokens.now.tokens file

@@ -49,7 +49,8 @@ prefixes_more files prefixes count file its size stands here each number one one
           let within = slice_get_within (prefixes ++ its ∷ []) number ones there in
           let is : number ≡ count = omega (arith, length_push prefixes its) in
           let same : one ≡ file = one_File one file (sym at ∙ (ap (slice_get files) is ∙ stands)) in
-          let its_is : ones ≡ its = one_List ones its (sym there ∙ slice_get_last prefixes its number (is ∙ sym size)) in
+          let its_is : ones ≡ its =
+          one_List ones its (sym there ∙ slice_get_last prefixes its number (is ∙ sym size)) in
           subst (λ f. ArePrefixes (package_name_of f) ones) (sym same)
           (subst (λ (v : List (List ℕ)). ArePrefixes (package_name_of file) v) (sym its_is) here))
     ]

@@ -1,6 +1,7 @@
 -- Runs of numbers.
 use Rattle.std.proofs.Common.{◌≡◌, ◌↔◌, ◌⊎◌, inl, inr, ℕ, ◌+◌, ◌-◌, ◌<◌, ◌≤◌, true, false, zero, suc, List, [], ◌∷◌}
-use Rattle.std.proofs.Common.{◌++◌, length, get_or, take, drop, Some, None, ltb, leb, refl, ap, sym, ◌∙◌, subst, arith, IsTrue}
+use Rattle.std.proofs.Common.{◌++◌, length, get_or, take, drop, Some, None, ltb, leb, refl, ap, sym, ◌∙◌, subst, arith}
+use Rattle.std.proofs.Common.{IsTrue}
 use Rattle.std.specs.List.{Contains, slice_get, range_with_len}
 use Rattle.std.specs.List.Sorted.{IsNonDecreasing, IsPartitionPoint}
 use Rattle.std.proofs.lemmas.Bool.{cases_lt}

@@ -26,7 +26,7 @@ use proto_parse::ImportKind;
 use std::alloc::{AllocError, Global};
 use std::collections::HashMap;
 
-// The first import, in order of place, that has to be there and names no file.
+/// The first import, in order of place, that has to be there and names no file.
 pub(crate) fn first_absent(
     files: &[LinkFile],
     numbers: &HashMap<&str, usize>,
@@ -47,7 +47,7 @@ pub(crate) fn first_absent(
     None
 }
 
-// The same for the imports of one file.
+/// The same for the imports of one file.
 fn absent_of(file: &LinkFile, numbers: &HashMap<&str, usize>) -> Option<Span>
     ensures first { MatchOption result (NoneIsAbsent (number_in numbers.now) file.now.is_included (imports_of file.now))
         (IsFirstAbsent (number_in numbers.now) file.now.is_included (imports_of file.now)) }
@@ -64,7 +64,7 @@ fn absent_of(file: &LinkFile, numbers: &HashMap<&str, usize>) -> Option<Span>
     }
 }
 
-// The first of these imports whose file is missing.
+/// The first of these imports whose file is missing.
 fn absent_along(
     imports: &[Imported],
     included: bool,
@@ -81,7 +81,7 @@ fn absent_along(
     None
 }
 
-// Whether an import, of an included file or of a source, has to be there and names no file.
+/// Whether an import, of an included file or of a source, has to be there and names no file.
 fn is_absent(import: &Imported, included: bool, numbers: &HashMap<&str, usize>) -> bool
     ensures { result ≡ is_absent (number_in numbers.now) included import.now }
 {
@@ -92,14 +92,14 @@ fn is_absent(import: &Imported, included: bool, numbers: &HashMap<&str, usize>) 
     (!included || public) && numbers.get(import.path.as_str()).copied().is_none()
 }
 
-// Whether a file has the path.
+/// Whether a file has the path.
 pub(crate) fn is_numbered(path: &str, numbers: &HashMap<&str, usize>) -> bool
     ensures { result ≡ not (is_none (number_in numbers.now path.now)) }
 {
     !numbers.get(path).copied().is_none()
 }
 
-// All imports that have to be there and name no file.
+/// All imports that have to be there and name no file.
 pub(crate) fn all_absent(
     alloc: Global,
     files: &[LinkFile],
@@ -117,7 +117,7 @@ pub(crate) fn all_absent(
     Ok(places)
 }
 
-// Adds those of one file.
+/// Adds those of one file.
 fn add_absent(
     places: &mut Vec<FilePlace>,
     number: usize,
@@ -133,7 +133,7 @@ fn add_absent(
     }
 }
 
-// Appends those of these imports whose file is missing.
+/// Appends those of these imports whose file is missing.
 fn add_along(
     places: &mut Vec<FilePlace>,
     number: usize,
@@ -150,7 +150,7 @@ fn add_along(
     Ok(())
 }
 
-// Appends an import if its file is missing.
+/// Appends an import if its file is missing.
 fn add_if_absent(
     places: &mut Vec<FilePlace>,
     number: usize,

@@ -13,7 +13,7 @@ use crate::link_file::LinkFile;
 use sequences::{OwnedText, Sequence};
 use std::alloc::{AllocError, Global};
 
-// For each file, and each component of its package's name, the name up to it.
+/// For each file, and each component of its package's name, the name up to it.
 pub(crate) fn all_prefixes(
     alloc: Global,
     files: &[LinkFile],
@@ -27,7 +27,7 @@ pub(crate) fn all_prefixes(
     Ok(prefixes)
 }
 
-// The prefixes of the name of a file's package; none if it has no facts.
+/// The prefixes of the name of a file's package; none if it has no facts.
 fn prefixes_of_file(alloc: Global, file: &LinkFile) -> Result<Sequence<OwnedText>, AllocError>
     ensures { IfOk result (λ prefixes. ArePrefixes (package_name_of file.now) prefixes) }
 {
@@ -40,7 +40,7 @@ fn prefixes_of_file(alloc: Global, file: &LinkFile) -> Result<Sequence<OwnedText
     }
 }
 
-// The items of the files that count, in order of place.
+/// The items of the files that count, in order of place.
 pub(crate) fn all_items<'a>(
     alloc: Global,
     files: &'a [LinkFile<'a, '_>],
@@ -61,7 +61,7 @@ pub(crate) fn all_items<'a>(
     Ok(items)
 }
 
-// What a file gives names to, in order of place.
+/// What a file gives names to, in order of place.
 fn items_of_file<'a>(
     alloc: Global,
     number: usize,

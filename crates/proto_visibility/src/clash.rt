@@ -25,7 +25,7 @@ use std::alloc::{AllocError, Global};
 use std::collections::HashMap;
 use std::marker::Model;
 
-// A declaration or a component of a package statement: where it is, and the full name that it gives.
+/// A declaration or a component of a package statement: where it is, and the full name that it gives.
 #[derive(Drop)]
 pub(crate) struct Item<'a> {
     pub(crate) place: FilePlace,
@@ -46,8 +46,8 @@ impl<'a> Model for Item<'a> {
     } };
 }
 
-// Two items, in order of place, that have one full name and of which one is a declaration: among these pairs, that
-// with the least second place, and then the least first.
+/// Two items, in order of place, that have one full name and of which one is a declaration: among these pairs, that
+/// with the least second place, and then the least first.
 pub(crate) fn first_clash(
     alloc: Global,
     items: &[Item],
@@ -67,7 +67,7 @@ pub(crate) fn first_clash(
     Ok(None)
 }
 
-// The index of the first item with a name. If there is none, this index is kept as that of the name.
+/// The index of the first item with a name. If there is none, this index is kept as that of the name.
 pub(crate) fn first_named<'a>(
     names: &mut HashMap<&'a str, usize>,
     name: &'a str,
@@ -85,7 +85,7 @@ pub(crate) fn first_named<'a>(
     Ok(None)
 }
 
-// The place of the first item with a name, if it or the later one is a declaration.
+/// The place of the first item with a name, if it or the later one is a declaration.
 pub(crate) fn clash_with(items: &[Item], first: Option<usize>, item: &Item) -> Option<FilePlace>
     ensures { result ≡ clash_with items.now first item.now }
 {

@@ -12,7 +12,7 @@ use crate::search::Search;
 use crate::seeing::{begin, follow};
 use std::alloc::{AllocError, Global};
 
-// The row of the files that count, by the steps of all files: one search from all sources.
+/// The row of the files that count, by the steps of all files: one search from all sources.
 pub(crate) fn counted_files(
     alloc: Global,
     files: &[LinkFile],
@@ -28,7 +28,7 @@ pub(crate) fn counted_files(
     Ok(counted)
 }
 
-// Finds the sources, and what they import, but not publicly.
+/// Finds the sources, and what they import, but not publicly.
 fn begin_sources(search: &mut Search, files: &[LinkFile], table: &[Steps]) -> Result<(), AllocError>
     requires table { IsTableOf files.now table.now }
     requires files { search.old.files ≡ length table.now }
@@ -46,7 +46,7 @@ fn begin_sources(search: &mut Search, files: &[LinkFile], table: &[Steps]) -> Re
     Ok(())
 }
 
-// The least of the files that count and have no facts.
+/// The least of the files that count and have no facts.
 pub(crate) fn first_unread(files: &[LinkFile], counted: &FileRow) -> Option<usize>
     requires { (number : ℕ) → Contains counted.now number ↔ Counts files.now number }
     ensures { MatchOption result (NoneBroken files.now) (Broken files.now) }

@@ -18,7 +18,7 @@ pub enum Entity {
     Declared(usize, usize),
 }
 
-// The index of the first declaration with a full name.
+/// The index of the first declaration with a full name.
 fn first_with(declarations: &[Declaration], name: &str) -> Option<usize>
     ensures { result ≡ position (λ declaration. bytes_eq declaration.full_name name.now) declarations.now }
 {
@@ -27,8 +27,8 @@ fn first_with(declarations: &[Declaration], name: &str) -> Option<usize>
         .position(|declaration| declaration.full_name.as_str() == name)
 }
 
-// What a full name of this many components names, if it is that of a declaration or a package of the file with this
-// number. The tables have all that can hold types.
+/// What a full name of this many components names, if it is that of a declaration or a package of the file with this
+/// number. The tables have all that can hold types.
 #[tactic(auto, using(crate::proofs::EntityLemmas::listed_entity))]
 pub(crate) fn entity_in(
     names: &Names,
@@ -50,7 +50,7 @@ pub(crate) fn entity_in(
     other_entity(number, facts, name, count)
 }
 
-// The same by a scan, for what the tables leave out: a field, a value, a oneof or a method.
+/// The same by a scan, for what the tables leave out: a field, a value, a oneof or a method.
 #[tactic(auto, using(crate::proofs::EntityLemmas::found_entity))]
 fn other_entity(number: usize, facts: &FileFacts, name: &str, count: usize) -> Entity
     requires { IsEntity facts.now name.now }

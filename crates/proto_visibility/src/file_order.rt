@@ -32,7 +32,7 @@ use crate::search::Search;
 use std::alloc::{AllocError, Global};
 use std::marker::Model;
 
-// All files in an order, and the place of each there. Contracts see the list of the files.
+/// All files in an order, and the place of each there. Contracts see the list of the files.
 #[derive(Drop)]
 pub(crate) struct FileOrder {
     files: Vec<usize>,
@@ -51,7 +51,7 @@ impl Model for FileOrder {
 }
 
 impl FileOrder {
-    // The order of a walk in depth along public imports: behind a file is what only it leads to.
+    /// The order of a walk in depth along public imports: behind a file is what only it leads to.
     pub(crate) fn of(alloc: Global, table: &[Steps]) -> Result<FileOrder, AllocError>
         requires { AreWithin table.now }
         ensures { IfOk result (λ order. (number : ℕ) → number < length table.now → Contains order number) }
@@ -63,14 +63,14 @@ impl FileOrder {
         Ok(FileOrder { files, ranks })
     }
 
-    // The place of a file.
+    /// The place of a file.
     pub(crate) fn rank_of(&self, number: usize) -> Option<usize>
         ensures { (rank : ℕ) → (slice_get self.now rank ≡ Some number) ↔ (result ≡ Some rank) }
     {
         number_at(self.ranks.as_slice(), number)
     }
 
-    // The places of these files.
+    /// The places of these files.
     pub(crate) fn places_of(
         &self,
         alloc: Global,
@@ -86,7 +86,7 @@ impl FileOrder {
         Ok(places)
     }
 
-    // A file at a place of a run that is among these numbers, which don't fall.
+    /// A file at a place of a run that is among these numbers, which don't fall.
     pub(crate) fn first_of_run(&self, run: Run, numbers: &[usize]) -> Option<usize>
         requires { IsNonDecreasing numbers.now }
         ensures { MatchOption result
@@ -103,7 +103,7 @@ impl FileOrder {
         None
     }
 
-    // The file at a place, if it is among these numbers, which don't fall.
+    /// The file at a place, if it is among these numbers, which don't fall.
     fn file_among(&self, place: usize, numbers: &[usize]) -> Option<usize>
         requires { IsNonDecreasing numbers.now }
         ensures { MatchOption result ((number : ℕ) → slice_get self.now place ≡ Some number → Contains numbers.now
@@ -118,21 +118,21 @@ impl FileOrder {
     }
 }
 
-// The number with an index, if there is one.
+/// The number with an index, if there is one.
 fn number_at(numbers: &[usize], index: usize) -> Option<usize>
     ensures { result ≡ slice_get numbers.now index }
 {
     numbers.get(index).copied()
 }
 
-// The steps of a file, if there is one with this number.
+/// The steps of a file, if there is one with this number.
 fn steps_at(table: &[Steps], file: usize) -> Option<&Steps>
     ensures { IfSome result (λ steps. slice_get table.now file ≡ Some steps.now) }
 {
     table.get(file)
 }
 
-// For each file its place among these, which are all files, each once.
+/// For each file its place among these, which are all files, each once.
 fn ranks_of(alloc: Global, count: usize, files: &[usize]) -> Result<Vec<usize>, AllocError>
     requires distinct { IsDistinct ◌==◌ files.now }
     requires below { All (λ number. number < count) files.now }
@@ -146,7 +146,7 @@ fn ranks_of(alloc: Global, count: usize, files: &[usize]) -> Result<Vec<usize>, 
     Ok(ranks)
 }
 
-// So many zeros.
+/// So many zeros.
 fn zeros(alloc: Global, count: usize) -> Result<Vec<usize>, AllocError>
     ensures { IfOk result (λ zeros. length zeros.items ≡ count) }
 {
@@ -157,14 +157,14 @@ fn zeros(alloc: Global, count: usize) -> Result<Vec<usize>, AllocError>
     Ok(zeros)
 }
 
-// A file of the walk, and how many of its public steps are done.
+/// A file of the walk, and how many of its public steps are done.
 #[derive(Clone, Copy)]
 struct Turn {
     file: usize,
     done: usize,
 }
 
-// Finds all files.
+/// Finds all files.
 fn walk(alloc: Global, search: &mut Search, table: &[Steps]) -> Result<(), AllocError>
     requires within { AreWithin table.now }
     requires files { search.old.files ≡ length table.now }
@@ -177,7 +177,7 @@ fn walk(alloc: Global, search: &mut Search, table: &[Steps]) -> Result<(), Alloc
     Ok(())
 }
 
-// Finds a file, and what its public imports lead to.
+/// Finds a file, and what its public imports lead to.
 fn walk_from(
     alloc: Global,
     search: &mut Search,
@@ -201,7 +201,7 @@ fn walk_from(
     Ok(())
 }
 
-// Goes on to the first public step of a file that is neither done nor found, and comes back to the file after it.
+/// Goes on to the first public step of a file that is neither done nor found, and comes back to the file after it.
 fn take_turn(
     search: &mut Search,
     turns: &mut Vec<Turn>,
@@ -228,7 +228,7 @@ fn take_turn(
     }
 }
 
-// Finds the next file, which is the step of a file with this index.
+/// Finds the next file, which is the step of a file with this index.
 fn go_on(
     search: &mut Search,
     turns: &mut Vec<Turn>,

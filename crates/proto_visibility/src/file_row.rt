@@ -8,7 +8,7 @@ ghost use Rattle.std.specs.Prelude.{◌==◌};
 use std::alloc::{AllocError, Global};
 use std::marker::Model;
 
-// Numbers of files, rising. Contracts see the list of them.
+/// Numbers of files, rising. Contracts see the list of them.
 #[derive(Drop)]
 pub(crate) struct FileRow {
     numbers: Vec<usize>,
@@ -26,7 +26,7 @@ impl Model for FileRow {
 }
 
 impl FileRow {
-    // The row of these numbers, which differ.
+    /// The row of these numbers, which differ.
     pub(crate) fn of(alloc: Global, numbers: &[usize]) -> Result<FileRow, AllocError>
         requires { IsDistinct ◌==◌ numbers.now }
         ensures { IfOk result (λ row. (number : ℕ) → Contains row number ↔ Contains numbers.now number) }
@@ -36,14 +36,14 @@ impl FileRow {
         Ok(FileRow { numbers })
     }
 
-    // Whether the file with this number is in the row.
+    /// Whether the file with this number is in the row.
     pub(crate) fn has(&self, number: usize) -> bool
         ensures { IsTrue result ↔ Contains self.now number }
     {
         self.numbers.binary_search(&number).is_ok()
     }
 
-    // The numbers, each above those before it.
+    /// The numbers, each above those before it.
     pub(crate) fn as_slice(&self) -> &[usize]
         ensures value { result.now ≡ self.now }
         ensures rising { IsStrictlyIncreasing self.now }

@@ -12,14 +12,14 @@ use proto_parse::ImportKind;
 use std::alloc::{AllocError, Global};
 use std::collections::HashMap;
 
-// The numbers of the files that a file imports.
+/// The numbers of the files that a file imports.
 #[derive(Drop)]
 pub(crate) struct Steps {
     pub(crate) plain: Vec<usize>,
     pub(crate) public: Vec<usize>,
 }
 
-// For each file the numbers of those that it imports.
+/// For each file the numbers of those that it imports.
 pub(crate) fn steps_of(
     alloc: Global,
     files: &[LinkFile],
@@ -50,7 +50,7 @@ pub fn have_own_paths(alloc: Global, files: &[LinkFile]) -> Result<bool, AllocEr
     Ok(true)
 }
 
-// The numbers of the files by their paths.
+/// The numbers of the files by their paths.
 pub(crate) fn numbers_of<'a>(
     alloc: Global,
     files: &[LinkFile<'a, '_>],
@@ -66,7 +66,7 @@ pub(crate) fn numbers_of<'a>(
     Ok(numbers)
 }
 
-// The numbers of the files that one file imports.
+/// The numbers of the files that one file imports.
 fn steps_of_file(
     alloc: Global,
     numbers: &HashMap<&str, usize>,
@@ -83,7 +83,7 @@ fn steps_of_file(
     }
 }
 
-// The files that these imports name.
+/// The files that these imports name.
 fn steps_along(
     alloc: Global,
     numbers: &HashMap<&str, usize>,
@@ -102,7 +102,7 @@ fn steps_along(
 }
 
 impl Steps {
-    // None.
+    /// None.
     fn new(alloc: Global) -> Steps
         ensures public { result.public.items ≡ [] }
         ensures plain { result.plain.items ≡ [] }
@@ -113,7 +113,7 @@ impl Steps {
         }
     }
 
-    // Adds the file that an import names, if there is one.
+    /// Adds the file that an import names, if there is one.
     fn add_import(
         &mut self,
         numbers: &HashMap<&str, usize>,
@@ -130,7 +130,7 @@ impl Steps {
         }
     }
 
-    // Adds a file, by the kind of its import.
+    /// Adds a file, by the kind of its import.
     fn add(&mut self, kind: ImportKind, number: usize) -> Result<(), AllocError>
         ensures public { OnOk result (self.new.public.items ≡ (if is_public kind then self.old.public.items
             ++ number ∷ [] else self.old.public.items)) }

@@ -13,7 +13,7 @@ use proto_decl::{Component, Declaration, FileFacts, facts_in_order};
 use sequences::OwnedText;
 use std::alloc::{AllocError, Global};
 
-// For each component of a package's name the name up to it.
+/// For each component of a package's name the name up to it.
 pub(crate) fn package_prefixes(
     alloc: Global,
     components: &[Component],
@@ -26,7 +26,7 @@ pub(crate) fn package_prefixes(
     }
 }
 
-// The first component, then one more each time, up to all of them.
+/// The first component, then one more each time, up to all of them.
 fn prefixes_of(
     alloc: Global,
     first: &Component,
@@ -45,7 +45,7 @@ fn prefixes_of(
     Ok(prefixes)
 }
 
-// The items of a file with this number, in order of place.
+/// The items of a file with this number, in order of place.
 pub(crate) fn file_items<'a>(
     alloc: Global,
     number: usize,
@@ -64,7 +64,7 @@ pub(crate) fn file_items<'a>(
     Ok(items)
 }
 
-// Those of a file's declarations.
+/// Those of a file's declarations.
 fn declared_items<'a>(
     alloc: Global,
     number: usize,
@@ -86,7 +86,7 @@ fn declared_items<'a>(
     Ok(items)
 }
 
-// Adds the components of the package's name.
+/// Adds the components of the package's name.
 fn add_package<'a>(
     items: &mut Vec<Item<'a>>,
     number: usize,

@@ -32,14 +32,14 @@ impl<'a, 't> Model for LinkFile<'a, 't> {
 }
 
 impl LinkFile<'_, '_> {
-    // Whether it is included, and so no source.
+    /// Whether it is included, and so no source.
     pub(crate) fn is_included(&self) -> bool
         ensures { result ≡ self.now.is_included }
     {
         self.included
     }
 
-    // Whether it couldn't be read or parsed.
+    /// Whether it couldn't be read or parsed.
     pub(crate) fn is_unread(&self) -> bool
         ensures { IsTrue result ↔ (self.now.facts ≡ None) }
     {

@@ -10,7 +10,7 @@ use crate::names::{DeclaredAt, Names};
 use crate::role::Role;
 use crate::seen_row::SeenRow;
 
-// A file of a row that gives a name in this role, if there is one.
+/// A file of a row that gives a name in this role, if there is one.
 pub(crate) fn first_giving(names: &Names, row: &SeenRow, name: &str, role: Role) -> Option<usize>
     requires { (other : List ℕ) → IsNonDecreasing (owned_at names.now.packages other) }
     ensures { MatchOption result ((number : ℕ) → Contains row.now number → IsListed names.now (admits role) name.now
@@ -25,8 +25,8 @@ pub(crate) fn first_giving(names: &Names, row: &SeenRow, name: &str, role: Role)
     None
 }
 
-// The file of the first of these declarations that is admitted in this role and whose file is in
-// the row.
+/// The file of the first of these declarations that is admitted in this role and whose file is in
+/// the row.
 fn first_declaring(declared: &[DeclaredAt], row: &SeenRow, role: Role) -> Option<usize>
     ensures { MatchOption result ((number : ℕ) → Contains row.now number → IsDeclaring declared.now (admits role) number
         → ⊥) (λ number. Contains row.now number × IsDeclaring declared.now (admits role) number) }
@@ -42,7 +42,7 @@ fn first_declaring(declared: &[DeclaredAt], row: &SeenRow, role: Role) -> Option
     None
 }
 
-// A file that is among these numbers, which don't fall, and in a row. Each of the fewer is looked for in the other.
+/// A file that is among these numbers, which don't fall, and in a row. Each of the fewer is looked for in the other.
 fn shared(numbers: &[usize], row: &SeenRow) -> Option<usize>
     requires { IsNonDecreasing numbers.now }
     ensures { MatchOption result ((number : ℕ) → Contains numbers.now number → Contains row.now number → ⊥)
@@ -55,7 +55,7 @@ fn shared(numbers: &[usize], row: &SeenRow) -> Option<usize>
     }
 }
 
-// The first of these numbers that is in a row.
+/// The first of these numbers that is in a row.
 fn first_seen(numbers: &[usize], row: &SeenRow) -> Option<usize>
     ensures { MatchOption result ((number : ℕ) → Contains numbers.now number → Contains row.now number → ⊥)
         (λ number. Contains numbers.now number × Contains row.now number) }
@@ -68,7 +68,7 @@ fn first_seen(numbers: &[usize], row: &SeenRow) -> Option<usize>
     None
 }
 
-// Whether a number is among others, which don't fall.
+/// Whether a number is among others, which don't fall.
 pub(crate) fn stands_among(number: usize, others: &[usize]) -> bool
     requires { IsNonDecreasing others.now }
     ensures { IsTrue result ↔ Contains others.now number }
@@ -76,7 +76,7 @@ pub(crate) fn stands_among(number: usize, others: &[usize]) -> bool
     others.binary_search(&number).is_ok()
 }
 
-// The index of the first of these declarations that is of the file with this number.
+/// The index of the first of these declarations that is of the file with this number.
 pub(crate) fn index_in(declared: &[DeclaredAt], file: usize) -> Option<usize>
     ensures { MatchOption result ((one : DeclaredAt) → Contains declared.now one → one.file ≡ file → ⊥)
         (λ index. (one : DeclaredAt) × Contains declared.now one × (one.file ≡ file) × (one.index ≡ index)) }

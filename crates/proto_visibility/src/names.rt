@@ -22,7 +22,7 @@ use proto_decl::{Declaration, DeclarationKind};
 use sequences::{OwnedText, Sequence};
 use std::alloc::{AllocError, Global};
 
-// A declaration of a file, by the file's number and its index there, and its kind.
+/// A declaration of a file, by the file's number and its index there, and its kind.
 #[derive(Clone, Copy, Debug)]
 pub(crate) struct DeclaredAt {
     pub(crate) file: usize,
@@ -30,8 +30,8 @@ pub(crate) struct DeclaredAt {
     pub(crate) kind: DeclarationKind,
 }
 
-// For each full name the messages, enums and services that have it, and for each package the files
-// that have it or one below it, in order of their numbers.
+/// For each full name the messages, enums and services that have it, and for each package the files
+/// that have it or one below it, in order of their numbers.
 #[derive(Drop)]
 pub(crate) struct Names<'a> {
     declared: IndexMap<&'a str, Vec<DeclaredAt>>,
@@ -39,7 +39,7 @@ pub(crate) struct Names<'a> {
 }
 
 impl<'a> Names<'a> {
-    // The names that files give, by the names of their packages' prefixes.
+    /// The names that files give, by the names of their packages' prefixes.
     pub(crate) fn of(
         alloc: Global,
         files: &'a [LinkFile<'a, '_>],
@@ -53,7 +53,7 @@ impl<'a> Names<'a> {
         Ok(Names { declared, packages })
     }
 
-    // The messages, enums and services that have a full name.
+    /// The messages, enums and services that have a full name.
     pub(crate) fn declaring(&self, name: &str) -> &[DeclaredAt]
         ensures { result.now ≡ listed_at self.now.declared name.now }
     {
@@ -63,7 +63,7 @@ impl<'a> Names<'a> {
         }
     }
 
-    // The files that have a package or one below it.
+    /// The files that have a package or one below it.
     pub(crate) fn packaging(&self, name: &str) -> &[usize]
         ensures { result.now ≡ owned_at self.now.packages name.now }
     {
@@ -74,7 +74,7 @@ impl<'a> Names<'a> {
     }
 }
 
-// For each full name the messages, enums and services that have it.
+/// For each full name the messages, enums and services that have it.
 fn declared_names<'a>(
     alloc: Global,
     files: &'a [LinkFile<'a, '_>],
@@ -88,7 +88,7 @@ fn declared_names<'a>(
     Ok(names)
 }
 
-// Adds those of the file with this number.
+/// Adds those of the file with this number.
 fn add_file<'a>(
     names: &mut IndexMap<&'a str, Vec<DeclaredAt>>,
     number: usize,
@@ -103,7 +103,7 @@ fn add_file<'a>(
     }
 }
 
-// Adds a file's messages, enums and services.
+/// Adds a file's messages, enums and services.
 fn add_declarations<'a>(
     names: &mut IndexMap<&'a str, Vec<DeclaredAt>>,
     number: usize,
@@ -128,7 +128,7 @@ fn add_declarations<'a>(
     Ok(())
 }
 
-// Adds a declaration to those that have its name.
+/// Adds a declaration to those that have its name.
 fn add_declared<'a>(
     names: &mut IndexMap<&'a str, Vec<DeclaredAt>>,
     name: &'a str,
@@ -141,7 +141,7 @@ fn add_declared<'a>(
     Ok(())
 }
 
-// For each of these texts the files that have it.
+/// For each of these texts the files that have it.
 fn package_names(
     alloc: Global,
     prefixes: &[Sequence<OwnedText>],
@@ -157,7 +157,7 @@ fn package_names(
     Ok(names)
 }
 
-// Adds the file with this number, which isn't less than those that are there.
+/// Adds the file with this number, which isn't less than those that are there.
 fn add_prefixes(
     alloc: Global,
     names: &mut IndexMap<String, Vec<usize>>,
@@ -176,7 +176,7 @@ fn add_prefixes(
     Ok(())
 }
 
-// Adds a file to those whose package begins with this prefix.
+/// Adds a file to those whose package begins with this prefix.
 fn add_prefix(
     alloc: Global,
     names: &mut IndexMap<String, Vec<usize>>,
@@ -193,7 +193,7 @@ fn add_prefix(
     add_copied(alloc, names, number, prefix)
 }
 
-// The same, by a copy of the text.
+/// The same, by a copy of the text.
 fn add_copied(
     alloc: Global,
     names: &mut IndexMap<String, Vec<usize>>,

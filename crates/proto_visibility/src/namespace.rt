@@ -220,7 +220,7 @@ impl<'a, 't> Namespace<'a, 't> {
     }
 }
 
-// The first clash of names among the items of the files that count.
+/// The first clash of names among the items of the files that count.
 fn clash_among(
     alloc: Global,
     files: &[LinkFile],

@@ -55,7 +55,7 @@ pub fn left_out(alloc: Global, files: &[LinkFile]) -> Result<Vec<Option<LinkFaul
     Ok(omissions)
 }
 
-// For each file, whether it is left out because it has no facts.
+/// For each file, whether it is left out because it has no facts.
 fn unread_files(
     alloc: Global,
     files: &[LinkFile],
@@ -71,7 +71,7 @@ fn unread_files(
     Ok(omissions)
 }
 
-// The same for one file.
+/// The same for one file.
 fn unread_at(number: usize, file: &LinkFile, counted: &FileRow) -> Option<LinkFault>
     ensures { MatchOption result
         (file.now.facts ≡ None → Contains counted.now number → ⊥)
@@ -84,7 +84,7 @@ fn unread_at(number: usize, file: &LinkFile, counted: &FileRow) -> Option<LinkFa
     }
 }
 
-// Leaves out the files with a clash, by their items in order of place.
+/// Leaves out the files with a clash, by their items in order of place.
 #[tactic(auto, using(crate::proofs::PassLemmas::none_passed))]
 fn omit_clashes(
     alloc: Global,
@@ -101,8 +101,8 @@ fn omit_clashes(
     Ok(())
 }
 
-// Takes one more item. If no item of an open file has its name, the name is kept as its. If the item that has it
-// clashes with this one, the file of this one is left out.
+/// Takes one more item. If no item of an open file has its name, the name is kept as its. If the item that has it
+/// clashes with this one, the file of this one is left out.
 fn pass_item<'a>(
     omissions: &mut Vec<Option<LinkFault>>,
     names: &mut HashMap<&'a str, usize>,
@@ -131,7 +131,7 @@ fn pass_item<'a>(
     }
 }
 
-// Whether the file with this number is kept so far.
+/// Whether the file with this number is kept so far.
 fn is_kept(omissions: &[Option<LinkFault>], number: usize) -> bool
     ensures { IsTrue result ↔ IsKept omissions.now number }
 {
@@ -141,7 +141,7 @@ fn is_kept(omissions: &[Option<LinkFault>], number: usize) -> bool
     }
 }
 
-// The index of the item that the map has at a name, if its file is kept so far.
+/// The index of the item that the map has at a name, if its file is kept so far.
 fn open_with(
     omissions: &[Option<LinkFault>],
     names: &HashMap<&str, usize>,
@@ -161,7 +161,7 @@ fn open_with(
     }
 }
 
-// Leaves out the file of an item, if the item clashes with the one at this index.
+/// Leaves out the file of an item, if the item clashes with the one at this index.
 fn omit_if_clash(omissions: &mut Vec<Option<LinkFault>>, items: &[Item], first: usize, item: &Item)
     requires { item.now.place.file < length omissions.old.items }
     ensures { MatchOption (clash_with items.now (Some first) item.now)

@@ -6,7 +6,7 @@ ghost use Rattle.proto_visibility.specs.Files.{HaveOrigins};
 
 use crate::link_file::LinkFile;
 
-// The facts of each file are those of some text.
+/// The facts of each file are those of some text.
 pub(crate) fn have_origins(files: &[LinkFile])
     ensures { HaveOrigins files.now }
 {
@@ -15,7 +15,7 @@ pub(crate) fn have_origins(files: &[LinkFile])
     }
 }
 
-// So are those of one file.
+/// So are those of one file.
 fn has_origin(file: &LinkFile)
     ensures { (facts : Facts) → file.now.facts ≡ Some facts → AreOfSomeFile facts }
 {

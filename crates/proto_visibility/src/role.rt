@@ -16,7 +16,7 @@ pub enum Role {
 }
 
 impl Role {
-    // Whether a declaration of this kind has the role.
+    /// Whether a declaration of this kind has the role.
     pub(crate) fn admits(self, kind: DeclarationKind) -> bool
         ensures { result ≡ admits self (OfDeclaration kind) }
     {
@@ -30,7 +30,7 @@ impl Role {
         }
     }
 
-    // Whether packages have it.
+    /// Whether packages have it.
     pub(crate) fn admits_packages(self) -> bool
         ensures { result ≡ admits self OfPackage }
     {

@@ -8,14 +8,14 @@ ghost use Rattle.proto_visibility.specs.Tables.Rows.{numbers_in, HasNumber, AreI
 use std::alloc::{AllocError, Global};
 use std::marker::Model;
 
-// The numbers from the first to the last.
+/// The numbers from the first to the last.
 #[derive(Clone, Copy)]
 pub(crate) struct Run {
     pub(crate) first: usize,
     pub(crate) last: usize,
 }
 
-// A set of numbers, as runs in order, and how many numbers were given for it. Contracts see the list of the numbers.
+/// A set of numbers, as runs in order, and how many numbers were given for it. Contracts see the list of the numbers.
 #[derive(Drop)]
 pub(crate) struct Runs {
     runs: Vec<Run>,
@@ -34,7 +34,7 @@ impl Model for Runs {
 }
 
 impl Runs {
-    // The runs of these numbers, which don't fall.
+    /// The runs of these numbers, which don't fall.
     pub(crate) fn of(alloc: Global, numbers: &[usize]) -> Result<Runs, AllocError>
         requires { IsNonDecreasing numbers.now }
         ensures { IfOk result (λ runs. (number : ℕ) → Contains runs number ↔ Contains numbers.now number) }
@@ -46,7 +46,7 @@ impl Runs {
         })
     }
 
-    // Whether the number is in a run.
+    /// Whether the number is in a run.
     pub(crate) fn has(&self, number: usize) -> bool
         ensures { IsTrue result ↔ Contains self.now number }
     {
@@ -57,27 +57,27 @@ impl Runs {
         }
     }
 
-    // The runs.
+    /// The runs.
     pub(crate) fn as_slice(&self) -> &[Run]
         ensures { numbers_in result.now ≡ self.now }
     {
         self.runs.as_slice()
     }
 
-    // How many numbers were given.
+    /// How many numbers were given.
     pub(crate) fn given(&self) -> usize {
         self.given
     }
 }
 
-// The run with an index, if there is one.
+/// The run with an index, if there is one.
 fn run_at(runs: &[Run], index: usize) -> Option<Run>
     ensures { result ≡ slice_get runs.now index }
 {
     runs.get(index).copied()
 }
 
-// The runs of numbers that don't fall.
+/// The runs of numbers that don't fall.
 fn runs_of(alloc: Global, numbers: &[usize]) -> Result<Vec<Run>, AllocError>
     requires { IsNonDecreasing numbers.now }
     ensures order { IfOk result (λ runs. AreInOrder runs.items) }
@@ -90,7 +90,7 @@ fn runs_of(alloc: Global, numbers: &[usize]) -> Result<Vec<Run>, AllocError>
     }
 }
 
-// The same for a first number and others.
+/// The same for a first number and others.
 fn runs_from(alloc: Global, first: usize, others: &[usize]) -> Result<Vec<Run>, AllocError>
     requires { IsNonDecreasing (first ∷ others.now) }
     ensures order { IfOk result (λ runs. AreInOrder runs.items) }
@@ -106,8 +106,8 @@ fn runs_from(alloc: Global, first: usize, others: &[usize]) -> Result<Vec<Run>, 
     Ok(runs)
 }
 
-// A run with a number that isn't before its last one. If the number is behind the next one, the run is kept, and the
-// number begins another.
+/// A run with a number that isn't before its last one. If the number is behind the next one, the run is kept, and the
+/// number begins another.
 fn with_next(runs: &mut Vec<Run>, run: Run, number: usize) -> Result<Run, AllocError>
     requires whole { run.first ≤ run.last }
     requires behind { run.last ≤ number }

@@ -28,8 +28,8 @@ use crate::runs::Runs;
 use std::alloc::{AllocError, Global};
 use std::marker::Model;
 
-// The files that are found so far, in order of first sight, each once. A file's mark says whether it
-// is found.
+/// The files that are found so far, in order of first sight, each once. A file's mark says whether it
+/// is found.
 #[derive(Drop)]
 pub(crate) struct Search {
     marks: Vec<bool>,
@@ -48,7 +48,7 @@ impl Model for Search {
 }
 
 impl Search {
-    // A search over so many files, which has found nothing yet.
+    /// A search over so many files, which has found nothing yet.
     pub(crate) fn new(alloc: Global, files: usize) -> Result<Search, AllocError>
         ensures { IfOk result (λ search. search ≡ record { files = files; numbers = [] }) }
     {
@@ -62,7 +62,7 @@ impl Search {
         })
     }
 
-    // Forgets what is found.
+    /// Forgets what is found.
     pub(crate) fn start(&mut self)
         ensures { self.new ≡ record { files = self.old.files; numbers = [] } }
     {
@@ -71,7 +71,7 @@ impl Search {
         }
     }
 
-    // Finds a file, unless it is found already.
+    /// Finds a file, unless it is found already.
     pub(crate) fn visit(&mut self, number: usize) -> Result<(), AllocError>
         requires { number < self.old.files }
         ensures { OnOk result (self.new ≡ record { files = self.old.files; numbers = visit self.old.numbers number }) }
@@ -84,7 +84,7 @@ impl Search {
         Ok(())
     }
 
-    // Finds files, one after the other.
+    /// Finds files, one after the other.
     pub(crate) fn visit_all(&mut self, numbers: &[usize]) -> Result<(), AllocError>
         requires { All (λ number. number < self.old.files) numbers.now }
         ensures { OnOk result (self.new ≡ record {
@@ -99,7 +99,7 @@ impl Search {
         Ok(())
     }
 
-    // The file that was found at this place in order, if so many are found.
+    /// The file that was found at this place in order, if so many are found.
     pub(crate) fn nth(&self, index: usize) -> Option<usize>
         ensures value { result ≡ slice_get self.now.numbers index }
         ensures below { IfSome result (λ number. number < self.now.files) }
@@ -108,14 +108,14 @@ impl Search {
         self.numbers.get(index).copied()
     }
 
-    // The row of the files that are found.
+    /// The row of the files that are found.
     pub(crate) fn to_row(&self, alloc: Global) -> Result<FileRow, AllocError>
         ensures { IfOk result (λ row. (number : ℕ) → Contains row number ↔ Contains self.now.numbers number) }
     {
         FileRow::of(alloc, self.numbers.as_slice())
     }
 
-    // The files that are found, in order of first sight.
+    /// The files that are found, in order of first sight.
     pub(crate) fn found(&self) -> &[usize]
         ensures value { result.now ≡ self.now.numbers }
         ensures distinct { IsDistinct ◌==◌ self.now.numbers }
@@ -124,7 +124,7 @@ impl Search {
         self.numbers.as_slice()
     }
 
-    // The index of the first of these files, from one on, that isn't found.
+    /// The index of the first of these files, from one on, that isn't found.
     pub(crate) fn first_new(&self, numbers: &[usize], from: usize) -> Option<usize>
         requires { All (λ number. number < self.now.files) numbers.now }
         ensures { IfSome result (IsNewAt self.now numbers.now) }
@@ -137,7 +137,7 @@ impl Search {
         None
     }
 
-    // The runs of the places of the files that are found, in an order that has all files.
+    /// The runs of the places of the files that are found, in an order that has all files.
     pub(crate) fn to_runs(&self, alloc: Global, order: &FileOrder) -> Result<Runs, AllocError>
         requires { (number : ℕ) → number < self.now.files → Contains order.now number }
         ensures { IfOk result (λ runs. (number : ℕ) → Contains (files_at order.now runs) number ↔ Contains

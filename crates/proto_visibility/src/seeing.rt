@@ -23,7 +23,8 @@ use crate::seen_row::SeenRow;
 use std::alloc::{AllocError, Global};
 use std::marker::Model;
 
-// What each file sees: places in an order of all files. Contracts see for each file the list of the files that it sees.
+/// What each file sees: places in an order of all files. Contracts see for each file the list of the files
+/// that it sees.
 #[derive(Drop)]
 pub(crate) struct SeenFiles {
     order: FileOrder,
@@ -40,7 +41,7 @@ impl Model for SeenFiles {
 }
 
 impl SeenFiles {
-    // What a file sees.
+    /// What a file sees.
     pub(crate) fn row(&self, file: usize) -> SeenRow<'_>
         requires { file < length self.now }
         ensures { slice_get self.now file ≡ Some result }
@@ -52,7 +53,7 @@ impl SeenFiles {
     }
 }
 
-// For each file the files that it sees, by the steps of all files.
+/// For each file the files that it sees, by the steps of all files.
 pub(crate) fn seen_files(
     alloc: Global,
     files: &[LinkFile],
@@ -66,7 +67,7 @@ pub(crate) fn seen_files(
     Ok(SeenFiles { order, rows })
 }
 
-// The same by the steps alone, in an order that has all files.
+/// The same by the steps alone, in an order that has all files.
 fn seen_rows(alloc: Global, table: &[Steps], order: &FileOrder) -> Result<Vec<Runs>, AllocError>
     requires within { AreWithin table.now }
     requires all { (number : ℕ) → number < length table.now → Contains order.now number }
@@ -82,7 +83,7 @@ fn seen_rows(alloc: Global, table: &[Steps], order: &FileOrder) -> Result<Vec<Ru
     Ok(rows)
 }
 
-// Finds the files that a file sees: what it imports, and what public imports lead to from there.
+/// Finds the files that a file sees: what it imports, and what public imports lead to from there.
 fn search_from(search: &mut Search, table: &[Steps], file: usize) -> Result<(), AllocError>
     requires within { AreWithin table.now }
     requires files { search.old.files ≡ length table.now }
@@ -97,7 +98,7 @@ fn search_from(search: &mut Search, table: &[Steps], file: usize) -> Result<(), 
     Ok(())
 }
 
-// Finds a file and what it imports, but not publicly.
+/// Finds a file and what it imports, but not publicly.
 pub(crate) fn begin(search: &mut Search, table: &[Steps], file: usize) -> Result<(), AllocError>
     requires within { AreWithin table.now }
     requires files { search.old.files ≡ length table.now }
@@ -111,7 +112,7 @@ pub(crate) fn begin(search: &mut Search, table: &[Steps], file: usize) -> Result
     Ok(())
 }
 
-// Finds what public imports lead to from the files that are found.
+/// Finds what public imports lead to from the files that are found.
 pub(crate) fn follow(search: &mut Search, table: &[Steps]) -> Result<(), AllocError>
     requires within { AreWithin table.now }
     requires files { search.old.files ≡ length table.now }

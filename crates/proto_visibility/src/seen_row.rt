@@ -7,7 +7,7 @@ use crate::file_order::FileOrder;
 use crate::runs::Runs;
 use std::marker::Model;
 
-// The files that one file sees, as runs of places in an order of all files. Contracts see the list of the files.
+/// The files that one file sees, as runs of places in an order of all files. Contracts see the list of the files.
 #[derive(Drop)]
 pub(crate) struct SeenRow<'a> {
     pub(crate) order: &'a FileOrder,
@@ -24,7 +24,7 @@ impl<'a> Model for SeenRow<'a> {
 }
 
 impl SeenRow<'_> {
-    // Whether the file with this number is seen.
+    /// Whether the file with this number is seen.
     pub(crate) fn has(&self, number: usize) -> bool
         ensures { IsTrue result ↔ Contains self.now number }
     {
@@ -34,12 +34,12 @@ impl SeenRow<'_> {
         }
     }
 
-    // How many files are seen, near enough to choose a way by.
+    /// How many files are seen, near enough to choose a way by.
     pub(crate) fn size(&self) -> usize {
         self.runs.given()
     }
 
-    // A file that is seen and is among these numbers, which don't fall.
+    /// A file that is seen and is among these numbers, which don't fall.
     pub(crate) fn first_among(&self, numbers: &[usize]) -> Option<usize>
         requires { IsNonDecreasing numbers.now }
         ensures { MatchOption result ((number : ℕ) → Contains numbers.now number → Contains self.now number → ⊥)

@@ -188,7 +188,8 @@ module _ (paths : List (List ℕ)) (rising : IsRising paths) (pieces : List Docu
         marked = λ k p numbered. subst (λ (l : List (List ℕ)). (get_or new k false ≡ true) ↔ Contains l p) (sym front)
             (elim (cases_order k n) [
               | inl same ↦ (
-                  let equal : p ≡ path = same_Some p path (sym numbered ∙ (ap (slice_get paths) same ∙ one.numbered)) in (
+                  let equal : p ≡ path = same_Some p path
+                  (sym numbered ∙ (ap (slice_get paths) same ∙ one.numbered)) in (
                     λ _. subst (Contains (paths_of (take count pieces) ++ path ∷ [])) (sym equal)
                         (Contains-push (paths_of (take count pieces)) path),
                     λ _. subst (λ i. get_or new i false ≡ true) (sym same) new-at,
@@ -204,7 +205,8 @@ module _ (paths : List (List ℕ)) (rising : IsRising paths) (pieces : List Docu
                         (elim (Contains-push_cases (paths_of (take count pieces)) path p there) [
                           | inl before ↦ before
                           | inr same ↦ absurd (other
-                              (one-number paths k n p rising numbered (one.numbered ∙ ap (λ (q : List ℕ). Some q) same)))
+                              (one-number paths k n p rising numbered
+                              (one.numbered ∙ ap (λ (q : List ℕ). Some q) same)))
                         ]),
                   ))
             ]);

@@ -8,7 +8,7 @@ use proto_decl::Declaration;
 use sequences::{OwnedText, Sequence};
 use std::alloc::{AllocError, Global};
 
-// Appends a text that isn't empty.
+/// Appends a text that isn't empty.
 fn push_text(alloc: Global, texts: &mut Sequence<OwnedText>, text: &str) -> Result<(), AllocError>
     ensures { OnOk result (texts.new ≡ texts.old ++ unless_empty text.now) }
 {
@@ -20,7 +20,7 @@ fn push_text(alloc: Global, texts: &mut Sequence<OwnedText>, text: &str) -> Resu
     Ok(())
 }
 
-// A text, or none if it is empty.
+/// A text, or none if it is empty.
 fn one_text(alloc: Global, text: &str) -> Result<Sequence<OwnedText>, AllocError>
     ensures { IfOk result (λ texts. texts ≡ unless_empty text.now) }
 {
@@ -29,7 +29,7 @@ fn one_text(alloc: Global, text: &str) -> Result<Sequence<OwnedText>, AllocError
     Ok(texts)
 }
 
-// Two texts, without those that are empty.
+/// Two texts, without those that are empty.
 fn two_texts(alloc: Global, first: &str, second: &str) -> Result<Sequence<OwnedText>, AllocError>
     ensures { IfOk result (λ texts. texts ≡ unless_empty first.now ++ unless_empty second.now) }
 {
@@ -39,7 +39,7 @@ fn two_texts(alloc: Global, first: &str, second: &str) -> Result<Sequence<OwnedT
     Ok(texts)
 }
 
-// Those chosen of a declaration's texts, without empty ones.
+/// Those chosen of a declaration's texts, without empty ones.
 pub(crate) fn documentation_of(
     alloc: Global,
     choice: DocChoice,

@@ -28,7 +28,7 @@ use sequences::{OwnedText, Sequence};
 use std::alloc::{AllocError, Global};
 use std::cmp::Ordering;
 
-// The components joined by dots.
+/// The components joined by dots.
 fn joined(alloc: Global, components: &[Component]) -> Result<OwnedText, AllocError>
     ensures { IfOk result (λ name. name ≡ dotted (component_names components.now)) }
 {
@@ -38,7 +38,7 @@ fn joined(alloc: Global, components: &[Component]) -> Result<OwnedText, AllocErr
     }
 }
 
-// A package's name: its components, with dots between them.
+/// A package's name: its components, with dots between them.
 fn joined_behind(
     alloc: Global,
     first: &Component,
@@ -54,7 +54,7 @@ fn joined_behind(
     Ok(OwnedText::from_string(name))
 }
 
-// That of a file, whose name is its path.
+/// That of a file, whose name is its path.
 fn file_entry(alloc: Global, id: &PackageId, path: &str) -> Result<SymbolInformation, AllocError>
     requires { IsGoodPath path.now }
     ensures { IfOk result (λ entry. entry ≡ file_entry id.now path.now) }
@@ -69,7 +69,7 @@ fn file_entry(alloc: Global, id: &PackageId, path: &str) -> Result<SymbolInforma
     })
 }
 
-// Of the package of the first components, so many.
+/// Of the package of the first components, so many.
 fn package_entry(
     alloc: Global,
     id: &PackageId,
@@ -90,7 +90,7 @@ fn package_entry(
     })
 }
 
-// Of a declaration whose symbol has this text.
+/// Of a declaration whose symbol has this text.
 fn entry_with(
     alloc: Global,
     symbol: OwnedText,
@@ -109,7 +109,7 @@ fn entry_with(
     })
 }
 
-// That of a declaration, with the texts that were chosen.
+/// That of a declaration, with the texts that were chosen.
 pub(crate) fn declaration_entry(
     alloc: Global,
     id: &PackageId,
@@ -124,7 +124,7 @@ pub(crate) fn declaration_entry(
     entry_with(alloc, symbol, declaration, choice)
 }
 
-// Appends those of a file's packages.
+/// Appends those of a file's packages.
 fn push_packages(
     alloc: Global,
     entries: &mut Vec<SymbolInformation>,
@@ -140,7 +140,7 @@ fn push_packages(
     Ok(())
 }
 
-// Appends that of a declaration whose symbol has this text, if it is kept.
+/// Appends that of a declaration whose symbol has this text, if it is kept.
 fn push_if_kept(
     alloc: Global,
     entries: &mut Vec<SymbolInformation>,
@@ -160,7 +160,7 @@ fn push_if_kept(
     Ok(())
 }
 
-// Appends those of the source's declarations that are kept, whose symbols have these texts.
+/// Appends those of the source's declarations that are kept, whose symbols have these texts.
 fn push_declarations(
     entries: &mut Vec<SymbolInformation>,
     maker: &DocumentMaker<'_, '_, '_, '_>,
@@ -189,7 +189,7 @@ fn push_declarations(
     Ok(())
 }
 
-// Those of the source, by kind; it belongs to this package, and the symbols of its declarations have these texts.
+/// Those of the source, by kind; it belongs to this package, and the symbols of its declarations have these texts.
 fn listed_entries(
     maker: &DocumentMaker<'_, '_, '_, '_>,
     id: &PackageId,
@@ -220,7 +220,7 @@ pub(crate) fn compare_symbols(a: &SymbolInformation, b: &SymbolInformation) -> O
     a.symbol.as_str().cmp(b.symbol.as_str())
 }
 
-// The entries of the source, by symbol; the symbols of its declarations have these texts.
+/// The entries of the source, by symbol; the symbols of its declarations have these texts.
 pub(crate) fn entries(
     maker: &DocumentMaker<'_, '_, '_, '_>,
     texts: &[OwnedText],

@@ -23,7 +23,7 @@ use scip_symbol::PackageId;
 use sequences::Sequence;
 use std::alloc::{AllocError, Global};
 
-// Adds a declaration, if its file is included and it is kept.
+/// Adds a declaration, if its file is included and it is kept.
 fn push_declared(
     named: &mut Vec<(usize, usize)>,
     linker: &Linker<'_, '_>,
@@ -47,7 +47,7 @@ fn push_declared(
     Ok(())
 }
 
-// Adds what a component of a use names, if it is such a declaration.
+/// Adds what a component of a use names, if it is such a declaration.
 fn push_part(
     named: &mut Vec<(usize, usize)>,
     linker: &Linker<'_, '_>,
@@ -63,7 +63,7 @@ fn push_part(
     }
 }
 
-// Appends those of the parts of a name.
+/// Appends those of the parts of a name.
 fn push_parts(
     named: &mut Vec<(usize, usize)>,
     linker: &Linker<'_, '_>,
@@ -80,7 +80,7 @@ fn push_parts(
     Ok(())
 }
 
-// Adds those that a use in a source names.
+/// Adds those that a use in a source names.
 fn push_use(
     alloc: Global,
     named: &mut Vec<(usize, usize)>,
@@ -102,7 +102,7 @@ fn push_use(
     }
 }
 
-// Appends those of a source's uses.
+/// Appends those of a source's uses.
 fn push_uses(
     alloc: Global,
     named: &mut Vec<(usize, usize)>,
@@ -114,7 +114,8 @@ fn push_uses(
     requires source { IsSource linker.now source }
     requires choices { HaveChoices linker.now choices.now }
     ensures { OnOk result (Adds
-        (FromFront (IsOfUse linker.now choices.now source) uses.now (length uses.now)) named.old.items named.new.items) }
+        (FromFront (IsOfUse linker.now choices.now source) uses.now (length uses.now))
+        named.old.items named.new.items) }
 {
     for type_use in uses {
         push_use(alloc, named, linker, choices, source, type_use)?;
@@ -122,7 +123,7 @@ fn push_uses(
     Ok(())
 }
 
-// Adds those that the uses of a source name.
+/// Adds those that the uses of a source name.
 fn push_source(
     alloc: Global,
     named: &mut Vec<(usize, usize)>,
@@ -142,7 +143,7 @@ fn push_source(
     push_uses(alloc, named, linker, choices, source, facts.uses())
 }
 
-// Those that the uses of all sources name.
+/// Those that the uses of all sources name.
 fn named_externals(
     alloc: Global,
     linker: &Linker<'_, '_>,
@@ -158,7 +159,7 @@ fn named_externals(
     Ok(named)
 }
 
-// The same, rising and each once.
+/// The same, rising and each once.
 fn without_doubles(named: Vec<(usize, usize)>) -> Result<Vec<(usize, usize)>, AllocError>
     ensures same { IfOk result (λ once. (x : Pair) → Contains once.items x ↔ Contains named.items x) }
     ensures rising { IfOk result (λ once. IsStrictlySortedBy pair_cmp once.items) }
@@ -169,7 +170,7 @@ fn without_doubles(named: Vec<(usize, usize)>) -> Result<Vec<(usize, usize)>, Al
     Ok(named)
 }
 
-// The entry of a declaration that is kept.
+/// The entry of a declaration that is kept.
 fn external_entry(
     alloc: Global,
     id: &PackageId,
@@ -188,7 +189,7 @@ fn external_entry(
     declaration_entry(alloc, id, facts, declaration, choice)
 }
 
-// The entry of a declaration that a use in a source names, of an included file, and that is kept.
+/// The entry of a declaration that a use in a source names, of an included file, and that is kept.
 fn entry_of(
     alloc: Global,
     linker: &Linker<'_, '_>,
@@ -205,7 +206,7 @@ fn entry_of(
     external_entry(alloc, id, choices, facts, pair.0, pair.1)
 }
 
-// The entry of each such declaration, in their order.
+/// The entry of each such declaration, in their order.
 fn external_entries(
     alloc: Global,
     linker: &Linker<'_, '_>,
@@ -225,7 +226,7 @@ fn external_entries(
     Ok(entries)
 }
 
-// Whether a file is included.
+/// Whether a file is included.
 fn has_included(linker: &Linker<'_, '_>) -> bool
     ensures { MatchBool result (HasIncluded linker.now) (NoneIncluded linker.now (length linker.now)) }
 {

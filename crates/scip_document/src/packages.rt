@@ -58,14 +58,14 @@ impl RootPackage {
         Ok(())
     }
 
-    // Whether a file of the root has this path.
+    /// Whether a file of the root has this path.
     fn has(&self, path: &str) -> bool
         ensures { result ≡ list_any (bytes_eq path.now) self.now.paths }
     {
         self.paths.contains(path)
     }
 
-    // Its package.
+    /// Its package.
     fn id(&self) -> &PackageId
         ensures value { result.now ≡ self.now.id }
         ensures known { IsPackage self.now.id }
@@ -134,7 +134,7 @@ impl FilePackages {
     }
 }
 
-// The package of the first root that has a file with this path; if none has, the run's.
+/// The package of the first root that has a file with this path; if none has, the run's.
 fn package_among<'a>(run: &'a PackageId, roots: &'a [RootPackage], path: &str) -> &'a PackageId
     ensures { result.now ≡ package_among run.now path.now roots.now }
 {

@@ -12,7 +12,7 @@ use sequences::Sequence;
 use std::alloc::{AllocError, Global};
 use std::cmp::Ordering;
 
-// The number of a path, if it is one of these.
+/// The number of a path, if it is one of these.
 fn number_of(paths: &[&str], path: &str) -> Option<usize>
     requires { IsRising (texts paths.now) }
     ensures { MatchOption result (Contains (texts paths.now) path.now → ⊥)
@@ -21,7 +21,7 @@ fn number_of(paths: &[&str], path: &str) -> Option<usize>
     paths.binary_search(&path).ok()
 }
 
-// So many marks, none of them set.
+/// So many marks, none of them set.
 fn clear_marks(alloc: Global, count: usize) -> Result<Vec<bool>, AllocError>
     ensures { IfOk result (λ marks. AreClear count marks.items) }
 {
@@ -32,7 +32,7 @@ fn clear_marks(alloc: Global, count: usize) -> Result<Vec<bool>, AllocError>
     Ok(marks)
 }
 
-// Marks the path of a piece.
+/// Marks the path of a piece.
 fn mark(paths: &[&str], marks: &mut Vec<bool>, piece: usize, path: &str) -> Result<(), MergeFault>
     requires rising { IsRising (texts paths.now) }
     requires size { length marks.old.items ≡ length (texts paths.now) }
@@ -49,7 +49,7 @@ fn mark(paths: &[&str], marks: &mut Vec<bool>, piece: usize, path: &str) -> Resu
     Ok(())
 }
 
-// Marks the paths of all pieces.
+/// Marks the paths of all pieces.
 fn mark_all(paths: &[&str], marks: &mut Vec<bool>, pieces: &[Document]) -> Result<(), MergeFault>
     requires rising { IsRising (texts paths.now) }
     requires clear { AreClear (length (texts paths.now)) marks.old.items }
@@ -62,21 +62,21 @@ fn mark_all(paths: &[&str], marks: &mut Vec<bool>, pieces: &[Document]) -> Resul
     Ok(())
 }
 
-// The first mark that is clear.
+/// The first mark that is clear.
 fn first_clear(marks: &[bool]) -> Option<usize>
     ensures { result ≡ position (λ mark. not mark) marks.now }
 {
     marks.iter().position(|mark| !*mark)
 }
 
-// The order of documents: by path.
+/// The order of documents: by path.
 fn compare_paths(a: &Document, b: &Document) -> Ordering
     ensures { result ≡ document_cmp a.now b.now }
 {
     a.relative_path.as_str().cmp(b.relative_path.as_str())
 }
 
-// Puts the pieces in the order of the paths, if each path has one.
+/// Puts the pieces in the order of the paths, if each path has one.
 fn put_in_order(alloc: Global, paths: &[&str], pieces: &mut Vec<Document>) -> Result<(), MergeFault>
     requires { IsRising (texts paths.now) }
     ensures merged { OnOk result (AreMerged (texts paths.now) pieces.old.items pieces.new.items) }

@@ -14,7 +14,7 @@ use scip_symbol::{PackageId, print_below, print_declaration, print_file, print_p
 use sequences::OwnedText;
 use std::alloc::{AllocError, Global};
 
-// Of the file with a path.
+/// Of the file with a path.
 #[tactic(auto, unfolding(crate::specs::Named::text_of))]
 pub(crate) fn file_text(alloc: Global, id: &PackageId, path: &str) -> Result<OwnedText, AllocError>
     requires { IsGoodPath path.now }
@@ -24,7 +24,7 @@ pub(crate) fn file_text(alloc: Global, id: &PackageId, path: &str) -> Result<Own
     Ok(OwnedText::from_string(text))
 }
 
-// Of the package that the first components of a file's package name make, so many.
+/// Of the package that the first components of a file's package name make, so many.
 #[tactic(auto, unfolding(crate::specs::Named::text_of))]
 pub(crate) fn package_text(
     alloc: Global,
@@ -41,7 +41,7 @@ pub(crate) fn package_text(
     Ok(OwnedText::from_string(text))
 }
 
-// Of a declaration of a file.
+/// Of a declaration of a file.
 #[tactic(auto, unfolding(crate::specs::Named::text_of))]
 pub(crate) fn declaration_text(
     alloc: Global,
@@ -56,7 +56,7 @@ pub(crate) fn declaration_text(
     Ok(OwnedText::from_string(text))
 }
 
-// Of a declaration of a file, of which the package with all components of its name has this text.
+/// Of a declaration of a file, of which the package with all components of its name has this text.
 #[tactic(auto, unfolding(crate::specs::Named::text_of))]
 fn text_below(
     alloc: Global,
@@ -71,7 +71,7 @@ fn text_below(
     Ok(OwnedText::from_string(text))
 }
 
-// Adds it.
+/// Adds it.
 fn push_text_below(
     alloc: Global,
     texts: &mut Vec<OwnedText>,
@@ -87,7 +87,7 @@ fn push_text_below(
     Ok(())
 }
 
-// Of each declaration of a file, in order. What they begin with is made once.
+/// Of each declaration of a file, in order. What they begin with is made once.
 pub(crate) fn declaration_texts(
     alloc: Global,
     id: &PackageId,

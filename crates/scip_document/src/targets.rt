@@ -57,7 +57,7 @@ pub(crate) fn find_targets(
     Ok(found)
 }
 
-// Adds the place of a use for which nothing was found.
+/// Adds the place of a use for which nothing was found.
 fn add_gap(spans: &mut Vec<Span>, found: &Option<Target>, span: Span) -> Result<(), AllocError>
     ensures { OnOk result (spans.new.items ≡ spans.old.items ++ unless_found found.now span) }
 {

@@ -80,7 +80,8 @@ marked_found taken (x ∷ files) file there = elim (cases_Bool (is_taken taken x
           behind = files;
           listed = ap (λ f. f ∷ files) same;
           first = λ none. in_nothing file.path none;
-          free = λ there. free_from taken x.path fails (subst (λ (f : SourceFile). Contains taken f.path) (sym same) there);
+          free = λ there. free_from taken x.path fails
+              (subst (λ (f : SourceFile). Contains taken f.path) (sym same) there);
         }
       ]
 ]

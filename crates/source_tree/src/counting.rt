@@ -9,7 +9,7 @@ use crate::source::Source;
 use std::alloc::{AllocError, Global};
 use std::collections::HashSet;
 
-// For each included file whether it counts, and room for those that do.
+/// For each included file whether it counts, and room for those that do.
 #[derive(Drop)]
 pub(crate) struct Counting {
     marks: Vec<bool>,
@@ -17,7 +17,7 @@ pub(crate) struct Counting {
 }
 
 impl Counting {
-    // All memory that is needed to tell which included files count.
+    /// All memory that is needed to tell which included files count.
     pub(crate) fn of(
         alloc: Global,
         sources: &[Source],
@@ -33,7 +33,7 @@ impl Counting {
         Ok(Counting { marks, room })
     }
 
-    // The included files that count, in the order in which they were handed in. Takes no memory.
+    /// The included files that count, in the order in which they were handed in. Takes no memory.
     pub(crate) fn counted(self, included: Vec<Source>) -> Vec<Source>
         requires empty { self.room.items ≡ [] }
         requires marks { length self.marks.items ≡ length included.items }
@@ -51,7 +51,7 @@ impl Counting {
     }
 }
 
-// The paths of the sources.
+/// The paths of the sources.
 fn taken_paths<'a>(alloc: Global, sources: &'a [Source]) -> Result<HashSet<&'a str>, AllocError>
     ensures { IfOk result (λ taken. (path : List ℕ) → has_path taken path ≡ is_taken (paths_of sources.now) path) }
 {
@@ -62,7 +62,7 @@ fn taken_paths<'a>(alloc: Global, sources: &'a [Source]) -> Result<HashSet<&'a s
     Ok(taken)
 }
 
-// Whether each file's path is none of those taken, and none of an earlier file's.
+/// Whether each file's path is none of those taken, and none of an earlier file's.
 fn marks_of<'a>(
     alloc: Global,
     taken: HashSet<&'a str>,

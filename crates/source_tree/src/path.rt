@@ -4,13 +4,13 @@ ghost use Rattle.std.specs.Prelude.{ℕ, ◌≤◌, ◌↔◌, All, IsTrue, nat_
 ghost use Rattle.std.specs.List.{slice_split};
 ghost use Rattle.scip_symbol.specs.Path.{IsGoodPath, IsComponent, slash};
 
-// The most bytes of a path.
+/// The most bytes of a path.
 const MAX_PATH_LENGTH: usize = 4096;
 
-// What a path ends in.
+/// What a path ends in.
 const ENDING: &str = ".proto";
 
-// Whether a path names a file below the root of its tree.
+/// Whether a path names a file below the root of its tree.
 pub(crate) fn is_good_path(path: &str) -> bool
     ensures { IsTrue result ↔ IsGoodPath path.now }
 {
@@ -20,21 +20,21 @@ pub(crate) fn is_good_path(path: &str) -> bool
         && path.ends_with(ENDING)
 }
 
-// Whether a text has no character below U+0020.
+/// Whether a text has no character below U+0020.
 fn is_printable(path: &str) -> bool
     ensures { IsTrue result ↔ All (λ byte. 32 ≤ byte) path.now }
 {
     path.as_bytes().iter().all(|byte| *byte >= b' ')
 }
 
-// Whether each part between `/` is a component.
+/// Whether each part between `/` is a component.
 fn has_good_components(path: &str) -> bool
     ensures { IsTrue result ↔ All IsComponent (slice_split (λ byte. nat_eq byte slash) path.now) }
 {
     path.split('/').all(|component| is_component(component))
 }
 
-// Whether a text is a component of a good path.
+/// Whether a text is a component of a good path.
 fn is_component(component: &str) -> bool
     ensures { IsTrue result ↔ IsComponent component.now }
 {

@@ -29,35 +29,35 @@ impl Model for Source {
 }
 
 impl Source {
-    // The path of the file.
+    /// The path of the file.
     pub(crate) fn path(&self) -> &str
         ensures { result.now ≡ self.now.path }
     {
         self.path.as_str()
     }
 
-    // What the file holds.
+    /// What the file holds.
     pub(crate) fn bytes(&self) -> &[u8]
         ensures { result.now ≡ self.now.bytes }
     {
         self.bytes.as_slice()
     }
 
-    // Whether its path is a good one.
+    /// Whether its path is a good one.
     pub(crate) fn has_good_path(&self) -> bool
         ensures { IsTrue result ↔ IsGoodPath self.now.path }
     {
         is_good_path(self.path())
     }
 
-    // By path.
+    /// By path.
     pub(crate) fn compare_paths(&self, other: &Source) -> Ordering
         ensures { result ≡ path_cmp self.now other.now }
     {
         self.path().cmp(other.path())
     }
 
-    // Whether both have one path.
+    /// Whether both have one path.
     pub(crate) fn has_path_of(&self, other: &Source) -> bool
         ensures { IsTrue result ↔ (self.now.path ≡ other.now.path) }
     {

@@ -144,7 +144,7 @@ impl Tree {
         number >= self.sources.len()
     }
 
-    // The file with a number, as it was handed in.
+    /// The file with a number, as it was handed in.
     fn file(&self, number: usize) -> &Source
         requires { number < length self.now }
         ensures { option_map (λ file. record { path = file.path; bytes = file.bytes }) (slice_get self.now number)
@@ -157,14 +157,14 @@ impl Tree {
     }
 }
 
-// Whether there are more files than a tree has.
+/// Whether there are more files than a tree has.
 fn are_too_many(sources: &[Source], included: &[Source]) -> bool
     ensures { IsTrue result ↔ AreTooMany sources.now included.now }
 {
     sources.len() > MAX_FILES || included.len() > MAX_FILES - sources.len()
 }
 
-// The first file without a good path, through the sources and then the included files.
+/// The first file without a good path, through the sources and then the included files.
 fn first_bad_path(sources: &[Source], included: &[Source]) -> Option<usize>
     requires { length sources.now + length included.now ≤ max_files }
     ensures { MatchOption result (HaveGoodPaths (sources.now ++ included.now))
@@ -179,7 +179,7 @@ fn first_bad_path(sources: &[Source], included: &[Source]) -> Option<usize>
     }
 }
 
-// The first file without a good path.
+/// The first file without a good path.
 fn first_bad(files: &[Source]) -> Option<usize>
     ensures { MatchOption result (HaveGoodPaths files.now) (IsFirstBad files.now) }
 {

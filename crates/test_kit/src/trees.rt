@@ -50,6 +50,7 @@ pub fn sources_of(alloc: Global, files: &str) -> Result<Vec<Source>, AllocError>
     those(alloc, files, false)
 }
 
+/// The tree of files; none if their paths aren't good or not their own.
 fn tree_once(alloc: Global, files: &str) -> Result<Option<Tree>, AllocError> {
     let sources = sources_of(alloc, files)?;
     let included = those(alloc, files, true)?;

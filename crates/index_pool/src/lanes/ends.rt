@@ -18,7 +18,7 @@ pub(crate) type LaneWorker = Worker<usize, Global, LaneView, LaneRule>;
 
 pub(crate) type LaneStealer = Stealer<usize, Global, LaneView, LaneRule>;
 
-// How many steals in a row may ask for a further try.
+/// How many steals in a row may ask for a further try.
 pub(crate) const MAX_TRIES: usize = 64;
 
 /// The owner's end of a lane, from which its worker pops. It remembers whether the last pop found the

@@ -6,9 +6,9 @@ ghost use Rattle.std.specs.List.Sorted.{IsPermutation};
 use crossbeam_deque::protocol::{Join, Outcome, Protocol, Split};
 use std::collections::LinkedList;
 
-// What a party of the deque knows of the lane: whether it is the owner's, whether it is the
-// thief's, the numbers that the deque was given, and those that the party popped and stole. No
-// value of it is made.
+/// What a party of the deque knows of the lane: whether it is the owner's, whether it is the
+/// thief's, the numbers that the deque was given, and those that the party popped and stole. No
+/// value of it is made.
 pub(crate) struct LaneView {
     owns: bool,
     steals: bool,
@@ -17,7 +17,7 @@ pub(crate) struct LaneView {
     stolen: LinkedList<usize>,
 }
 
-// The deque and the views of its parties are a lane. At first one party owns and steals.
+/// The deque and the views of its parties are a lane. At first one party owns and steals.
 pub(crate) struct LaneRule;
 
 impl Protocol<usize, LaneView> for LaneRule {
@@ -31,7 +31,7 @@ impl Protocol<usize, LaneView> for LaneRule {
     ghost guest = { lane_view false false [] [] [] };
 }
 
-// The two ends are parted, and joined.
+/// The two ends are parted, and joined.
 pub(crate) struct Ends;
 
 impl Split<LaneView> for Ends {
@@ -52,7 +52,7 @@ impl Join<LaneView> for Ends {
     ghost spent = { lane_view false false [] [] [] };
 }
 
-// A push: the numbers given grow.
+/// A push: the numbers given grow.
 pub(crate) struct Gives;
 
 impl Outcome<usize, LaneView> for Gives {
@@ -61,8 +61,8 @@ impl Outcome<usize, LaneView> for Gives {
     ghost then = { λ v xs w. w ≡ more_given v xs };
 }
 
-// A pop: the numbers popped grow by one of those given. If an owner that is the thief too finds none, each number
-// given was popped or stolen, once.
+/// A pop: the numbers popped grow by one of those given. If an owner that is the thief too finds none, each number
+/// given was popped or stolen, once.
 pub(crate) struct Pops;
 
 impl Outcome<usize, LaneView> for Pops {
@@ -74,8 +74,8 @@ impl Outcome<usize, LaneView> for Pops {
     ghost empty = { λ v. v.owns ≡ true → v.steals ≡ true → IsPermutation v.given (v.popped ++ v.stolen) };
 }
 
-// A steal: the numbers stolen grow by one of those given. Where none is left, those stolen are a share
-// of those given.
+/// A steal: the numbers stolen grow by one of those given. Where none is left, those stolen are a share
+/// of those given.
 pub(crate) struct Steals;
 
 impl Outcome<usize, LaneView> for Steals {

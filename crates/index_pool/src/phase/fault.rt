@@ -14,9 +14,9 @@ pub enum PoolFault<F> {
     Job(usize, F),
 }
 
-// Why no results are gathered: room for the lanes was refused, before any start; a start was, and
-// with it comes the calling thread's own lane, which was emptied, so that no thief gets more of it; or,
-// once all threads were started, room for results was.
+/// Why no results are gathered: room for the lanes was refused, before any start; a start was, and
+/// with it comes the calling thread's own lane, which was emptied, so that no thief gets more of it; or,
+/// once all threads were started, room for results was.
 #[derive(Drop)]
 pub(crate) enum Stop {
     Lanes,

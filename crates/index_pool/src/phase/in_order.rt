@@ -9,8 +9,8 @@ use super::fault::PoolFault;
 use super::worker::Ran;
 use std::alloc::{AllocError, Global};
 
-// The answers in the order of their inputs, or the least faulty input. There is a result for each
-// number below `inputs`, and only one. No thread is refused here, as with one worker.
+/// The answers in the order of their inputs, or the least faulty input. There is a result for each
+/// number below `inputs`, and only one. No thread is refused here, as with one worker.
 pub(crate) fn in_order<Out: Drop, Fault: Drop>(
     alloc: Global,
     inputs: usize,
@@ -29,7 +29,7 @@ pub(crate) fn in_order<Out: Drop, Fault: Drop>(
     first_fault_or_all(slots, outs)
 }
 
-// A slot for each input, with its result.
+/// A slot for each input, with its result.
 fn placed<A: Drop>(
     alloc: Global,
     inputs: usize,
@@ -46,7 +46,7 @@ fn placed<A: Drop>(
     Ok(slots)
 }
 
-// A slot for each input, with nothing in it.
+/// A slot for each input, with nothing in it.
 fn empty_slots<A: Drop>(alloc: Global, inputs: usize) -> Result<Vec<Option<A>>, AllocError>
     ensures { IfOk result (λ slots. (length slots.items ≡ inputs) × All (λ slot. slot ≡ None) slots.items) }
 {
@@ -57,7 +57,7 @@ fn empty_slots<A: Drop>(alloc: Global, inputs: usize) -> Result<Vec<Option<A>>, 
     Ok(slots)
 }
 
-// Puts an answer into its input's slot.
+/// Puts an answer into its input's slot.
 fn put<A: Drop>(slots: &mut Vec<Option<A>>, number: usize, answer: A)
     requires { number < length slots.old.items }
     ensures { slots.new.items ≡ slice_set slots.old.items number (Some answer) }
@@ -65,7 +65,7 @@ fn put<A: Drop>(slots: &mut Vec<Option<A>>, number: usize, answer: A)
     slots[number] = Some(answer);
 }
 
-// The answers up to the first fault, or all of them.
+/// The answers up to the first fault, or all of them.
 fn first_fault_or_all<Out: Drop, Fault: Drop>(
     slots: Vec<Option<Result<Out, Fault>>>,
     mut outs: Vec<Out>,

@@ -25,14 +25,14 @@ use std::alloc::AllocError;
 use std::snapshot::Snapshot;
 use std::thread::{Promise, PromisedHandle, Scope, Threads};
 
-// The calling thread's post, with all results so far.
+/// The calling thread's post, with all results so far.
 #[derive(Drop)]
 pub(crate) struct Gathered<A> {
     pub(crate) post: Post,
     pub(crate) results: Vec<Ran<A>>,
 }
 
-// What a started thread is to do: the worker's part of this job at this post.
+/// What a started thread is to do: the worker's part of this job at this post.
 #[derive(Drop)]
 pub(crate) struct Duty<J> {
     job: Snapshot<J>,
@@ -45,8 +45,8 @@ impl<J: Job> Promise<Done<Result<J::Out, J::Fault>>> for Duty<J> {
     ghost kept_by = { λ p r. Worked (J.gives p.job.value) p.post.value r };
 }
 
-// Starts the thread of one worker, if one more start is allowed. None if it can't be started; its post is then
-// dropped.
+/// Starts the thread of one worker, if one more start is allowed. None if it can't be started; its post is then
+/// dropped.
 fn start<'s, E, J: Job, G: Gate>(
     scope: &'s Scope<'s, E>,
     task: &Task<'s, J, G>,
@@ -72,9 +72,9 @@ fn start<'s, E, J: Job, G: Gate>(
     scope.spawn_with(duty, run).ok()
 }
 
-// Starts one worker for each lane, the last lane's first, and works at the post that is left. So
-// worker w steals from the lane of worker w + 1, and the last one from the calling thread's.
-// `starts` threads may be started; a further start is refused.
+/// Starts one worker for each lane, the last lane's first, and works at the post that is left. So
+/// worker w steals from the lane of worker w + 1, and the last one from the calling thread's.
+/// `starts` threads may be started; a further start is refused.
 pub(crate) fn level<'s, E, R: Threads, J: Job, G: Gate>(
     scope: &'s Scope<'s, E>,
     rt: &R,
@@ -104,8 +104,8 @@ pub(crate) fn level<'s, E, R: Threads, J: Job, G: Gate>(
     settle(task, done, rest?)
 }
 
-// The post of the worker whose lane this is, who steals where the calling thread would, and the
-// calling thread's new post, which steals from that lane.
+/// The post of the worker whose lane this is, who steals where the calling thread would, and the
+/// calling thread's new post, which steals from that lane.
 fn swapped(post: Post, lane: (LaneOwner, LaneThief)) -> (Post, Post)
     ensures theirs { result.0 ≡ record { owner = lane.0; thief = post.thief } }
     ensures ours { result.1 ≡ record { owner = post.owner; thief = lane.1 } }
@@ -118,7 +118,7 @@ fn swapped(post: Post, lane: (LaneOwner, LaneThief)) -> (Post, Post)
     (Post { owner, thief: held }, Post { owner: own, thief })
 }
 
-// The calling thread's own work, once every thread was started.
+/// The calling thread's own work, once every thread was started.
 fn alone<J: Job, G: Gate>(
     task: &Task<'_, J, G>,
     post: Post,
@@ -138,8 +138,8 @@ fn alone<J: Job, G: Gate>(
     Ok(Gathered { post, results })
 }
 
-// A joined worker's results and those of the rest. Its lane, of which both ends are at hand now, is
-// popped until it is empty.
+/// A joined worker's results and those of the rest. Its lane, of which both ends are at hand now, is
+/// popped until it is empty.
 fn settle<J: Job, G: Gate>(
     task: &Task<'_, J, G>,
     done: Done<Result<J::Out, J::Fault>>,
@@ -175,7 +175,7 @@ fn settle<J: Job, G: Gate>(
     })
 }
 
-// Brings the two ends of a lane together, and pops it until it is empty.
+/// Brings the two ends of a lane together, and pops it until it is empty.
 pub(crate) fn close<J: Job, G: Gate>(
     task: &Task<'_, J, G>,
     mut owner: LaneOwner,

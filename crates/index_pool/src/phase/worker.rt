@@ -12,21 +12,21 @@ use crate::job::Job;
 use crate::lanes::{LaneOwner, LaneThief, Stolen, Ticket};
 use std::alloc::AllocError;
 
-// An input's number, and what `run` returned for it.
+/// An input's number, and what `run` returned for it.
 #[derive(Drop)]
 pub(crate) struct Ran<A> {
     pub(crate) number: usize,
     pub(crate) answer: A,
 }
 
-// What a worker works at: its own lane, and the lane of its neighbour.
+/// What a worker works at: its own lane, and the lane of its neighbour.
 #[derive(Drop)]
 pub(crate) struct Post {
     pub(crate) owner: LaneOwner,
     pub(crate) thief: LaneThief,
 }
 
-// What a worker brings back. `starved`: room for a result was refused, and inputs weren't run.
+/// What a worker brings back. `starved`: room for a result was refused, and inputs weren't run.
 #[derive(Drop)]
 pub(crate) struct Done<A> {
     pub(crate) post: Post,
@@ -34,7 +34,7 @@ pub(crate) struct Done<A> {
     pub(crate) starved: bool,
 }
 
-// Runs an input, whose ticket it uses up, between the gate's two calls.
+/// Runs an input, whose ticket it uses up, between the gate's two calls.
 fn run_one<J: Job, G: Gate>(task: &Task<'_, J, G>, ticket: Ticket) -> Ran<Result<J::Out, J::Fault>>
     requires { number_of ticket < J.inputs task.now.job.now }
     ensures number { result.number ≡ number_of ticket }
@@ -47,8 +47,8 @@ fn run_one<J: Job, G: Gate>(task: &Task<'_, J, G>, ticket: Ticket) -> Ran<Result
     Ran { number, answer }
 }
 
-// Pops the lane until it is empty, and runs each number before it takes the next. Room for a
-// result is taken before each pop.
+/// Pops the lane until it is empty, and runs each number before it takes the next. Room for a
+/// result is taken before each pop.
 pub(crate) fn run_own<J: Job, G: Gate>(
     task: &Task<'_, J, G>,
     owner: &mut LaneOwner,
@@ -74,8 +74,8 @@ pub(crate) fn run_own<J: Job, G: Gate>(
     }
 }
 
-// Steals from the neighbour's lane, once the worker's own was found empty, until no try is left, and
-// runs each number before it takes the next.
+/// Steals from the neighbour's lane, once the worker's own was found empty, until no try is left, and
+/// runs each number before it takes the next.
 fn run_stolen<J: Job, G: Gate>(
     task: &Task<'_, J, G>,
     own: &LaneOwner,
@@ -105,7 +105,7 @@ fn run_stolen<J: Job, G: Gate>(
     Ok(())
 }
 
-// Takes what is left in the lane, without running it.
+/// Takes what is left in the lane, without running it.
 pub(crate) fn drain(owner: &mut LaneOwner)
     ensures popped { PoppedMore owner.old owner.new }
     ensures emptied { found_empty owner.new ≡ true }
@@ -113,7 +113,7 @@ pub(crate) fn drain(owner: &mut LaneOwner)
     'pops: while owner.pop().is_some() {}
 }
 
-// All that one worker does. If room for a result is refused it runs no more, and empties its own lane.
+/// All that one worker does. If room for a result is refused it runs no more, and empties its own lane.
 pub(crate) fn work<J: Job, G: Gate>(
     task: &Task<'_, J, G>,
     post: Post,
@@ -137,7 +137,7 @@ pub(crate) fn work<J: Job, G: Gate>(
     }
 }
 
-// Runs what is in the worker's own lane, and then what it steals.
+/// Runs what is in the worker's own lane, and then what it steals.
 fn run_both<J: Job, G: Gate>(
     task: &Task<'_, J, G>,
     owner: &mut LaneOwner,

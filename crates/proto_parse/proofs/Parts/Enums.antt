@@ -44,7 +44,8 @@ module _ (st : Step) where
       (λ number. fol_then st _ _ number.1 _ _ (options_follow st custom number.1)
       (λ options. fol_value st _ options.1 _ _ (fol_token st (OfKind Semicolon) options.1)))))
 
-  pub enum_item_follows : (custom : CustomOptions) (p : Place) → Fol st (enum_item_step custom) p (enum_item_at custom p)
+  pub enum_item_follows : (custom : CustomOptions) (p : Place)
+      → Fol st (enum_item_step custom) p (enum_item_at custom p)
   unfolding enum_item_at
   enum_item_follows custom p =
       fol_if st (OfKind Semicolon) Done _ p _ _ (λ is. fol_taken st (OfKind Semicolon) p is)

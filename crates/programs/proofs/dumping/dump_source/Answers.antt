@@ -21,7 +21,8 @@ returns-in-Err g c =
       refl,
       omega arith,
       of_fault g.I.Feed.remaining g.M.Sink.contents g.M.Sink.failures
-          (explain_in c.args.options.now.explain (dialect_of c.args.options.now.accept c.args.options.now.custom_options))
+          (explain_in c.args.options.now.explain
+          (dialect_of c.args.options.now.accept c.args.options.now.custom_options))
           c.args.input.now c.args.messages.now c.report.new.messages c.report.result Memory (dump_tree []) tt
           (inr c.report.ensures),
     )
@@ -41,10 +42,12 @@ returns g c =
     let Dumped : Dialect → Type 0 =
     λ dialect. IsDumped g.I.Feed.remaining g.W.Sink.contents g.W.Sink.failures dialect c.args.input.now c.args.out.now
     c.dump_and_keep.new.out done in
-    let said = told_one g.M.Sink.contents g.M.Sink.failures c.args.messages.now c.report-in-Err-dump_and_keep.new.messages
+    let said = told_one g.M.Sink.contents g.M.Sink.failures c.args.messages.now
+    c.report-in-Err-dump_and_keep.new.messages
     c.report-in-Err-dump_and_keep.result _ _ string_bytes c.fault_text-text.result
     (IsFaultText explain tree fault) c.status.ensures
-    (subst Told (rw c.dialect_of-dialect.ensures at c.explain_in-explain.ensures) c.fault_text-text.ensures) c.report-in-Err-dump_and_keep.ensures in (
+    (subst Told (rw c.dialect_of-dialect.ensures at c.explain_in-explain.ensures) c.fault_text-text.ensures)
+    c.report-in-Err-dump_and_keep.ensures in (
       done,
       subst Dumped c.dialect_of-dialect.ensures of.dumped,
       of.reader,

@@ -15,7 +15,8 @@ pub returns : goal.returns
 returns g c =
     let text = c.told_text.ensures in
     lacks_some (TellsOfSuccess g.M.Sink.contents g.M.Sink.failures) c.args.explain c.args.tree.now
-    c.args.messages.now c.report.new.messages c.report.result c.args.told.now (sym c.is_empty.ensures ∙ c.if-is_empty.false) (
+    c.args.messages.now c.report.new.messages c.report.result c.args.told.now
+    (sym c.is_empty.ensures ∙ c.if-is_empty.false) (
       text.0,
       text.1,
       told_one g.M.Sink.contents g.M.Sink.failures c.args.messages.now c.report.new.messages c.report.result _ _

@@ -8,7 +8,8 @@ pub loop-id-preserved : goal.loop-id-preserved
 loop-id-preserved c =
     let (_, _, first, second, whole) = c.loop-id.invariant in
     let steps = c.in-Some.ensures.steps in
-    let added = one_added _ _ _ _ c.add_folder.new.packages c.in-Some.id c.in-Some.here _ _ _ _ steps.0.0 steps.1.0 whole
+    let added = one_added _ _ _ _ c.add_folder.new.packages c.in-Some.id c.in-Some.here _ _ _ _ steps.0.0 steps.1.0
+    whole
     c.in_ok-add_folder.ensures in
     search rules
 

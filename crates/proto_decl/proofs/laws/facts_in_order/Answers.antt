@@ -46,7 +46,8 @@ returns-clause-imports c = λ facts origin.
     let before = (goal.at.returns-clause-imports c).After-names_have_components in
     let among = c.spans_of_tokens.ensures.imports origin.dialect origin.lexed.text origin.lexed.tokens file
     origin.derives in
-    let filled = c.names_have_components.ensures origin.dialect origin.lexed.text origin.lexed.tokens file origin.derives
+    let filled = c.names_have_components.ensures origin.dialect origin.lexed.text origin.lexed.tokens file
+    origin.derives
     in
     subst placed (sym (ap (map (λ (imported : Imported). imported.span)) origin.of_file.imports))
     (imports_in_order origin.lexed.text file.imports 0 filled.imports

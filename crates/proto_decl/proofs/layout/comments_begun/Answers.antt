@@ -18,7 +18,8 @@ returns-in-None-clause-parted c =
     (λ (t : Comment). ltb (key t) bound) c.comments-comments.result.now c.partition_point.result
     c.partition_point.ensures.partitioned listed (λ a r q k. search rules) in
     parted_less key bound c.partition_point.result comments
-    (rw c.comments-comments.ensures.value at c.partition_point.ensures.bound) (rw c.comments-comments.ensures.value at point)
+    (rw c.comments-comments.ensures.value at c.partition_point.ensures.bound)
+    (rw c.comments-comments.ensures.value at point)
 
 pub returns-in-None-clause-within : goal.returns-in-None-clause-within
 returns-in-None-clause-within c = rw c.comments-comments.ensures.value at c.partition_point.ensures.bound

@@ -17,7 +17,8 @@ returns-in-None-clause-parted c =
     let point = IsPartitionPoint-from_clause
     (λ (t : Token). ltb (key t) bound) c.tokens-tokens.result.now c.partition_point.result
     c.partition_point.ensures.partitioned listed (λ a r q k. search rules) in
-    parted_less key bound c.partition_point.result tokens (rw c.tokens-tokens.ensures.value at c.partition_point.ensures.bound)
+    parted_less key bound c.partition_point.result tokens
+    (rw c.tokens-tokens.ensures.value at c.partition_point.ensures.bound)
     (rw c.tokens-tokens.ensures.value at point)
 
 pub returns-in-None-clause-within : goal.returns-in-None-clause-within

@@ -1,8 +1,8 @@
 use Rattle.std.proofs.Common.{◌∙◌, sym, ap, length, arith, length-drop}
 use Rattle.std.proofs.lemmas.Bool.{eqb-true}
 use Rattle.std.proofs.lemmas.Result.{err_from_is_err_and}
-use Rattle.proto_lex.proofs.PiecesLemmas.{starts_with, mark_within, goes_on_past, stops, ends, piece_bounds, gives_fault}
-use Rattle.proto_lex.proofs.PiecesLemmas.{some_left}
+use Rattle.proto_lex.proofs.PiecesLemmas.{starts_with, mark_within, goes_on_past, stops, ends, piece_bounds}
+use Rattle.proto_lex.proofs.PiecesLemmas.{gives_fault, some_left}
 use Rattle.proto_lex.proofs.lexer.read_pieces.Goals as goal
 
 pub loop-rest-init : goal.loop-rest-init

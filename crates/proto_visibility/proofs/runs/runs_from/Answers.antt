@@ -12,7 +12,8 @@ with_next-requires-clause-whole c = c.loop-number.invariant.whole
 
 pub with_next-requires-clause-behind : goal.with_next-requires-clause-behind
 with_next-requires-clause-behind c =
-    next_behind c.loop-number.runs.items c.loop-number.run (c.args.first ∷ c.args.others.now) c.loop-number.number-index _
+    next_behind c.loop-number.runs.items c.loop-number.run
+    (c.args.first ∷ c.args.others.now) c.loop-number.number-index _
     c.requires c.loop-number.invariant (omega arith)
     (behind_first c.args.first c.args.others.now c.loop-number.number-index)
 

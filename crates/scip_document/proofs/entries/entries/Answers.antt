@@ -77,7 +77,8 @@ returns c =
     let path = c.path_of-path.ensures in
     let ids = c.args.maker.now.package.now in
     let good = c.symbols_stand_apart.ensures.packages in
-    let counted : AreCounted files source facts = record { counts = source-counts files source c.requires.source; known = known } in
+    let counted : AreCounted files source facts =
+    record { counts = source-counts files source c.requires.source; known = known } in
     let choices = choices_for c.args.maker.now.choices.now source in
     rw c.from_vec.ensures
     (source-list files c.args.maker.now.choices.now ids source path.0 facts path.1 counted

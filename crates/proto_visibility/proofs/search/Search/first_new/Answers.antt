@@ -12,5 +12,6 @@ returns-then-not-index c =
     let inside = subst (λ (f : Found). All (λ number. number < f.files) numbers) (sym c.self.view_is) c.requires in
     subst (λ (f : Found). IsNewAt f numbers index) c.self.view_is
     (new_at marks c.self.inside.numbers.items numbers index c.self.invariant (omega arith) inside
-    (sym (get_or_read marks (get_or numbers index 0) c.index.result.now (inside index 0 (omega arith)) c.index.ensures false)
+    (sym (get_or_read marks (get_or numbers index 0) c.index.result.now
+    (inside index 0 (omega arith)) c.index.ensures false)
     ∙ c.if-not-index.true))

@@ -14,7 +14,8 @@ places_of-requires c =
     (λ k d h. all _ (c.self.invariant.below k d h))
 
 pub of-requires : goal.of-requires
-of-requires c = rw c.as_slice-2.ensures.value (IsNonDecreasingBy-from_sort (λ n. n) c.sort.new.self.items c.in_ok-sort.ensures.sorted)
+of-requires c = rw c.as_slice-2.ensures.value
+    (IsNonDecreasingBy-from_sort (λ n. n) c.sort.new.self.items c.in_ok-sort.ensures.sorted)
 
 pub returns : goal.returns
 returns c =

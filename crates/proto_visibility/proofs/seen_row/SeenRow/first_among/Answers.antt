@@ -17,7 +17,8 @@ pub loop-run-preserved : goal.loop-run-preserved
 loop-run-preserved c =
     let runs = c.as_slice-run-items.result.now in
     let index = c.loop-run.run-index in
-    none_of_runs_more c.self.inside.order.now runs c.args.numbers.now index _ (slice_get-get_or runs index _ (omega arith))
+    none_of_runs_more c.self.inside.order.now runs c.args.numbers.now index _
+    (slice_get-get_or runs index _ (omega arith))
     c.in_default.ensures c.loop-run.invariant
 
 pub returns : goal.returns

@@ -6,7 +6,8 @@ use Rattle.proto_visibility.proofs.seen_row.SeenRow.has.Goals as goal
 
 pub returns-in-Some : goal.returns-in-Some
 returns-in-Some c =
-    let by = has_by_place c.self.inside.order.now c.self.inside.runs.now c.args.number c.rank_of.result c.rank_of.ensures
+    let by = has_by_place c.self.inside.order.now c.self.inside.runs.now c.args.number c.rank_of.result
+    c.rank_of.ensures
     c.in-Some.place c.in-Some.is in
     subst (λ (xs : List ℕ). IsTrue c.has.result ↔ Contains xs c.args.number) c.self.view_is (
       λ t. by.0 (c.has.ensures.0 t),

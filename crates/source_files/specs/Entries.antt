@@ -27,8 +27,7 @@ pub record IsFolder (entry : Entry) : Type 0 where
   pub named : IsName entry.name
 
 -- What the entries of a folder give: the paths of folders, and those of sources. All paths are those below the root.
--- The
--- root's own is empty, and that of each other folder ends in `/`.
+-- The root's own is empty, and that of each other folder ends in `/`.
 pub data Give (folder : List ℕ) : (entries : List Entry) → (folders sources : List (List ℕ)) → Type 0 where
   nothing : Give folder [] [] []
   a_source : {entry : Entry} {entries : List Entry} {folders sources : List (List ℕ)}

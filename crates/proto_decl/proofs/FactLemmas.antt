@@ -5,7 +5,7 @@ use Rattle.std.proofs.lemmas.Grind.{flat_map-append}
 use Rattle.proto_lex.specs.declared.span.Span.{Span}
 use Rattle.proto_lex.specs.Lexed.{Lexed, AreInOrder}
 use Rattle.proto_parse.specs.Lexeme.{Lexeme}
-use Rattle.proto_parse.specs.Walk.{Mark, MarksAreInOrder, Among, each_then, names_then, item_then, PackageIsAmongItems}
+use Rattle.proto_parse.specs.Walk.{Mark, MarksAreInOrder, Among, names_marks, item_marks, PackageIsAmongItems}
 use Rattle.proto_parse.specs.tree.FileItem.{FileItem}
 use Rattle.proto_parse.specs.tree.File.{File}
 use Rattle.proto_decl.specs.Outlines.{in_item, file_surrounding, outlines_of, package_spans}
@@ -63,7 +63,7 @@ module _ (number : ℕ) (lexed : Lexed) (file : File) (facts : Facts) (is : AreF
 
   among_items : (before behind : List FileItem) (components : List Span) → file.items ≡ before ++ behind
       → package_spans file.package_name ≡ components
-      → MarksAreInOrder 0 (each_then item_then before (names_then components (each_then item_then behind [])))
+      → MarksAreInOrder 0 (flat_map item_marks before ++ (names_marks components ++ flat_map item_marks behind))
       → PackageInOrder facts
   among_items before behind components items name m =
       let both : outlines_of lexed.text file ≡ outlines before ++ outlines behind =

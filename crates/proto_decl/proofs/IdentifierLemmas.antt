@@ -21,10 +21,10 @@ use Rattle.proto_parse.specs.tree.FileItem.TheVariants as item
 use Rattle.proto_parse.specs.tree.File.{File}
 use Rattle.proto_parse.specs.Tree.{Body}
 use Rattle.proto_parse.specs.Tree.Body.{NoMore, LeafThen, BlockThen}
-use Rattle.proto_parse.specs.Walk.{Mark, Among, each_then, names_then, type_name_then, heading_then, field_then}
-use Rattle.proto_parse.specs.Walk.{enum_then, head_then, leaf_then, body_then, method_then, item_then, marks_of_items}
-use Rattle.proto_parse.specs.Walk.{marks_of_package}
-use Rattle.proto_parse.specs.Walk.Mark.{Name, Other}
+use Rattle.proto_parse.specs.Walk.{Mark, Among, marks_of_items, marks_of_package}
+use Rattle.proto_parse.proofs.Walk.Then.{Name, Other, each_then, names_then, type_name_then, heading_then, field_then}
+use Rattle.proto_parse.proofs.Walk.Then.{enum_then, head_then, leaf_then, body_then, method_then, item_then, items_are}
+use Rattle.proto_parse.proofs.Walk.Then.{package_is}
 use Rattle.proto_decl.specs.Names.{components_at, small_letters}
 use Rattle.proto_decl.specs.Outlines.{step_named, step_to, outline_at, group_field, inside, beside, within}
 use Rattle.proto_decl.specs.Outlines.{scope_heading, in_enum, in_head, in_leaf, in_body, in_item}
@@ -235,8 +235,9 @@ pub facts_named : (number : ℕ) (lexed : Lexed) (file : File) (facts : Facts)
 facts_named number lexed file facts is of_file items package_name = record {
   of_components = subst (λ (components : List Component). All (Spells Identifier) (component_names components))
       (sym of_file.package_name)
-      (package_on lexed.text file.package_name (identifiers lexed is package_name));
+      (package_on lexed.text file.package_name
+      (subst (OfNames (Ident lexed.text)) (sym (package_is file)) (identifiers lexed is package_name)));
   of_steps = declared_on lexed (outlines_of lexed.text file) facts.declarations of_file.declarations
       (items_on lexed.text (file_surrounding lexed.text file) file.items [] (All-nil IsSpelled)
-      (identifiers lexed is items)).0;
+      (subst (OfNames (Ident lexed.text)) (sym (items_are file.items)) (identifiers lexed is items))).0;
 }

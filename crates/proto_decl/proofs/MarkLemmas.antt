@@ -9,18 +9,25 @@ use Rattle.proto_parse.specs.Lexeme.{Lexeme, lexemes_of}
 use Rattle.proto_parse.specs.tree.TypeName.{TypeName}
 use Rattle.proto_parse.specs.tree.FieldType.{FieldType}
 use Rattle.proto_parse.specs.tree.FieldType.TheVariants.{Scalar, Named}
-use Rattle.proto_parse.specs.Walk.{Mark, Among, names_then, dot_then, type_name_then, type_then}
-use Rattle.proto_parse.specs.Walk.Mark.{First, Name, Literal, Other}
-use Rattle.proto_parse.specs.Walk.Among.{none as no_marks, skip, first as at_first, name as at_name}
-use Rattle.proto_parse.specs.Walk.Among.{literal as at_literal, other as at_other}
+use Rattle.proto_parse.specs.Walk.{Role, Mark, Among}
+use Rattle.proto_parse.specs.Walk.{Role as role}
+use Rattle.proto_parse.specs.Walk.Among.{none as no_marks, skip, token}
+use Rattle.proto_parse.proofs.Walk.Then.{names_then, dot_then, type_name_then, type_then}
 
 module _ (N : Span → Type 0) where
+  abbrev pub WithName : Role → Span → Type 0 → Type 0
+  WithName role.Name span others = N span × others
+  WithName _ span others = others
+
   abbrev pub OfNames : List Mark → Type 0
   OfNames [] = Unit {0}
-  OfNames (First span ∷ marks) = OfNames marks
-  OfNames (Name span ∷ marks) = N span × OfNames marks
-  OfNames (Literal span ∷ marks) = OfNames marks
-  OfNames (Other span ∷ marks) = OfNames marks
+  OfNames (mark ∷ marks) = WithName mark.role mark.span (OfNames marks)
+
+  pub past_mark : (role : Role) (span : Span) (others : Type 0) → WithName role span others → others
+  past_mark role.First span others h = h
+  past_mark role.Name span others h = h.1
+  past_mark role.Literal span others h = h
+  past_mark role.Other span others h = h
 
   abbrev pub OfIdentifiers : List Lexeme → Type 0
   OfIdentifiers lexemes = AllByRecursion (λ (t : Lexeme). t.kind ≡ Identifier → N t.span) lexemes
@@ -36,10 +43,10 @@ module _ (N : Span → Type 0) where
   pub of_names : {marks : List Mark} {tokens : List Lexeme} → Among marks tokens → OfIdentifiers tokens → OfNames marks
   of_names no_marks all = tt
   of_names (skip among) all = of_names among all.1
-  of_names (at_first among) all = of_names among all
-  of_names (at_name kind among) all = (all.0 kind, of_names among all.1)
-  of_names (at_literal kind among) all = of_names among all.1
-  of_names (at_other among) all = of_names among all.1
+  of_names (token {role = role.First} fits among) all = of_names among all
+  of_names (token {role = role.Name} fits among) all = (all.0 fits, of_names among all.1)
+  of_names (token {role = role.Literal} fits among) all = of_names among all.1
+  of_names (token {role = role.Other} fits among) all = of_names among all.1
 
   -- the names of types are passed over
   pub past_names : (names : List Span) (marks : List Mark) → OfNames (names_then names marks) → OfNames marks

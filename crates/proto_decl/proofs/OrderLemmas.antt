@@ -1,7 +1,8 @@
 -- Declared names, the components of uses, and imports stand in order, as the marks of a walk do; and the components of
 -- uses stand
 -- apart from the names.
-use Rattle.std.proofs.Common.{inl, inr, ℕ, ◌<◌, ◌≤◌, List, [], ◌∷◌, ◌++◌, length, map, arith}
+use Rattle.std.proofs.Common.{inl, inr, sym, subst, ℕ, ◌<◌, ◌≤◌, Bool, true, false, cond, List, [], ◌∷◌, ◌++◌}
+use Rattle.std.proofs.Common.{length, map, arith}
 use Rattle.std.specs.List.{All, flat_map}
 use Rattle.std.proofs.lemmas.List.Elements.{All-nil, All-cons, All-head, All-tail}
 use Rattle.proto_lex.specs.declared.span.Span.{Span}
@@ -9,9 +10,9 @@ use Rattle.proto_lex.specs.Lexed.{AreInOrder, AreApart}
 use Rattle.proto_parse.specs.tree.FileItem.{FileItem}
 use Rattle.proto_parse.specs.tree.Import.{Import}
 use Rattle.proto_parse.specs.tree.File.{File}
-use Rattle.proto_parse.specs.Walk.{Mark, MarksAreInOrder, each_then, names_then, item_then, literal_then, import_then}
+use Rattle.proto_parse.specs.Walk.{Mark, is_shared, place_behind, MarksAreInOrder, names_marks, item_marks}
 use Rattle.proto_parse.specs.Walk.{marks_of_items}
-use Rattle.proto_parse.specs.Walk.Mark.{First, Name, Literal, Other}
+use Rattle.proto_parse.proofs.Walk.Then.{each_then, literal_then, import_then, items_are, between_are}
 use Rattle.proto_parse.specs.Filled.{FilledImport}
 use Rattle.proto_decl.specs.Imports.{start_of, end_of, imports_of}
 use Rattle.proto_decl.specs.Outlines.{in_item, file_surrounding, package_scope, outlines_of}
@@ -63,18 +64,20 @@ beside_from place earlier {names} {components} le b = record {
   apart = b.apart;
 }
 
+-- what is behind a mark begins no earlier
+no_earlier : (shared : Bool) (place start end : ℕ) → place ≤ start → start < end → place ≤ cond shared start end
+no_earlier true place start end h k = h
+no_earlier false place start end h k = omega (arith, h, k)
+
 -- what is picked from marks in order
 pub beside : {marks behind : List Mark} {names components : List Span} → Picked marks names components behind
     → (place : ℕ) → MarksAreInOrder place marks → AreBeside place names components
 beside none place m = record
     { names_in_order = tt; components_in_order = tt; apart = All-nil (λ component. All (AreApart component) []) }
-beside (skip {mark = First span} picked) place m = beside_from span.start place m.0 (beside picked span.start m.2)
-beside (skip {mark = Name span} picked) place m =
-    beside_from span.end place (omega (arith, m.0, m.1)) (beside picked span.end m.2)
-beside (skip {mark = Literal span} picked) place m =
-    beside_from span.end place (omega (arith, m.0, m.1)) (beside picked span.end m.2)
-beside (skip {mark = Other span} picked) place m =
-    beside_from span.end place (omega (arith, m.0, m.1)) (beside picked span.end m.2)
+beside (skip {mark = mark} picked) place m =
+    beside_from (place_behind mark) place
+    (no_earlier (is_shared mark.role) place mark.span.start mark.span.end m.0 m.1)
+    (beside picked (place_behind mark) m.2)
 beside (a_name {span = span} {names = names} {components = components} picked) place m =
     let rest = beside picked span.end m.2 in
     record {
@@ -95,7 +98,9 @@ beside (a_component {span = span} {names = names} {components = components} pick
 module _ (text : List ℕ) (file : File) where
   file_beside : MarksAreInOrder 0 (marks_of_items file)
       → AreBeside 0 (heading_names (outlines_of text file)) (use_spans (uses_of text file))
-  file_beside m = beside (items_picked text (package_scope text file) (file_surrounding text file) file.items []) 0 m
+  file_beside m =
+      beside (items_picked text (package_scope text file) (file_surrounding text file) file.items []) 0
+      (subst (MarksAreInOrder 0) (sym (items_are file.items)) m)
 
   pub names_in_order : MarksAreInOrder 0 (marks_of_items file) → AreInOrder 0 (heading_names (outlines_of text file))
   names_in_order m = (file_beside m).names_in_order
@@ -105,12 +110,12 @@ module _ (text : List ℕ) (file : File) where
 
   -- and so are the components of its package's name between the names of the items before and those of the items behind
   pub package_in_order : (before behind : List FileItem) (components : List Span)
-      → MarksAreInOrder 0 (each_then item_then before (names_then components (each_then item_then behind [])))
+      → MarksAreInOrder 0 (flat_map item_marks before ++ (names_marks components ++ flat_map item_marks behind))
       → AreInOrder 0 (heading_names (flat_map (in_item text (file_surrounding text file)) before)
       ++ (components ++ heading_names (flat_map (in_item text (file_surrounding text file)) behind)))
   package_in_order before behind components m =
       (beside (package_picked text (package_scope text file) (file_surrounding text file) before behind components) 0
-      m).names_in_order
+      (subst (MarksAreInOrder 0) (sym (between_are before behind components)) m)).names_in_order
 
 -- where the marks of imports are in order, the imports are
 

@@ -22,10 +22,10 @@ use Rattle.proto_parse.specs.tree.FileItem.{FileItem}
 use Rattle.proto_parse.specs.tree.FileItem.TheVariants as item
 use Rattle.proto_parse.specs.Tree.{Body, BlockTree}
 use Rattle.proto_parse.specs.Tree.Body.{NoMore, LeafThen, BlockThen}
-use Rattle.proto_parse.specs.Walk.{Mark, each_then, names_then, dot_then, type_name_then, type_then, heading_then}
-use Rattle.proto_parse.specs.Walk.{field_then, map_field_then, enum_then, head_then, leaf_then, body_then}
-use Rattle.proto_parse.specs.Walk.{block_then, method_then, service_then, item_then}
-use Rattle.proto_parse.specs.Walk.Mark.{Name, Other}
+use Rattle.proto_parse.specs.Walk.{Mark}
+use Rattle.proto_parse.proofs.Walk.Then.{Name, Other, each_then, names_then, dot_then, type_name_then, type_then}
+use Rattle.proto_parse.proofs.Walk.Then.{heading_then, field_then, map_field_then, enum_then, head_then, leaf_then}
+use Rattle.proto_parse.proofs.Walk.Then.{body_then, block_then, method_then, service_then, item_then}
 use Rattle.proto_decl.specs.Names.{qualified, components_at}
 use Rattle.proto_decl.specs.Outlines.{name_of, outline_at, inside, beside, within, scope_heading, in_enum, in_head}
 use Rattle.proto_decl.specs.Outlines.{in_leaf, in_body, in_block, in_service, in_item}

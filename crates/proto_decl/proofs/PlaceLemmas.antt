@@ -17,7 +17,7 @@ use Rattle.proto_parse.specs.Lexeme.{Lexeme, lexemes_of}
 use Rattle.proto_parse.specs.tree.File.{File}
 use Rattle.proto_parse.specs.Filled.{FilledImport}
 use Rattle.proto_parse.specs.Walk.{Mark, Among, MarksAreInOrder, PackageIsAmongItems, marks_of_items, marks_of_imports}
-use Rattle.proto_parse.specs.Walk.Mark.{First, Name, Literal, Other}
+use Rattle.proto_parse.proofs.Walk.Then.{each_then, item_then, items_are, between_are}
 use Rattle.proto_decl.specs.Imports.{start_of, imported_by}
 use Rattle.proto_decl.specs.Outlines.{in_item, file_surrounding, package_scope, package_spans, outlines_of}
 use Rattle.proto_decl.specs.Uses.{uses_in_item}
@@ -25,7 +25,7 @@ use Rattle.proto_decl.specs.Facts.{Facts, AreFactsOf, component_spans, use_spans
 use Rattle.proto_decl.specs.Places.{named_spans}
 use Rattle.proto_decl.specs.declared.imported.Imported.{Imported}
 use Rattle.proto_decl.proofs.SpanLemmas.{imports_hold}
-use Rattle.proto_decl.proofs.MarkLemmas.{OfNames, of_lexemes, of_names}
+use Rattle.proto_decl.proofs.MarkLemmas.{OfNames, past_mark, of_lexemes, of_names}
 use Rattle.proto_decl.proofs.PickLemmas.{Picked, retyped, heading_names, spans_of_components, names-append}
 use Rattle.proto_decl.proofs.PickLemmas.{components-append, items_picked, package_picked}
 use Rattle.proto_decl.proofs.PickLemmas.Picked.{none, skip, a_name, a_component}
@@ -41,10 +41,8 @@ module _ (N : Span → Type 0) where
   picked_hold : {marks behind : List Mark} {names components : List Span} → Picked marks names components behind
       → OfNames N marks → All N names × All N components
   picked_hold none h = (All-nil N, All-nil N)
-  picked_hold (skip {mark = First span} picked) h = picked_hold picked h
-  picked_hold (skip {mark = Name span} picked) h = picked_hold picked h.1
-  picked_hold (skip {mark = Literal span} picked) h = picked_hold picked h
-  picked_hold (skip {mark = Other span} picked) h = picked_hold picked h
+  picked_hold (skip {mark = mark} {marks = marks} picked) h =
+      picked_hold picked (past_mark N mark.role mark.span (OfNames N marks) h)
   picked_hold (a_name {span = span} {names = names} picked) h = let rest = picked_hold picked h.1 in
       (All-cons N span names h.0 rest.0, rest.1)
   picked_hold (a_component {span = span} {components = components} picked) h = let rest = picked_hold picked h.1 in
@@ -125,8 +123,8 @@ module _ (number : ℕ) (lexed : Lexed) (file : File) (facts : Facts) (is : AreF
       → file.package_name ≡ package_name → PackageIsAmongItems package_name file.items tokens
       → MarksOf facts tokens
   marks_of tokens among None e place = record {
-    marks = marks_of_items file;
-    among = among;
+    marks = each_then item_then file.items [];
+    among = subst (λ (marks : List Mark). Among marks tokens) (sym (items_are file.items)) among;
     names = heading_names (outlines_of lexed.text file);
     picked = retyped refl (sym (ap use_spans is.uses))
         (items_picked lexed.text (package_scope lexed.text file) (file_surrounding lexed.text file) file.items []);
@@ -153,7 +151,8 @@ module _ (number : ℕ) (lexed : Lexed) (file : File) (facts : Facts) (is : AreF
       ∙ sym (names-append (flat_map (in_item text surrounding) before) (flat_map (in_item text surrounding) behind)) in
       record {
         marks = _;
-        among = place.1.1.1;
+        among = subst (λ (marks : List Mark). Among marks tokens) (sym (between_are before behind components))
+            place.1.1.1;
         names = _;
         picked = retyped refl (sym uses) (package_picked text scope surrounding before behind components);
         all_named = λ span h.

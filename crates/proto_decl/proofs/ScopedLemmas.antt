@@ -26,9 +26,9 @@ use Rattle.proto_parse.specs.tree.FileItem.TheVariants as item
 use Rattle.proto_parse.specs.tree.File.{File}
 use Rattle.proto_parse.specs.Tree.{Body}
 use Rattle.proto_parse.specs.Tree.Body.{NoMore, LeafThen, BlockThen}
-use Rattle.proto_parse.specs.Walk.{Mark, Among, each_then, names_then, type_name_then, heading_then, field_then}
-use Rattle.proto_parse.specs.Walk.{enum_then, head_then, leaf_then, body_then, method_then, item_then, marks_of_items}
-use Rattle.proto_parse.specs.Walk.Mark.{Name, Other}
+use Rattle.proto_parse.specs.Walk.{Mark, Among, marks_of_items}
+use Rattle.proto_parse.proofs.Walk.Then.{Name, Other, each_then, names_then, type_name_then, heading_then, field_then}
+use Rattle.proto_parse.proofs.Walk.Then.{enum_then, head_then, leaf_then, body_then, method_then, item_then, items_are}
 use Rattle.proto_decl.proofs.MarkLemmas.{OfNames, of_lexemes, of_names, past_type_name, past_type}
 use Rattle.proto_decl.proofs.SmallLemmas.{simple_small}
 use Rattle.proto_decl.proofs.SplitLemmas.{all_left, all_right}
@@ -329,4 +329,5 @@ module _ (number : ℕ) (lexed : Lexed) (file : File) (facts : Facts) (is : AreF
       let known = outlines_known outlines facts.declarations is.declarations (All-contains_itself facts.declarations) in
       declared_scoped outlines facts.declarations is.declarations
       (items_scoped lexed.text (IsScope facts)
-      (file_surrounding lexed.text file) file.items [] package_known known simple).0
+      (file_surrounding lexed.text file) file.items [] package_known known
+      (subst (OfNames (λ span. IsSimple (part_of lexed.text span))) (sym (items_are file.items)) simple)).0

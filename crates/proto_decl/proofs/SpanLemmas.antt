@@ -1,5 +1,5 @@
 -- The spans of a tree are spans of its tokens.
-use Rattle.std.proofs.Common.{◌≡◌, ℕ, List, [], ◌∷◌, Option, Some, None, option_to_list}
+use Rattle.std.proofs.Common.{◌≡◌, sym, subst, ℕ, List, [], ◌∷◌, Option, Some, None, option_to_list}
 use Rattle.std.specs.List.{All, AllByRecursion}
 use Rattle.std.proofs.lemmas.List.Elements.{All-nil, All-cons, All-head, All-tail}
 use Rattle.proto_lex.specs.declared.span.Span.{Span}
@@ -26,23 +26,24 @@ use Rattle.proto_parse.specs.tree.File.{File}
 use Rattle.proto_parse.specs.Lexeme.{Lexeme, lexemes_of}
 use Rattle.proto_parse.specs.Tree.{Body, BlockTree}
 use Rattle.proto_parse.specs.Tree.Body.{NoMore, LeafThen, BlockThen}
-use Rattle.proto_parse.specs.Walk.{Mark, Among, each_then, name_then, names_then, literal_then, dot_then}
-use Rattle.proto_parse.specs.Walk.{type_name_then, type_then, heading_then, field_then, map_field_then, enum_then}
-use Rattle.proto_parse.specs.Walk.{head_then, leaf_then, body_then, block_then, method_then, service_then, item_then}
-use Rattle.proto_parse.specs.Walk.{import_then, marks_of_items, marks_of_imports, marks_of_package}
-use Rattle.proto_parse.specs.Walk.Mark.{First, Name, Literal, Other}
-use Rattle.proto_parse.specs.Walk.Among.{none as no_marks, skip, first as at_first, name as at_name}
-use Rattle.proto_parse.specs.Walk.Among.{literal as at_literal, other as at_other}
+use Rattle.proto_parse.specs.Walk.{Role, Mark, Among, marks_of_items, marks_of_imports, marks_of_package}
+use Rattle.proto_parse.specs.Walk.{Role as role}
+use Rattle.proto_parse.specs.Walk.Among.{none as no_marks, skip, token}
+use Rattle.proto_parse.proofs.Walk.Then.{Name, Other, each_then, name_then, names_then, literal_then, dot_then}
+use Rattle.proto_parse.proofs.Walk.Then.{type_name_then, type_then, heading_then, field_then, map_field_then}
+use Rattle.proto_parse.proofs.Walk.Then.{enum_then, head_then, leaf_then, body_then, block_then, method_then}
+use Rattle.proto_parse.proofs.Walk.Then.{service_then, item_then, import_then, items_are, imports_are, package_is}
 use Rattle.proto_decl.specs.Spans.{OfHeading, OfSome, OfTypeName, OfType, OfField, OfMapField, OfEnum, OfHead}
 use Rattle.proto_decl.specs.Spans.{OfMethod, OfService, OfLeaf, OfBody, OfBlock, OfItem, OfPackage}
 
 -- P holds of the marks' spans, and Q of those of literals
+abbrev pub OfMark : (P Q : Span → Type 0) → Role → Span → Type 0
+OfMark P Q role.Literal span = Q span
+OfMark P Q _ span = P span
+
 abbrev pub OfMarks : (P Q : Span → Type 0) → List Mark → Type 0
 OfMarks P Q [] = Unit {0}
-OfMarks P Q (First span ∷ marks) = P span × OfMarks P Q marks
-OfMarks P Q (Name span ∷ marks) = P span × OfMarks P Q marks
-OfMarks P Q (Literal span ∷ marks) = Q span × OfMarks P Q marks
-OfMarks P Q (Other span ∷ marks) = P span × OfMarks P Q marks
+OfMarks P Q (mark ∷ marks) = OfMark P Q mark.role mark.span × OfMarks P Q marks
 
 module _ (P Q : Span → Type 0) where
   -- P holds of a token's span, and Q too where the token is a string literal
@@ -63,10 +64,10 @@ module _ (P Q : Span → Type 0) where
   of_marks : {marks : List Mark} {tokens : List Lexeme} → Among marks tokens → OfLexemes tokens → OfMarks P Q marks
   of_marks no_marks all = tt
   of_marks (skip among) all = of_marks among all.1
-  of_marks (at_first among) all = (all.0.0, of_marks among all)
-  of_marks (at_name kind among) all = (all.0.0, of_marks among all.1)
-  of_marks (at_literal kind among) all = (all.0.1 kind, of_marks among all.1)
-  of_marks (at_other among) all = (all.0.0, of_marks among all.1)
+  of_marks (token {role = role.First} fits among) all = (all.0.0, of_marks among all)
+  of_marks (token {role = role.Name} fits among) all = (all.0.0, of_marks among all.1)
+  of_marks (token {role = role.Literal} fits among) all = (all.0.1 fits, of_marks among all.1)
+  of_marks (token {role = role.Other} fits among) all = (all.0.0, of_marks among all.1)
 
   -- what holds of the marks of a part of a tree and those behind holds of the part, and of those behind
 
@@ -185,12 +186,14 @@ module _ (P Q : Span → Type 0) where
   module _ (text : List ℕ) (tokens : List Token) (file : File) (all : All (λ t. OfToken t.kind t.span) tokens) where
     pub items_hold : Among (marks_of_items file) (lexemes_of text tokens) → All (OfItem P) file.items
     items_hold among = (each_of item_then (OfItem P) item_of file.items []
-        (of_marks among (of_lexemes text tokens all))).0
+        (subst (OfMarks P Q) (sym (items_are file.items)) (of_marks among (of_lexemes text tokens all)))).0
 
     pub imports_hold : Among (marks_of_imports file) (lexemes_of text tokens)
         → All (λ import. All Q import.literals) file.imports
     imports_hold among = (each_of import_then (λ (import : Import). All Q import.literals) import_of file.imports []
-        (of_marks among (of_lexemes text tokens all))).0
+        (subst (OfMarks P Q) (sym (imports_are file)) (of_marks among (of_lexemes text tokens all)))).0
 
     pub package_holds : Among (marks_of_package file) (lexemes_of text tokens) → OfPackage P file.package_name
-    package_holds among = package_of file.package_name [] (of_marks among (of_lexemes text tokens all))
+    package_holds among =
+        package_of file.package_name []
+        (subst (OfMarks P Q) (sym (package_is file)) (of_marks among (of_lexemes text tokens all)))

@@ -11,6 +11,3 @@ pub mod Shorter
 pub mod StepsFall
 -- What is in the grammar is read
 pub mod Exact
--- Where faults are
-pub mod StandingLemmas
-pub mod Standing

@@ -1,12 +1,12 @@
--- The tokens from a place on.
-use Rattle.std.proofs.Common.{◌≡◌, ℕ, zero, suc, ◌+◌, List, [], ◌∷◌, map, drop, slice_get, option_map, Option, None}
-use Rattle.std.proofs.Common.{Some, length, get_or, ◌<◌, IfSome, refl, sym, ◌∙◌, ap, add-one}
+-- The tokens from a place on, and places that are behind others.
+use Rattle.std.proofs.Common.{◌≡◌, ℕ, zero, suc, ◌+◌, List, [], ◌∷◌, ◌++◌, map, drop, slice_get, option_map, Option}
+use Rattle.std.proofs.Common.{None, Some, length, get_or, ◌<◌, IfSome, refl, sym, ◌∙◌, ap, add-one}
 use Rattle.std.proofs.lemmas.Option.{slice_get-map, slice_get-get_or}
 use Rattle.std.specs.Option.{option_map_or}
 use Rattle.proto_lex.specs.declared.token.Token.{Token}
 use Rattle.proto_lex.specs.Lexed.{part_of}
-use Rattle.proto_grammar.specs.Lexeme.{Lexeme, lexeme_of, lexemes_of}
-use Rattle.proto_grammar.specs.Terminal.{first, others}
+use Rattle.proto_grammar.specs.Lexeme.{Lexeme, lexeme_of, lexemes_of, Place, place_of}
+use Rattle.proto_grammar.specs.Terminal.{first, others, behind}
 
 first-drop-by : (tokens : List Lexeme) (place : ℕ) → first (drop place tokens) ≡ slice_get tokens place
 first-drop-by [] zero = refl
@@ -57,3 +57,17 @@ first-offset text tokens place n e =
     e ∙ (offset-of text (slice_get tokens place) (length text)
     ∙ ap (λ (o : Option Lexeme). option_map_or (λ (t : Lexeme). t.span.start) o (length text))
     (sym (first-drop (lexeme_of text) tokens place)))
+
+-- one place is behind another: some tokens are passed
+abbrev pub Behind : Place → Place → Type 0
+Behind p q = (tokens : List Lexeme) × (p.left ≡ tokens ++ q.left) × (q.end ≡ p.end)
+
+pub behind_here : (p : Place) → Behind p p
+behind_here p = ([], refl, refl)
+
+one_by : (left : List Lexeme) (end : ℕ) → Behind (place_of end left) (behind (place_of end left))
+one_by [] end = ([], refl, refl)
+one_by (t ∷ left) end = (t ∷ [], refl, refl)
+
+pub behind_one : (p : Place) → Behind p (behind p)
+behind_one p = one_by p.left p.end

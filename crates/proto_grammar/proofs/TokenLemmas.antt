@@ -1,15 +1,16 @@
 -- Single tokens: what is read of them, and what tests of them exclude.
-use Rattle.std.proofs.Common.{◌≡◌, ℕ, ◌<◌, ◌==◌, Bool, true, false, not, Ok, Err, List, [], ◌∷◌, length, refl, sym}
+use Rattle.std.proofs.Common.{◌≡◌, ℕ, ◌<◌, Bool, true, false, not, Ok, Err, List, [], ◌∷◌, length, refl, sym}
 use Rattle.std.proofs.Common.{subst}
 use Rattle.std.proofs.Common.{arith, bytes_eq}
-use Rattle.std.proofs.lemmas.Bool.{eqb-true}
 use Rattle.std.proofs.lemmas.Slice.Eq.{bytes_eq-Decides}
+use denote.Enum.Bare.{same_true}
+use Rattle.proto_lex.specs.contracts.token.TokenKind.{the_type}
 use Rattle.proto_lex.specs.declared.span.Span.{Span}
 use Rattle.proto_lex.specs.declared.token.TokenKind.{TokenKind}
 use Rattle.proto_lex.specs.declared.token.TokenKind.TheVariants.{Identifier, StringLiteral}
 use Rattle.proto_grammar.specs.declared.fault.SyntaxFault.TheVariants.{ImportEscape, Grammar}
 use Rattle.proto_grammar.specs.Lexeme.{Lexeme, Place, place_of}
-use Rattle.proto_grammar.specs.Terminal.{number_of, is_kind, of_kind, is_word, is_plain_literal, others, first_is}
+use Rattle.proto_grammar.specs.Terminal.{is_kind, of_kind, is_word, is_plain_literal, others, first_is}
 use Rattle.proto_grammar.specs.Terminal.{not_next}
 use Rattle.proto_grammar.specs.Grammar.Repetition.{One}
 use Rattle.proto_grammar.specs.Grammar.Repetition.One.{one}
@@ -48,12 +49,15 @@ one_others (one e) = refl
 pub one_shorter : {test : Lexeme → Bool} {a b : List Lexeme} {span : Span} → One test a span b → length b < length a
 one_shorter (one e) = omega arith
 
+-- a kind that passes for another is it
+pub same_kind : (wanted kind : TokenKind) → is_kind wanted kind ≡ true → kind ≡ wanted
+same_kind wanted kind is = same_true the_type tt kind wanted is
+
 -- a token of one kind is of no other
 pub other_kind : (kind other : TokenKind) (t : Lexeme) → is_kind other kind ≡ false → of_kind kind t ≡ true
     → of_kind other t ≡ false
 other_kind kind other t differs is =
-    let numbers : number_of t.kind ≡ number_of kind = eqb-true (number_of t.kind) (number_of kind) is in
-    subst (λ n. (n == number_of other) ≡ false) (sym numbers) differs
+    subst (λ k. is_kind other k ≡ false) (sym (same_kind kind t.kind is)) differs
 
 -- a token of another kind is no word
 pub kind_no_word : (kind : TokenKind) (word : List ℕ) (t : Lexeme) → is_kind Identifier kind ≡ false

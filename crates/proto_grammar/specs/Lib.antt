@@ -15,5 +15,3 @@ pub mod Reading
 pub mod View
 -- What faults are called
 pub mod FaultNames
--- Where they are
-pub mod FaultStands

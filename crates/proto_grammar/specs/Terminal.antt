@@ -3,38 +3,17 @@ use Rattle.std.specs.Prelude.{ℕ, ◌-◌, Bool, true, false, ◌==◌, ◌&&�
 use Rattle.std.specs.Prelude.{length, take, drop, bytes_eq, nat_le, codes}
 use Rattle.std.specs.Option.{option_map_or}
 use Rattle.std.specs.List.{list_any}
+use denote.Enum.Bare.{sameb}
 use Rattle.proto_lex.specs.Ascii as ascii
+use Rattle.proto_lex.specs.contracts.token.TokenKind.{the_type}
 use Rattle.proto_lex.specs.declared.token.TokenKind.{TokenKind}
-use Rattle.proto_lex.specs.declared.token.TokenKind.TheVariants.{Identifier, Integer, Float, StringLiteral, Semicolon}
-use Rattle.proto_lex.specs.declared.token.TokenKind.TheVariants.{Equals, OpenBrace, CloseBrace, OpenBracket}
-use Rattle.proto_lex.specs.declared.token.TokenKind.TheVariants.{CloseBracket, OpenParenthesis, CloseParenthesis, Less}
-use Rattle.proto_lex.specs.declared.token.TokenKind.TheVariants.{Greater, Comma, Dot, Colon, Plus, Minus, Slash}
+use Rattle.proto_lex.specs.declared.token.TokenKind.TheVariants.{Identifier, Integer, Float, StringLiteral, CloseBrace}
+use Rattle.proto_lex.specs.declared.token.TokenKind.TheVariants.{Dot, Plus, Minus}
 use Rattle.proto_grammar.specs.Lexeme.{Lexeme, Place}
 
-abbrev pub number_of : TokenKind → ℕ
-number_of Identifier = 0
-number_of Integer = 1
-number_of Float = 2
-number_of StringLiteral = 3
-number_of Semicolon = 4
-number_of Equals = 5
-number_of OpenBrace = 6
-number_of CloseBrace = 7
-number_of OpenBracket = 8
-number_of CloseBracket = 9
-number_of OpenParenthesis = 10
-number_of CloseParenthesis = 11
-number_of Less = 12
-number_of Greater = 13
-number_of Comma = 14
-number_of Dot = 15
-number_of Colon = 16
-number_of Plus = 17
-number_of Minus = 18
-number_of Slash = 19
-
+-- Whether the kind is the wanted one.
 abbrev pub is_kind : TokenKind → TokenKind → Bool
-is_kind wanted kind = number_of kind == number_of wanted
+is_kind wanted kind = sameb the_type kind wanted
 
 -- "Fields": the words of the scalar types, and those among them that may be the key of a map.
 abbrev pub key_words : List (List ℕ)

@@ -191,17 +191,17 @@ extended_item_filled (Some x) filled = filled
 
 message_item_filled : (syntax : Syntax) (Inner : List Lexeme → List Item → List Lexeme → Type 0)
     → Fills FilledItems Inner → Fills FilledOption (IsMessageItem syntax Inner)
-message_item_filled syntax Inner fills a b x (items-empty is s) = tt
-message_item_filled syntax Inner fills a b x (items-message {message = y} is i) = message_filled Inner fills a b y i
-message_item_filled syntax Inner fills a b x (items-enum is e) = tt
-message_item_filled syntax Inner fills a b x (items-option is o) = tt
-message_item_filled syntax Inner fills a c x (items-oneof is (oneof {b = b} {items = items} h i)) =
+message_item_filled syntax Inner fills a b x (items-empty s) = tt
+message_item_filled syntax Inner fills a b x (items-message {message = y} i) = message_filled Inner fills a b y i
+message_item_filled syntax Inner fills a b x (items-enum e) = tt
+message_item_filled syntax Inner fills a b x (items-option o) = tt
+message_item_filled syntax Inner fills a c x (items-oneof (oneof {b = b} {items = items} h i)) =
     (tt, braced_filled (IsOneofItem syntax Inner) (oneof_item_filled syntax Inner fills) b c items i)
-message_item_filled syntax Inner fills a b x (items-map_field is f) = map_field_filled f
-message_item_filled syntax Inner fills a b x (items-reserved is r) = tt
-message_item_filled syntax Inner fills a b x (items-extend {extend = y} is e) =
+message_item_filled syntax Inner fills a b x (items-map_field f) = map_field_filled f
+message_item_filled syntax Inner fills a b x (items-reserved r) = tt
+message_item_filled syntax Inner fills a b x (items-extend {extend = y} e) =
     extended_item_filled y (extend_statement_filled syntax Inner fills a b y e)
-message_item_filled syntax Inner fills a b x (items-extensions is proto2 r) = tt
+message_item_filled syntax Inner fills a b x (items-extensions proto2 r) = tt
 message_item_filled syntax Inner fills a b x (items-member {item = y} is m) = member_filled syntax Inner fills a b y m
 
 inside_filled : (syntax : Syntax) (levels : ℕ) → Fills FilledItems (IsInside syntax levels)
@@ -248,36 +248,36 @@ with_extend items (Some x) all here = with_item items (item.Block x) all here
 statement_filled : (syntax : Syntax) (f g : File) (a b : List Lexeme) → IsStatement max_message_depth syntax f a g b
     → FilledFile f
     → FilledFile g
-statement_filled syntax f g a b (statements-empty is s) filled = filled
-statement_filled syntax f g a b (statements-import {import = x} is i) filled =
+statement_filled syntax f g a b (statements-empty s) filled = filled
+statement_filled syntax f g a b (statements-import {import = x} i) filled =
     record {
       package_name = filled.package_name;
       imports = with_import f.imports x filled.imports (import_filled i);
       items = filled.items;
     }
-statement_filled syntax f g a b (statements-package_statement is none_yet p) filled =
+statement_filled syntax f g a b (statements-package_statement none_yet p) filled =
     record { package_name = package_filled p; imports = filled.imports; items = filled.items }
-statement_filled syntax f g a b (statements-option is o) filled = filled
-statement_filled syntax f g a b (statements-message m is i) filled =
+statement_filled syntax f g a b (statements-option o) filled = filled
+statement_filled syntax f g a b (statements-message m i) filled =
     record {
       package_name = filled.package_name;
       imports = filled.imports;
       items = with_item f.items (item.Block m) filled.items
           (message_filled (IsInside syntax max_message_depth) (inside_filled syntax max_message_depth) a b m i);
     }
-statement_filled syntax f g a b (statements-enum {enum = e} is i) filled =
+statement_filled syntax f g a b (statements-enum {enum = e} i) filled =
     record {
       package_name = filled.package_name;
       imports = filled.imports;
       items = with_item f.items (item.Enum e) filled.items tt;
     }
-statement_filled syntax f g a b (statements-service {service = s} is i) filled =
+statement_filled syntax f g a b (statements-service {service = s} i) filled =
     record {
       package_name = filled.package_name;
       imports = filled.imports;
       items = with_item f.items (item.Service s) filled.items (service_filled i);
     }
-statement_filled syntax f g a b (statements-extend {extend = x} is e) filled =
+statement_filled syntax f g a b (statements-extend {extend = x} e) filled =
     record {
       package_name = filled.package_name;
       imports = filled.imports;

@@ -2,6 +2,8 @@
 pub mod Stops
 -- Literals joined
 pub mod Joined
+-- What the next word chooses
+pub mod Choices
 -- What is read is in the grammar, and takes tokens
 pub mod Found
 pub mod Shorter
@@ -16,8 +18,6 @@ pub mod Walk
 pub mod Filled
 -- What is proto3 is among all sources
 pub mod Widened
--- Where faults are
-pub mod Standing
 -- The grammar as a machine, and what is read by it
 pub mod Machine
 pub mod Parts

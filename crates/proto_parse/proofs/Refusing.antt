@@ -1,7 +1,7 @@
 -- The fault that reading meets is the one that the tokens have.
 use Rattle.std.proofs.Common.{◌≡◌, ◌⊎◌, inl, inr, ℕ, Bool, true, false, cond, not, ◌&&◌, Result, Ok, Err, Option}
 use Rattle.std.proofs.Common.{Some, None}
-use Rattle.std.proofs.Common.{List, [], ◌∷◌, ◌++◌, IfErr, refl, sym, ◌∙◌, ap, subst, codes}
+use Rattle.std.proofs.Common.{List, [], ◌∷◌, ◌++◌, length, IfErr, refl, sym, ◌∙◌, ap, subst, codes}
 use Rattle.proto_lex.specs.declared.token.TokenKind.TheVariants.{StringLiteral, Semicolon, Equals}
 use Rattle.proto_grammar.specs.declared.fault.SyntaxFault.{SyntaxFault}
 use Rattle.proto_grammar.specs.declared.fault.SyntaxFault.TheVariants as variant
@@ -12,26 +12,26 @@ use Rattle.proto_grammar.specs.declared.tree.Syntax.{Syntax}
 use Rattle.proto_grammar.specs.declared.tree.Syntax.TheVariants as grammar
 use Rattle.proto_grammar.specs.declared.tree.File.{File}
 use Rattle.proto_grammar.specs.Gives.{Gives}
-use Rattle.proto_grammar.specs.Lexeme.{Lexeme, Place, place_of}
+use Rattle.proto_lex.specs.declared.token.Token.{Token}
+use Rattle.proto_grammar.specs.Lexeme.{Lexeme, Place, place_of, lexemes_of, start_of}
 use Rattle.proto_grammar.specs.Syntax.{custom_in, proto3_in, is_all}
 use Rattle.proto_grammar.specs.Terminal.{first_is, of_kind, is_word, not_next, is_end, offset_at}
 use Rattle.proto_grammar.specs.Reading.Repetition.{and_then, token_that, until_at}
-use Rattle.proto_grammar.proofs.Steps.{both_true, stopped}
+use Rattle.proto_grammar.proofs.Steps.{same_ok, both_true, stopped}
 use Rattle.proto_grammar.proofs.TokenLemmas.{other_kind}
-use Rattle.proto_parse.specs.Choice.{version_of}
+use Rattle.proto_parse.specs.Reading.Choice.{version_of}
 use Rattle.proto_parse.specs.Faults.{is_of_custom_options}
 use Rattle.proto_parse.specs.Limits.{max_message_depth}
 use Rattle.proto_parse.specs.Grammar.Files.{SpellsJoined, IsFile, empty_file}
 use Rattle.proto_parse.specs.Reading.Files.{statement_at, statements_at, file_at}
 use Rattle.proto_parse.specs.Reading.Syntax.{syntax_at, syntax_statement_at, version_at, syntax_by, joined_of}
 use Rattle.proto_parse.specs.Reading.Syntax.{behind_literals}
-use Rattle.proto_parse.specs.Refused.{NamesAVersion, IsRefused}
+use Rattle.proto_parse.specs.Derives.{Derives}
+use Rattle.proto_parse.specs.Refused.{NamesAVersion, IsRefused, HasFault}
 use Rattle.proto_parse.specs.Refused.NamesNoVersion.{no_statement, edition, other as other_version}
 use Rattle.proto_parse.specs.Refused.IsRefused.{not_proto3}
-use Rattle.proto_parse.proofs.Exact.Files.{file_exact}
-use Rattle.proto_parse.proofs.Found.Files.{syntax_found, version_text, proto2_accepted}
-use Rattle.proto_parse.proofs.Standing.Files.{syntax_right}
-use Rattle.proto_grammar.proofs.StandingLemmas.{Behind, Right}
+use Rattle.proto_parse.proofs.Exact.Files.{syntax_exact, file_exact}
+use Rattle.proto_parse.proofs.Found.Files.{syntax_found, version_text, proto2_accepted, file_found}
 use Rattle.std.proofs.lemmas.List.{append-nil}
 use Rattle.proto_grammar.specs.Grammar.Repetition.One.{one}
 use Rattle.proto_parse.specs.Grammar.Files.IsSyntax.{proto3, proto2}
@@ -40,7 +40,7 @@ use Rattle.proto_parse.proofs.Machine.{machine}
 use Rattle.proto_parse.proofs.Machine.Tells.{Tells}
 use Rattle.proto_parse.proofs.Parts.{statement_step}
 use Rattle.proto_parse.proofs.Parts.Files.{FileAgrees, statements_follow}
-use Rattle.proto_parse.proofs.Told.{outcome_refused}
+use Rattle.proto_parse.proofs.Told.{Met, met, outcome_refused}
 use Rattle.proto_parse.proofs.Versions.{syntax_front, word_finished, word_stops, word_stops_at, only_other}
 use Rattle.proto_parse.proofs.Versions.{equals_finished}
 use Rattle.proto_parse.proofs.Versions.{equals_stops, equals_stops_at, version_stops, cut_missing, cut_wrong}
@@ -339,32 +339,30 @@ syntax_refused dialect (k ∷ l) end x e = by_word (is_word (codes "syntax") k) 
 statements_refused : (dialect : Dialect) (syntax : Syntax) (left : List Lexeme) (end : ℕ) (q : Place) (x : SyntaxFault)
     → syntax_at dialect (place_of end left) ≡ Ok (syntax, q)
     → until_at is_end (statement_at max_message_depth syntax) empty_file q ≡ stopped {A = File × Place} x
-    → (is_of_custom_options x ≡ true → dialect ≡ Proto3 Refuse)
-    → ((tree : File) → IsFile dialect left tree → ⊥) → IsRefused dialect left end x
-statements_refused dialect syntax left end q x read e only none =
+    → ((tree : File) → IsFile dialect left tree → ⊥) → Met dialect left end x
+statements_refused dialect syntax left end q x read e none =
     let s = syntax_found dialect (place_of end left) (syntax, q) read in
     let front = syntax_front s in
-    let b : Behind (place_of end left) q =
-    subst (λ (o : Result (Syntax × Place) SyntaxFault). Right (place_of end left) o) read
-    (syntax_right dialect (place_of end left)) in
+    let kept : q.end ≡ end =
+    ap (λ (y : Syntax × Place). y.1.end)
+    (same_ok (syntax, q) (syntax, place_of end q.left) (sym read ∙ syntax_exact end s)) in
     let agrees : Tells q (machine (statement_step max_message_depth syntax) q.left [] false) x =
     subst (λ (o : Result (File × Place) SyntaxFault).
     FileAgrees max_message_depth syntax q (machine (statement_step max_message_depth syntax) q.left [] false) o) e
     (statements_follow max_message_depth syntax empty_file q) in
     let tells : Tells (place_of end q.left) (machine (statement_step max_message_depth syntax) q.left [] false) x =
-    subst (λ n. Tells (place_of n q.left) (machine (statement_step max_message_depth syntax) q.left [] false) x) b.2
+    subst (λ n. Tells (place_of n q.left) (machine (statement_step max_message_depth syntax) q.left [] false) x) kept
     agrees
     in
-    subst (λ a. IsRefused dialect a end x) (sym front.1)
+    subst (λ a. Met dialect a end x) (sym front.1)
     (outcome_refused dialect syntax front.0 q.left end front.2
-    (machine (statement_step max_message_depth syntax) q.left [] false) refl x tells only
+    (machine (statement_step max_message_depth syntax) q.left [] false) refl x tells
     (λ tree is. none tree (subst (λ a. IsFile dialect a tree) (sym front.1) is)))
 
 file_refused : (dialect : Dialect) (left : List Lexeme) (end : ℕ) (x : SyntaxFault)
-    → file_at max_message_depth dialect (place_of end left) ≡ stopped {A = File × Place} x
-    → (is_of_custom_options x ≡ true → dialect ≡ Proto3 Refuse) → IsRefused dialect left end x
+    → file_at max_message_depth dialect (place_of end left) ≡ stopped {A = File × Place} x → Met dialect left end x
 unfolding file_at statements_at
-file_refused dialect left end x e only = by_syntax (syntax_at dialect (place_of end left)) refl e
+file_refused dialect left end x e = by_syntax (syntax_at dialect (place_of end left)) refl e
   where
     none : (tree : File) → IsFile dialect left tree → ⊥
     none tree is = let read = (file_exact end is).1 in let never = sym e ∙ read in cc
@@ -372,16 +370,39 @@ file_refused dialect left end x e only = by_syntax (syntax_at dialect (place_of 
     by_syntax : (o : Result (Syntax × Place) SyntaxFault) → syntax_at dialect (place_of end left) ≡ o
         → and_then o (λ syntax. until_at is_end (statement_at max_message_depth syntax.0) empty_file syntax.1)
         ≡ stopped {A = File × Place} x
-        → IsRefused dialect left end x
-    by_syntax (Ok (syntax, q)) read f = statements_refused dialect syntax left end q x read f only none
+        → Met dialect left end x
+    by_syntax (Ok (syntax, q)) read f = statements_refused dialect syntax left end q x read f none
     by_syntax (Err y) read f =
-        subst (λ z. IsRefused dialect left end z) (same_fault f) (syntax_refused dialect left end y read)
+        met x (subst (λ z. IsRefused dialect left end z) (same_fault f) (syntax_refused dialect left end y read))
+
+-- what is read, or else a fault
+pub tree_or_fault : (dialect : Dialect) (text : List ℕ) (tokens : List Token)
+    → ((file : File) × Derives dialect text tokens file) ⊎ ((fault : SyntaxFault) × HasFault dialect text tokens fault)
+tree_or_fault dialect text tokens = by_result (file_at max_message_depth dialect (start_of text tokens)) refl
+  where
+    by_result : (o : Result (File × Place) SyntaxFault)
+        → file_at max_message_depth dialect (start_of text tokens) ≡ o
+        → ((file : File) × Derives dialect text tokens file)
+        ⊎ ((fault : SyntaxFault) × HasFault dialect text tokens fault)
+    by_result (Ok x) read = inl (x.0, file_found max_message_depth dialect (start_of text tokens) x read)
+    by_result (Err x) read =
+        let m : Met dialect (lexemes_of text tokens) (length text) x =
+        file_refused dialect (lexemes_of text tokens) (length text) x read in
+        inr (m.0, m.1)
 
 -- ---- of what the parser gives
 
 refuses : (dialect : Dialect) → custom_in dialect ≡ Refuse → dialect ≡ Proto3 Refuse
 refuses (Proto3 custom) e = ap Proto3 e
 refuses All e = absurd (let never : Skip ≡ Refuse = e in cc)
+
+-- the fault that is met, if it isn't of custom options, or if these are refused
+met_fault : (dialect : Dialect) (p : Place) (x : SyntaxFault)
+    → file_at max_message_depth dialect p ≡ stopped {A = File × Place} x
+    → (is_of_custom_options x ≡ true → dialect ≡ Proto3 Refuse) → IsRefused dialect p.left p.end x
+met_fault dialect p x e only =
+    let m : Met dialect p.left p.end x = file_refused dialect p.left p.end x e in
+    subst (λ y. IsRefused dialect p.left p.end y) (m.2 only) m.1
 
 no_option : {P : Type 0} → false ≡ true → P
 no_option e = absurd cc
@@ -391,19 +412,19 @@ pub file_of_refused : (dialect : Dialect) (p rest : Place) (result : Result File
     → IfErr result (λ fault. (fault ≡ variant.Memory) ⊎ IsRefused dialect p.left p.end fault)
 file_of_refused dialect p rest (Ok f) e = tt
 file_of_refused dialect p rest (Err (variant.NotProto3 offset)) e =
-    inr (file_refused dialect p.left p.end _ e (λ is. no_option is))
+    inr (met_fault dialect p _ e (λ is. no_option is))
 file_of_refused dialect p rest (Err (variant.CustomOption offset)) e =
-    inr (file_refused dialect p.left p.end _ e.1 (λ is. refuses dialect e.0))
+    inr (met_fault dialect p _ e.1 (λ is. refuses dialect e.0))
 file_of_refused dialect p rest (Err (variant.Aggregate offset)) e =
-    inr (file_refused dialect p.left p.end _ e.1 (λ is. refuses dialect e.0))
+    inr (met_fault dialect p _ e.1 (λ is. refuses dialect e.0))
 file_of_refused dialect p rest (Err (variant.Extend offset)) e =
-    inr (file_refused dialect p.left p.end _ e.1 (λ is. refuses dialect e.0))
+    inr (met_fault dialect p _ e.1 (λ is. refuses dialect e.0))
 file_of_refused dialect p rest (Err (variant.TwoPackages offset)) e =
-    inr (file_refused dialect p.left p.end _ e (λ is. no_option is))
+    inr (met_fault dialect p _ e (λ is. no_option is))
 file_of_refused dialect p rest (Err (variant.ImportEscape offset)) e =
-    inr (file_refused dialect p.left p.end _ e (λ is. no_option is))
+    inr (met_fault dialect p _ e (λ is. no_option is))
 file_of_refused dialect p rest (Err (variant.TooDeep offset)) e =
-    inr (file_refused dialect p.left p.end _ e (λ is. no_option is))
+    inr (met_fault dialect p _ e (λ is. no_option is))
 file_of_refused dialect p rest (Err (variant.Grammar offset)) e =
-    inr (file_refused dialect p.left p.end _ e (λ is. no_option is))
+    inr (met_fault dialect p _ e (λ is. no_option is))
 file_of_refused dialect p rest (Err variant.Memory) e = inl refl

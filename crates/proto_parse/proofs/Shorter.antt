@@ -179,16 +179,16 @@ message_shorter Inner shorter a b x (message h i) = omega (arith, heading_shorte
 
 message_item_shorter : (syntax : Syntax) (Inner : List Lexeme → List Item → List Lexeme → Type 0) → Shortens Inner
     → Shortens (IsMessageItem syntax Inner)
-message_item_shorter syntax Inner shorter a b x (items-empty is s) = one_shorter s
-message_item_shorter syntax Inner shorter a b x (items-message is m) = message_shorter Inner shorter a b _ m
-message_item_shorter syntax Inner shorter a b x (items-enum is e) = enum_shorter e
-message_item_shorter syntax Inner shorter a b x (items-option is o) = option_shorter o
-message_item_shorter syntax Inner shorter a b x (items-oneof is o) = oneof_shorter syntax Inner shorter a b _ o
-message_item_shorter syntax Inner shorter a b x (items-map_field is f) = map_field_shorter f
-message_item_shorter syntax Inner shorter a b x (items-reserved is r) = reserved_shorter r
-message_item_shorter syntax Inner shorter a b x (items-extend is e) =
+message_item_shorter syntax Inner shorter a b x (items-empty s) = one_shorter s
+message_item_shorter syntax Inner shorter a b x (items-message m) = message_shorter Inner shorter a b _ m
+message_item_shorter syntax Inner shorter a b x (items-enum e) = enum_shorter e
+message_item_shorter syntax Inner shorter a b x (items-option o) = option_shorter o
+message_item_shorter syntax Inner shorter a b x (items-oneof o) = oneof_shorter syntax Inner shorter a b _ o
+message_item_shorter syntax Inner shorter a b x (items-map_field f) = map_field_shorter f
+message_item_shorter syntax Inner shorter a b x (items-reserved r) = reserved_shorter r
+message_item_shorter syntax Inner shorter a b x (items-extend e) =
     extend_statement_shorter syntax Inner shorter a b _ e
-message_item_shorter syntax Inner shorter a b x (items-extensions is proto2 r) = extensions_shorter r
+message_item_shorter syntax Inner shorter a b x (items-extensions proto2 r) = extensions_shorter r
 message_item_shorter syntax Inner shorter a b x (items-member is m) = member_shorter syntax Inner shorter a b _ m
 
 pub item_shorter : (place : Within) (syntax : Syntax) (Inner : List Lexeme → List Item → List Lexeme → Type 0)
@@ -280,14 +280,14 @@ package_shorter (package_statement k n s) = omega (arith, one_shorter k, name_sh
 pub statement_shorter : (levels : ℕ) (syntax : Syntax) (f g : File) (a b : List Lexeme)
     → IsStatement levels syntax f a g b
     → length b < length a
-statement_shorter levels syntax f g a b (statements-empty is s) = one_shorter s
-statement_shorter levels syntax f g a b (statements-import is i) = import_shorter i
-statement_shorter levels syntax f g a b (statements-package_statement is none_next p) = package_shorter p
-statement_shorter levels syntax f g a b (statements-option is o) = option_shorter o
-statement_shorter levels syntax f g a b (statements-message m is i) =
+statement_shorter levels syntax f g a b (statements-empty s) = one_shorter s
+statement_shorter levels syntax f g a b (statements-import i) = import_shorter i
+statement_shorter levels syntax f g a b (statements-package_statement none_next p) = package_shorter p
+statement_shorter levels syntax f g a b (statements-option o) = option_shorter o
+statement_shorter levels syntax f g a b (statements-message m i) =
     message_shorter (IsInside syntax levels) (inside_shorter syntax levels) a b m i
-statement_shorter levels syntax f g a b (statements-enum is e) = enum_shorter e
-statement_shorter levels syntax f g a b (statements-service is s) = service_shorter s
-statement_shorter levels syntax f g a b (statements-extend is e) =
+statement_shorter levels syntax f g a b (statements-enum e) = enum_shorter e
+statement_shorter levels syntax f g a b (statements-service s) = service_shorter s
+statement_shorter levels syntax f g a b (statements-extend e) =
     extend_statement_shorter syntax (IsInside syntax levels) (inside_shorter syntax levels) a b _
     e

@@ -352,20 +352,20 @@ message_past Inner over a b x (message h i) tail behind = heading_past h (over _
 
 pub message_item_past : (syntax : Syntax) (Inner : List Lexeme → List Item → List Lexeme → Type 0) → PassedOver Inner
     → PassedOver (IsMessageItem syntax Inner)
-message_item_past syntax Inner over a b x (items-empty is e) tail behind = one_past e behind
-message_item_past syntax Inner over a b x (items-message {message = y} is i) tail behind =
+message_item_past syntax Inner over a b x (items-empty e) tail behind = one_past e behind
+message_item_past syntax Inner over a b x (items-message {message = y} i) tail behind =
     message_past Inner over a b y i tail behind
-message_item_past syntax Inner over a b x (items-enum is e) tail behind = enum_past e behind
-message_item_past syntax Inner over a b x (items-option is o) tail behind = option_past o behind
+message_item_past syntax Inner over a b x (items-enum e) tail behind = enum_past e behind
+message_item_past syntax Inner over a b x (items-option o) tail behind = option_past o behind
 message_item_past syntax Inner over a b x
-    (items-oneof is (oneof {b = c} {items = items} h i)) tail behind =
+    (items-oneof (oneof {b = c} {items = items} h i)) tail behind =
     heading_past h
     (braced_past (IsOneofItem syntax Inner) (oneof_item_past syntax Inner over) c b items i tail behind)
-message_item_past syntax Inner over a b x (items-map_field is f) tail behind = map_field_past f behind
-message_item_past syntax Inner over a b x (items-reserved is r) tail behind = reserved_past r behind
-message_item_past syntax Inner over a b x (items-extend {extend = y} is e) tail behind =
+message_item_past syntax Inner over a b x (items-map_field f) tail behind = map_field_past f behind
+message_item_past syntax Inner over a b x (items-reserved r) tail behind = reserved_past r behind
+message_item_past syntax Inner over a b x (items-extend {extend = y} e) tail behind =
     extend_statement_past syntax Inner over a b y e tail behind
-message_item_past syntax Inner over a b x (items-extensions is allowed r) tail behind = extensions_past r behind
+message_item_past syntax Inner over a b x (items-extensions allowed r) tail behind = extensions_past r behind
 message_item_past syntax Inner over a b x (items-member {item = y} is m) tail behind =
     member_past syntax Inner over a b y m tail behind
 
@@ -431,14 +431,14 @@ import_past {tail = tail} (import k i l u s) behind =
 
 pub statement_past : (syntax : Syntax) (f g : File) (a b : List Lexeme) → IsStatement max_message_depth syntax f a g b
     → (tail : List Lexeme) → IsTail tail b → IsTail tail a
-statement_past syntax f g a b (statements-empty is s) tail behind = one_past s behind
-statement_past syntax f g a b (statements-import is i) tail behind = import_past i behind
-statement_past syntax f g a b (statements-package_statement is none_yet p) tail behind = package_past p behind
-statement_past syntax f g a b (statements-option is o) tail behind = option_past o behind
-statement_past syntax f g a b (statements-message m is i) tail behind = file_message_past syntax a b m i tail behind
-statement_past syntax f g a b (statements-enum is e) tail behind = enum_past e behind
-statement_past syntax f g a b (statements-service is s) tail behind = service_past s behind
-statement_past syntax f g a b (statements-extend {extend = x} is e) tail behind =
+statement_past syntax f g a b (statements-empty s) tail behind = one_past s behind
+statement_past syntax f g a b (statements-import i) tail behind = import_past i behind
+statement_past syntax f g a b (statements-package_statement none_yet p) tail behind = package_past p behind
+statement_past syntax f g a b (statements-option o) tail behind = option_past o behind
+statement_past syntax f g a b (statements-message m i) tail behind = file_message_past syntax a b m i tail behind
+statement_past syntax f g a b (statements-enum e) tail behind = enum_past e behind
+statement_past syntax f g a b (statements-service s) tail behind = service_past s behind
+statement_past syntax f g a b (statements-extend {extend = x} e) tail behind =
     file_extend_past syntax a b x e tail behind
 
 pub syntax_past : {dialect : Dialect} {a b : List Lexeme} {x : Syntax} {tail : List Lexeme} → IsSyntax dialect a x b

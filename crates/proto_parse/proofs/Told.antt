@@ -1,5 +1,5 @@
 -- The fault that is met is the one that the tokens have.
-use Rattle.std.proofs.Common.{◌≡◌, ℕ, suc, true, false, cond, is_some}
+use Rattle.std.proofs.Common.{◌≡◌, ◌⊎◌, inl, inr, ℕ, suc, true, false, cond, is_some}
 use Rattle.std.proofs.Common.{None, List, [], ◌∷◌, ◌++◌, refl, sym, ◌∙◌, ap, subst, codes}
 use Rattle.std.proofs.Common.{append_assoc}
 use Rattle.std.proofs.lemmas.List.{append-nil, append_cancel_right}
@@ -9,7 +9,7 @@ use Rattle.proto_grammar.specs.declared.fault.SyntaxFault.{SyntaxFault}
 use Rattle.proto_grammar.specs.declared.fault.SyntaxFault.TheVariants as variant
 use Rattle.proto_grammar.specs.declared.tree.CustomOptions.TheVariants.{Refuse, Skip}
 use Rattle.proto_grammar.specs.declared.tree.Dialect.{Dialect}
-use Rattle.proto_grammar.specs.declared.tree.Dialect.TheVariants.{Proto3}
+use Rattle.proto_grammar.specs.declared.tree.Dialect.TheVariants.{Proto3, All}
 use Rattle.proto_grammar.specs.declared.tree.Syntax.{Syntax}
 use Rattle.proto_grammar.specs.declared.tree.Syntax.TheVariants as grammar
 use Rattle.proto_grammar.specs.declared.tree.File.{File}
@@ -46,6 +46,27 @@ use Rattle.proto_parse.proofs.Parts.Wider.{of_options, of_levels, options_wide, 
 use Rattle.proto_parse.proofs.Fronts.{Front, Allows, allows_short, allows_all, ended_whole, swapped_same, group_alone}
 use Rattle.proto_parse.proofs.Fronts.{group_labelled, last_front, front_quiet, tokens_are, allowed, no_dot_reads}
 use Rattle.proto_parse.proofs.Fronts.{next_fits, is_wrong, goes_with, stops_with, machine_file, file_machine, goes_on}
+
+-- The tokens have a fault: that which is met, but for one of custom options where these are read past.
+abbrev pub Met : Dialect → List Lexeme → ℕ → SyntaxFault → Type 0
+Met dialect tokens end x =
+    (y : SyntaxFault) × IsRefused dialect tokens end y
+    × ((is_of_custom_options x ≡ true → dialect ≡ Proto3 Refuse) → y ≡ x)
+
+pub met : {dialect : Dialect} {tokens : List Lexeme} {end : ℕ} (x : SyntaxFault) → IsRefused dialect tokens end x
+    → Met dialect tokens end x
+met x is = (x, is, λ only. refl)
+
+refuses_or_not : (dialect : Dialect) → (dialect ≡ Proto3 Refuse) ⊎ (dialect ≡ Proto3 Refuse → ⊥)
+refuses_or_not (Proto3 Refuse) = inl refl
+refuses_or_not (Proto3 Skip) = inr skip_differs
+  where
+    skip_differs : Proto3 Skip ≡ Proto3 Refuse → ⊥
+    skip_differs e = cc
+refuses_or_not All = inr all_differs
+  where
+    all_differs : All ≡ Proto3 Refuse → ⊥
+    all_differs e = cc
 
 -- ---- the reasons
 
@@ -203,17 +224,19 @@ module _ (dialect : Dialect) (syntax : Syntax) (start l left : List Lexeme) (end
       (literal_allowed u plain) (literal_dot s.token u is plain) s.next (Halted why) tt s.reads
       (swapped_same why (feed step s.next s.now u (dots s.behind)) other swaps) g
 
-  none_would : (why ≡ Escaped → ⊥) → opens_why of_options why ≡ false → opens_why of_levels why ≡ false
+  none_would : (why ≡ Escaped → ⊥) → (dialect ≡ Proto3 Refuse → opens_why of_options why ≡ false)
+      → opens_why of_levels why ≡ false
       → (x : SyntaxFault) → WouldGoOn dialect ahead s.token s.behind x → ⊥
-  none_would other options levels x (custom_option only is g) = options_stop only options g
-  none_would other options levels x (aggregate only is g) = options_stop only options g
-  none_would other options levels x (extend only is g) = options_stop only options g
+  none_would other options levels x (custom_option only is g) = options_stop only (options only) g
+  none_would other options levels x (aggregate only is g) = options_stop only (options only) g
+  none_would other options levels x (extend only is g) = options_stop only (options only) g
   none_would other options levels x (two_packages {tree} is whole some) = no_second is tree whole some
   none_would other options levels x (import_escape u is escaped plain g) = literal_stop other u is plain g
   none_would other options levels x (too_deep is g) = levels_stop levels g
   none_would other options levels x (group_too_deep is g) = levels_stop levels g
 
-  no_other : (why ≡ Escaped → ⊥) → opens_why of_options why ≡ false → opens_why of_levels why ≡ false
+  no_other : (why ≡ Escaped → ⊥) → (dialect ≡ Proto3 Refuse → opens_why of_options why ≡ false)
+      → opens_why of_levels why ≡ false
       → (x : SyntaxFault) → x ≡ variant.Grammar (offset_at (place_of end left)) → IsRefused dialect (start ++ l) end x
   no_other other options levels x e =
       subst (λ y. IsRefused dialect (start ++ l) end y) (sym (e ∙ ap variant.Grammar at_token))
@@ -296,33 +319,49 @@ module _ (dialect : Dialect) (syntax : Syntax) (start l left : List Lexeme) (end
   not_escaped : (r : Refusal) → Refused r ≡ Escaped → ⊥
   not_escaped r e = cc
 
+  -- what is refused with custom options. It would be misplaced if they were read past.
+  met_option : (r : Refusal) → of_levels r ≡ false → At (Refused r) → (x : SyntaxFault)
+      → is_of_custom_options x ≡ true → (dialect ≡ Proto3 Refuse → IsRefused dialect (start ++ l) end x)
+      → Met dialect (start ++ l) end x
+  met_option r levels s x custom so = by_dialect (refuses_or_not dialect)
+    where
+      by_dialect : (dialect ≡ Proto3 Refuse) ⊎ (dialect ≡ Proto3 Refuse → ⊥) → Met dialect (start ++ l) end x
+      by_dialect (inl only) = met x (so only)
+      by_dialect (inr never) = (
+        variant.Grammar (offset_at (place_of end left)),
+        no_other dialect syntax start l left end f (Refused r) s (not_escaped r) (λ only. absurd (never only)) levels
+            _ refl,
+        λ only. absurd (never (only custom)),
+      )
+
   refuse_by : (why : Why) (s : At why) (front : List Lexeme) → l ≡ front ++ left → (x : SyntaxFault)
-      → Says why front left end x → (is_of_custom_options x ≡ true → dialect ≡ Proto3 Refuse)
-      → IsRefused dialect (start ++ l) end x
-  refuse_by Misplaced s front whole x says only =
-      no_other dialect syntax start l left end f Misplaced s (λ e. cc) refl refl x says
-  refuse_by Escaped s front whole x says only = escape_refused s x says
-  refuse_by (Refused CustomOptionNext) s front whole x says only =
-      let skips = only (ap is_of_custom_options says) in
-      would_at dialect syntax start l left end f (Refused CustomOptionNext) s variant.CustomOption x says
-      (custom_option skips (refused_at CustomOptionNext s) (options_refused CustomOptionNext refl s skips))
-  refuse_by (Refused AggregateNext) s front whole x says only =
-      let skips = only (ap is_of_custom_options says) in
-      would_at dialect syntax start l left end f (Refused AggregateNext) s variant.Aggregate x says
-      (aggregate skips (refused_at AggregateNext s) (options_refused AggregateNext refl s skips))
-  refuse_by (Refused ExtendNext) s front whole x says only =
-      let skips = only (ap is_of_custom_options says) in
-      would_at dialect syntax start l left end f (Refused ExtendNext) s variant.Extend x says
-      (extend skips (refused_at ExtendNext s) (options_refused ExtendNext refl s skips))
-  refuse_by (Refused MessageNext) s front whole x says only =
-      would_at dialect syntax start l left end f (Refused MessageNext) s variant.TooDeep x says
-      (too_deep (refused_at MessageNext s) (levels_refused MessageNext refl s))
-  refuse_by (Refused GroupNext) s front whole x says only = group_refused s x says
-  refuse_by (Refused LabelledGroupNext) s front whole x says only = labelled_refused s front whole x says
-  refuse_by (Refused RangesNext) s front whole x says only =
-      no_other dialect syntax start l left end f (Refused RangesNext) s (not_escaped RangesNext) refl refl x says
-  refuse_by (Refused ScalarNext) s front whole x says only =
-      no_other dialect syntax start l left end f (Refused ScalarNext) s (not_escaped ScalarNext) refl refl x says
+      → Says why front left end x → Met dialect (start ++ l) end x
+  refuse_by Misplaced s front whole x says =
+      met x (no_other dialect syntax start l left end f Misplaced s (λ e. cc) (λ only. refl) refl x says)
+  refuse_by Escaped s front whole x says = met x (escape_refused s x says)
+  refuse_by (Refused CustomOptionNext) s front whole x says =
+      met_option CustomOptionNext refl s x (ap is_of_custom_options says)
+      (λ skips. would_at dialect syntax start l left end f (Refused CustomOptionNext) s variant.CustomOption x says
+      (custom_option skips (refused_at CustomOptionNext s) (options_refused CustomOptionNext refl s skips)))
+  refuse_by (Refused AggregateNext) s front whole x says =
+      met_option AggregateNext refl s x (ap is_of_custom_options says)
+      (λ skips. would_at dialect syntax start l left end f (Refused AggregateNext) s variant.Aggregate x says
+      (aggregate skips (refused_at AggregateNext s) (options_refused AggregateNext refl s skips)))
+  refuse_by (Refused ExtendNext) s front whole x says =
+      met_option ExtendNext refl s x (ap is_of_custom_options says)
+      (λ skips. would_at dialect syntax start l left end f (Refused ExtendNext) s variant.Extend x says
+      (extend skips (refused_at ExtendNext s) (options_refused ExtendNext refl s skips)))
+  refuse_by (Refused MessageNext) s front whole x says =
+      met x (would_at dialect syntax start l left end f (Refused MessageNext) s variant.TooDeep x says
+      (too_deep (refused_at MessageNext s) (levels_refused MessageNext refl s)))
+  refuse_by (Refused GroupNext) s front whole x says = met x (group_refused s x says)
+  refuse_by (Refused LabelledGroupNext) s front whole x says = met x (labelled_refused s front whole x says)
+  refuse_by (Refused RangesNext) s front whole x says =
+      met x (no_other dialect syntax start l left end f (Refused RangesNext) s (not_escaped RangesNext) (λ only. refl)
+      refl x says)
+  refuse_by (Refused ScalarNext) s front whole x says =
+      met x (no_other dialect syntax start l left end f (Refused ScalarNext) s (not_escaped ScalarNext) (λ only. refl)
+      refl x says)
 
   -- a second package
   twice_refused : (s : StopsAt (statement_step max_message_depth syntax) l [] false left SecondPackage)
@@ -368,15 +407,15 @@ module _ (dialect : Dialect) (syntax : Syntax) (start l left : List Lexeme) (end
 pub outcome_refused : (dialect : Dialect) (syntax : Syntax) (start l : List Lexeme) (end : ℕ)
     (f : Front dialect syntax start l) (o : Outcome)
     → machine (statement_step max_message_depth syntax) l [] false ≡ o → (x : SyntaxFault)
-    → Tells (place_of end l) o x → (is_of_custom_options x ≡ true → dialect ≡ Proto3 Refuse)
-    → ((tree : File) → IsFile dialect (start ++ l) tree → ⊥) → IsRefused dialect (start ++ l) end x
-outcome_refused dialect syntax start l end f (Whole seen) e x tells only none = absurd tells
-outcome_refused dialect syntax start l end f Missing e x tells only none =
-    subst (λ y. IsRefused dialect (start ++ l) end y) (sym tells)
-    (missing_refused dialect syntax start l [] end f e none)
-outcome_refused dialect syntax start l end f (Stuck why rest) e x tells only none =
+    → Tells (place_of end l) o x
+    → ((tree : File) → IsFile dialect (start ++ l) tree → ⊥) → Met dialect (start ++ l) end x
+outcome_refused dialect syntax start l end f (Whole seen) e x tells none = absurd tells
+outcome_refused dialect syntax start l end f Missing e x tells none =
+    met x (subst (λ y. IsRefused dialect (start ++ l) end y) (sym tells)
+    (missing_refused dialect syntax start l [] end f e none))
+outcome_refused dialect syntax start l end f (Stuck why rest) e x tells none =
     refuse_by dialect syntax start l rest end f why
-    (stuck_at (statement_step max_message_depth syntax) l [] false why rest e) tells.0 tells.1 x tells.2 only
-outcome_refused dialect syntax start l end f (Twice rest) e x tells only none =
-    twice_refused dialect syntax start l rest end f
-    (twice_at (statement_step max_message_depth syntax) l [] false rest e) x tells.2
+    (stuck_at (statement_step max_message_depth syntax) l [] false why rest e) tells.0 tells.1 x tells.2
+outcome_refused dialect syntax start l end f (Twice rest) e x tells none =
+    met x (twice_refused dialect syntax start l rest end f
+    (twice_at (statement_step max_message_depth syntax) l [] false rest e) x tells.2)

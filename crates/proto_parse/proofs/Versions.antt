@@ -17,7 +17,7 @@ use Rattle.proto_grammar.specs.Grammar.Repetition.One.{one}
 use Rattle.proto_grammar.specs.Grammar.Repetition.Until.{done}
 use Rattle.proto_grammar.specs.Reading.Repetition.{token_that}
 use Rattle.proto_grammar.proofs.TokenLemmas.{other_kind, other_word, kind_no_word}
-use Rattle.proto_parse.specs.Choice.{version_of}
+use Rattle.proto_parse.specs.Reading.Choice.{version_of}
 use Rattle.proto_parse.specs.Limits.{max_message_depth}
 use Rattle.proto_parse.specs.Grammar.Files.{SpellsJoined, IsSyntax, IsFileWithin, IsFile, empty_file}
 use Rattle.proto_parse.specs.Grammar.Files.SpellsJoined.{none as none_joined, some as some_joined}

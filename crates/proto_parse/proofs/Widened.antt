@@ -244,15 +244,15 @@ module _ (custom : CustomOptions) (Inner Wide : List Lexeme → List Item → Li
   no_extend_wide (passed e) free = none_passed e free
 
   message_item_wide : Widens custom (IsMessageItem (Proto3 custom) Inner) (IsMessageItem Extended Wide)
-  message_item_wide a b x (items-empty is s) free = items-empty is s
-  message_item_wide a b x (items-message {message = y} is m) free = items-message is (message_wide a b y m free)
-  message_item_wide a b x (items-enum is e) free = items-enum is (enum_wide e)
-  message_item_wide a b x (items-option is o) free = items-option is (option_wide o)
-  message_item_wide a b x (items-oneof {oneof = y} is o) free = items-oneof is (oneof_wide a b y o free)
-  message_item_wide a b x (items-map_field is f) free = items-map_field is (map_field_wide f)
-  message_item_wide a b x (items-reserved is r) free = items-reserved is r
-  message_item_wide a b x (items-extend is e) free = absurd (no_extend_wide e free)
-  message_item_wide a b x (items-extensions is proto2 r) free = absurd (let never : false ≡ true = proto2 in cc)
+  message_item_wide a b x (items-empty s) free = items-empty s
+  message_item_wide a b x (items-message {message = y} m) free = items-message (message_wide a b y m free)
+  message_item_wide a b x (items-enum e) free = items-enum (enum_wide e)
+  message_item_wide a b x (items-option o) free = items-option (option_wide o)
+  message_item_wide a b x (items-oneof {oneof = y} o) free = items-oneof (oneof_wide a b y o free)
+  message_item_wide a b x (items-map_field f) free = items-map_field (map_field_wide f)
+  message_item_wide a b x (items-reserved r) free = items-reserved r
+  message_item_wide a b x (items-extend e) free = absurd (no_extend_wide e free)
+  message_item_wide a b x (items-extensions proto2 r) free = absurd (let never : false ≡ true = proto2 in cc)
   message_item_wide a b x (items-member is m) free = items-member is (member_wide m)
 
 inside_wide : (custom : CustomOptions) (levels : ℕ)
@@ -291,18 +291,18 @@ service_wide (service h u c) = service h (until_wide (adds_wide service_item_wid
 statement_wide : (custom : CustomOptions) (f g : File) (a b : List Lexeme)
     → IsStatement max_message_depth (Proto3 custom) f a g b
     → PassesNone custom a → IsStatement max_message_depth Extended f a g b
-statement_wide custom f g a b (statements-empty is s) free = statements-empty is s
-statement_wide custom f g a b (statements-import is i) free = statements-import is i
-statement_wide custom f g a b (statements-package_statement is none_yet p) free =
-    statements-package_statement is none_yet p
-statement_wide custom f g a b (statements-option is o) free = statements-option is (option_wide o)
-statement_wide custom f g a b (statements-message m is i) free =
-    statements-message m is (message_wide custom (IsInside (Proto3 custom) max_message_depth)
+statement_wide custom f g a b (statements-empty s) free = statements-empty s
+statement_wide custom f g a b (statements-import i) free = statements-import i
+statement_wide custom f g a b (statements-package_statement none_yet p) free =
+    statements-package_statement none_yet p
+statement_wide custom f g a b (statements-option o) free = statements-option (option_wide o)
+statement_wide custom f g a b (statements-message m i) free =
+    statements-message m (message_wide custom (IsInside (Proto3 custom) max_message_depth)
     (IsInside Extended max_message_depth) (inside_past (Proto3 custom) max_message_depth)
     (inside_wide custom max_message_depth) a b m i free)
-statement_wide custom f g a b (statements-enum is e) free = statements-enum is (enum_wide e)
-statement_wide custom f g a b (statements-service is s) free = statements-service is (service_wide s)
-statement_wide custom f g a b (statements-extend is e) free =
+statement_wide custom f g a b (statements-enum e) free = statements-enum (enum_wide e)
+statement_wide custom f g a b (statements-service s) free = statements-service (service_wide s)
+statement_wide custom f g a b (statements-extend e) free =
     absurd (no_extend_wide custom (IsInside (Proto3 custom) max_message_depth) (IsInside Extended max_message_depth)
     (inside_past (Proto3 custom) max_message_depth) (inside_wide custom max_message_depth) e free)
 

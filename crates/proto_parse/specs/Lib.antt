@@ -5,7 +5,6 @@ pub use Rattle.proto_grammar.specs.Syntax
 pub use Rattle.proto_grammar.specs.Tree
 pub use Rattle.proto_grammar.specs.Items
 pub use Rattle.proto_grammar.specs.FaultNames
-pub use Rattle.proto_grammar.specs.FaultStands
 pub use Rattle.proto_grammar.specs.declared.tree
 pub use Rattle.proto_grammar.specs.declared.fault
 -- The grammar

@@ -1,3 +1,4 @@
+pub mod Choice
 pub mod Messages
 pub mod Services
 pub mod Syntax

@@ -1,7 +1,7 @@
--- Why tokens derive no tree: which fault they have, and at which token. No reading is spoken of: as a rule the fault is
--- at the first token with which what is in front of it can't be finished to a file any more. But that no version is
--- named is told at the first literal, a group that is too deep at its label, and what only a `.` can follow at itself
--- if none does.
+-- Why tokens derive no tree: which fault they have, and at which token. No reading is spoken of. As a rule the fault is
+-- at the first token with which what is in front of it can't be finished to a file any more. But another version is
+-- told at the first literal, a group too deep at its label, and a word that only a `.` can follow at itself if none
+-- does.
 use Rattle.std.specs.Prelude.{◌≡◌, ℕ, suc, Bool, true, false, cond, ◌||◌, is_some, List, [], ◌∷◌, ◌++◌, length, codes}
 use Rattle.proto_lex.specs.declared.token.TokenKind.TheVariants.{StringLiteral, Equals, OpenBrace, OpenParenthesis, Dot}
 use Rattle.proto_grammar.specs.declared.fault.SyntaxFault.{SyntaxFault}

@@ -1,6 +1,9 @@
 -- Where the spans of a tree are among the tokens.
-use Rattle.std.specs.Prelude.{◌≡◌, ℕ, ◌≤◌, ◌<◌, Option, Some, None, List, [], ◌∷◌, ◌++◌, option_to_list}
+use Rattle.std.specs.Prelude.{◌≡◌, ℕ, ◌≤◌, ◌<◌, Bool, true, false, cond, Option, Some, None, option_to_list}
+use Rattle.std.specs.Prelude.{List, [], ◌∷◌, ◌++◌, map}
+use Rattle.std.specs.List.{flat_map}
 use Rattle.proto_lex.specs.declared.span.Span.{Span}
+use Rattle.proto_lex.specs.declared.token.TokenKind.{TokenKind}
 use Rattle.proto_lex.specs.declared.token.TokenKind.TheVariants.{Identifier, StringLiteral}
 use Rattle.proto_grammar.specs.declared.tree.Heading.{Heading}
 use Rattle.proto_grammar.specs.declared.tree.TypeName.{TypeName}
@@ -21,139 +24,125 @@ use Rattle.proto_grammar.specs.declared.tree.FileItem.TheVariants as item
 use Rattle.proto_grammar.specs.declared.tree.Import.{Import}
 use Rattle.proto_grammar.specs.declared.tree.File.{File}
 use Rattle.proto_grammar.specs.Lexeme.{Lexeme}
-use Rattle.proto_grammar.specs.Tree.{Body, BlockTree}
+use Rattle.proto_grammar.specs.Tree.{Body}
 use Rattle.proto_grammar.specs.Tree.Body.{NoMore, LeafThen, BlockThen}
 
--- A span of a tree: of a declaration's first token, of an identifier, of a string literal, or of another token.
-pub data Mark : Type 0 where
-  First : (span : Span) → Mark
-  Name : (span : Span) → Mark
-  Literal : (span : Span) → Mark
-  Other : (span : Span) → Mark
+-- What a token is to a tree: a declaration's first token, an identifier, a string literal, or another token.
+pub data Role : Type 0 where
+  First : Role
+  Name : Role
+  Literal : Role
+  Other : Role
 
--- The marks are at tokens, in the order of the tokens. A declaration's first token may be the next mark's too; any
--- other mark has its token for itself.
+pub record Mark : Type 0 where
+  pub role : Role
+  pub span : Span
+
+abbrev pub mark : Role → Span → Mark
+mark role span = record { role = role; span = span }
+
+abbrev pub Fits : Role → TokenKind → Type 0
+Fits Name kind = kind ≡ Identifier
+Fits Literal kind = kind ≡ StringLiteral
+Fits _ kind = Unit {0}
+
+-- Whether the token may be the next mark's too.
+abbrev pub is_shared : Role → Bool
+is_shared First = true
+is_shared _ = false
+
+-- The marks are at tokens, in the order of the tokens.
 pub data Among : List Mark → List Lexeme → Type 0 where
   none : {tokens : List Lexeme} → Among [] tokens
   skip : {marks : List Mark} {t : Lexeme} {rest : List Lexeme} → Among marks rest → Among marks (t ∷ rest)
-  first : {marks : List Mark} {t : Lexeme} {rest : List Lexeme} → Among marks (t ∷ rest)
-      → Among (First t.span ∷ marks) (t ∷ rest)
-  name : {marks : List Mark} {t : Lexeme} {rest : List Lexeme} → t.kind ≡ Identifier → Among marks rest
-      → Among (Name t.span ∷ marks) (t ∷ rest)
-  literal : {marks : List Mark} {t : Lexeme} {rest : List Lexeme} → t.kind ≡ StringLiteral → Among marks rest
-      → Among (Literal t.span ∷ marks) (t ∷ rest)
-  other : {marks : List Mark} {t : Lexeme} {rest : List Lexeme} → Among marks rest
-      → Among (Other t.span ∷ marks) (t ∷ rest)
+  token : {role : Role} {marks : List Mark} {t : Lexeme} {rest : List Lexeme}
+      → Fits role t.kind → Among marks (cond (is_shared role) (t ∷ rest) rest)
+      → Among (mark role t.span ∷ marks) (t ∷ rest)
 
--- Each mark begins at the place or after it. After a declaration's first token the next mark begins at the same place
--- or later; after any other mark it begins at that mark's end or later.
+-- Where the mark behind this one may begin.
+abbrev pub place_behind : Mark → ℕ
+place_behind m = cond (is_shared m.role) m.span.start m.span.end
+
+-- Each mark begins at the place or after it.
 abbrev pub MarksAreInOrder : (place : ℕ) → List Mark → Type 0
 MarksAreInOrder place [] = Unit {0}
-MarksAreInOrder place (First span ∷ marks) =
-    (place ≤ span.start) × (span.start < span.end) × MarksAreInOrder span.start marks
-MarksAreInOrder place (Name span ∷ marks) =
-    (place ≤ span.start) × (span.start < span.end) × MarksAreInOrder span.end marks
-MarksAreInOrder place (Literal span ∷ marks) =
-    (place ≤ span.start) × (span.start < span.end) × MarksAreInOrder span.end marks
-MarksAreInOrder place (Other span ∷ marks) =
-    (place ≤ span.start) × (span.start < span.end) × MarksAreInOrder span.end marks
+MarksAreInOrder place (m ∷ marks) =
+    (place ≤ m.span.start) × (m.span.start < m.span.end) × MarksAreInOrder (place_behind m) marks
 
--- The marks of each of a list, in order, before others.
-abbrev pub each_then : {A : Type 0} → (A → List Mark → List Mark) → List A → List Mark → List Mark
-each_then marks_then [] marks = marks
-each_then marks_then (x ∷ xs) marks = marks_then x (each_then marks_then xs marks)
+-- The marks of the parts of a tree, in the order of a walk: a declaration before what is in it.
+abbrev pub names_marks : List Span → List Mark
+names_marks spans = map (mark Name) spans
 
--- The marks of the parts of a tree before others, in the order of a walk: a declaration before what is in it.
-abbrev pub name_then : Span → List Mark → List Mark
-name_then span marks = Name span ∷ marks
+abbrev pub type_name_marks : TypeName → List Mark
+type_name_marks type = map (mark Other) (option_to_list type.leading_dot) ++ names_marks type.components
 
-abbrev pub names_then : List Span → List Mark → List Mark
-names_then = each_then name_then
+abbrev pub type_marks : FieldType → List Mark
+type_marks (Scalar word) = mark Name word ∷ []
+type_marks (Named type) = type_name_marks type
 
-abbrev pub literal_then : Span → List Mark → List Mark
-literal_then span marks = Literal span ∷ marks
+abbrev pub heading_marks : Heading → List Mark
+heading_marks heading =
+    mark First heading.first ∷ (mark Name heading.name ∷ (mark Other heading.closing ∷ []))
 
-abbrev pub dot_then : Option Span → List Mark → List Mark
-dot_then None marks = marks
-dot_then (Some dot) marks = Other dot ∷ marks
+abbrev pub field_marks : Field → List Mark
+field_marks field = mark First field.heading.first
+    ∷ (type_marks field.field_type ++ mark Name field.heading.name ∷ (mark Other field.heading.closing ∷ []))
 
-abbrev pub type_name_then : TypeName → List Mark → List Mark
-type_name_then type marks = dot_then type.leading_dot (names_then type.components marks)
+abbrev pub map_field_marks : MapField → List Mark
+map_field_marks field = mark First field.heading.first ∷ (mark Name field.key
+    ∷ (type_marks field.value ++ mark Name field.heading.name ∷ (mark Other field.heading.closing ∷ [])))
 
-abbrev pub type_then : FieldType → List Mark → List Mark
-type_then (Scalar word) marks = Name word ∷ marks
-type_then (Named type) marks = type_name_then type marks
+abbrev pub enum_marks : Enum → List Mark
+enum_marks enum = heading_marks enum.heading ++ flat_map heading_marks enum.values
 
-abbrev pub heading_then : Heading → List Mark → List Mark
-heading_then heading marks = First heading.first ∷ (Name heading.name ∷ (Other heading.closing ∷ marks))
+abbrev pub group_marks : Group → List Mark
+group_marks group = mark First group.heading.first
+    ∷ (mark Name group.word ∷ (mark Name group.heading.name ∷ (mark Other group.heading.closing ∷ [])))
 
-abbrev pub field_then : Field → List Mark → List Mark
-field_then field marks = First field.heading.first
-    ∷ type_then field.field_type (Name field.heading.name ∷ (Other field.heading.closing ∷ marks))
+abbrev pub head_marks : Head → List Mark
+head_marks (head.Message heading) = heading_marks heading
+head_marks (head.Group group) = group_marks group
+head_marks (head.Oneof heading) = heading_marks heading
+head_marks (head.Extend type) = type_name_marks type
 
-abbrev pub map_field_then : MapField → List Mark → List Mark
-map_field_then field marks = First field.heading.first
-    ∷ (Name field.key ∷ type_then field.value (Name field.heading.name ∷ (Other field.heading.closing ∷ marks)))
+abbrev pub leaf_marks : Leaf → List Mark
+leaf_marks (leaf.Enum enum) = enum_marks enum
+leaf_marks (leaf.Field field) = field_marks field
+leaf_marks (leaf.MapField field) = map_field_marks field
 
-abbrev pub enum_then : Enum → List Mark → List Mark
-enum_then enum marks = heading_then enum.heading (each_then heading_then enum.values marks)
+abbrev pub body_marks : Body → List Mark
+body_marks NoMore = []
+body_marks (LeafThen leaf others) = leaf_marks leaf ++ body_marks others
+body_marks (BlockThen head inner others) = head_marks head ++ (body_marks inner ++ body_marks others)
 
-abbrev pub group_then : Group → List Mark → List Mark
-group_then group marks = First group.heading.first
-    ∷ (Name group.word ∷ (Name group.heading.name ∷ (Other group.heading.closing ∷ marks)))
+abbrev pub method_marks : Method → List Mark
+method_marks method = mark First method.heading.first ∷ (mark Name method.heading.name
+    ∷ (type_name_marks method.input ++ (type_name_marks method.output ++ mark Other method.heading.closing ∷ [])))
 
-abbrev pub head_then : Head → List Mark → List Mark
-head_then (head.Message heading) marks = heading_then heading marks
-head_then (head.Group group) marks = group_then group marks
-head_then (head.Oneof heading) marks = heading_then heading marks
-head_then (head.Extend type) marks = type_name_then type marks
+abbrev pub service_marks : Service → List Mark
+service_marks service = heading_marks service.heading ++ flat_map method_marks service.methods
 
-abbrev pub leaf_then : Leaf → List Mark → List Mark
-leaf_then (leaf.Enum enum) marks = enum_then enum marks
-leaf_then (leaf.Field field) marks = field_then field marks
-leaf_then (leaf.MapField field) marks = map_field_then field marks
-
-abbrev pub body_then : Body → List Mark → List Mark
-body_then NoMore marks = marks
-body_then (LeafThen leaf others) marks = leaf_then leaf (body_then others marks)
-body_then (BlockThen head inner others) marks = head_then head (body_then inner (body_then others marks))
-
-abbrev pub block_then : BlockTree → List Mark → List Mark
-block_then block marks = head_then block.head (body_then block.body marks)
-
-abbrev pub method_then : Method → List Mark → List Mark
-method_then method marks =
-    First method.heading.first ∷ (Name method.heading.name
-    ∷ type_name_then method.input (type_name_then method.output (Other method.heading.closing ∷ marks)))
-
-abbrev pub service_then : Service → List Mark → List Mark
-service_then service marks = heading_then service.heading (each_then method_then service.methods marks)
-
-abbrev pub item_then : FileItem → List Mark → List Mark
-item_then (item.Block block) marks = block_then block marks
-item_then (item.Enum enum) marks = enum_then enum marks
-item_then (item.Service service) marks = service_then service marks
-
-abbrev pub import_then : Import → List Mark → List Mark
-import_then import marks = each_then literal_then import.literals marks
+abbrev pub item_marks : FileItem → List Mark
+item_marks (item.Block block) = head_marks block.head ++ body_marks block.body
+item_marks (item.Enum enum) = enum_marks enum
+item_marks (item.Service service) = service_marks service
 
 -- Those of the messages, enums, services and extends of a file, of its imports, and of its package.
 abbrev pub marks_of_items : File → List Mark
-marks_of_items file = each_then item_then file.items []
+marks_of_items file = flat_map item_marks file.items
 
 abbrev pub marks_of_imports : File → List Mark
-marks_of_imports file = each_then import_then file.imports []
+marks_of_imports file = flat_map (λ (import : Import). map (mark Literal) import.literals) file.imports
 
 abbrev pub marks_of_package : File → List Mark
-marks_of_package file = each_then names_then (option_to_list file.package_name) []
+marks_of_package file = flat_map names_marks (option_to_list file.package_name)
 
--- The spans of the package's name are between those of the items before the package statement and those of the items
--- after it.
+-- The package's name is between the items before the package statement and those after it.
 abbrev pub IsAmongItems : (components : List Span) → List FileItem → List Lexeme → Type 0
 IsAmongItems components items tokens =
     (before : List FileItem)
     × ((behind : List FileItem) × ((items ≡ before ++ behind)
-    × Among (each_then item_then before (names_then components (each_then item_then behind []))) tokens))
+    × Among (flat_map item_marks before ++ (names_marks components ++ flat_map item_marks behind)) tokens))
 
 abbrev pub PackageIsAmongItems : Option (List Span) → List FileItem → List Lexeme → Type 0
 PackageIsAmongItems None items tokens = Unit {0}

@@ -1,7 +1,7 @@
 //! Files.
 
 ghost use Rattle.std.specs.Prelude.{◌≡◌};
-ghost use Rattle.proto_parse.specs.Choice.{file_statement_of};
+ghost use Rattle.proto_parse.specs.Reading.Choice.{file_statement_of};
 ghost use Rattle.proto_parse.specs.Limits.{max_message_depth};
 ghost use Rattle.proto_grammar.specs.Gives.{Gives};
 ghost use Rattle.proto_grammar.specs.Syntax.{custom_of, custom_in};

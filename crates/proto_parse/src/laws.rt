@@ -1,6 +1,6 @@
 //! Laws of derivations.
 
-ghost use Rattle.std.specs.Prelude.{◌≡◌, ℕ, List, map, length};
+ghost use Rattle.std.specs.Prelude.{◌≡◌, ◌⊎◌, ℕ, List, map, length};
 ghost use Rattle.proto_lex.specs.Lexed.{AreInOrder};
 ghost use Rattle.proto_lex.specs.declared.token.Token.{Token};
 ghost use Rattle.proto_grammar.specs.Lexeme.{lexemes_of};
@@ -76,4 +76,11 @@ pub fn no_fault_where_it_derives()
     ensures { (dialect : Dialect) (text : List ℕ) (tokens : List Token) (file : File) (fault : SyntaxFault)
         → Derives dialect text tokens file
         → HasFault dialect text tokens fault → ⊥ }
+{}
+
+/// Tokens derive a tree, or have a fault.
+pub fn derives_or_has_a_fault()
+    ensures { (dialect : Dialect) (text : List ℕ) (tokens : List Token)
+        → ((file : File) × Derives dialect text tokens file)
+        ⊎ ((fault : SyntaxFault) × HasFault dialect text tokens fault) }
 {}

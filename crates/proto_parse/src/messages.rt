@@ -1,7 +1,7 @@
 //! Messages, groups, oneofs and extends.
 
 ghost use Rattle.std.specs.Prelude.{◌≡◌, [], ◌++◌, OnOk, option_to_list};
-ghost use Rattle.proto_parse.specs.Choice.{message_statement_of};
+ghost use Rattle.proto_parse.specs.Reading.Choice.{message_statement_of};
 ghost use Rattle.proto_grammar.specs.Gives.{Gives};
 ghost use Rattle.proto_grammar.specs.Syntax.{custom_of};
 ghost use Rattle.proto_grammar.specs.Terminal.{closes};

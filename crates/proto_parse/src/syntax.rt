@@ -1,7 +1,7 @@
 //! Syntax statements.
 
 ghost use Rattle.std.specs.Prelude.{◌≡◌, ℕ, [], option_map, IfOk};
-ghost use Rattle.proto_parse.specs.Choice.{version_of};
+ghost use Rattle.proto_parse.specs.Reading.Choice.{version_of};
 ghost use Rattle.proto_grammar.specs.Gives.{Gives};
 ghost use Rattle.proto_grammar.specs.Terminal.{first, behind};
 ghost use Rattle.proto_grammar.specs.Syntax.{custom_of, custom_in, proto3_in};

@@ -15,6 +15,7 @@ use Rattle.proto_grammar.specs.declared.fault.SyntaxFault.TheVariants.{NotProto3
 use Rattle.proto_grammar.specs.declared.fault.SyntaxFault.TheVariants.{TwoPackages, ImportEscape, TooDeep, Grammar}
 use Rattle.proto_grammar.specs.declared.fault.SyntaxFault.TheVariants.{Memory}
 use Rattle.proto_parse.specs.declared.statement.FileStatement.{FileStatement}
+use Rattle.proto_parse.specs.declared.statement.FileStatement.TheVariants as choice
 use Rattle.proto_parse.specs.declared.statement.Version.{Version}
 use Rattle.proto_parse.specs.declared.statement.Version.TheVariants as version
 use Rattle.proto_grammar.specs.Lexeme.{Lexeme}
@@ -22,7 +23,7 @@ use Rattle.proto_parse.specs.Limits.{max_message_depth}
 use Rattle.proto_grammar.specs.Gives.{Fails, Gives}
 use Rattle.proto_grammar.specs.Terminal.{not_next, is_end}
 use Rattle.proto_grammar.specs.Syntax.{custom_in, proto3_in}
-use Rattle.proto_parse.specs.Choice.{file_statement_of, version_of}
+use Rattle.proto_parse.specs.Reading.Choice.{file_statement_of, version_of}
 use Rattle.proto_grammar.specs.Grammar.Repetition.{Adds}
 use Rattle.proto_parse.specs.Grammar.Messages.{IsInside}
 use Rattle.proto_parse.specs.Grammar.Files.{SpellsJoined, IsSyntax, IsImportKind, IsPathLiteral, IsImport, IsPackage}
@@ -47,6 +48,8 @@ use Rattle.proto_parse.specs.Reading.Files.{only_package_at, statement_by, state
 use Rattle.proto_grammar.proofs.TokenLemmas.{token_exact, one_next, one_others, next_other_word}
 use Rattle.proto_grammar.proofs.UntilLemmas.{until_at-exact, adding-exact}
 use Rattle.proto_parse.proofs.Joined.{joined_exact}
+use Rattle.proto_parse.proofs.Choices.{file_word, import_begins, package_begins, option_begins, message_begins}
+use Rattle.proto_parse.proofs.Choices.{enum_begins, service_begins, extend_begins}
 use Rattle.proto_parse.proofs.StepsFall.{items_fall, path_literals_fall, statements_fall}
 use Rattle.proto_grammar.proofs.Exact.Names.{name_exact}
 use Rattle.proto_grammar.proofs.Exact.Options.{option_exact}
@@ -138,24 +141,29 @@ module _ (end : ℕ) where
   statement_exact : (levels : ℕ) (syntax : Syntax) (f g : File) (a b : List Lexeme) → IsStatement levels syntax f a g b
       → statement_at levels syntax f (place_of end a) ≡ Ok (g, place_of end b)
   unfolding only_package_at
-  statement_exact levels syntax f g a b (statements-empty is s) =
-      by_choice levels syntax f g a b _ is (rw (token_exact end s) refl)
-  statement_exact levels syntax f g a b (statements-import is i) =
-      by_choice levels syntax f g a b _ is (rw (import_exact i) refl)
-  statement_exact levels syntax f g a b (statements-package_statement is none_yet p) =
-      by_choice levels syntax f g a b _ is (rw (none_yet, package_exact p) refl)
-  statement_exact levels syntax f g a b (statements-option is o) =
-      by_choice levels syntax f g a b _ is (rw (option_exact end o) refl)
-  statement_exact levels syntax f g a b (statements-message m is i) =
-      by_choice levels syntax f g a b _ is
+  statement_exact levels syntax f g a b (statements-empty s) =
+      by_choice levels syntax f g a b choice.Empty (rw (one_next s) refl) (rw (token_exact end s) refl)
+  statement_exact levels syntax f g a b (statements-import i) =
+      by_choice levels syntax f g a b choice.Import (file_word (codes "import") a (import_begins i))
+      (rw (import_exact i) refl)
+  statement_exact levels syntax f g a b (statements-package_statement none_yet p) =
+      by_choice levels syntax f g a b choice.Package (file_word (codes "package") a (package_begins p))
+      (rw (none_yet, package_exact p) refl)
+  statement_exact levels syntax f g a b (statements-option o) =
+      by_choice levels syntax f g a b choice.Option (file_word (codes "option") a (option_begins o))
+      (rw (option_exact end o) refl)
+  statement_exact levels syntax f g a b (statements-message m i) =
+      by_choice levels syntax f g a b choice.Message (file_word (codes "message") a (message_begins m i))
       (rw (message_exact end (inside_at syntax levels) (IsInside syntax levels)
       (inside_exact end syntax levels) a b m i) refl)
-  statement_exact levels syntax f g a b (statements-enum is e) =
-      by_choice levels syntax f g a b _ is (rw (enum_exact end e) refl)
-  statement_exact levels syntax f g a b (statements-service is s) = by_choice levels syntax f g a b _ is
+  statement_exact levels syntax f g a b (statements-enum e) =
+      by_choice levels syntax f g a b choice.Enum (file_word (codes "enum") a (enum_begins e))
+      (rw (enum_exact end e) refl)
+  statement_exact levels syntax f g a b (statements-service s) =
+      by_choice levels syntax f g a b choice.Service (file_word (codes "service") a (service_begins s))
       (rw (service_exact end s) refl)
-  statement_exact levels syntax f g a b (statements-extend {extend = x} is e) =
-      by_choice levels syntax f g a b _ is
+  statement_exact levels syntax f g a b (statements-extend {extend = x} e) =
+      by_choice levels syntax f g a b choice.Extend (file_word (codes "extend") a (extend_begins x e))
       (rw (extend_statement_exact end syntax (inside_at syntax levels) (IsInside syntax levels)
       (inside_exact end syntax levels) (λ place. items_fall place syntax levels) a b x e) refl)
 

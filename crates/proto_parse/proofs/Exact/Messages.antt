@@ -14,12 +14,13 @@ use Rattle.proto_grammar.specs.declared.tree.Method.{Method}
 use Rattle.proto_grammar.specs.declared.tree.Service.{Service}
 use Rattle.proto_grammar.specs.declared.tree.Item.{Item}
 use Rattle.proto_parse.specs.declared.statement.MessageStatement.{MessageStatement}
+use Rattle.proto_parse.specs.declared.statement.MessageStatement.TheVariants as choice
 use Rattle.proto_parse.specs.declared.statement.Within.{Within}
 use Rattle.proto_parse.specs.declared.statement.Within.TheVariants as within
 use Rattle.proto_grammar.specs.Lexeme.{Lexeme}
 use Rattle.proto_grammar.specs.Terminal.{first_is, of_kind, is_word, closes}
 use Rattle.proto_grammar.specs.Syntax.{custom_of}
-use Rattle.proto_parse.specs.Choice.{message_statement_of}
+use Rattle.proto_parse.specs.Reading.Choice.{message_statement_of}
 use Rattle.proto_grammar.specs.Grammar.Repetition.{Passes, Adds}
 use Rattle.proto_parse.specs.Grammar.Messages.{IsHeading, IsValue, IsEnumItem, IsEnum, IsBraced, IsGroup, IsLabelled}
 use Rattle.proto_parse.specs.Grammar.Messages.{IsMember, IsOneofMember, IsOneofItem, IsOneof, IsExtendItem, IsExtend}
@@ -71,6 +72,8 @@ use Rattle.proto_parse.specs.Reading.Services.{service_items_at, service_at}
 use Rattle.proto_grammar.proofs.TokenLemmas.{token_exact, one_next, one_others, next_other_kind, next_word_kind}
 use Rattle.proto_grammar.proofs.TokenLemmas.{next_other_word}
 use Rattle.proto_grammar.proofs.UntilLemmas.{until_at-exact, adding-exact, passing-exact, Falls}
+use Rattle.proto_parse.proofs.Choices.{message_word, map_chosen, member_chosen, message_begins, enum_begins}
+use Rattle.proto_parse.proofs.Choices.{option_begins, oneof_begins, reserved_begins, extend_begins, extensions_begins}
 use Rattle.proto_parse.proofs.StepsFall.{enum_items_fall, passed_items_fall, items_fall}
 use Rattle.proto_parse.proofs.StepsFall.{method_items_fall, service_items_fall}
 use Rattle.proto_grammar.proofs.Exact.Names.{named_type_exact, pass_type_name_exact}
@@ -271,26 +274,34 @@ module _ (end : ℕ) where
       (Inner : List Lexeme → List Item → List Lexeme → Type 0) → ReadsInside inner Inner → AllFall syntax inner
       → Reads (message_item_at syntax inner) (IsMessageItem syntax Inner)
   unfolding ranges_at
-  message_item_exact syntax inner Inner reads fall a b x (items-empty is s) =
-      by_choice syntax inner a b x _ is (rw (token_exact end s) refl)
-  message_item_exact syntax inner Inner reads fall a b x (items-message {message = m} is i) =
-      by_choice syntax inner a b x _ is (rw (message_exact inner Inner reads a b m i) refl)
-  message_item_exact syntax inner Inner reads fall a b x (items-enum is e) =
-      by_choice syntax inner a b x _ is (rw (enum_exact e) refl)
-  message_item_exact syntax inner Inner reads fall a b x (items-option is o) =
-      by_choice syntax inner a b x _ is (rw (option_exact end o) refl)
-  message_item_exact syntax inner Inner reads fall a b x (items-oneof {oneof = y} is o) =
-      by_choice syntax inner a b x _ is (rw (oneof_exact syntax inner Inner reads fall a b y o) refl)
-  message_item_exact syntax inner Inner reads fall a b x (items-map_field is f) =
-      by_choice syntax inner a b x _ is (rw (map_field_exact end f) refl)
-  message_item_exact syntax inner Inner reads fall a b x (items-reserved is r) =
-      by_choice syntax inner a b x _ is (rw (reserved_exact end r) refl)
-  message_item_exact syntax inner Inner reads fall a b x (items-extend {extend = y} is e) =
-      by_choice syntax inner a b x _ is (rw (extend_statement_exact syntax inner Inner reads fall a b y e) refl)
-  message_item_exact syntax inner Inner reads fall a b x (items-extensions is proto2 r) =
-      by_choice syntax inner a b x _ is (rw (proto2, extensions_exact end r) refl)
+  message_item_exact syntax inner Inner reads fall a b x (items-empty s) =
+      by_choice syntax inner a b x choice.Empty (rw (one_next s) refl) (rw (token_exact end s) refl)
+  message_item_exact syntax inner Inner reads fall a b x (items-message {message = m} i) =
+      by_choice syntax inner a b x choice.Message (message_word syntax (codes "message") a (message_begins m i))
+      (rw (message_exact inner Inner reads a b m i) refl)
+  message_item_exact syntax inner Inner reads fall a b x (items-enum e) =
+      by_choice syntax inner a b x choice.Enum (message_word syntax (codes "enum") a (enum_begins e))
+      (rw (enum_exact e) refl)
+  message_item_exact syntax inner Inner reads fall a b x (items-option o) =
+      by_choice syntax inner a b x choice.Option (message_word syntax (codes "option") a (option_begins o))
+      (rw (option_exact end o) refl)
+  message_item_exact syntax inner Inner reads fall a b x (items-oneof {oneof = y} o) =
+      by_choice syntax inner a b x choice.Oneof (message_word syntax (codes "oneof") a (oneof_begins y o))
+      (rw (oneof_exact syntax inner Inner reads fall a b y o) refl)
+  message_item_exact syntax inner Inner reads fall a b x (items-map_field f) =
+      by_choice syntax inner a b x choice.Map (map_chosen syntax f) (rw (map_field_exact end f) refl)
+  message_item_exact syntax inner Inner reads fall a b x (items-reserved r) =
+      by_choice syntax inner a b x choice.Reserved (message_word syntax (codes "reserved") a (reserved_begins r))
+      (rw (reserved_exact end r) refl)
+  message_item_exact syntax inner Inner reads fall a b x (items-extend {extend = y} e) =
+      by_choice syntax inner a b x choice.Extend (message_word syntax (codes "extend") a (extend_begins y e))
+      (rw (extend_statement_exact syntax inner Inner reads fall a b y e) refl)
+  message_item_exact syntax inner Inner reads fall a b x (items-extensions proto2 r) =
+      by_choice syntax inner a b x choice.Extensions
+      (message_word syntax (codes "extensions") a (extensions_begins r)) (rw (proto2, extensions_exact end r) refl)
   message_item_exact syntax inner Inner reads fall a b x (items-member {item = y} is m) =
-      by_choice syntax inner a b x _ is (rw (member_exact syntax inner Inner reads a b y m) refl)
+      by_choice syntax inner a b x choice.Member (member_chosen syntax a is)
+      (rw (member_exact syntax inner Inner reads a b y m) refl)
 
   pub inside_exact : (syntax : Syntax) (levels : ℕ) → ReadsInside (inside_at syntax levels) (IsInside syntax levels)
   unfolding inside_at IsInside

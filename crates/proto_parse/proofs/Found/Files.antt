@@ -26,7 +26,7 @@ use Rattle.proto_parse.specs.declared.statement.Version.TheVariants as version
 use Rattle.proto_grammar.specs.Lexeme.{Lexeme}
 use Rattle.proto_grammar.specs.Terminal.{first_is, of_kind, is_word, not_next, is_end}
 use Rattle.proto_grammar.specs.Syntax.{custom_of, custom_in, proto3_in, is_all}
-use Rattle.proto_parse.specs.Choice.{file_statement_of, version_of}
+use Rattle.proto_parse.specs.Reading.Choice.{file_statement_of, version_of}
 use Rattle.proto_parse.specs.Limits.{max_message_depth}
 use Rattle.proto_grammar.specs.Grammar.Repetition.{One, Adds}
 use Rattle.proto_parse.specs.Grammar.Messages.{IsInside}
@@ -223,52 +223,52 @@ no_some None e = refl
 no_some (Some x) e = cc
 
 statement_by_found : (levels : ℕ) (syntax : Syntax) (f : File) (tokens : Place) (x : File × Place)
-    (statement : FileStatement) → file_statement_of tokens.left ≡ statement
+    (statement : FileStatement)
     → statement_by levels statement syntax f tokens ≡ Ok x → IsStatement levels syntax f tokens.left x.0 x.1.left
 unfolding only_package_at
-statement_by_found levels syntax f tokens x choice.Empty is e =
+statement_by_found levels syntax f tokens x choice.Empty e =
     let m = bind_ok (token_that (of_kind Semicolon) tokens) _ x e in
     subst (λ (y : File × Place). IsStatement levels syntax f tokens.left y.0 y.1.left) (same_ok _ x m.2)
-    (statements-empty is (token_found _ _ m.1))
-statement_by_found levels syntax f tokens x choice.Import is e =
+    (statements-empty (token_found _ _ m.1))
+statement_by_found levels syntax f tokens x choice.Import e =
     let m = bind_ok (import_at tokens) _ x e in
     subst (λ (y : File × Place). IsStatement levels syntax f tokens.left y.0 y.1.left) (same_ok _ x m.2)
-    (statements-import is (import_found _ _ m.1))
-statement_by_found levels syntax f tokens x choice.Package is e =
+    (statements-import (import_found _ _ m.1))
+statement_by_found levels syntax f tokens x choice.Package e =
     let k = kept_ok (is_some f.package_name) _ _ x e in
     let m = bind_ok (package_at tokens) _ x k.1 in
     subst (λ (y : File × Place). IsStatement levels syntax f tokens.left y.0 y.1.left) (same_ok _ x m.2)
-    (statements-package_statement is (no_some f.package_name k.0) (package_found _ _ m.1))
-statement_by_found levels syntax f tokens x choice.Option is e =
+    (statements-package_statement (no_some f.package_name k.0) (package_found _ _ m.1))
+statement_by_found levels syntax f tokens x choice.Option e =
     let m = bind_ok (option_at (custom_of syntax) tokens) _ x e in
     subst (λ (y : File × Place). IsStatement levels syntax f tokens.left y.0 y.1.left) (same_ok _ x m.2)
-    (statements-option is (option_found (custom_of syntax) _ _ m.1))
-statement_by_found levels syntax f tokens x choice.Message is e =
+    (statements-option (option_found (custom_of syntax) _ _ m.1))
+statement_by_found levels syntax f tokens x choice.Message e =
     let m = bind_ok (message_at (inside_at syntax levels) tokens) _ x e in
     subst (λ (y : File × Place). IsStatement levels syntax f tokens.left y.0 y.1.left) (same_ok _ x m.2)
-    (statements-message m.0.0 is (message_found (inside_at syntax levels) (IsInside syntax levels)
+    (statements-message m.0.0 (message_found (inside_at syntax levels) (IsInside syntax levels)
     (inside_found syntax levels) _ _ m.1))
-statement_by_found levels syntax f tokens x choice.Enum is e =
+statement_by_found levels syntax f tokens x choice.Enum e =
     let m = bind_ok (enum_at (custom_of syntax) tokens) _ x e in
     subst (λ (y : File × Place). IsStatement levels syntax f tokens.left y.0 y.1.left) (same_ok _ x m.2)
-    (statements-enum is (enum_found (custom_of syntax) _ _ m.1))
-statement_by_found levels syntax f tokens x choice.Service is e =
+    (statements-enum (enum_found (custom_of syntax) _ _ m.1))
+statement_by_found levels syntax f tokens x choice.Service e =
     let m = bind_ok (service_at (custom_of syntax) tokens) _ x e in
     subst (λ (y : File × Place). IsStatement levels syntax f tokens.left y.0 y.1.left) (same_ok _ x m.2)
-    (statements-service is (service_found (custom_of syntax) _ _ m.1))
-statement_by_found levels syntax f tokens x choice.Extend is e =
+    (statements-service (service_found (custom_of syntax) _ _ m.1))
+statement_by_found levels syntax f tokens x choice.Extend e =
     let m = bind_ok (extend_statement_at syntax (inside_at syntax levels) tokens) _ x e in
     subst (λ (y : File × Place). IsStatement levels syntax f tokens.left y.0 y.1.left) (same_ok _ x m.2)
-    (statements-extend is (extend_statement_found syntax (inside_at syntax levels)
+    (statements-extend (extend_statement_found syntax (inside_at syntax levels)
     (IsInside syntax levels) (inside_found syntax levels) _ _ m.1))
-statement_by_found levels syntax f tokens x choice.Other is e =
+statement_by_found levels syntax f tokens x choice.Other e =
     absurd (let no : Err (Grammar (offset_at tokens)) ≡ read_as x = e in cc)
 
 pub statement_found : (levels : ℕ) (syntax : Syntax) (f : File) (tokens : Place) (x : File × Place)
     → statement_at levels syntax f tokens ≡ Ok x → IsStatement levels syntax f tokens.left x.0 x.1.left
 unfolding statement_at
 statement_found levels syntax f tokens x e =
-    statement_by_found levels syntax f tokens x (file_statement_of tokens.left) refl e
+    statement_by_found levels syntax f tokens x (file_statement_of tokens.left) e
 
 pub file_found : (levels : ℕ) (dialect : Dialect) (tokens : Place) (x : File × Place)
     → file_at levels dialect tokens ≡ Ok x → IsFileWithin levels dialect tokens.left x.0

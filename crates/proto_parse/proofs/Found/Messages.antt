@@ -22,11 +22,9 @@ use Rattle.proto_parse.specs.declared.statement.Within.TheVariants as within
 use Rattle.proto_grammar.specs.Lexeme.{Lexeme}
 use Rattle.proto_grammar.specs.Terminal.{first_is, of_kind, is_word, closes, begins_group}
 use Rattle.proto_grammar.specs.Syntax.{custom_of, is_proto2}
-use Rattle.proto_parse.specs.Choice.{message_statement_of}
+use Rattle.proto_parse.specs.Reading.Choice.{message_statement_of}
 use Rattle.proto_grammar.specs.Tree.{BlockTree}
 use Rattle.proto_grammar.specs.Grammar.Repetition.{Passes, Adds}
-use Rattle.proto_grammar.specs.Grammar.Options.{IsOption}
-use Rattle.proto_grammar.specs.Grammar.Options.IsOption.{option as an_option}
 use Rattle.proto_parse.specs.Grammar.Messages.{IsHeading, IsValue, IsEnumItem, IsEnum, IsBraced, IsGroup, IsLabelled}
 use Rattle.proto_parse.specs.Grammar.Messages.{IsMember, IsOneofMember, IsOneofItem, IsOneof, IsExtendItem, IsExtend}
 use Rattle.proto_parse.specs.Grammar.Messages.{IsPassedItem, IsPassedExtend, IsExtendStatement, IsMessage}
@@ -80,6 +78,7 @@ use Rattle.proto_parse.specs.Reading.Services.{method_body_at, method_end_at, me
 use Rattle.proto_parse.specs.Reading.Services.{service_items_at, service_at}
 use Rattle.proto_grammar.proofs.Steps.{same_ok, bind_ok, guard_ok, chosen}
 use Rattle.proto_grammar.proofs.TokenLemmas.{token_found, next_found, one_next}
+use Rattle.proto_parse.proofs.Choices.{option_begins, member_next}
 use Rattle.proto_grammar.proofs.UntilLemmas.{until_at-found, adding-found, passing-found}
 use Rattle.proto_grammar.proofs.Found.Names.{named_type_found, pass_type_name_found}
 use Rattle.proto_grammar.proofs.Found.Options.{left_of, option_found, options_found}
@@ -344,44 +343,44 @@ unfolding ranges_at
 item_by_found syntax inner Inner finds tokens x choice.Empty is e =
     let m = bind_ok (token_that (of_kind Semicolon) tokens) _ x e in
     subst (λ (y : Option Item × Place). IsMessageItem syntax Inner tokens.left y.0 y.1.left) (same_ok _ x m.2)
-    (items-empty is (token_found _ _ m.1))
+    (items-empty (token_found _ _ m.1))
 item_by_found syntax inner Inner finds tokens x choice.Message is e =
     let m = bind_ok (message_at inner tokens) _ x e in
     subst (λ (y : Option Item × Place). IsMessageItem syntax Inner tokens.left y.0 y.1.left) (same_ok _ x m.2)
-    (items-message is (message_found inner Inner finds _ _ m.1))
+    (items-message (message_found inner Inner finds _ _ m.1))
 item_by_found syntax inner Inner finds tokens x choice.Enum is e =
     let m = bind_ok (enum_at (custom_of syntax) tokens) _ x e in
     subst (λ (y : Option Item × Place). IsMessageItem syntax Inner tokens.left y.0 y.1.left) (same_ok _ x m.2)
-    (items-enum is (enum_found (custom_of syntax) _ _ m.1))
+    (items-enum (enum_found (custom_of syntax) _ _ m.1))
 item_by_found syntax inner Inner finds tokens x choice.Option is e =
     let m = bind_ok (option_at (custom_of syntax) tokens) _ x e in
     subst (λ (y : Option Item × Place). IsMessageItem syntax Inner tokens.left y.0 y.1.left) (same_ok _ x m.2)
-    (items-option is (option_found (custom_of syntax) _ _ m.1))
+    (items-option (option_found (custom_of syntax) _ _ m.1))
 item_by_found syntax inner Inner finds tokens x choice.Oneof is e =
     let m = bind_ok (oneof_at syntax inner tokens) _ x e in
     subst (λ (y : Option Item × Place). IsMessageItem syntax Inner tokens.left y.0 y.1.left) (same_ok _ x m.2)
-    (items-oneof is (oneof_found syntax inner Inner finds _ _ m.1))
+    (items-oneof (oneof_found syntax inner Inner finds _ _ m.1))
 item_by_found syntax inner Inner finds tokens x choice.Map is e =
     let m = bind_ok (map_field_at (custom_of syntax) tokens) _ x e in
     subst (λ (y : Option Item × Place). IsMessageItem syntax Inner tokens.left y.0 y.1.left) (same_ok _ x m.2)
-    (items-map_field is (map_field_found (custom_of syntax) _ _ m.1))
+    (items-map_field (map_field_found (custom_of syntax) _ _ m.1))
 item_by_found syntax inner Inner finds tokens x choice.Reserved is e =
     let m = bind_ok (reserved_at false tokens) _ x e in
     subst (λ (y : Option Item × Place). IsMessageItem syntax Inner tokens.left y.0 y.1.left) (same_ok _ x m.2)
-    (items-reserved is (reserved_found false _ _ m.1))
+    (items-reserved (reserved_found false _ _ m.1))
 item_by_found syntax inner Inner finds tokens x choice.Extend is e =
     let m = bind_ok (extend_statement_at syntax inner tokens) _ x e in
     subst (λ (y : Option Item × Place). IsMessageItem syntax Inner tokens.left y.0 y.1.left) (same_ok _ x m.2)
-    (items-extend is (extend_statement_found syntax inner Inner finds _ _ m.1))
+    (items-extend (extend_statement_found syntax inner Inner finds _ _ m.1))
 item_by_found syntax inner Inner finds tokens x choice.Extensions is e =
     let g = guard_ok (is_proto2 syntax) _ _ x e in
     let m = bind_ok (extensions_at (custom_of syntax) tokens) _ x g.1 in
     subst (λ (y : Option Item × Place). IsMessageItem syntax Inner tokens.left y.0 y.1.left) (same_ok _ x m.2)
-    (items-extensions is g.0 (extensions_found (custom_of syntax) _ _ m.1))
+    (items-extensions g.0 (extensions_found (custom_of syntax) _ _ m.1))
 item_by_found syntax inner Inner finds tokens x choice.Member is e =
     let m = bind_ok (member_at syntax inner tokens) _ x e in
     subst (λ (y : Option Item × Place). IsMessageItem syntax Inner tokens.left y.0 y.1.left) (same_ok _ x m.2)
-    (items-member is (member_found syntax inner Inner finds _ _ m.1))
+    (items-member (member_next syntax tokens.left is) (member_found syntax inner Inner finds _ _ m.1))
 
 message_item_found : (syntax : Syntax) (inner : Inside)
     (Inner : List Lexeme → List Item → List Lexeme → Type 0)
@@ -424,10 +423,6 @@ method_type_found tokens x e =
     let name = named_type_found _ _ n.1 in
     subst (λ (y : TypeName × Place). IsMethodType tokens.left y.0 y.1.left) (same_ok _ x c.2)
     (method_type (token_found _ _ o.1) (stream_found _ _ s.1) name.0 name.1 (token_found _ _ c.1))
-
-option_begins : {custom : CustomOptions} {a b : List Lexeme} → IsOption custom a b
-    → first_is (is_word (codes "option")) a ≡ true
-option_begins (an_option k v s) = one_next k
 
 pub method_item_found : (custom : CustomOptions) (tokens : Place) (x : Unit {0} × Place)
     → method_item_at custom tokens ≡ Ok x → IsMethodItem custom tokens.left x.1.left

@@ -3,14 +3,15 @@ use Rattle.std.proofs.Common.{◌≡◌, ℕ, zero, suc, ◌-◌, ◌==◌, Bool
 use Rattle.std.proofs.Common.{List, [], ◌∷◌, ◌++◌, refl, sym, ◌∙◌, ap, subst, codes, arith}
 use Rattle.std.proofs.lemmas.Bool.Decides.{nat_tests}
 use Rattle.std.proofs.Common.{append_assoc}
-use Rattle.std.proofs.lemmas.Bool.{eq-eqb}
 use Rattle.std.proofs.lemmas.Slice.Eq.{bytes_eq-Decides}
+use denote.Enum.Bare.{true_same}
+use Rattle.proto_lex.specs.contracts.token.TokenKind.{the_type}
 use Rattle.proto_lex.specs.declared.span.Span.{Span}
 use Rattle.proto_lex.specs.declared.token.TokenKind.{TokenKind}
 use Rattle.proto_lex.specs.declared.token.TokenKind.TheVariants.{Identifier, Integer, StringLiteral, CloseBrace}
 use Rattle.proto_lex.specs.declared.token.TokenKind.TheVariants.{Dot, Minus}
 use Rattle.proto_grammar.specs.Lexeme.{Lexeme}
-use Rattle.proto_grammar.specs.Terminal.{number_of, first, first_is, of_kind, is_plain_literal}
+use Rattle.proto_grammar.specs.Terminal.{first, first_is, of_kind, is_plain_literal}
 use Rattle.proto_grammar.specs.Reading.Options.{depth_behind}
 use Rattle.proto_parse.proofs.Machine.{Test, test_of, passes, sees, Why, Step, Taken, or_next, take_by, ended}
 use Rattle.proto_parse.proofs.Machine.{Fed, begun, fed_by, feed, is_package, dots, machine, machine_done}
@@ -47,7 +48,7 @@ sample Number = sign_of Integer
 sample GroupName = word_of (codes "G")
 
 sample_passes : (test : Test) → passes test (sample test) ≡ true
-sample_passes (OfKind kind) = eq-eqb (number_of kind) (number_of kind) refl
+sample_passes (OfKind kind) = true_same the_type kind kind refl
 sample_passes (Word word) = (bytes_eq-Decides word word).1 refl
 sample_passes Scalar = refl
 sample_passes Key = refl

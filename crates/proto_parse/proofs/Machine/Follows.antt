@@ -9,7 +9,7 @@ use Rattle.proto_grammar.specs.Terminal.{first_is, of_kind, is_plain_literal, no
 use Rattle.proto_grammar.specs.Terminal.{behind, others}
 use Rattle.proto_grammar.specs.Reading.Repetition.{and_then, Read, token_that, plain_literal_at, until_at}
 use Rattle.proto_grammar.specs.Reading.Options.{depth_behind, closed_by, closed_at}
-use Rattle.proto_grammar.proofs.StandingLemmas.{Behind, behind_here, behind_one}
+use Rattle.proto_grammar.proofs.Places.{Behind, behind_here, behind_one}
 use Rattle.proto_grammar.proofs.UntilLemmas.{Falls, until_at-step}
 use Rattle.proto_parse.proofs.Machine.{Test, test_of, passes, Refusal, Step, Outcome, machine, dots}
 use Rattle.proto_parse.proofs.Machine.{machine_done, machine_then, machine_token, machine_no_token, machine_if_true}

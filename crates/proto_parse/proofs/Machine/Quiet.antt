@@ -7,9 +7,8 @@ use Rattle.proto_grammar.specs.Lexeme.{Lexeme}
 use Rattle.proto_grammar.specs.Terminal.{is_kind, of_kind, is_word, is_plain_literal}
 use Rattle.proto_grammar.specs.Reading.Options.{depth_behind}
 use Rattle.proto_grammar.proofs.Steps.{both_true, either_true}
-use Rattle.proto_grammar.proofs.TokenLemmas.{other_kind, kind_no_word}
+use Rattle.proto_grammar.proofs.TokenLemmas.{same_kind, other_kind, kind_no_word}
 use Rattle.proto_parse.specs.Refused.{is_label}
-use Rattle.proto_parse.proofs.Walk.Past.{same_kind}
 use Rattle.proto_parse.proofs.Machine.{Test, test_of, passes, Refusal, Why, Step, Taken, or_next, take_by, Fed, begun}
 use Rattle.proto_parse.proofs.Machine.{fed_by, feed, is_package}
 use Rattle.proto_parse.proofs.Machine.Refusal.{CustomOptionNext, AggregateNext, ExtendNext, MessageNext, GroupNext}

@@ -1,11 +1,11 @@
 -- What a plain literal does in the place of another string literal; and at which tokens nothing is taken.
 use Rattle.std.proofs.Common.{◌≡◌, ◌==◌, Bool, true, false, cond, ◌&&◌, ◌||◌, List, [], ◌∷◌, refl, sym, ap}
 use Rattle.std.proofs.Common.{subst}
-use Rattle.std.proofs.lemmas.Bool.{eqb-true}
 use Rattle.proto_lex.specs.declared.token.TokenKind.TheVariants.{StringLiteral, CloseBrace}
 use Rattle.proto_grammar.specs.Lexeme.{Lexeme}
-use Rattle.proto_grammar.specs.Terminal.{number_of, of_kind, is_plain_literal}
+use Rattle.proto_grammar.specs.Terminal.{of_kind, is_plain_literal}
 use Rattle.proto_grammar.proofs.Steps.{both_true}
+use Rattle.proto_grammar.proofs.TokenLemmas.{same_kind}
 use Rattle.proto_parse.proofs.Machine.{Test, test_of, passes, Why, Step, Taken, or_next, take_by}
 use Rattle.proto_parse.proofs.Machine.{Fed, begun, fed_by, feed, is_package}
 use Rattle.proto_parse.proofs.Machine.Test.{OfKind, Word, Scalar, Key, Sign, Numeral, Number, GroupName}
@@ -17,8 +17,8 @@ use Rattle.proto_parse.proofs.Machine.Fed.{Went, Halted, SecondPackage}
 
 -- ---- literals
 
-literal_number : (t : Lexeme) → of_kind StringLiteral t ≡ true → number_of t.kind ≡ 3
-literal_number t is = eqb-true (number_of t.kind) 3 is
+literal_kind : (t : Lexeme) → of_kind StringLiteral t ≡ true → t.kind ≡ StringLiteral
+literal_kind t is = same_kind StringLiteral t.kind is
 
 plain_literal : (t : Lexeme) → is_plain_literal t ≡ true → of_kind StringLiteral t ≡ true
 plain_literal t is = (both_true (of_kind StringLiteral t) _ is).0
@@ -26,14 +26,14 @@ plain_literal t is = (both_true (of_kind StringLiteral t) _ is).0
 -- no test of a step tells literals apart
 same_test : (test : Test) (t u : Lexeme) → of_kind StringLiteral t ≡ true → of_kind StringLiteral u ≡ true
     → passes test t ≡ passes test u
-same_test (OfKind kind) t u a b = rw (literal_number t a, literal_number u b) refl
-same_test (Word word) t u a b = rw (literal_number t a, literal_number u b) refl
-same_test Scalar t u a b = rw (literal_number t a, literal_number u b) refl
-same_test Key t u a b = rw (literal_number t a, literal_number u b) refl
-same_test Sign t u a b = rw (literal_number t a, literal_number u b) refl
-same_test Numeral t u a b = rw (literal_number t a, literal_number u b) refl
-same_test Number t u a b = rw (literal_number t a, literal_number u b) refl
-same_test GroupName t u a b = rw (literal_number t a, literal_number u b) refl
+same_test (OfKind kind) t u a b = rw (literal_kind t a, literal_kind u b) refl
+same_test (Word word) t u a b = rw (literal_kind t a, literal_kind u b) refl
+same_test Scalar t u a b = rw (literal_kind t a, literal_kind u b) refl
+same_test Key t u a b = rw (literal_kind t a, literal_kind u b) refl
+same_test Sign t u a b = rw (literal_kind t a, literal_kind u b) refl
+same_test Numeral t u a b = rw (literal_kind t a, literal_kind u b) refl
+same_test Number t u a b = rw (literal_kind t a, literal_kind u b) refl
+same_test GroupName t u a b = rw (literal_kind t a, literal_kind u b) refl
 
 -- what is done with a literal, and with a plain one
 abbrev pub Swaps : Taken → Taken → Type 0
@@ -131,7 +131,7 @@ begun_swaps statement (Stopped Escaped) p seen a = (a.0, seen, ap (λ x. begun s
 begun_swaps statement (Stopped (Refused r)) p seen a = ap (λ x. begun statement x seen) a
 
 no_package : (t : Lexeme) → of_kind StringLiteral t ≡ true → is_package t ≡ false
-no_package t is = rw (literal_number t is) refl
+no_package t is = rw (literal_kind t is) refl
 
 nothing_seen : (b : Bool) → (b && false) ≡ false
 nothing_seen true = refl

@@ -5,7 +5,7 @@ use Rattle.proto_grammar.specs.declared.fault.SyntaxFault.{SyntaxFault}
 use Rattle.proto_grammar.specs.declared.fault.SyntaxFault.TheVariants as variant
 use Rattle.proto_grammar.specs.Lexeme.{Lexeme, Place, place_of}
 use Rattle.proto_grammar.specs.Terminal.{offset_at}
-use Rattle.proto_grammar.proofs.StandingLemmas.{Behind}
+use Rattle.proto_grammar.proofs.Places.{Behind}
 use Rattle.proto_parse.specs.Refused.{is_label}
 use Rattle.proto_parse.proofs.Machine.{Why, Outcome}
 use Rattle.proto_parse.proofs.Machine.Refusal.{CustomOptionNext, AggregateNext, ExtendNext, MessageNext, GroupNext}

@@ -13,7 +13,7 @@ use Rattle.proto_parse.specs.declared.statement.FileStatement.TheVariants as cho
 use Rattle.proto_grammar.specs.Lexeme.{Lexeme, Place, place_of}
 use Rattle.proto_grammar.specs.Syntax.{custom_of}
 use Rattle.proto_grammar.specs.Terminal.{first_is, of_kind, is_word, is_end, offset_at}
-use Rattle.proto_parse.specs.Choice.{file_statement_of}
+use Rattle.proto_parse.specs.Reading.Choice.{file_statement_of}
 use Rattle.proto_grammar.specs.Reading.Repetition.{and_then, token_that, adding, until_at}
 use Rattle.proto_parse.specs.Reading.Files.{import_kind_at, path_literal_at, path_literals_at, import_at, package_at}
 use Rattle.proto_parse.specs.Reading.Files.{only_package_at, statement_by, statement_at}
@@ -23,7 +23,7 @@ use Rattle.proto_grammar.specs.Reading.Options.{option_at}
 use Rattle.proto_grammar.specs.declared.tree.CustomOptions.TheVariants.{Refuse, Skip}
 use Rattle.proto_grammar.specs.declared.tree.Syntax.TheVariants.{Proto3, Extended, Proto2}
 use Rattle.proto_grammar.proofs.Steps.{read_as, bind_ok, same_ok, kept_ok, both_true}
-use Rattle.proto_grammar.proofs.StandingLemmas.{Behind}
+use Rattle.proto_grammar.proofs.Places.{Behind}
 use Rattle.proto_grammar.proofs.UntilLemmas.{until_at-step}
 use Rattle.proto_grammar.proofs.TokenLemmas.{other_word, word_kind, other_kind, next_no_word, next_other_word}
 use Rattle.proto_parse.proofs.StepsFall.{path_literals_fall, items_fall, statements_fall}

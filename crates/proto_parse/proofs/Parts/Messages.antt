@@ -31,7 +31,7 @@ use Rattle.proto_parse.specs.Reading.Messages.{oneof_item_at, extend_item_at, on
 use Rattle.proto_parse.specs.Reading.Messages.{passed_items_at, passed_extend_at, extend_statement_at, message_at}
 use Rattle.proto_parse.specs.Reading.Messages.{ranges_at, message_item_by, message_item_at, item_at, inside_at}
 use Rattle.proto_grammar.proofs.Steps.{both_true}
-use Rattle.proto_grammar.proofs.StandingLemmas.{Behind, behind_here, behind_one}
+use Rattle.proto_grammar.proofs.Places.{Behind, behind_here, behind_one}
 use Rattle.proto_grammar.proofs.UntilLemmas.{Falls}
 use Rattle.proto_parse.proofs.StepsFall.{passed_items_fall, items_fall}
 use Rattle.proto_parse.proofs.Machine.{Step, passes, test_of, machine, machine_then, machine_if_true, machine_if_false}

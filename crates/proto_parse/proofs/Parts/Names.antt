@@ -11,7 +11,7 @@ use Rattle.proto_grammar.specs.Reading.Names.{dot_name_at, dot_names_at, name_at
 use Rattle.proto_grammar.specs.Reading.Names.{pass_name_at, leading_dot_at, type_name_at, pass_type_name_at}
 use Rattle.proto_grammar.specs.Reading.Names.{named_type_at, type_at}
 use Rattle.proto_grammar.proofs.Steps.{both_true}
-use Rattle.proto_grammar.proofs.StandingLemmas.{behind_here, behind_one}
+use Rattle.proto_grammar.proofs.Places.{behind_here, behind_one}
 use Rattle.proto_grammar.proofs.StepsFall.{dot_names_fall, pass_dot_names_fall}
 use Rattle.proto_grammar.proofs.TokenLemmas.{other_kind}
 use Rattle.proto_parse.proofs.Machine.{Step, machine, dots, machine_then, machine_token, machine_if_false}

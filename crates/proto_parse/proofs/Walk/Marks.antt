@@ -1,11 +1,9 @@
 -- The spans of a tree are at tokens, in the order of a walk.
-use Rattle.std.proofs.Common.{◌≡◌, ℕ, zero, suc, ◌≤◌, Bool, Option, Some, None, option_map, option_to_list, List, []}
+use Rattle.std.proofs.Common.{◌≡◌, ℕ, zero, suc, Bool, Option, Some, None, option_map, option_to_list, List, []}
 use Rattle.std.proofs.Common.{◌∷◌}
-use Rattle.std.proofs.Common.{◌++◌, map, refl, sym, ◌∙◌, ap, append_assoc, append-nil, codes, arith}
+use Rattle.std.proofs.Common.{◌++◌, refl, sym, ◌∙◌, ap, subst, append_assoc, append-nil, codes}
 use Rattle.proto_lex.specs.declared.span.Span.{Span}
-use Rattle.proto_lex.specs.declared.token.Token.{Token}
 use Rattle.proto_lex.specs.declared.token.TokenKind.TheVariants.{Identifier}
-use Rattle.proto_lex.specs.Lexed.{AreInOrder}
 use Rattle.proto_grammar.specs.declared.tree.CustomOptions.{CustomOptions}
 use Rattle.proto_grammar.specs.declared.tree.Dialect.{Dialect}
 use Rattle.proto_grammar.specs.declared.tree.Syntax.{Syntax}
@@ -23,18 +21,17 @@ use Rattle.proto_grammar.specs.declared.tree.Item.TheVariants as tree
 use Rattle.proto_grammar.specs.declared.tree.FileItem.TheVariants as item
 use Rattle.proto_grammar.specs.declared.tree.Import.{Import}
 use Rattle.proto_grammar.specs.declared.tree.File.{File}
-use Rattle.proto_grammar.specs.Lexeme.{Lexeme, lexemes_of}
+use Rattle.proto_grammar.specs.Lexeme.{Lexeme}
 use Rattle.proto_parse.specs.Limits.{max_message_depth}
 use Rattle.proto_grammar.specs.Syntax.{custom_of}
 use Rattle.proto_grammar.specs.Tree.{BlockTree}
 use Rattle.proto_grammar.specs.Items.{body_of}
-use Rattle.proto_parse.specs.Walk.{Mark, Among, MarksAreInOrder, each_then, name_then, names_then, literal_then}
-use Rattle.proto_parse.specs.Walk.{type_name_then, type_then, heading_then, field_then, map_field_then, enum_then}
-use Rattle.proto_parse.specs.Walk.{leaf_then, body_then, block_then, method_then, service_then, item_then}
-use Rattle.proto_parse.specs.Walk.{import_then, marks_of_items, marks_of_imports, marks_of_package}
-use Rattle.proto_parse.specs.Walk.Mark.{Name, Other}
-use Rattle.proto_parse.specs.Walk.Among.{none as no_marks, skip, first as at_first, name as at_name}
-use Rattle.proto_parse.specs.Walk.Among.{literal as at_literal, other as at_other}
+use Rattle.proto_parse.specs.Walk.{Mark, Among, marks_of_items, marks_of_imports, marks_of_package}
+use Rattle.proto_parse.specs.Walk.Among.{none as no_marks}
+use Rattle.proto_parse.proofs.Walk.Then.{Name, Other, at_first, at_name, each_then, name_then, names_then, literal_then}
+use Rattle.proto_parse.proofs.Walk.Then.{type_name_then, type_then, heading_then, field_then, map_field_then}
+use Rattle.proto_parse.proofs.Walk.Then.{enum_then, leaf_then, body_then, block_then, method_then, service_then}
+use Rattle.proto_parse.proofs.Walk.Then.{item_then, import_then, items_are, imports_are, package_is}
 use Rattle.proto_grammar.specs.Grammar.Repetition.{Until, Adds}
 use Rattle.proto_grammar.specs.Grammar.Repetition.One.{one}
 use Rattle.proto_grammar.specs.Grammar.Repetition.Until.{done, more}
@@ -93,7 +90,8 @@ use Rattle.proto_parse.specs.Grammar.Files.IsStatement.{option as statements-opt
 use Rattle.proto_parse.specs.Grammar.Files.IsStatement.{enum as statements-enum, service as statements-service}
 use Rattle.proto_parse.specs.Grammar.Files.IsStatement.{extend as statements-extend}
 use Rattle.proto_parse.specs.Grammar.Files.IsFileWithin.{file}
-use Rattle.proto_parse.proofs.Walk.Past.{same_kind, past, at_a_name, at_a_word, at_a_group_name, at_a_scalar, at_a_key}
+use Rattle.proto_grammar.proofs.TokenLemmas.{same_kind}
+use Rattle.proto_parse.proofs.Walk.Past.{past, at_a_name, at_a_word, at_a_group_name, at_a_scalar, at_a_key}
 use Rattle.proto_parse.proofs.Walk.Past.{at_a_literal, at_another, at_its_first, over}
 use Rattle.proto_parse.proofs.Tails.IsTail.{here}
 use Rattle.proto_parse.proofs.Tails.{until_past, option_past, options_past, label_past, integer_past, reserved_past}
@@ -330,18 +328,18 @@ block_item_marks (Some b) marks = refl
 
 message_item_marks : (syntax : Syntax) (Inner : List Lexeme → List Item → List Lexeme → Type 0)
     → MarkedBy items_then Inner → MarkedBy option_then (IsMessageItem syntax Inner)
-message_item_marks syntax Inner marked a b x (items-empty is s) marks behind = past s behind
-message_item_marks syntax Inner marked a b x (items-message {message = y} is i) marks behind =
+message_item_marks syntax Inner marked a b x (items-empty s) marks behind = past s behind
+message_item_marks syntax Inner marked a b x (items-message {message = y} i) marks behind =
     message_marks Inner marked a b y i marks behind
-message_item_marks syntax Inner marked a b x (items-enum is e) marks behind = enum_marks e behind
-message_item_marks syntax Inner marked a b x (items-option is o) marks behind = over (option_past o here) behind
-message_item_marks syntax Inner marked a b x (items-oneof {oneof = y} is o) marks behind =
+message_item_marks syntax Inner marked a b x (items-enum e) marks behind = enum_marks e behind
+message_item_marks syntax Inner marked a b x (items-option o) marks behind = over (option_past o here) behind
+message_item_marks syntax Inner marked a b x (items-oneof {oneof = y} o) marks behind =
     oneof_marks syntax Inner marked a b y o marks behind
-message_item_marks syntax Inner marked a b x (items-map_field is f) marks behind = map_field_marks f behind
-message_item_marks syntax Inner marked a b x (items-reserved is r) marks behind = over (reserved_past r here) behind
-message_item_marks syntax Inner marked a b x (items-extend {extend = y} is e) marks behind =
+message_item_marks syntax Inner marked a b x (items-map_field f) marks behind = map_field_marks f behind
+message_item_marks syntax Inner marked a b x (items-reserved r) marks behind = over (reserved_past r here) behind
+message_item_marks syntax Inner marked a b x (items-extend {extend = y} e) marks behind =
     rw (block_item_marks y marks) (extend_statement_marks syntax Inner marked a b y e marks behind)
-message_item_marks syntax Inner marked a b x (items-extensions is allowed r) marks behind =
+message_item_marks syntax Inner marked a b x (items-extensions allowed r) marks behind =
     over (extensions_past r here) behind
 message_item_marks syntax Inner marked a b x (items-member {item = y} is m) marks behind =
     member_marks syntax Inner marked a b y m marks behind
@@ -405,23 +403,23 @@ file_extend_marks (Some b) marks = refl
 pub statement_items : (syntax : Syntax) (f g : File) (a b : List Lexeme) → IsStatement max_message_depth syntax f a g b
     → (marks : List Mark) → Among marks b
     → Puts (λ (x : File). x.items) item_then f a g b marks
-statement_items syntax f g a b (statements-empty is s) marks behind = ([], sym (append-nil f.items), past s behind)
-statement_items syntax f g a b (statements-import is i) marks behind =
+statement_items syntax f g a b (statements-empty s) marks behind = ([], sym (append-nil f.items), past s behind)
+statement_items syntax f g a b (statements-import i) marks behind =
     ([], sym (append-nil f.items), over (import_past i here) behind)
-statement_items syntax f g a b (statements-package_statement is none_yet p) marks behind =
+statement_items syntax f g a b (statements-package_statement none_yet p) marks behind =
     ([], sym (append-nil f.items), over (package_past p here) behind)
-statement_items syntax f g a b (statements-option is o) marks behind =
+statement_items syntax f g a b (statements-option o) marks behind =
     ([], sym (append-nil f.items), over (option_past o here) behind)
-statement_items syntax f g a b (statements-message m is i) marks behind = (
+statement_items syntax f g a b (statements-message m i) marks behind = (
   item.Block m ∷ [],
   refl,
   message_marks (IsInside syntax max_message_depth) (inside_marks syntax max_message_depth) a b m i marks behind,
 )
-statement_items syntax f g a b (statements-enum {enum = e} is i) marks behind =
+statement_items syntax f g a b (statements-enum {enum = e} i) marks behind =
     (item.Enum e ∷ [], refl, enum_marks i behind)
-statement_items syntax f g a b (statements-service {service = s} is i) marks behind =
+statement_items syntax f g a b (statements-service {service = s} i) marks behind =
     (item.Service s ∷ [], refl, service_marks i behind)
-statement_items syntax f g a b (statements-extend {extend = x} is e) marks behind = (
+statement_items syntax f g a b (statements-extend {extend = x} e) marks behind = (
   option_to_list (option_map item.Block x),
   refl,
   rw (file_extend_marks x marks) (extend_statement_marks syntax (IsInside syntax max_message_depth)
@@ -431,20 +429,20 @@ statement_items syntax f g a b (statements-extend {extend = x} is e) marks behin
 statement_imports : (syntax : Syntax) (f g : File) (a b : List Lexeme) → IsStatement max_message_depth syntax f a g b
     → (marks : List Mark) → Among marks b
     → Puts (λ (x : File). x.imports) import_then f a g b marks
-statement_imports syntax f g a b (statements-empty is s) marks behind = ([], sym (append-nil f.imports), past s behind)
-statement_imports syntax f g a b (statements-import {import = x} is i) marks behind =
+statement_imports syntax f g a b (statements-empty s) marks behind = ([], sym (append-nil f.imports), past s behind)
+statement_imports syntax f g a b (statements-import {import = x} i) marks behind =
     (x ∷ [], refl, import_marks i behind)
-statement_imports syntax f g a b (statements-package_statement is none_yet p) marks behind =
+statement_imports syntax f g a b (statements-package_statement none_yet p) marks behind =
     ([], sym (append-nil f.imports), over (package_past p here) behind)
-statement_imports syntax f g a b (statements-option is o) marks behind =
+statement_imports syntax f g a b (statements-option o) marks behind =
     ([], sym (append-nil f.imports), over (option_past o here) behind)
-statement_imports syntax f g a b (statements-message m is i) marks behind =
+statement_imports syntax f g a b (statements-message m i) marks behind =
     ([], sym (append-nil f.imports), over (file_message_past syntax a b m i b here) behind)
-statement_imports syntax f g a b (statements-enum is i) marks behind =
+statement_imports syntax f g a b (statements-enum i) marks behind =
     ([], sym (append-nil f.imports), over (enum_past i here) behind)
-statement_imports syntax f g a b (statements-service is i) marks behind =
+statement_imports syntax f g a b (statements-service i) marks behind =
     ([], sym (append-nil f.imports), over (service_past i here) behind)
-statement_imports syntax f g a b (statements-extend {extend = x} is e) marks behind =
+statement_imports syntax f g a b (statements-extend {extend = x} e) marks behind =
     ([], sym (append-nil f.imports), over (file_extend_past syntax a b x e b here) behind)
 
 abbrev packages_of : File → List (List Span)
@@ -453,71 +451,45 @@ packages_of f = option_to_list f.package_name
 statement_package : (syntax : Syntax) (f g : File) (a b : List Lexeme) → IsStatement max_message_depth syntax f a g b
     → (marks : List Mark) → Among marks b
     → Puts packages_of names_then f a g b marks
-statement_package syntax f g a b (statements-empty is s) marks behind =
+statement_package syntax f g a b (statements-empty s) marks behind =
     ([], sym (append-nil (packages_of f)), past s behind)
-statement_package syntax f g a b (statements-import is i) marks behind =
+statement_package syntax f g a b (statements-import i) marks behind =
     ([], sym (append-nil (packages_of f)), over (import_past i here) behind)
-statement_package syntax f g a b (statements-package_statement {components = x} is none_yet p) marks behind =
+statement_package syntax f g a b (statements-package_statement {components = x} none_yet p) marks behind =
     (x ∷ [], rw none_yet refl, package_marks p behind)
-statement_package syntax f g a b (statements-option is o) marks behind =
+statement_package syntax f g a b (statements-option o) marks behind =
     ([], sym (append-nil (packages_of f)), over (option_past o here) behind)
-statement_package syntax f g a b (statements-message m is i) marks behind =
+statement_package syntax f g a b (statements-message m i) marks behind =
     ([], sym (append-nil (packages_of f)), over (file_message_past syntax a b m i b here) behind)
-statement_package syntax f g a b (statements-enum is i) marks behind =
+statement_package syntax f g a b (statements-enum i) marks behind =
     ([], sym (append-nil (packages_of f)), over (enum_past i here) behind)
-statement_package syntax f g a b (statements-service is i) marks behind =
+statement_package syntax f g a b (statements-service i) marks behind =
     ([], sym (append-nil (packages_of f)), over (service_past i here) behind)
-statement_package syntax f g a b (statements-extend {extend = x} is e) marks behind =
+statement_package syntax f g a b (statements-extend {extend = x} e) marks behind =
     ([], sym (append-nil (packages_of f)), over (file_extend_past syntax a b x e b here) behind)
+
+-- what is at tokens, in another form
+same_among : (marks same : List Mark) (a : List Lexeme) → marks ≡ same → Among marks a → Among same a
+same_among marks same a e among = subst (λ (ms : List Mark). Among ms a) e among
 
 pub items_among : {dialect : Dialect} {a : List Lexeme} (f : File) → IsFile dialect a f
     → Among (marks_of_items f) a
-items_among f (file {b = b} {c = c} {syntax = syntax} s u) =
+items_among {a = a} f (file {b = b} {c = c} {syntax = syntax} s u) =
     let p = until_puts (λ (x : File). x.items) item_then (statement_items syntax) empty_file f b c u [] no_marks in
-    over (syntax_past s here) (rw p.1 p.2)
+    let among : Among (each_then item_then f.items []) a = over (syntax_past s here) (rw p.1 p.2) in
+    same_among (each_then item_then f.items []) (marks_of_items f) a (items_are f.items) among
 
 pub imports_among : {dialect : Dialect} {a : List Lexeme} (f : File) → IsFile dialect a f
     → Among (marks_of_imports f) a
-imports_among f (file {b = b} {c = c} {syntax = syntax} s u) =
+imports_among {a = a} f (file {b = b} {c = c} {syntax = syntax} s u) =
     let p = until_puts (λ (x : File). x.imports) import_then (statement_imports syntax) empty_file f b c u [] no_marks
     in
-    over (syntax_past s here) (rw p.1 p.2)
+    let among : Among (each_then import_then f.imports []) a = over (syntax_past s here) (rw p.1 p.2) in
+    same_among (each_then import_then f.imports []) (marks_of_imports f) a (imports_are f) among
 
 pub package_among : {dialect : Dialect} {a : List Lexeme} (f : File) → IsFile dialect a f
     → Among (marks_of_package f) a
-package_among f (file {b = b} {c = c} {syntax = syntax} s u) =
+package_among {a = a} f (file {b = b} {c = c} {syntax = syntax} s u) =
     let p = until_puts packages_of names_then (statement_package syntax) empty_file f b c u [] no_marks in
-    over (syntax_past s here) (rw p.1 p.2)
-
--- from an earlier place on too
-from_earlier : (earlier place : ℕ) (spans : List Span) → earlier ≤ place → AreInOrder place spans
-    → AreInOrder earlier spans
-from_earlier earlier place [] h ordered = tt
-from_earlier earlier place (span ∷ spans) h ordered = (omega (arith, ordered.0), ordered.1, ordered.2)
-
--- marks are in order where the tokens are
-pub Among-MarksAreInOrder : {marks : List Mark} {tokens : List Lexeme} → Among marks tokens → (place : ℕ)
-    → AreInOrder place (map (λ t. t.span) tokens) → MarksAreInOrder place marks
-Among-MarksAreInOrder no_marks place ordered = tt
-Among-MarksAreInOrder (skip {t = t} {rest} behind) place ordered =
-    Among-MarksAreInOrder behind place
-    (from_earlier place t.span.end (map (λ u. u.span) rest) (omega (arith, ordered.0, ordered.1)) ordered.2)
-Among-MarksAreInOrder (at_first {t = t} behind) place ordered =
-    (ordered.0, ordered.1, Among-MarksAreInOrder behind t.span.start (omega arith, ordered.1, ordered.2))
-Among-MarksAreInOrder (at_name {t = t} k behind) place ordered =
-    (ordered.0, ordered.1, Among-MarksAreInOrder behind t.span.end ordered.2)
-Among-MarksAreInOrder (at_literal {t = t} k behind) place ordered =
-    (ordered.0, ordered.1, Among-MarksAreInOrder behind t.span.end ordered.2)
-Among-MarksAreInOrder (at_other {t = t} behind) place ordered =
-    (ordered.0, ordered.1, Among-MarksAreInOrder behind t.span.end ordered.2)
-
-pub spans-lexemes_of : (text : List ℕ) (tokens : List Token)
-    → map (λ t. t.span) (lexemes_of text tokens) ≡ map (λ t. t.span) tokens
-spans-lexemes_of text [] = refl
-spans-lexemes_of text (t ∷ tokens) = ap (λ spans. t.span ∷ spans) (spans-lexemes_of text tokens)
-
--- of a text's tokens
-pub marks-in_order : (text : List ℕ) (tokens : List Token) (marks : List Mark) → Among marks (lexemes_of text tokens)
-    → AreInOrder 0 (map (λ t. t.span) tokens) → MarksAreInOrder 0 marks
-marks-in_order text tokens marks among ordered =
-    Among-MarksAreInOrder among 0 (rw (spans-lexemes_of text tokens) ordered)
+    let among : Among (each_then names_then (packages_of f) []) a = over (syntax_past s here) (rw p.1 p.2) in
+    same_among (each_then names_then (packages_of f) []) (marks_of_package f) a (package_is f) among

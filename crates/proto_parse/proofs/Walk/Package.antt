@@ -1,5 +1,5 @@
 -- Where the package statement stands among the items of a file.
-use Rattle.std.proofs.Common.{◌≡◌, Option, Some, None, List, [], ◌++◌, refl, sym, ◌∙◌, ap, append_assoc}
+use Rattle.std.proofs.Common.{◌≡◌, Option, Some, None, List, [], ◌++◌, refl, sym, ◌∙◌, ap, subst, append_assoc}
 use Rattle.proto_lex.specs.declared.span.Span.{Span}
 use Rattle.proto_grammar.specs.declared.tree.Dialect.{Dialect}
 use Rattle.proto_grammar.specs.declared.tree.Syntax.{Syntax}
@@ -14,7 +14,8 @@ use Rattle.proto_parse.specs.Grammar.Files.{empty_file, IsStatement, IsFile}
 use Rattle.proto_parse.specs.Grammar.Files.IsStatement.{empty, import, package_statement, option, message, enum}
 use Rattle.proto_parse.specs.Grammar.Files.IsStatement.{service, extend}
 use Rattle.proto_parse.specs.Grammar.Files.IsFileWithin.{file}
-use Rattle.proto_parse.specs.Walk.{Mark, Among, each_then, item_then, names_then, IsAmongItems, PackageIsAmongItems}
+use Rattle.proto_parse.specs.Walk.{Mark, Among, PackageIsAmongItems}
+use Rattle.proto_parse.proofs.Walk.Then.{each_then, item_then, names_then, between_are}
 use Rattle.proto_parse.specs.Walk.Among.{none as no_marks}
 use Rattle.proto_parse.proofs.Walk.Marks.{Puts, each_then-append, until_puts, statement_items, package_marks}
 use Rattle.proto_parse.proofs.Walk.Past.{over}
@@ -25,15 +26,15 @@ use Rattle.proto_parse.specs.Limits.{max_message_depth}
 -- a package's name stays
 statement_keeps : (syntax : Syntax) (f g : File) (a b : List Lexeme) (components : List Span)
     → IsStatement max_message_depth syntax f a g b → f.package_name ≡ Some components → g.package_name ≡ Some components
-statement_keeps syntax f g a b components (empty is s) set = set
-statement_keeps syntax f g a b components (import is i) set = set
-statement_keeps syntax f g a b components (package_statement is none_yet p) set =
+statement_keeps syntax f g a b components (empty s) set = set
+statement_keeps syntax f g a b components (import i) set = set
+statement_keeps syntax f g a b components (package_statement none_yet p) set =
     absurd (let both : None ≡ Some components = sym none_yet ∙ set in cc)
-statement_keeps syntax f g a b components (option is o) set = set
-statement_keeps syntax f g a b components (message m is i) set = set
-statement_keeps syntax f g a b components (enum is i) set = set
-statement_keeps syntax f g a b components (service is i) set = set
-statement_keeps syntax f g a b components (extend is e) set = set
+statement_keeps syntax f g a b components (option o) set = set
+statement_keeps syntax f g a b components (message m i) set = set
+statement_keeps syntax f g a b components (enum i) set = set
+statement_keeps syntax f g a b components (service i) set = set
+statement_keeps syntax f g a b components (extend e) set = set
 
 statements_keep : (syntax : Syntax) (f g : File) (a b : List Lexeme) (components : List Span)
     → Until is_end (IsStatement max_message_depth syntax) f a g b → f.package_name ≡ Some components
@@ -42,9 +43,16 @@ statements_keep syntax f g a b components (done e) set = set
 statements_keep syntax f g a b components (more {t = t} {b = c} further first behind) set =
     statements_keep syntax t g c b components behind (statement_keeps syntax f t a c components first set)
 
+-- the components are between the items before and those behind
+abbrev AreBetween : (components : List Span) → List FileItem → List Lexeme → Type 0
+AreBetween components items tokens =
+    (before : List FileItem)
+    × ((behind : List FileItem) × ((items ≡ before ++ behind)
+    × Among (each_then item_then before (names_then components (each_then item_then behind []))) tokens))
+
 -- what a chain of statements with a package statement puts behind the items of a file
 abbrev Places : List Span → File → File → List Lexeme → Type 0
-Places components f g a = (items : List FileItem) × (g.items ≡ f.items ++ items) × IsAmongItems components items a
+Places components f g a = (items : List FileItem) × (g.items ≡ f.items ++ items) × AreBetween components items a
 
 -- a statement before the package statement
 one_before : (components : List Span) (f t g : File) (a b : List Lexeme)
@@ -73,40 +81,45 @@ places : (syntax : Syntax) (f g : File) (a c : List Lexeme) (components : List S
 places syntax f g a c components (done e) none_yet set =
     absurd (let both : None ≡ Some components = sym none_yet ∙ set in cc)
 places syntax f g a c components
-    (more {b = b} further (package_statement {components = x} is none p) rest) none_yet set =
+    (more {b = b} further (package_statement {components = x} none p) rest) none_yet set =
     let later = until_puts (λ (y : File). y.items) item_then (statement_items syntax)
     (record f { package_name = Some x }) g b c rest [] no_marks in
     let same : x ≡ components =
     same_Some x components (sym (statements_keep syntax (record f { package_name = Some x }) g b c x rest refl)
     ∙ set) in
     (later.0, later.1, ([], (later.0, (refl, rw (← same) (package_marks p later.2)))))
-places syntax f g a c components (more {t = t} {b = b} further (empty is s) rest) none_yet set =
-    one_before components f t g a b (statement_items syntax f t a b (empty is s))
+places syntax f g a c components (more {t = t} {b = b} further (empty s) rest) none_yet set =
+    one_before components f t g a b (statement_items syntax f t a b (empty s))
     (places syntax t g b c components rest none_yet set)
-places syntax f g a c components (more {t = t} {b = b} further (import is i) rest) none_yet set =
-    one_before components f t g a b (statement_items syntax f t a b (import is i))
+places syntax f g a c components (more {t = t} {b = b} further (import i) rest) none_yet set =
+    one_before components f t g a b (statement_items syntax f t a b (import i))
     (places syntax t g b c components rest none_yet set)
-places syntax f g a c components (more {t = t} {b = b} further (option is o) rest) none_yet set =
-    one_before components f t g a b (statement_items syntax f t a b (option is o))
+places syntax f g a c components (more {t = t} {b = b} further (option o) rest) none_yet set =
+    one_before components f t g a b (statement_items syntax f t a b (option o))
     (places syntax t g b c components rest none_yet set)
-places syntax f g a c components (more {t = t} {b = b} further (message m is i) rest) none_yet set =
-    one_before components f t g a b (statement_items syntax f t a b (message m is i))
+places syntax f g a c components (more {t = t} {b = b} further (message m i) rest) none_yet set =
+    one_before components f t g a b (statement_items syntax f t a b (message m i))
     (places syntax t g b c components rest none_yet set)
-places syntax f g a c components (more {t = t} {b = b} further (enum is i) rest) none_yet set =
-    one_before components f t g a b (statement_items syntax f t a b (enum is i))
+places syntax f g a c components (more {t = t} {b = b} further (enum i) rest) none_yet set =
+    one_before components f t g a b (statement_items syntax f t a b (enum i))
     (places syntax t g b c components rest none_yet set)
-places syntax f g a c components (more {t = t} {b = b} further (service is i) rest) none_yet set =
-    one_before components f t g a b (statement_items syntax f t a b (service is i))
+places syntax f g a c components (more {t = t} {b = b} further (service i) rest) none_yet set =
+    one_before components f t g a b (statement_items syntax f t a b (service i))
     (places syntax t g b c components rest none_yet set)
-places syntax f g a c components (more {t = t} {b = b} further (extend is e) rest) none_yet set =
-    one_before components f t g a b (statement_items syntax f t a b (extend is e))
+places syntax f g a c components (more {t = t} {b = b} further (extend e) rest) none_yet set =
+    one_before components f t g a b (statement_items syntax f t a b (extend e))
     (places syntax t g b c components rest none_yet set)
 
 among_items : {a b : List Lexeme} (components : List Span) (items all : List FileItem) → all ≡ items
-    → ((marks : List Mark) → Among marks b → Among marks a) → IsAmongItems components items b
-    → IsAmongItems components all a
-among_items components items all same earlier (before, (behind, (split, among))) =
-    (before, (behind, (same ∙ split, earlier _ among)))
+    → ((marks : List Mark) → Among marks b → Among marks a) → AreBetween components items b
+    → PackageIsAmongItems (Some components) all a
+among_items {a} components items all same earlier (before, (behind, (split, among))) = (
+  before,
+  (
+    behind,
+    (same ∙ split, subst (λ (ms : List Mark). Among ms a) (between_are before behind components) (earlier _ among)),
+  ),
+)
 
 by_name : (syntax : Syntax) (g : File) (a b c : List Lexeme) (name : Option (List Span)) → g.package_name ≡ name
     → ((marks : List Mark) → Among marks b → Among marks a)

@@ -1,63 +1,19 @@
 -- Marks at single tokens, and what is between the marks of a tree.
-use Rattle.std.proofs.Common.{◌≡◌, ℕ, Bool, true, List, [], ◌∷◌, refl, sym, ◌∙◌, ap}
-use Rattle.std.proofs.Common.{get_or}
-use Rattle.std.proofs.lemmas.Bool.{eqb-true}
+use Rattle.std.proofs.Common.{ℕ, Bool, List, ◌∷◌}
 use Rattle.proto_lex.specs.declared.span.Span.{Span}
-use Rattle.proto_lex.specs.declared.token.TokenKind.{TokenKind}
-use Rattle.proto_lex.specs.declared.token.TokenKind.TheVariants.{Identifier, Integer, Float, StringLiteral, Semicolon}
-use Rattle.proto_lex.specs.declared.token.TokenKind.TheVariants.{Equals, OpenBrace, CloseBrace, OpenBracket}
-use Rattle.proto_lex.specs.declared.token.TokenKind.TheVariants.{CloseBracket, OpenParenthesis, CloseParenthesis, Less}
-use Rattle.proto_lex.specs.declared.token.TokenKind.TheVariants.{Greater, Comma, Dot, Colon, Plus, Minus, Slash}
+use Rattle.proto_lex.specs.declared.token.TokenKind.TheVariants.{Identifier, StringLiteral}
 use Rattle.proto_grammar.specs.Lexeme.{Lexeme}
-use Rattle.proto_grammar.specs.Terminal.{number_of, is_kind, of_kind, is_word, is_group_name, is_key, is_scalar}
+use Rattle.proto_grammar.specs.Terminal.{is_kind, of_kind, is_word, is_group_name, is_key, is_scalar}
 use Rattle.proto_grammar.specs.Terminal.{is_plain_literal}
 use Rattle.proto_parse.specs.Walk.{Mark, Among}
-use Rattle.proto_parse.specs.Walk.Mark.{First, Name, Literal, Other}
-use Rattle.proto_parse.specs.Walk.Among.{skip, first as at_first, name as at_name, literal as at_literal}
-use Rattle.proto_parse.specs.Walk.Among.{other as at_other}
+use Rattle.proto_parse.specs.Walk.Among.{skip}
+use Rattle.proto_parse.proofs.Walk.Then.{First, Name, Literal, Other, at_first, at_name, at_literal, at_other}
 use Rattle.proto_grammar.specs.Grammar.Repetition.{One}
 use Rattle.proto_grammar.specs.Grammar.Repetition.One.{one}
 use Rattle.proto_grammar.proofs.Steps.{both_true}
+use Rattle.proto_grammar.proofs.TokenLemmas.{same_kind}
 use Rattle.proto_parse.proofs.Tails.{IsTail}
 use Rattle.proto_parse.proofs.Tails.IsTail.{here, onward}
-
--- kinds by their numbers
-abbrev pub kinds : List TokenKind
-kinds =
-    Identifier ∷ (Integer ∷ (Float
-    ∷ (StringLiteral ∷ (Semicolon ∷ (Equals ∷ (OpenBrace ∷ (CloseBrace ∷ (OpenBracket ∷ (CloseBracket
-    ∷ (OpenParenthesis ∷ (CloseParenthesis
-    ∷ (Less ∷ (Greater ∷ (Comma ∷ (Dot ∷ (Colon ∷ (Plus ∷ (Minus ∷ (Slash ∷ [])))))))))))))))))))
-
-abbrev pub kind_of : ℕ → TokenKind
-kind_of n = get_or kinds n Identifier
-
-pub kind_of-number_of : (kind : TokenKind) → kind_of (number_of kind) ≡ kind
-kind_of-number_of Identifier = refl
-kind_of-number_of Integer = refl
-kind_of-number_of Float = refl
-kind_of-number_of StringLiteral = refl
-kind_of-number_of Semicolon = refl
-kind_of-number_of Equals = refl
-kind_of-number_of OpenBrace = refl
-kind_of-number_of CloseBrace = refl
-kind_of-number_of OpenBracket = refl
-kind_of-number_of CloseBracket = refl
-kind_of-number_of OpenParenthesis = refl
-kind_of-number_of CloseParenthesis = refl
-kind_of-number_of Less = refl
-kind_of-number_of Greater = refl
-kind_of-number_of Comma = refl
-kind_of-number_of Dot = refl
-kind_of-number_of Colon = refl
-kind_of-number_of Plus = refl
-kind_of-number_of Minus = refl
-kind_of-number_of Slash = refl
-
-pub same_kind : (wanted kind : TokenKind) → is_kind wanted kind ≡ true → kind ≡ wanted
-same_kind wanted kind e =
-    let numbers : number_of kind ≡ number_of wanted = eqb-true (number_of kind) (number_of wanted) e in
-    sym (kind_of-number_of kind) ∙ ap kind_of numbers ∙ kind_of-number_of wanted
 
 -- single tokens
 pub past : {test : Lexeme → Bool} {a b : List Lexeme} {span : Span} {marks : List Mark} → One test a span b

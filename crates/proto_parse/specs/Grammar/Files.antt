@@ -15,10 +15,8 @@ use Rattle.proto_grammar.specs.declared.tree.Enum.{Enum}
 use Rattle.proto_grammar.specs.declared.tree.Service.{Service}
 use Rattle.proto_grammar.specs.declared.tree.FileItem.TheVariants as item
 use Rattle.proto_grammar.specs.declared.tree.File.{File}
-use Rattle.proto_parse.specs.declared.statement.FileStatement.TheVariants as chosen
 use Rattle.proto_grammar.specs.Lexeme.{Lexeme}
 use Rattle.proto_grammar.specs.Terminal.{first_is, of_kind, is_word, is_plain_literal, between_quotes, not_next, is_end}
-use Rattle.proto_parse.specs.Choice.{file_statement_of}
 use Rattle.proto_grammar.specs.Syntax.{custom_of, proto3_in}
 use Rattle.proto_grammar.specs.Tree.{BlockTree}
 use Rattle.proto_parse.specs.Limits.{max_message_depth}
@@ -77,31 +75,25 @@ pub data IsPackage : List Lexeme → List Span → List Lexeme → Type 0 where
       → One (is_word (codes "package")) a keyword b → IsName b components c → One (of_kind Semicolon) c semicolon d
       → IsPackage a components d
 
--- import | package | option | message | enum | service | extend | ";", as the first word chooses, from the file so far
--- to the file with it. At most `levels` messages and groups are inside one another.
--- There is at most one package statement.
+-- import | package | option | message | enum | service | extend | ";", from the file so far to the file with it. There
+-- is at most one package statement. At most `levels` messages and groups are inside one another.
 pub data IsStatement (levels : ℕ) (syntax : Syntax) : File → List Lexeme → File → List Lexeme → Type 0 where
-  empty : {file : File} {a b : List Lexeme} {semicolon : Span} → file_statement_of a ≡ chosen.Empty
-      → One (of_kind Semicolon) a semicolon b → IsStatement levels syntax file a file b
-  import : {file : File} {a b : List Lexeme} {import : Import}
-      → file_statement_of a ≡ chosen.Import → IsImport a import b
+  empty : {file : File} {a b : List Lexeme} {semicolon : Span} → One (of_kind Semicolon) a semicolon b
+      → IsStatement levels syntax file a file b
+  import : {file : File} {a b : List Lexeme} {import : Import} → IsImport a import b
       → IsStatement levels syntax file a (record file { imports = file.imports ++ import ∷ [] }) b
   package_statement : {file : File} {a b : List Lexeme} {components : List Span}
-      → file_statement_of a ≡ chosen.Package → file.package_name ≡ None → IsPackage a components b
+      → file.package_name ≡ None → IsPackage a components b
       → IsStatement levels syntax file a (record file { package_name = Some components }) b
-  option : {file : File} {a b : List Lexeme} → file_statement_of a ≡ chosen.Option → IsOption (custom_of syntax) a b
-      → IsStatement levels syntax file a file b
-  message : {file : File} {a b : List Lexeme} (message : BlockTree)
-      → file_statement_of a ≡ chosen.Message → IsMessage (IsInside syntax levels) a message b
+  option : {file : File} {a b : List Lexeme} → IsOption (custom_of syntax) a b → IsStatement levels syntax file a file b
+  message : {file : File} {a b : List Lexeme} (message : BlockTree) → IsMessage (IsInside syntax levels) a message b
       → IsStatement levels syntax file a (record file { items = file.items ++ item.Block message ∷ [] }) b
-  enum : {file : File} {a b : List Lexeme} {enum : Enum}
-      → file_statement_of a ≡ chosen.Enum → IsEnum (custom_of syntax) a enum b
+  enum : {file : File} {a b : List Lexeme} {enum : Enum} → IsEnum (custom_of syntax) a enum b
       → IsStatement levels syntax file a (record file { items = file.items ++ item.Enum enum ∷ [] }) b
-  service : {file : File} {a b : List Lexeme} {service : Service}
-      → file_statement_of a ≡ chosen.Service → IsService (custom_of syntax) a service b
+  service : {file : File} {a b : List Lexeme} {service : Service} → IsService (custom_of syntax) a service b
       → IsStatement levels syntax file a (record file { items = file.items ++ item.Service service ∷ [] }) b
   extend : {file : File} {a b : List Lexeme} {extend : Option BlockTree}
-      → file_statement_of a ≡ chosen.Extend → IsExtendStatement (IsInside syntax levels) syntax a extend b
+      → IsExtendStatement (IsInside syntax levels) syntax a extend b
       → IsStatement levels syntax file a
       (record file { items = file.items ++ option_to_list (option_map item.Block extend) }) b
 

@@ -20,13 +20,12 @@ use Rattle.proto_grammar.specs.declared.tree.Head.TheVariants as head
 use Rattle.proto_grammar.specs.declared.tree.Leaf.TheVariants as leaf
 use Rattle.proto_grammar.specs.declared.tree.Item.{Item}
 use Rattle.proto_grammar.specs.declared.tree.Item.TheVariants.{Block, Leaf}
-use Rattle.proto_parse.specs.declared.statement.MessageStatement.TheVariants as chosen
 use Rattle.proto_parse.specs.declared.statement.Within.{Within}
 use Rattle.proto_parse.specs.declared.statement.Within.TheVariants as within
 use Rattle.proto_grammar.specs.Lexeme.{Lexeme}
 use Rattle.proto_grammar.specs.Terminal.{first_is, of_kind, is_word, closes, begins_scalar, begins_group}
 use Rattle.proto_grammar.specs.Syntax.{custom_of, is_proto2, extends}
-use Rattle.proto_parse.specs.Choice.{message_statement_of}
+use Rattle.proto_parse.specs.Choice.{begins_other}
 use Rattle.proto_grammar.specs.Tree.{BlockTree}
 use Rattle.proto_grammar.specs.Items.{body_of}
 use Rattle.proto_grammar.specs.Grammar.Repetition.{One, Until, Adds, Passes}
@@ -171,38 +170,27 @@ pub data IsMessage (Inner : List Lexeme → List Item → List Lexeme → Type 0
       → IsHeading (codes "message") a heading b → Inner b items c
       → IsMessage Inner a (record { head = head.Message heading; body = body_of items }) c
 
--- message | enum | option | oneof | mapField | reserved | extend | extensions | field | group | ";", as the first word
--- chooses. Only in proto2 does anything begin with `extensions`.
+-- message | enum | option | oneof | mapField | reserved | extend | extensions | field | group | ";". A field or a group
+-- begins as none of the others does. Only in proto2 does anything begin with `extensions`.
 pub data IsMessageItem (syntax : Syntax) (Inner : List Lexeme → List Item → List Lexeme → Type 0) : List Lexeme
     → Option Item → List Lexeme → Type 0 where
-  empty : {a b : List Lexeme} {semicolon : Span}
-      → message_statement_of syntax a ≡ chosen.Empty → One (of_kind Semicolon) a semicolon b
+  empty : {a b : List Lexeme} {semicolon : Span} → One (of_kind Semicolon) a semicolon b
       → IsMessageItem syntax Inner a None b
-  message : {a b : List Lexeme} {message : BlockTree}
-      → message_statement_of syntax a ≡ chosen.Message → IsMessage Inner a message b
+  message : {a b : List Lexeme} {message : BlockTree} → IsMessage Inner a message b
       → IsMessageItem syntax Inner a (Some (Block message)) b
-  enum : {a b : List Lexeme} {enum : Enum}
-      → message_statement_of syntax a ≡ chosen.Enum → IsEnum (custom_of syntax) a enum b
+  enum : {a b : List Lexeme} {enum : Enum} → IsEnum (custom_of syntax) a enum b
       → IsMessageItem syntax Inner a (Some (Leaf (leaf.Enum enum))) b
-  option : {a b : List Lexeme} → message_statement_of syntax a ≡ chosen.Option → IsOption (custom_of syntax) a b
-      → IsMessageItem syntax Inner a None b
-  oneof : {a b : List Lexeme} {oneof : BlockTree}
-      → message_statement_of syntax a ≡ chosen.Oneof → IsOneof syntax Inner a oneof b
+  option : {a b : List Lexeme} → IsOption (custom_of syntax) a b → IsMessageItem syntax Inner a None b
+  oneof : {a b : List Lexeme} {oneof : BlockTree} → IsOneof syntax Inner a oneof b
       → IsMessageItem syntax Inner a (Some (Block oneof)) b
-  map_field : {a b : List Lexeme} {field : MapField}
-      → message_statement_of syntax a ≡ chosen.Map → IsMapField (custom_of syntax) a field b
+  map_field : {a b : List Lexeme} {field : MapField} → IsMapField (custom_of syntax) a field b
       → IsMessageItem syntax Inner a (Some (Leaf (leaf.MapField field))) b
-  reserved : {a b : List Lexeme} → message_statement_of syntax a ≡ chosen.Reserved → IsReserved false a b
-      → IsMessageItem syntax Inner a None b
-  extend : {a b : List Lexeme} {extend : Option BlockTree}
-      → message_statement_of syntax a ≡ chosen.Extend → IsExtendStatement Inner syntax a extend b
+  reserved : {a b : List Lexeme} → IsReserved false a b → IsMessageItem syntax Inner a None b
+  extend : {a b : List Lexeme} {extend : Option BlockTree} → IsExtendStatement Inner syntax a extend b
       → IsMessageItem syntax Inner a (option_map Block extend) b
-  extensions : {a b : List Lexeme}
-      → message_statement_of syntax a ≡ chosen.Extensions → is_proto2 syntax ≡ true
-      → IsExtensions (custom_of syntax) a b
+  extensions : {a b : List Lexeme} → is_proto2 syntax ≡ true → IsExtensions (custom_of syntax) a b
       → IsMessageItem syntax Inner a None b
-  member : {a b : List Lexeme} {item : Item}
-      → message_statement_of syntax a ≡ chosen.Member → IsMember syntax Inner a item b
+  member : {a b : List Lexeme} {item : Item} → begins_other syntax a ≡ false → IsMember syntax Inner a item b
       → IsMessageItem syntax Inner a (Some item) b
 
 -- What may be between these braces.

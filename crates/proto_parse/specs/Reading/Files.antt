@@ -13,7 +13,7 @@ use Rattle.proto_parse.specs.declared.statement.FileStatement.{FileStatement}
 use Rattle.proto_parse.specs.declared.statement.FileStatement.TheVariants as chosen
 use Rattle.proto_grammar.specs.Terminal.{behind, first_is, of_kind, is_word, not_next, is_end, offset_at}
 use Rattle.proto_grammar.specs.Syntax.{custom_of}
-use Rattle.proto_parse.specs.Choice.{file_statement_of}
+use Rattle.proto_parse.specs.Reading.Choice.{file_statement_of}
 use Rattle.proto_parse.specs.Grammar.Files.{empty_file}
 use Rattle.proto_grammar.specs.Reading.Repetition.{◌>>=◌, Read, misplaced, token_that, plain_literal_at, until_at}
 use Rattle.proto_grammar.specs.Reading.Repetition.{adding}

@@ -20,7 +20,7 @@ use Rattle.proto_parse.specs.declared.statement.Within.{Within}
 use Rattle.proto_parse.specs.declared.statement.Within.TheVariants as within
 use Rattle.proto_grammar.specs.Terminal.{behind, offset_at, first_is, of_kind, is_word, closes, begins_group}
 use Rattle.proto_grammar.specs.Syntax.{custom_of, is_proto2}
-use Rattle.proto_parse.specs.Choice.{message_statement_of}
+use Rattle.proto_parse.specs.Reading.Choice.{message_statement_of}
 use Rattle.proto_grammar.specs.Tree.{BlockTree}
 use Rattle.proto_grammar.specs.Items.{body_of}
 use Rattle.proto_grammar.specs.Reading.Repetition.{◌>>=◌, Read, misplaced, token_that, span_at, until_at, adding}

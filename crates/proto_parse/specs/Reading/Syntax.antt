@@ -12,7 +12,7 @@ use Rattle.proto_parse.specs.declared.statement.Version.TheVariants as version
 use Rattle.proto_grammar.specs.Lexeme.{Lexeme, Place}
 use Rattle.proto_grammar.specs.Terminal.{first_is, of_kind, is_word, between_quotes, offset_at}
 use Rattle.proto_grammar.specs.Syntax.{proto3_in, is_all}
-use Rattle.proto_parse.specs.Choice.{version_of}
+use Rattle.proto_parse.specs.Reading.Choice.{version_of}
 use Rattle.proto_grammar.specs.Reading.Repetition.{◌>>=◌, Read, misplaced, token_that}
 use Rattle.std.specs.Option.{option_map_or}
 use Rattle.proto_grammar.specs.declared.fault.SyntaxFault.TheVariants.{NotProto3}

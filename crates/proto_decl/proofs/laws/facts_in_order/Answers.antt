@@ -3,6 +3,7 @@ use Rattle.proto_lex.specs.declared.span.Span.{Span}
 use Rattle.proto_lex.specs.Lexed.{AreInOrder}
 use Rattle.proto_parse.specs.Lexeme.{lexemes_of}
 use Rattle.proto_parse.specs.Walk.{Mark, Among, MarksAreInOrder, marks_of_items, marks_of_imports}
+use Rattle.proto_parse.proofs.Walk.Then.{imports_are}
 use Rattle.proto_decl.specs.Outlines.{outlines_of}
 use Rattle.proto_decl.specs.Facts.{Facts, AreOfSomeFile, NamesInOrder, use_spans}
 use Rattle.proto_decl.specs.declared.imported.Imported.{Imported}
@@ -51,7 +52,7 @@ returns-clause-imports c = λ facts origin.
     in
     subst placed (sym (ap (map (λ (imported : Imported). imported.span)) origin.of_file.imports))
     (imports_in_order origin.lexed.text file.imports 0 filled.imports
-    (ordered before facts origin (marks_of_imports file) among))
+    (subst (MarksAreInOrder 0) (sym (imports_are file)) (ordered before facts origin (marks_of_imports file) among)))
 
 pub returns-clause-package_name : goal.returns-clause-package_name
 returns-clause-package_name c = λ facts origin.

@@ -1,5 +1,8 @@
 use Rattle.std.proofs.Common.{subst, sym, List}
 use Rattle.std.specs.List.{All}
+use Rattle.proto_lex.specs.Lexed.{part_of}
+use Rattle.proto_parse.proofs.Walk.Then.{package_is}
+use Rattle.proto_decl.proofs.MarkLemmas.{OfNames}
 use Rattle.proto_decl.specs.Names.{IsSimple}
 use Rattle.proto_decl.specs.declared.type_use.Component.{Component}
 use Rattle.proto_decl.proofs.ScopedLemmas.{names_simple, package_simple, stand_in_scopes}
@@ -18,4 +21,6 @@ returns-clause-package_name c = λ facts origin.
     origin.derives in
     subst (λ (components : List Component). All (λ (component : Component). IsSimple component.name) components)
     (sym origin.of_file.package_name)
-    (package_simple origin.lexed.text origin.file.package_name (names_simple origin.lexed origin.is_lexed among))
+    (package_simple origin.lexed.text origin.file.package_name
+    (subst (OfNames (λ span. IsSimple (part_of origin.lexed.text span))) (sym (package_is origin.file))
+    (names_simple origin.lexed origin.is_lexed among)))

@@ -1,4 +1,4 @@
-use Rattle.proto_parse.proofs.Walk.Marks.{marks-in_order}
+use Rattle.proto_parse.proofs.Walk.Order.{marks-in_order}
 use Rattle.proto_parse.proofs.laws.spans_in_order.Goals as goal
 
 pub returns : goal.returns

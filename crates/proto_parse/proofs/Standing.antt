@@ -1,3 +1,0 @@
-pub mod Messages
-pub mod Services
-pub mod Files

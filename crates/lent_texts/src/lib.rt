@@ -4,8 +4,6 @@
 mod kept_text;
 mod lent_text;
 mod place;
-mod shared_text;
 
 pub use kept_text::KeptText;
 pub use lent_text::LentText;
-pub use shared_text::SharedText;

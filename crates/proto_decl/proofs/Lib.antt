@@ -21,6 +21,7 @@ pub mod OrderLemmas
 pub mod FactLemmas
 pub mod PlaceLemmas
 pub mod NameLemmas
+pub mod FullNameLemmas
 pub mod SmallLemmas
 pub mod SplitLemmas
 pub mod FilledLemmas

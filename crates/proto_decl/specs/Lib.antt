@@ -1,9 +1,13 @@
 -- names and scopes
 pub mod Names
+pub mod FullNames
 -- where names are in the text
 pub mod Spans
 -- what a file imports
 pub mod Imports
+-- what contracts see of a declaration
+pub mod Values
+pub mod Paths
 -- what a file declares, and which comments document it
 pub mod Outlines
 pub mod Comments

@@ -53,16 +53,10 @@ fn documented<'t>(
     requires { AreBegun lexed.now outline.heading.first.start begun }
     ensures { IfOk result (IsDeclaration lexed.now outline.entry) }
 {
-    let leading = leading_text(alloc, lexed, begun, outline.heading.first)?;
-    let trailing = trailing_text(lexed, begun.comments, outline.heading.closing);
-    Ok(Declaration {
-        kind: outline.kind,
-        full_name: outline.full_name,
-        path: outline.path,
-        name: outline.heading.name,
-        leading,
-        trailing,
-    })
+    let heading = outline.heading();
+    let leading = leading_text(alloc, lexed, begun, heading.first)?;
+    let trailing = trailing_text(lexed, begun.comments, heading.closing);
+    Ok(Declaration::new(outline, leading, trailing))
 }
 
 /// Declarations with the comments that document them. They are in the order of their first tokens, so each one's
@@ -80,7 +74,7 @@ fn all_documented<'t>(
         comments: 0,
     };
     for outline in outlines {
-        begun = begun_before(lexed, begun, outline.heading.first.start);
+        begun = begun_before(lexed, begun, outline.heading().first.start);
         declarations.push(documented(alloc, lexed, begun, outline)?)?;
     }
     Ok(Sequence::from_vec(declarations))
@@ -107,7 +101,9 @@ pub fn declare<'t>(
     let scope = package_scope(alloc, text, package_name)?;
     let found = found_in(alloc, text, scope, items)?;
     let declarations = all_documented(alloc, lexed, found.outlines)?;
-    let uses = Sequence::from_vec(found.uses);
+    let mut uses = found.uses;
+    uses.shrink_to_fit();
+    let uses = Sequence::from_vec(uses);
     let imports = imports_of(alloc, text, file.imports.as_slice())?;
     let package_name = components_at(alloc, text, package_name)?;
     Ok(FileFacts::new(number, package_name, imports, declarations, uses))

@@ -8,15 +8,14 @@ ghost use Rattle.proto_decl.specs.Outlines as spec;
 
 use crate::declaration::{DeclarationStep, Outline};
 use crate::kind::DeclarationKind;
-use crate::names::{qualified, small_letters, spelling_at};
-use crate::surrounding::{Surrounding, beside, path_to};
+use crate::names::{small_letters, spelling_at};
+use crate::surrounding::{Surrounding, beside};
 use lent_texts::KeptText;
 use proto_parse::{Enum, Group, Head, Heading, Leaf, Method};
 use std::alloc::{AllocError, Global};
 
 /// The outline of a declaration with this simple name, which stands at this heading.
 fn outline_named<'t>(
-    alloc: Global,
     surrounding: &Surrounding<'t>,
     kind: DeclarationKind,
     name: KeptText<'t>,
@@ -24,17 +23,13 @@ fn outline_named<'t>(
 ) -> Result<Outline<'t>, AllocError>
     ensures { IfOk result (λ outline. outline ≡ spec.outline_named surrounding.now kind name.entry heading) }
 {
-    Ok(Outline {
-        kind,
-        full_name: qualified(alloc, surrounding.scope.as_str(), name.as_str())?,
-        path: path_to(&surrounding.path, DeclarationStep { kind, name })?,
-        heading,
-    })
+    let scope = surrounding.scope.share()?;
+    let outer = surrounding.path.share()?;
+    Ok(Outline::new(scope, outer, DeclarationStep { kind, name }, heading))
 }
 
 /// The outline of a declaration with this heading.
 pub(crate) fn outline_at<'t>(
-    alloc: Global,
     text: &'t str,
     surrounding: &Surrounding<'t>,
     kind: DeclarationKind,
@@ -44,7 +39,7 @@ pub(crate) fn outline_at<'t>(
     ensures { IfOk result (λ outline. outline ≡ spec.outline_at text.now surrounding.now kind heading) }
 {
     let name = KeptText::lent(spelling_at(text, heading.name));
-    outline_named(alloc, surrounding, kind, name, heading)
+    outline_named(surrounding, kind, name, heading)
 }
 
 /// Appends the outlines of an enum and its values.
@@ -60,14 +55,13 @@ pub(crate) fn outline_enum<'t>(
         ≡ outlines.old.items ++ spec.in_enum text.now surrounding.now declared.now) }
 {
     let heading = declared.heading;
-    outlines.push(outline_at(alloc, text, surrounding, DeclarationKind::Enum, heading)?)?;
+    outlines.push(outline_at(text, surrounding, DeclarationKind::Enum, heading)?)?;
     let values = beside(alloc, text, surrounding, DeclarationKind::Enum, heading)?;
-    outline_values(alloc, text, &values, declared.values.as_slice(), outlines)
+    outline_values(text, &values, declared.values.as_slice(), outlines)
 }
 
 /// Appends the outlines of an enum's values.
 fn outline_values<'t>(
-    alloc: Global,
     text: &'t str,
     surrounding: &Surrounding<'t>,
     values: &[Heading],
@@ -78,14 +72,13 @@ fn outline_values<'t>(
         ≡ outlines.old.items ++ map (spec.outline_at text.now surrounding.now DeclarationKind.Value) values.now) }
 {
     for value in values {
-        outlines.push(outline_at(alloc, text, surrounding, DeclarationKind::Value, *value)?)?;
+        outlines.push(outline_at(text, surrounding, DeclarationKind::Value, *value)?)?;
     }
     Ok(())
 }
 
 /// Appends the outlines of methods.
 pub(crate) fn outline_methods<'t>(
-    alloc: Global,
     text: &'t str,
     surrounding: &Surrounding<'t>,
     methods: &[Method],
@@ -97,13 +90,7 @@ pub(crate) fn outline_methods<'t>(
         ++ map (λ method. spec.outline_at text.now surrounding.now DeclarationKind.Method method.heading) methods.now) }
 {
     for method in methods {
-        outlines.push(outline_at(
-            alloc,
-            text,
-            surrounding,
-            DeclarationKind::Method,
-            method.heading,
-        )?)?;
+        outlines.push(outline_at(text, surrounding, DeclarationKind::Method, method.heading)?)?;
     }
     Ok(())
 }
@@ -124,7 +111,7 @@ pub(crate) fn outline_leaf<'t>(
         Leaf::Field(field) => field.heading,
         Leaf::MapField(field) => field.heading,
     };
-    outlines.push(outline_at(alloc, text, surrounding, DeclarationKind::Field, heading)?)?;
+    outlines.push(outline_at(text, surrounding, DeclarationKind::Field, heading)?)?;
     Ok(())
 }
 
@@ -147,14 +134,8 @@ fn outline_group<'t>(
         closing: group.heading.closing,
     };
     let field = KeptText::owned(name);
-    outlines.push(outline_named(alloc, surrounding, DeclarationKind::Field, field, place)?)?;
-    outlines.push(outline_at(
-        alloc,
-        text,
-        surrounding,
-        DeclarationKind::Message,
-        group.heading,
-    )?)?;
+    outlines.push(outline_named(surrounding, DeclarationKind::Field, field, place)?)?;
+    outlines.push(outline_at(text, surrounding, DeclarationKind::Message, group.heading)?)?;
     Ok(())
 }
 
@@ -175,6 +156,6 @@ pub(crate) fn outline_head<'t>(
         Head::Group(group) => return outline_group(alloc, text, surrounding, *group, outlines),
         Head::Extend(_) => return Ok(()),
     };
-    outlines.push(outline_at(alloc, text, surrounding, kind, heading)?)?;
+    outlines.push(outline_at(text, surrounding, kind, heading)?)?;
     Ok(())
 }

@@ -7,8 +7,9 @@ ghost use Rattle.proto_decl.specs.Outlines.{scope_heading, step_to, inside, besi
 use crate::declaration::DeclarationStep;
 use crate::kind::DeclarationKind;
 use crate::names::{qualified, spelling_at};
-use crate::path::{DeclarationPath, SharedSteps};
-use lent_texts::{KeptText, SharedText};
+use crate::path::SharedSteps;
+use crate::scope_name::ScopeName;
+use lent_texts::KeptText;
 use proto_parse::{Head, Heading};
 use sequences::Sequence;
 use std::alloc::{AllocError, Global};
@@ -17,7 +18,7 @@ use std::alloc::{AllocError, Global};
 #[derive(Debug, Drop)]
 pub(crate) struct Surrounding<'t> {
     /// The full name of the scope; the root's is empty.
-    pub(crate) scope: SharedText,
+    pub(crate) scope: ScopeName,
     /// The path to what the declaration stands in.
     pub(crate) path: SharedSteps<'t>,
 }
@@ -71,16 +72,6 @@ fn step_to<'t>(text: &'t str, kind: DeclarationKind, heading: Heading) -> Declar
     }
 }
 
-/// The path with this step more.
-pub(crate) fn path_to<'t>(
-    path: &SharedSteps<'t>,
-    last: DeclarationStep<'t>,
-) -> Result<DeclarationPath<'t>, AllocError>
-    ensures { IfOk result (λ longer. longer ≡ path.now ++ last.entry ∷ []) }
-{
-    Ok(DeclarationPath::new(path.share()?, last))
-}
-
 /// The steps to what stands in the declaration with this heading.
 fn steps_through<'t>(
     alloc: Global,
@@ -114,7 +105,7 @@ pub(crate) fn inside<'t>(
         spelling_at(text, heading.name),
     )?;
     Ok(Surrounding {
-        scope: SharedText::new(alloc, scope)?,
+        scope: ScopeName::new(alloc, scope)?,
         path: steps_through(alloc, text, &surrounding.path, kind, heading)?,
     })
 }

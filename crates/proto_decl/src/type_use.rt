@@ -1,6 +1,7 @@
 //! Names in a package statement and uses of types.
 
-use lent_texts::{LentText, SharedText};
+use crate::scope_name::ScopeName;
+use lent_texts::LentText;
 use proto_lex::Span;
 use sequences::Sequence;
 
@@ -23,5 +24,5 @@ pub struct Use<'t> {
     pub span: Span,
     /// The full name of the innermost scope: the message or the service around the use. From each
     /// scope `scope_around` gives the next one.
-    pub scope: SharedText,
+    pub scope: ScopeName,
 }

@@ -9,8 +9,9 @@ ghost use Rattle.proto_decl.specs.Uses as spec;
 
 use crate::imports::{end_of, start_of};
 use crate::names::spelling_at;
+use crate::scope_name::ScopeName;
 use crate::type_use::{Component, Use};
-use lent_texts::{LentText, SharedText};
+use lent_texts::LentText;
 use proto_lex::Span;
 use proto_parse::{FieldType, Head, Leaf, Method, TypeName};
 use sequences::Sequence;
@@ -49,7 +50,7 @@ fn name_start(leading_dot: Option<Span>, components: &[Span]) -> usize
 fn use_of<'t>(
     alloc: Global,
     text: &'t str,
-    scope: &SharedText,
+    scope: &ScopeName,
     name: &TypeName,
 ) -> Result<Use<'t>, AllocError>
     requires { OfTypeName (IsPart text.now) name.now }
@@ -71,7 +72,7 @@ fn use_of<'t>(
 fn use_type<'t>(
     alloc: Global,
     text: &'t str,
-    scope: &SharedText,
+    scope: &ScopeName,
     field_type: &FieldType,
     uses: &mut Vec<Use<'t>>,
 ) -> Result<(), AllocError>
@@ -91,7 +92,7 @@ fn use_type<'t>(
 pub(crate) fn use_methods<'t>(
     alloc: Global,
     text: &'t str,
-    scope: &SharedText,
+    scope: &ScopeName,
     methods: &[Method],
     uses: &mut Vec<Use<'t>>,
 ) -> Result<(), AllocError>
@@ -110,7 +111,7 @@ pub(crate) fn use_methods<'t>(
 pub(crate) fn use_leaf<'t>(
     alloc: Global,
     text: &'t str,
-    scope: &SharedText,
+    scope: &ScopeName,
     leaf: &Leaf,
     uses: &mut Vec<Use<'t>>,
 ) -> Result<(), AllocError>
@@ -128,7 +129,7 @@ pub(crate) fn use_leaf<'t>(
 pub(crate) fn use_head<'t>(
     alloc: Global,
     text: &'t str,
-    scope: &SharedText,
+    scope: &ScopeName,
     head: &Head,
     uses: &mut Vec<Use<'t>>,
 ) -> Result<(), AllocError>

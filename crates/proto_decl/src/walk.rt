@@ -13,10 +13,10 @@ use crate::declaration::Outline;
 use crate::kind::DeclarationKind;
 use crate::outlines::{outline_at, outline_enum, outline_head, outline_leaf, outline_methods};
 use crate::path::SharedSteps;
+use crate::scope_name::ScopeName;
 use crate::surrounding::{Surrounding, inside, scope_heading};
 use crate::type_use::Use;
 use crate::type_uses::{use_head, use_leaf, use_methods};
-use lent_texts::SharedText;
 use proto_parse::{Block, FileItem, Head, Item, Leaf, Service};
 use sequences::{OwnedText, Sequence};
 use std::alloc::{AllocError, Global};
@@ -132,11 +132,11 @@ fn walk_service<'t>(
         ≡ found.old.uses.items ++ uses_in_service text.now surrounding.now.scope service.now) }
 {
     let kind = DeclarationKind::Service;
-    let outline = outline_at(alloc, text, surrounding, kind, service.heading)?;
+    let outline = outline_at(text, surrounding, kind, service.heading)?;
     found.outlines.push(outline)?;
     let inner = inside(alloc, text, surrounding, kind, service.heading)?;
     let methods = service.methods.as_slice();
-    outline_methods(alloc, text, &inner, methods, &mut found.outlines)?;
+    outline_methods(text, &inner, methods, &mut found.outlines)?;
     use_methods(alloc, text, &inner.scope, methods, &mut found.uses)
 }
 
@@ -200,7 +200,7 @@ pub(crate) fn found_in<'t>(
         ≡ flat_map (uses_in_item text.now scope) items.now) }
 {
     let surrounding = Surrounding {
-        scope: SharedText::new(alloc, scope)?,
+        scope: ScopeName::new(alloc, scope)?,
         path: SharedSteps::new(alloc, Sequence::new(alloc))?,
     };
     found_at(alloc, text, &surrounding, items)

@@ -2,7 +2,8 @@
 
 use crate::calls::is_source_listed;
 use proto_decl::{
-    Component, Declaration, DeclarationKind, DeclarationStep, FileFacts, Imported, Use,
+    Component, DeclView, Declaration, DeclarationKind, DeclarationStep, FileFacts, Imported,
+    NamedDeclaration, Use,
 };
 use proto_lex::Span;
 use proto_parse::ImportKind;
@@ -135,14 +136,13 @@ fn add_step(text: &mut String, step: &DeclarationStep) {
 
 /// Appends a line for a declaration, with its full name, what is at its name's place, its path, and
 /// its texts as a callback sees them.
-fn add_declaration(text: &mut String, source: &str, declaration: &Declaration) {
-    let view = declaration.view();
+fn add_declaration(text: &mut String, source: &str, declaration: &Declaration, view: &DeclView) {
     add(text, mark_of(view.kind()));
     add(text, view.full_name());
     add(text, " (");
-    add_part(text, source, declaration.name);
+    add_part(text, source, declaration.name());
     add(text, "): ");
-    let (outer, last) = declaration.path.parts();
+    let (outer, last) = declaration.path().parts();
     for step in outer {
         add_step(text, step);
     }
@@ -152,6 +152,36 @@ fn add_declaration(text: &mut String, source: &str, declaration: &Declaration) {
     add(text, "] [");
     add(text, view.trailing());
     add(text, "]\n");
+}
+
+/// Whether all that a declaration says of itself is what a callback sees of it.
+fn agrees(declaration: &Declaration, view: &DeclView) -> bool {
+    declaration.kind() == view.kind()
+        && declaration.simple_name() == view.name()
+        && declaration.full_name().is(view.full_name())
+        && declaration.leading() == view.leading()
+        && declaration.trailing() == view.trailing()
+}
+
+/// A declaration with its full name, which is asked for again if memory is refused.
+fn named_of<'a, 't>(
+    alloc: Global,
+    declaration: &'a Declaration<'t>,
+) -> Option<NamedDeclaration<'a, 't>> {
+    match declaration.named(alloc) {
+        Ok(named) => Some(named),
+        Err(_) => declaration.named(alloc).ok(),
+    }
+}
+
+/// Appends a line for a declaration, if there is memory for its full name and if all that is said of it agrees.
+fn add_named(alloc: Global, text: &mut String, source: &str, declaration: &Declaration) {
+    if let Some(named) = named_of(alloc, declaration) {
+        let view = named.view();
+        if agrees(declaration, &view) {
+            add_declaration(text, source, declaration, &view);
+        }
+    }
 }
 
 fn add_use(text: &mut String, source: &str, found: &Use) {
@@ -175,7 +205,7 @@ pub(crate) fn is_listed(alloc: Global, source: &str, facts: &FileFacts, want: &s
         add_import(&mut text, source, import);
     }
     for declaration in facts.declarations() {
-        add_declaration(&mut text, source, declaration);
+        add_named(alloc, &mut text, source, declaration);
     }
     for found in facts.uses() {
         add_use(&mut text, source, found);

@@ -49,8 +49,8 @@ pub(crate) fn parts_in(
     facts.origin();
     let components = components_in(alloc, name)?;
     let skipped = components.len() - count;
-    let mut prefix = String::new(alloc);
-    let mut parts = Vec::new(alloc);
+    let mut prefix = String::with_capacity(alloc, name.len())?;
+    let mut parts = Vec::with_capacity(alloc, count)?;
     for (index, component) in components.iter().enumerate() {
         lengthen(&mut prefix, index, component)?;
         if index >= skipped {

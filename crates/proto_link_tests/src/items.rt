@@ -57,11 +57,12 @@ fn add_declarations(
     declarations: &[Declaration],
 ) -> Made<()> {
     for (index, declaration) in declarations.iter().enumerate() {
-        let name = declaration.full_name.as_str();
-        let span = declaration.name;
+        let name = declaration.full_name().to_text(alloc)?;
+        let span = declaration.name();
         let entity = Entity::Declared(file, index);
         let place = FilePlace { file, span };
-        add_item(alloc, items, place, name, Some(declaration.kind), entity)?;
+        let kind = Some(declaration.kind());
+        add_item(alloc, items, place, name.as_str(), kind, entity)?;
     }
     Ok(())
 }

@@ -4,7 +4,6 @@ use Rattle.std.proofs.Common.{Some, None, MatchOption, is_some, cond, refl, ap, 
 use Rattle.std.specs.List.{Contains, slice_get}
 use Rattle.std.specs.Str.{bytes_eq}
 use Rattle.std.specs.HashMap.{HashMap}
-use denote.Ref.{Bor}
 use Rattle.std.proofs.lemmas.Bool.{cases_lt, cases_order, cases_Bool, false≢true, cond-true, cond-false, or_parts}
 use Rattle.std.proofs.lemmas.Option.{slice_get_within, slice_get-get_or, get_or_from_slice_get}
 use Rattle.std.proofs.lemmas.Slice.Eq.{bytes_eq-Decides}
@@ -12,8 +11,7 @@ use Rattle.proto_visibility.specs.declared.place.FilePlace.{FilePlace}
 use Rattle.proto_visibility.specs.Items.{Before, Item}
 use Rattle.proto_visibility.specs.Clashes.{Excludes, ClashBy, NoClashBy}
 use Rattle.proto_visibility.specs.Tables.NameTables.{AreInPlace, HasNone, IsFirstNamed, AreFirst, place_if_declared}
-use Rattle.proto_visibility.specs.Tables.NameTables.{clash_with}
-use Rattle.proto_visibility.specs.Tables.ImportTables.{number_in}
+use Rattle.proto_visibility.specs.Tables.NameTables.{clash_with, index_in}
 
 -- ---- places
 
@@ -231,22 +229,22 @@ at_name items count item name (Some k) stands other h = more_first items count n
 
 -- the map after the item at hand: as it was where its name is known, and else with its index
 pub first_more : {S : Type 0} (items : List Item) (count : ℕ) (item : Item) (first : Option ℕ)
-    (old new : HashMap (Bor (List ℕ)) ℕ S) → slice_get items count ≡ Some item → first ≡ number_in old item.full_name
-    → ((other : List ℕ) → number_in new other
-    ≡ cond (is_some first) (number_in old other)
-    (cond (bytes_eq item.full_name other) (Some count) (number_in old other)))
+    (old new : HashMap (List ℕ) ℕ S) → slice_get items count ≡ Some item → first ≡ index_in old item.full_name
+    → ((other : List ℕ) → index_in new other
+    ≡ cond (is_some first) (index_in old other)
+    (cond (bytes_eq item.full_name other) (Some count) (index_in old other)))
     → AreFirst items count old → AreFirst items (count + 1) new
 first_more items count item first old new stands is after so_far name = by_first first is after
   where
-    by_first : (o : Option ℕ) → o ≡ number_in old item.full_name
-        → ((other : List ℕ) → number_in new other
-        ≡ cond (is_some o) (number_in old other)
-        (cond (bytes_eq item.full_name other) (Some count) (number_in old other)))
-        → MatchOption (number_in new name) (HasNone items (count + 1) name) (IsFirstNamed items (count + 1) name)
+    by_first : (o : Option ℕ) → o ≡ index_in old item.full_name
+        → ((other : List ℕ) → index_in new other
+        ≡ cond (is_some o) (index_in old other)
+        (cond (bytes_eq item.full_name other) (Some count) (index_in old other)))
+        → MatchOption (index_in new name) (HasNone items (count + 1) name) (IsFirstNamed items (count + 1) name)
     by_first None told update = elim (cases_Bool (bytes_eq item.full_name name)) [
       | inl same ↦ (
-          let now : number_in new name ≡ Some count =
-          update name ∙ cond-true (bytes_eq item.full_name name) (Some count) (number_in old name) same in
+          let now : index_in new name ≡ Some count =
+          update name ∙ cond-true (bytes_eq item.full_name name) (Some count) (index_in old name) same in
           let named : item.full_name ≡ name = (bytes_eq-Decides item.full_name name).0 same in
           let missing : HasNone items count item.full_name =
           subst (λ o. MatchOption o (HasNone items count item.full_name) (IsFirstNamed items count item.full_name))
@@ -260,27 +258,44 @@ first_more items count item first old new stands is after so_far name = by_first
             first = subst (HasNone items count) named missing;
           }))
       | inr apart ↦ (
-          let now : number_in new name ≡ number_in old name =
-          update name ∙ cond-false (bytes_eq item.full_name name) (Some count) (number_in old name) apart in
+          let now : index_in new name ≡ index_in old name =
+          update name ∙ cond-false (bytes_eq item.full_name name) (Some count) (index_in old name) apart in
           subst (λ o. MatchOption o (HasNone items (count + 1) name) (IsFirstNamed items (count + 1) name)) (sym now)
-          (at_name items count item name (number_in old name) stands
+          (at_name items count item name (index_in old name) stands
           (λ e. false≢true (sym apart ∙ (bytes_eq-Decides item.full_name name).1 e)) (so_far name)))
     ]
     by_first (Some k) told update = elim (cases_Bool (bytes_eq item.full_name name)) [
       | inl same ↦ (
           let named : item.full_name ≡ name = (bytes_eq-Decides item.full_name name).0 same in
-          let now : number_in new name ≡ Some k = update name ∙ sym (told ∙ ap (number_in old) named) in
+          let now : index_in new name ≡ Some k = update name ∙ sym (told ∙ ap (index_in old) named) in
           let known : IsFirstNamed items count name k =
           subst (λ o. MatchOption o (HasNone items count name) (IsFirstNamed items count name))
-          (sym (told ∙ ap (number_in old) named)) (so_far name) in
+          (sym (told ∙ ap (index_in old) named)) (so_far name) in
           subst (λ o. MatchOption o (HasNone items (count + 1) name) (IsFirstNamed items (count + 1) name)) (sym now)
           (more_first items count name k known))
       | inr apart ↦
           subst (λ o. MatchOption o (HasNone items (count + 1) name) (IsFirstNamed items (count + 1) name))
           (sym (update name))
-          (at_name items count item name (number_in old name) stands
+          (at_name items count item name (index_in old name) stands
           (λ e. false≢true (sym apart ∙ (bytes_eq-Decides item.full_name name).1 e)) (so_far name))
     ]
+
+-- the map in which a name was put, and then what it had there before
+pub kept_first : {S : Type 0} (old put back : HashMap (List ℕ) ℕ S) (name : List ℕ) (index first : ℕ)
+    → Some first ≡ index_in old name
+    → ((other : List ℕ) → index_in put other ≡ cond (bytes_eq name other) (Some index) (index_in old other))
+    → ((other : List ℕ) → index_in back other ≡ cond (bytes_eq name other) (Some first) (index_in put other))
+    → (other : List ℕ) → index_in back other ≡ index_in old other
+kept_first old put back name index first was after again other = elim (cases_Bool (bytes_eq name other)) [
+  | inl same ↦
+      again other
+      ∙ (cond-true (bytes_eq name other) (Some first) (index_in put other) same
+      ∙ (was ∙ ap (index_in old) ((bytes_eq-Decides name other).0 same)))
+  | inr apart ↦
+      again other
+      ∙ (cond-false (bytes_eq name other) (Some first) (index_in put other) apart
+      ∙ (after other ∙ cond-false (bytes_eq name other) (Some index) (index_in old other) apart))
+]
 
 -- ---- the same items by another word
 

@@ -13,7 +13,7 @@ use Rattle.proto_visibility.specs.declared.names.DeclaredAt.{DeclaredAt}
 use Rattle.proto_visibility.specs.declared.names.Names.{Names}
 use Rattle.proto_visibility.specs.Files.{File, HasFacts}
 use Rattle.proto_visibility.specs.FileNames.{IsPrefix}
-use Rattle.proto_visibility.specs.Tables.GivenNames.{listed_at, AreNames, AreNamesOf}
+use Rattle.proto_visibility.specs.Tables.GivenNames.{owned_at, AreNames, AreNamesOf}
 use Rattle.proto_visibility.specs.Entities.{IsEntityOf}
 use Rattle.proto_visibility.specs.Entities.IsEntityOf.{packaged, declared}
 use Rattle.proto_visibility.proofs.FirstLemmas.{found_at, position-none}
@@ -44,7 +44,7 @@ package_entity number facts name count none is = packaged (prefix_if facts name 
 
 pub listed_entity : (number : ℕ) (facts : Facts) (names : Names) (name : List ℕ) (count index : ℕ)
     → AreNamesOf number facts names
-    → (one : DeclaredAt) × Contains (listed_at names.declared name) one × (one.file ≡ number) × (one.index ≡ index)
+    → (one : DeclaredAt) × Contains (owned_at names.declared name) one × (one.file ≡ number) × (one.index ≡ index)
     → IsEntityOf number facts name count (Declared number index)
 listed_entity number facts names name count index are listed =
     let d = are.declared name listed.0 listed.1 listed.2 in

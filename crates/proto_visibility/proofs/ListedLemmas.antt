@@ -22,7 +22,7 @@ use Rattle.proto_visibility.specs.Knows.{NameKind, is_aggregate}
 use Rattle.proto_visibility.specs.Knows.NameKind.{OfPackage, OfDeclaration}
 use Rattle.proto_visibility.specs.FileNames.{admits, Gives, IsGiving}
 use Rattle.proto_visibility.specs.FileNames.Gives.{declared as gives_declared, packaged as gives_packaged}
-use Rattle.proto_visibility.specs.Tables.GivenNames.{listed_at, owned_at, IsDeclaring, IsListed, HasPrefix, AreNames}
+use Rattle.proto_visibility.specs.Tables.GivenNames.{owned_at, IsDeclaring, IsListed, HasPrefix, AreNames}
 use Rattle.proto_visibility.proofs.FileRowLemmas.{decides_found}
 
 -- ---- declarations in a row
@@ -220,7 +220,7 @@ found_in_files files names are role name row (Some number) some =
 
 -- where no declaration of the name is in the row, the files of the package are left
 module _ (names : Names) (admits : NameKind → Bool) (name row : List ℕ)
-    (none : (number : ℕ) → Contains row number → IsDeclaring (listed_at names.declared name) admits number → ⊥) where
+    (none : (number : ℕ) → Contains row number → IsDeclaring (owned_at names.declared name) admits number → ⊥) where
   pub by_package : admits OfPackage ≡ true → (found : Option ℕ)
       → MatchOption found ((number : ℕ) → Contains (owned_at names.packages name) number → Contains row number → ⊥)
       (λ number. Contains (owned_at names.packages name) number × Contains row number)

@@ -6,7 +6,6 @@ use Rattle.std.specs.Prelude.{slice_set}
 use Rattle.std.specs.List.{Contains, slice_get}
 use Rattle.std.specs.Str.{bytes_eq}
 use Rattle.std.specs.HashMap.{HashMap}
-use denote.Ref.{Bor}
 use Rattle.std.proofs.lemmas.Bool.{cases_lt, cases_order, cases_Bool, false≢true, cond-true, cond-false, or_parts}
 use Rattle.std.proofs.lemmas.Option.{slice_get_within, slice_get-get_or}
 use Rattle.std.proofs.lemmas.Slice.Eq.{bytes_eq-Decides}
@@ -20,8 +19,7 @@ use Rattle.proto_visibility.specs.Items.{Before, Item, IsItem}
 use Rattle.proto_visibility.specs.Clashes.{ClashBy}
 use Rattle.proto_visibility.specs.Absences.{IsUnread}
 use Rattle.proto_visibility.specs.Kept.{Omissions, IsKept, IsMet, IsOmission, AreOmissions}
-use Rattle.proto_visibility.specs.Tables.NameTables.{AreInPlace, clash_with}
-use Rattle.proto_visibility.specs.Tables.ImportTables.{number_in}
+use Rattle.proto_visibility.specs.Tables.NameTables.{AreInPlace, clash_with, index_in}
 use Rattle.proto_visibility.specs.Tables.Passes.{AreUnreadOf, IsClashOmission, AreClashesOmitted, IsOpen, IsOpenAt}
 use Rattle.proto_visibility.specs.Tables.Passes.{IsTold, ArePassed}
 use Rattle.proto_visibility.proofs.ClashLemmas.{in_order, one_index, contained_at, contains_at, clash_at, no_clash_at}
@@ -87,7 +85,7 @@ module _ (items : List Item) (placed : AreInPlace items) where
       by (inl less) = omega arith
       by (inr same) = omega (arith, same.0)
 
-  module _ {S : Type 0} (start : Omissions) (count : ℕ) (omissions : Omissions) (names : HashMap (Bor (List ℕ)) ℕ S)
+  module _ {S : Type 0} (start : Omissions) (count : ℕ) (omissions : Omissions) (names : HashMap (List ℕ) ℕ S)
       (item : Item)
       (at : slice_get items count ≡ Some item) (so_far : ArePassed items start count omissions names) where
     told_more : (number : ℕ) (fault : LinkFault) → IsKept start number → slice_get omissions number ≡ Some (Some fault)
@@ -115,10 +113,10 @@ module _ (items : List Item) (placed : AreInPlace items) where
     }
 
     -- no item of an open file has its name
-    pub pass_new : (new : HashMap (Bor (List ℕ)) ℕ S) → IsOpen omissions item
-        → ((k : ℕ) → number_in names item.full_name ≡ Some k → IsOpenAt items omissions k → ⊥)
-        → ((name : List ℕ) → number_in new name
-        ≡ cond (bytes_eq item.full_name name) (Some count) (number_in names name))
+    pub pass_new : (new : HashMap (List ℕ) ℕ S) → IsOpen omissions item
+        → ((k : ℕ) → index_in names item.full_name ≡ Some k → IsOpenAt items omissions k → ⊥)
+        → ((name : List ℕ) → index_in new name
+        ≡ cond (bytes_eq item.full_name name) (Some count) (index_in names name))
         → ArePassed items start (count + 1) omissions new
     pass_new new open_item none after = record {
       size = so_far.size;
@@ -133,7 +131,7 @@ module _ (items : List Item) (placed : AreInPlace items) where
       found = λ name k e. elim (cases_Bool (bytes_eq item.full_name name)) [
         | inl same ↦ (
             let is : Some count ≡ Some k =
-            sym (after name ∙ cond-true (bytes_eq item.full_name name) (Some count) (number_in names name) same) ∙ e
+            sym (after name ∙ cond-true (bytes_eq item.full_name name) (Some count) (index_in names name) same) ∙ e
             in
             let k_is = some count k is in (
               omega arith,
@@ -145,7 +143,7 @@ module _ (items : List Item) (placed : AreInPlace items) where
             ))
         | inr apart ↦ (
             let old = sym (after name
-            ∙ cond-false (bytes_eq item.full_name name) (Some count) (number_in names name) apart) ∙ e in
+            ∙ cond-false (bytes_eq item.full_name name) (Some count) (index_in names name) apart) ∙ e in
             let f = so_far.found name k old in (omega (arith, f.0), f.1))
       ];
       first = λ j other within here open_other. elim (cases_lt j count) [
@@ -158,7 +156,7 @@ module _ (items : List Item) (placed : AreInPlace items) where
                 f.0,
                 after other.full_name
                     ∙ (cond-false (bytes_eq item.full_name other.full_name) (Some count)
-                    (number_in names other.full_name) apart ∙ f.1),
+                    (index_in names other.full_name) apart ∙ f.1),
                 f.2,
                 f.3,
               )
@@ -166,9 +164,9 @@ module _ (items : List Item) (placed : AreInPlace items) where
         | inr last ↦ (
             let same = same_at items j count other item (omega arith) here at in
             let told = after item.full_name
-            ∙ cond-true (bytes_eq item.full_name item.full_name) (Some count) (number_in names item.full_name)
+            ∙ cond-true (bytes_eq item.full_name item.full_name) (Some count) (index_in names item.full_name)
             ((bytes_eq-Decides item.full_name item.full_name).1 refl) in
-            (count, ap (λ (x : Item). number_in new x.full_name) same ∙ told, omega arith, (item, at, open_item)))
+            (count, ap (λ (x : Item). index_in new x.full_name) same ∙ told, omega arith, (item, at, open_item)))
       ];
     }
       where
@@ -176,16 +174,16 @@ module _ (items : List Item) (placed : AreInPlace items) where
             → a.full_name ≡ item.full_name → ⊥
         not_before j a before here open_a name =
             let f = so_far.first j a before here open_a in
-            none f.0 (sym (ap (number_in names) name) ∙ f.1) f.3
+            none f.0 (sym (ap (index_in names) name) ∙ f.1) f.3
 
-    module _ (k : ℕ) (known : number_in names item.full_name ≡ Some k) (open_k : IsOpenAt items omissions k)
+    module _ (k : ℕ) (known : index_in names item.full_name ≡ Some k) (open_k : IsOpenAt items omissions k)
         (open_item : IsOpen omissions item) where
       -- it is the first of its name
       k_first : (j : ℕ) (a : Item) → j < count → slice_get items j ≡ Some a → IsOpen omissions a
           → a.full_name ≡ item.full_name → k ≤ j
       k_first j a before here open_a name =
           let f = so_far.first j a before here open_a in
-          let same : f.0 ≡ k = some f.0 k (sym f.1 ∙ (ap (number_in names) name ∙ known)) in
+          let same : f.0 ≡ k = some f.0 k (sym f.1 ∙ (ap (index_in names) name ∙ known)) in
           omega (arith, f.2)
 
       k_name : open_k.0.full_name ≡ item.full_name
@@ -216,7 +214,7 @@ module _ (items : List Item) (placed : AreInPlace items) where
           | inl before ↦ so_far.first j other before here open_other
           | inr last ↦ (
               let same = same_at items j count other item (omega arith) here at in
-              (k, ap (λ (x : Item). number_in names x.full_name) same ∙ known, omega (arith, k_before), open_k))
+              (k, ap (λ (x : Item). index_in names x.full_name) same ∙ known, omega (arith, k_before), open_k))
         ];
       }
         where
@@ -437,7 +435,7 @@ module _ (items : List Item) (placed : AreInPlace items) where
 
   -- after all items
   pub passed_all : {S : Type 0} (start : Omissions) (count : ℕ) (omissions : Omissions)
-      (names : HashMap (Bor (List ℕ)) ℕ S) → length items ≤ count → ArePassed items start count omissions names
+      (names : HashMap (List ℕ) ℕ S) → length items ≤ count → ArePassed items start count omissions names
       → AreClashesOmitted items start omissions
   passed_all start count omissions names all so_far = record {
     size = so_far.size;
@@ -460,8 +458,8 @@ module _ (items : List Item) (placed : AreInPlace items) where
           opened x is = elim is.meets [ inl own ↦ subst (IsKept omissions) (sym own) out | inr before ↦ before.1 ]
 
 -- before any item
-pub none_passed : {S : Type 0} (items : List Item) (start : Omissions) (names : HashMap (Bor (List ℕ)) ℕ S)
-    → ((name : List ℕ) → number_in names name ≡ None) → ArePassed items start 0 start names
+pub none_passed : {S : Type 0} (items : List Item) (start : Omissions) (names : HashMap (List ℕ) ℕ S)
+    → ((name : List ℕ) → index_in names name ≡ None) → ArePassed items start 0 start names
 none_passed items start names empty = record {
   size = refl;
   stays = λ number fault out. out;

@@ -17,10 +17,10 @@ ghost use Rattle.std.specs.Prelude.{
 };
 ghost use Rattle.std.specs.Str.{bytes_eq};
 ghost use Rattle.proto_visibility.specs.Clashes.{ClashBy, NoClashBy};
-ghost use Rattle.proto_visibility.specs.Tables.NameTables.{AreInPlace, clash_with};
-ghost use Rattle.proto_visibility.specs.Tables.ImportTables.{number_in};
+ghost use Rattle.proto_visibility.specs.Tables.NameTables.{AreInPlace, clash_with, index_in};
 
 use crate::place::FilePlace;
+use proto_decl::FullName;
 use std::alloc::{AllocError, Global};
 use std::collections::HashMap;
 use std::marker::Model;
@@ -29,7 +29,7 @@ use std::marker::Model;
 #[derive(Drop)]
 pub(crate) struct Item<'a> {
     pub(crate) place: FilePlace,
-    pub(crate) full_name: &'a str,
+    pub(crate) full_name: FullName<'a>,
     pub(crate) is_declaration: bool,
 }
 
@@ -40,7 +40,7 @@ impl<'a> Model for Item<'a> {
 
     ghost view = { λ item. record {
       place = item.place;
-      full_name = item.full_name.now;
+      full_name = item.full_name;
       is_declaration =
           item.is_declaration;
     } };
@@ -56,9 +56,9 @@ pub(crate) fn first_clash(
     ensures { IfOk result (λ clash. MatchOption clash (NoClashBy (Contains items.now))
         (λ places. ClashBy (Contains items.now) places.0 places.1)) }
 {
-    let mut names = HashMap::new(alloc);
+    let mut names = HashMap::with_capacity(alloc, items.len())?;
     for (index, item) in items.iter().enumerate() {
-        let name = item.full_name;
+        let name = item.full_name.copy();
         let first = first_named(&mut names, name, index)?;
         if let Some(earlier) = clash_with(items, first, item) {
             return Ok(Some((earlier, item.place)));
@@ -69,20 +69,22 @@ pub(crate) fn first_clash(
 
 /// The index of the first item with a name. If there is none, this index is kept as that of the name.
 pub(crate) fn first_named<'a>(
-    names: &mut HashMap<&'a str, usize>,
-    name: &'a str,
+    names: &mut HashMap<FullName<'a>, usize>,
+    name: FullName<'a>,
     index: usize,
 ) -> Result<Option<usize>, AllocError>
-    ensures found { IfOk result (λ first. first ≡ number_in names.old name.now) }
-    ensures kept { IfOk result (λ first. (other : List ℕ) → number_in names.new other
-        ≡ (if is_some first then number_in names.old other else (if bytes_eq name.now other then Some index else
-        number_in names.old other))) }
+    ensures found { IfOk result (λ first. first ≡ index_in names.old name.entry) }
+    ensures kept { IfOk result (λ first. (other : List ℕ) → index_in names.new other
+        ≡ (if is_some first then index_in names.old other else (if bytes_eq name.entry other then Some index else
+        index_in names.old other))) }
 {
-    if let Some(first) = names.get(name) {
-        return Ok(Some(*first));
+    match names.insert(name.copy(), index)? {
+        Some(first) => {
+            names.insert(name, first)?;
+            Ok(Some(first))
+        }
+        None => Ok(None),
     }
-    names.insert(name, index)?;
-    Ok(None)
 }
 
 /// The place of the first item with a name, if it or the later one is a declaration.

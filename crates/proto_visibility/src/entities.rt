@@ -24,7 +24,7 @@ fn first_with(declarations: &[Declaration], name: &str) -> Option<usize>
 {
     declarations
         .iter()
-        .position(|declaration| declaration.full_name.as_str() == name)
+        .position(|declaration| declaration.full_name().is(name))
 }
 
 /// What a full name of this many components names, if it is that of a declaration or a package of the file with this

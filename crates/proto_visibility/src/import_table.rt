@@ -1,11 +1,27 @@
 //! Tables of what files import, by their numbers.
 
-ghost use Rattle.std.specs.Prelude.{◌≡◌, ℕ, ◌↔◌, [], ◌∷◌, ◌++◌, true, false, IfOk, OnOk, IsTrue, if◌then◌else◌};
+ghost use Rattle.std.specs.Prelude.{
+  ◌≡◌,
+  ℕ,
+  ◌↔◌,
+  Some,
+  List,
+  [],
+  ◌∷◌,
+  ◌++◌,
+  true,
+  false,
+  is_some,
+  IfOk,
+  OnOk,
+  IsTrue,
+  if◌then◌else◌,
+};
 ghost use Rattle.std.specs.List.{filter_map};
+ghost use Rattle.std.specs.Str.{bytes_eq};
 ghost use Rattle.proto_visibility.specs.Files.{HaveOwnPaths, is_public};
 ghost use Rattle.proto_visibility.specs.Tables.ImportTables.{IsTableOf, AreNumbered, imports_of, number_in, target};
 
-use crate::clash::first_named;
 use crate::link_file::LinkFile;
 use proto_decl::Imported;
 use proto_parse::ImportKind;
@@ -42,12 +58,30 @@ pub fn have_own_paths(alloc: Global, files: &[LinkFile]) -> Result<bool, AllocEr
     let mut numbers = HashMap::new(alloc);
     for (number, file) in files.iter().enumerate() {
         let path = file.path;
-        let first = first_named(&mut numbers, path, number)?;
+        let first = first_at(&mut numbers, path, number)?;
         if first.is_some() {
             return Ok(false);
         }
     }
     Ok(true)
+}
+
+/// The number that a path has. If it has none, it gets this one.
+fn first_at<'a>(
+    numbers: &mut HashMap<&'a str, usize>,
+    path: &'a str,
+    number: usize,
+) -> Result<Option<usize>, AllocError>
+    ensures found { IfOk result (λ first. first ≡ number_in numbers.old path.now) }
+    ensures kept { IfOk result (λ first. (other : List ℕ) → number_in numbers.new other
+        ≡ (if is_some first then number_in numbers.old other else (if bytes_eq path.now other then Some number else
+        number_in numbers.old other))) }
+{
+    if let Some(first) = numbers.get(path) {
+        return Ok(Some(*first));
+    }
+    numbers.insert(path, number)?;
+    Ok(None)
 }
 
 /// The numbers of the files by their paths.

@@ -9,7 +9,7 @@ ghost use Rattle.proto_visibility.specs.Tables.NameTables.{AreInPlace};
 
 use crate::clash::Item;
 use crate::place::FilePlace;
-use proto_decl::{Component, Declaration, FileFacts, facts_in_order};
+use proto_decl::{Component, Declaration, FileFacts, FullName, facts_in_order};
 use sequences::OwnedText;
 use std::alloc::{AllocError, Global};
 
@@ -72,14 +72,14 @@ fn declared_items<'a>(
 ) -> Result<Vec<Item<'a>>, AllocError>
     ensures { IfOk result (λ items. items.items ≡ map (declared_item number) declarations.now) }
 {
-    let mut items = Vec::new(alloc);
+    let mut items = Vec::with_capacity(alloc, declarations.len())?;
     for declaration in declarations {
         items.push(Item {
             place: FilePlace {
                 file: number,
-                span: declaration.name,
+                span: declaration.name(),
             },
-            full_name: declaration.full_name.as_str(),
+            full_name: declaration.full_name(),
             is_declaration: true,
         })?;
     }
@@ -102,7 +102,7 @@ fn add_package<'a>(
                 file: number,
                 span: component.span,
             },
-            full_name: prefixes[index].as_str(),
+            full_name: FullName::whole(prefixes[index].as_str()),
             is_declaration: false,
         })?;
     }

@@ -6,7 +6,6 @@ ghost use Rattle.std.specs.Str.{bytes_eq};
 ghost use Rattle.proto_visibility.specs.declared.names.DeclaredAt.{DeclaredAt};
 ghost use Rattle.proto_visibility.specs.Tables.FileItems.{AreAllPrefixes};
 ghost use Rattle.proto_visibility.specs.Tables.GivenNames.{
-  listed_at,
   owned_at,
   IsDeclaredOf,
   IsDeclaredIn,
@@ -18,7 +17,7 @@ ghost use Rattle.proto_visibility.specs.Tables.GivenNames.{
 use crate::link_file::LinkFile;
 use crate::role::Role;
 use indexmap::IndexMap;
-use proto_decl::{Declaration, DeclarationKind};
+use proto_decl::{Declaration, DeclarationKind, FullName};
 use sequences::{OwnedText, Sequence};
 use std::alloc::{AllocError, Global};
 
@@ -33,18 +32,18 @@ pub(crate) struct DeclaredAt {
 /// For each full name the messages, enums and services that have it, and for each package the files
 /// that have it or one below it, in order of their numbers.
 #[derive(Drop)]
-pub(crate) struct Names<'a> {
-    declared: IndexMap<&'a str, Vec<DeclaredAt>>,
+pub(crate) struct Names {
+    declared: IndexMap<String, Vec<DeclaredAt>>,
     packages: IndexMap<String, Vec<usize>>,
 }
 
-impl<'a> Names<'a> {
+impl Names {
     /// The names that files give, by the names of their packages' prefixes.
     pub(crate) fn of(
         alloc: Global,
-        files: &'a [LinkFile<'a, '_>],
+        files: &[LinkFile],
         prefixes: &[Sequence<OwnedText>],
-    ) -> Result<Names<'a>, AllocError>
+    ) -> Result<Names, AllocError>
         requires { AreAllPrefixes files.now prefixes.now }
         ensures { IfOk result (AreNames files.now) }
     {
@@ -55,7 +54,7 @@ impl<'a> Names<'a> {
 
     /// The messages, enums and services that have a full name.
     pub(crate) fn declaring(&self, name: &str) -> &[DeclaredAt]
-        ensures { result.now ≡ listed_at self.now.declared name.now }
+        ensures { result.now ≡ owned_at self.now.declared name.now }
     {
         match self.declared.get(name) {
             Some(listed) => listed.as_slice(),
@@ -75,46 +74,48 @@ impl<'a> Names<'a> {
 }
 
 /// For each full name the messages, enums and services that have it.
-fn declared_names<'a>(
+fn declared_names(
     alloc: Global,
-    files: &'a [LinkFile<'a, '_>],
-) -> Result<IndexMap<&'a str, Vec<DeclaredAt>>, AllocError>
-    ensures { IfOk result (λ names. AreDeclared files.now (listed_at names)) }
+    files: &[LinkFile],
+) -> Result<IndexMap<String, Vec<DeclaredAt>>, AllocError>
+    ensures { IfOk result (λ names. AreDeclared files.now (owned_at names)) }
 {
     let mut names = IndexMap::new(alloc);
     for (number, file) in files.iter().enumerate() {
-        add_file(&mut names, number, file)?;
+        add_file(alloc, &mut names, number, file)?;
     }
     Ok(names)
 }
 
 /// Adds those of the file with this number.
-fn add_file<'a>(
-    names: &mut IndexMap<&'a str, Vec<DeclaredAt>>,
+fn add_file(
+    alloc: Global,
+    names: &mut IndexMap<String, Vec<DeclaredAt>>,
     number: usize,
-    file: &LinkFile<'a, '_>,
+    file: &LinkFile,
 ) -> Result<(), AllocError>
-    ensures { OnOk result ((name : List ℕ) (one : DeclaredAt) → Contains (listed_at names.new name) one ↔
-        (Contains (listed_at names.old name) one ⊎ IsDeclaredIn number file.now name one)) }
+    ensures { OnOk result ((name : List ℕ) (one : DeclaredAt) → Contains (owned_at names.new name) one ↔
+        (Contains (owned_at names.old name) one ⊎ IsDeclaredIn number file.now name one)) }
 {
     match file.facts {
-        Some(facts) => add_declarations(names, number, facts.declarations()),
+        Some(facts) => add_declarations(alloc, names, number, facts.declarations()),
         None => Ok(()),
     }
 }
 
 /// Adds a file's messages, enums and services.
-fn add_declarations<'a>(
-    names: &mut IndexMap<&'a str, Vec<DeclaredAt>>,
+fn add_declarations(
+    alloc: Global,
+    names: &mut IndexMap<String, Vec<DeclaredAt>>,
     number: usize,
-    declarations: &'a [Declaration],
+    declarations: &[Declaration],
 ) -> Result<(), AllocError>
-    ensures { OnOk result ((name : List ℕ) (one : DeclaredAt) → Contains (listed_at names.new name) one ↔
-        (Contains (listed_at names.old name) one ⊎ ((index : ℕ) × IsDeclaredOf number declarations.now index name
+    ensures { OnOk result ((name : List ℕ) (one : DeclaredAt) → Contains (owned_at names.new name) one ↔
+        (Contains (owned_at names.old name) one ⊎ ((index : ℕ) × IsDeclaredOf number declarations.now index name
         one))) }
 {
     for (index, declaration) in declarations.iter().enumerate() {
-        let kind = declaration.kind;
+        let kind = declaration.kind();
         if !Role::AsAggregate.admits(kind) {
             continue;
         }
@@ -123,21 +124,34 @@ fn add_declarations<'a>(
             index,
             kind,
         };
-        add_declared(names, declaration.full_name.as_str(), one)?;
+        add_declared(alloc, names, declaration.full_name(), one)?;
     }
     Ok(())
 }
 
 /// Adds a declaration to those that have its name.
-fn add_declared<'a>(
-    names: &mut IndexMap<&'a str, Vec<DeclaredAt>>,
-    name: &'a str,
+fn add_declared(
+    alloc: Global,
+    names: &mut IndexMap<String, Vec<DeclaredAt>>,
+    name: FullName<'_>,
     one: DeclaredAt,
 ) -> Result<(), AllocError>
-    ensures { OnOk result ((other : List ℕ) → listed_at names.new other
-        ≡ (if bytes_eq name.now other then listed_at names.old other ++ one ∷ [] else listed_at names.old other)) }
+    ensures { OnOk result ((other : List ℕ) → owned_at names.new other
+        ≡ (if bytes_eq name.entry other then owned_at names.old other ++ one ∷ [] else owned_at names.old other)) }
 {
-    names.entry(name)?.or_default().push(one)?;
+    let text = name.to_text(alloc)?.into_string();
+    list_one(names.entry(text)?.or_default(), one)?;
+    Ok(())
+}
+
+/// Adds a declaration to a list. One that was empty gets room for it alone, since most names are of one declaration.
+fn list_one(list: &mut Vec<DeclaredAt>, one: DeclaredAt) -> Result<(), AllocError>
+    ensures { OnOk result (list.new.items ≡ list.old.items ++ one ∷ []) }
+{
+    if list.is_empty() {
+        list.reserve_exact(1)?;
+    }
+    list.push(one)?;
     Ok(())
 }
 

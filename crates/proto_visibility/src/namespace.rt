@@ -43,7 +43,7 @@ pub struct Namespace<'a, 't> {
     files: &'a [LinkFile<'a, 't>],
     numbers: HashMap<&'a str, usize>,
     seen: SeenFiles,
-    names: Names<'a>,
+    names: Names,
 }
 
 impl<'a, 't> Model for Namespace<'a, 't> {

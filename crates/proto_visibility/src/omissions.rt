@@ -20,8 +20,7 @@ ghost use Rattle.proto_visibility.specs.declared.fault.LinkFault.TheVariants.{Br
 ghost use Rattle.proto_visibility.specs.Files.{HaveOwnPaths};
 ghost use Rattle.proto_visibility.specs.Sees.{Counts};
 ghost use Rattle.proto_visibility.specs.Kept.{Omissions, IsKept, AreOmissions};
-ghost use Rattle.proto_visibility.specs.Tables.NameTables.{AreInPlace, clash_with};
-ghost use Rattle.proto_visibility.specs.Tables.ImportTables.{number_in};
+ghost use Rattle.proto_visibility.specs.Tables.NameTables.{AreInPlace, clash_with, index_in};
 ghost use Rattle.proto_visibility.specs.Tables.Passes.{AreUnreadOf, AreClashesOmitted, ArePassed, IsOpenAt};
 
 use crate::all_items::{all_items, all_prefixes};
@@ -31,6 +30,7 @@ use crate::fault::LinkFault;
 use crate::file_row::FileRow;
 use crate::import_table::{numbers_of, steps_of};
 use crate::link_file::LinkFile;
+use proto_decl::FullName;
 use std::alloc::{AllocError, Global};
 use std::collections::HashMap;
 
@@ -105,7 +105,7 @@ fn omit_clashes(
 /// clashes with this one, the file of this one is left out.
 fn pass_item<'a>(
     omissions: &mut Vec<Option<LinkFault>>,
-    names: &mut HashMap<&'a str, usize>,
+    names: &mut HashMap<FullName<'a>, usize>,
     items: &[Item<'a>],
     index: usize,
 ) -> Result<(), AllocError>
@@ -118,14 +118,13 @@ fn pass_item<'a>(
     if !is_kept(omissions.as_slice(), item.place.file) {
         return Ok(());
     }
-    let name = item.full_name;
-    match open_with(omissions.as_slice(), names, items, name) {
+    match open_with(omissions.as_slice(), names, items, &item.full_name) {
         Some(first) => {
             omit_if_clash(omissions, items, first, item);
             Ok(())
         }
         None => {
-            names.insert(name, index)?;
+            names.insert(item.full_name.copy(), index)?;
             Ok(())
         }
     }
@@ -142,15 +141,15 @@ fn is_kept(omissions: &[Option<LinkFault>], number: usize) -> bool
 }
 
 /// The index of the item that the map has at a name, if its file is kept so far.
-fn open_with(
+fn open_with<'a>(
     omissions: &[Option<LinkFault>],
-    names: &HashMap<&str, usize>,
-    items: &[Item],
-    name: &str,
+    names: &HashMap<FullName<'a>, usize>,
+    items: &[Item<'a>],
+    name: &FullName<'a>,
 ) -> Option<usize>
     ensures { MatchOption result
-        ((index : ℕ) → number_in names.now name.now ≡ Some index → IsOpenAt items.now omissions.now index → ⊥)
-        (λ index. (number_in names.now name.now ≡ Some index) × IsOpenAt items.now omissions.now index) }
+        ((index : ℕ) → index_in names.now name.now ≡ Some index → IsOpenAt items.now omissions.now index → ⊥)
+        (λ index. (index_in names.now name.now ≡ Some index) × IsOpenAt items.now omissions.now index) }
 {
     let first = names.get(name).copied()?;
     let item = items.get(first)?;

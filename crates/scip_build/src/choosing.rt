@@ -1,12 +1,24 @@
 //! The choices for declarations.
 
 ghost use Rattle.std.specs.Prelude.{IfOk};
-ghost use Rattle.scip_build.specs.Readings.{AreChosen};
+ghost use Rattle.scip_build.specs.Readings.{AreChosen, seen_of};
 
 use index_hooks::{Choice, Chooses};
 use proto_decl::Declaration;
 use sequences::Sequence;
 use std::alloc::{AllocError, Global};
+
+/// The choice for a declaration. Takes memory for its full name, which is let go.
+fn choice_for<C: Chooses>(
+    alloc: Global,
+    chooser: &C,
+    declaration: &Declaration,
+) -> Result<Choice, AllocError>
+    ensures { IfOk result (C.allows chooser.now (seen_of declaration.now)) }
+{
+    let named = declaration.named(alloc)?;
+    Ok(chooser.choose(&named.view()))
+}
 
 /// The choices for declarations, in their order. Each is chosen for once.
 pub(crate) fn choose_each<C: Chooses>(
@@ -18,7 +30,7 @@ pub(crate) fn choose_each<C: Chooses>(
 {
     let mut choices = Vec::with_capacity(alloc, declarations.len())?;
     for declaration in declarations {
-        choices.push(chooser.choose(&declaration.view()))?;
+        choices.push(choice_for(alloc, chooser, declaration)?)?;
     }
     Ok(Sequence::from_vec(choices))
 }

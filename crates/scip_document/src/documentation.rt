@@ -1,6 +1,6 @@
 //! The texts that document a declaration.
 
-ghost use Rattle.std.specs.Prelude.{◌≡◌, ◌++◌, IfOk, OnOk};
+ghost use Rattle.std.specs.Prelude.{◌≡◌, ◌<◌, ◌++◌, [], IfOk, OnOk};
 ghost use Rattle.scip_document.specs.Documentation.{unless_empty, documentation_of};
 
 use index_hooks::DocChoice;
@@ -20,11 +20,29 @@ fn push_text(alloc: Global, texts: &mut Sequence<OwnedText>, text: &str) -> Resu
     Ok(())
 }
 
+/// How many texts a text is: none if it is empty.
+fn count_of(text: &str) -> usize
+    ensures { result < 2 }
+{
+    match text.len() {
+        0 => 0,
+        _ => 1,
+    }
+}
+
+/// No texts, with room for so many.
+fn with_room(alloc: Global, count: usize) -> Result<Sequence<OwnedText>, AllocError>
+    ensures { IfOk result (λ texts. texts ≡ []) }
+{
+    let texts = Vec::with_capacity(alloc, count)?;
+    Ok(Sequence::from_vec(texts))
+}
+
 /// A text, or none if it is empty.
 fn one_text(alloc: Global, text: &str) -> Result<Sequence<OwnedText>, AllocError>
     ensures { IfOk result (λ texts. texts ≡ unless_empty text.now) }
 {
-    let mut texts = Sequence::new(alloc);
+    let mut texts = with_room(alloc, count_of(text))?;
     push_text(alloc, &mut texts, text)?;
     Ok(texts)
 }
@@ -33,7 +51,7 @@ fn one_text(alloc: Global, text: &str) -> Result<Sequence<OwnedText>, AllocError
 fn two_texts(alloc: Global, first: &str, second: &str) -> Result<Sequence<OwnedText>, AllocError>
     ensures { IfOk result (λ texts. texts ≡ unless_empty first.now ++ unless_empty second.now) }
 {
-    let mut texts = Sequence::new(alloc);
+    let mut texts = with_room(alloc, count_of(first) + count_of(second))?;
     push_text(alloc, &mut texts, first)?;
     push_text(alloc, &mut texts, second)?;
     Ok(texts)
@@ -47,8 +65,8 @@ pub(crate) fn documentation_of(
 ) -> Result<Sequence<OwnedText>, AllocError>
     ensures { IfOk result (λ texts. texts ≡ documentation_of choice declaration.now) }
 {
-    let leading = declaration.leading.as_str();
-    let trailing = declaration.trailing.as_str();
+    let leading = declaration.leading();
+    let trailing = declaration.trailing();
     match choice {
         DocChoice::Pass => Ok(Sequence::new(alloc)),
         DocChoice::Nothing => Ok(Sequence::new(alloc)),

@@ -100,8 +100,7 @@ fn entry_with(
     ensures { IfOk result (λ entry. entry ≡ entry_with symbol declaration.now choice) }
 {
     let documentation = documentation_of(alloc, choice.doc, declaration)?;
-    let view = declaration.view();
-    let display_name = OwnedText::copy_of(alloc, view.name())?;
+    let display_name = OwnedText::copy_of(alloc, declaration.simple_name())?;
     Ok(SymbolInformation {
         symbol,
         documentation,
@@ -205,7 +204,8 @@ fn listed_entries(
     ensures { IfOk result (λ entries. entries.items ≡ source_entries id.now maker.now.package.now.run path.now
         facts.now (choices_for maker.now.choices.now maker.now.source)) }
 {
-    let mut entries = Vec::new(maker.alloc);
+    let room = 1 + facts.package_name().len() + texts.len();
+    let mut entries = Vec::with_capacity(maker.alloc, room)?;
     let first = file_entry(maker.alloc, id, path)?;
     entries.push(first)?;
     push_packages(maker.alloc, &mut entries, maker.package.run(), facts)?;

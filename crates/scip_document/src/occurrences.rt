@@ -123,7 +123,7 @@ pub(crate) fn import_occurrences(
         (at_import maker.now.package.now maker.now.encoding maker.now.text.now maker.now.linker.now)
         0 imports.now) }
 {
-    let mut list = Vec::new(maker.alloc);
+    let mut list = Vec::with_capacity(maker.alloc, imports.len())?;
     for imported in imports {
         add_import(&mut list, maker, imported)?;
     }
@@ -141,7 +141,7 @@ pub(crate) fn package_occurrences(
         (at_package maker.now.package.now.run maker.now.encoding maker.now.text.now facts.now)
         0 facts.now.package_name) }
 {
-    let mut list = Vec::new(maker.alloc);
+    let mut list = Vec::with_capacity(maker.alloc, facts.package_name().len())?;
     for (index, component) in facts.package_name().iter().enumerate() {
         let symbol = package_text(maker.alloc, maker.package.run(), facts, index + 1)?;
         list.push(occurrence_over(maker, component.span, symbol, DEFINITION))?;
@@ -165,7 +165,7 @@ fn add_declaration(
 {
     if maker.choices.of(maker.source, index).keep {
         let symbol = OwnedText::copy_of(maker.alloc, symbol)?;
-        list.push(occurrence_over(maker, declaration.name, symbol, DEFINITION))?;
+        list.push(occurrence_over(maker, declaration.name(), symbol, DEFINITION))?;
     }
     Ok(())
 }

@@ -51,7 +51,7 @@ fn own_occurrences(alloc: Global, id: &PackageId, path: &str) -> Result<Vec<Occu
     requires { IsGoodPath path.now }
     ensures { IfOk result (λ list. list.items ≡ own_occurrence id.now path.now ∷ []) }
 {
-    let mut list = Vec::new(alloc);
+    let mut list = Vec::with_capacity(alloc, 1)?;
     list.push(file_occurrence(alloc, id, path)?)?;
     Ok(list)
 }

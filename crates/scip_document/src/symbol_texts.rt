@@ -52,7 +52,7 @@ pub(crate) fn declaration_text(
     requires { Contains facts.now.declarations declaration.now }
     ensures { IfOk result (λ text. text ≡ text_of id.now (declaration_at facts.now declaration.now)) }
 {
-    let text = print_declaration(alloc, id, facts.package_name(), &declaration.path)?;
+    let text = print_declaration(alloc, id, facts.package_name(), declaration.path())?;
     Ok(OwnedText::from_string(text))
 }
 
@@ -67,7 +67,7 @@ fn text_below(
         → front.now ≡ text_of id (OfPackage (component_names facts.package_name))
         → text ≡ text_of id (declaration_at facts declaration.now)) }
 {
-    let text = print_below(alloc, front, &declaration.path)?;
+    let text = print_below(alloc, front, declaration.path())?;
     Ok(OwnedText::from_string(text))
 }
 

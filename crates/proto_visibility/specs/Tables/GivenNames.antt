@@ -3,9 +3,7 @@ use Rattle.std.specs.Prelude.{◌≡◌, ◌↔◌, ◌⊎◌, ℕ, Bool, true, 
 use Rattle.std.specs.List.{slice_get}
 use Rattle.std.specs.List.Sorted.{IsNonDecreasing}
 use Rattle.std.specs.Option.{option_map_or}
-use Rattle.std.specs.Str.{bytes_eq}
-use Rattle.std.specs.HashMap.{HashMap, get_by, get_by_text}
-use denote.Ref.{Bor}
+use Rattle.std.specs.HashMap.{HashMap, get_by_text}
 use Rattle.proto_decl.specs.Facts.{Facts}
 use Rattle.proto_decl.specs.declared.declaration.Declaration.{Declaration}
 use Rattle.proto_visibility.specs.declared.names.DeclaredAt.{DeclaredAt}
@@ -16,10 +14,6 @@ use Rattle.proto_visibility.specs.Knows.NameKind.{OfPackage, OfDeclaration}
 use Rattle.proto_visibility.specs.FileNames.{IsPrefix}
 
 -- what a map lists at a name
-abbrev pub listed_at : {X A S : Type 0} → HashMap (Bor (List ℕ)) (Vec X A) S → (name : List ℕ) → List X
-listed_at names name = option_map_or (λ listed. listed.items) (get_by (λ key. bytes_eq name key.now) names) []
-
--- the same for a map that owns its names
 abbrev pub owned_at : {X A Y S : Type 0} → HashMap (String Y) (Vec X A) S → (name : List ℕ) → List X
 owned_at names name = option_map_or (λ listed. listed.items) (get_by_text names name) []
 
@@ -59,7 +53,7 @@ ArePackaged files at = (name : List ℕ) (number : ℕ) → Contains (at name) n
 
 -- the tables have the names that the files give, and no others; the files of a package are in order of their numbers
 pub record AreNames (files : List File) (names : Names) : Type 0 where
-  pub declared : AreDeclared files (listed_at names.declared)
+  pub declared : AreDeclared files (owned_at names.declared)
   pub packaged : ArePackaged files (owned_at names.packages)
   pub in_order : (name : List ℕ) → IsNonDecreasing (owned_at names.packages name)
 
@@ -75,12 +69,12 @@ IsDeclaring declared admits number =
 -- the file with this number gives the name in this role, by the tables
 abbrev pub IsListed : Names → (NameKind → Bool) → (name : List ℕ) → (number : ℕ) → Type 0
 IsListed names admits name number =
-    IsDeclaring (listed_at names.declared name) admits number
+    IsDeclaring (owned_at names.declared name) admits number
     ⊎ ((admits OfPackage ≡ true) × Contains (owned_at names.packages name) number)
 
 -- what the tables list of the file with this number is so of its facts
 pub record AreNamesOf (number : ℕ) (facts : Facts) (names : Names) : Type 0 where
-  pub declared : (name : List ℕ) (one : DeclaredAt) → Contains (listed_at names.declared name) one → one.file ≡ number
+  pub declared : (name : List ℕ) (one : DeclaredAt) → Contains (owned_at names.declared name) one → one.file ≡ number
       → (declaration : Declaration) × (slice_get facts.declarations one.index ≡ Some declaration)
       × (declaration.full_name ≡ name)
   pub packaged : (name : List ℕ) → Contains (owned_at names.packages name) number → IsPrefix facts.package_name name

@@ -1,11 +1,10 @@
 -- Items in order of place, and a map from names to the first item that has each.
 use Rattle.std.specs.Prelude.{◌≡◌, ℕ, ◌<◌, Option, Some, None, List, ◌||◌, MatchOption, if◌then◌else◌}
 use Rattle.std.specs.List.{slice_get}
-use Rattle.std.specs.HashMap.{HashMap}
-use denote.Ref.{Bor}
+use Rattle.std.specs.HashMap.{HashMap, get_by}
+use Rattle.std.specs.Str.{bytes_eq}
 use Rattle.proto_visibility.specs.declared.place.FilePlace.{FilePlace}
 use Rattle.proto_visibility.specs.Items.{Before, Item}
-use Rattle.proto_visibility.specs.Tables.ImportTables.{number_in}
 
 -- each item comes before those after it
 abbrev pub AreInPlace : List Item → Type 0
@@ -24,10 +23,14 @@ pub record IsFirstNamed (items : List Item) (count : ℕ) (name : List ℕ) (ind
   pub within : index < count
   pub first : HasNone items index name
 
+-- the index that is in a map at a full name
+abbrev pub index_in : {S : Type 0} → HashMap (List ℕ) ℕ S → (name : List ℕ) → Option ℕ
+index_in names name = get_by (λ key. bytes_eq name key) names
+
 -- the map has the first of this many items with each name
-abbrev pub AreFirst : {S : Type 0} → List Item → (count : ℕ) → HashMap (Bor (List ℕ)) ℕ S → Type 0
+abbrev pub AreFirst : {S : Type 0} → List Item → (count : ℕ) → HashMap (List ℕ) ℕ S → Type 0
 AreFirst items count names = (name : List ℕ)
-    → MatchOption (number_in names name) (HasNone items count name) (IsFirstNamed items count name)
+    → MatchOption (index_in names name) (HasNone items count name) (IsFirstNamed items count name)
 
 -- the place of the earlier item, if one of the two is a declaration
 abbrev pub place_if_declared : Option Item → Item → Option FilePlace

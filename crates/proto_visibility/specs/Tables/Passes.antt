@@ -2,7 +2,6 @@
 use Rattle.std.specs.Prelude.{◌≡◌, ◌<◌, ◌≤◌, ℕ, Option, Some, None, List, ◌||◌, false, length, MatchOption, Contains}
 use Rattle.std.specs.List.{slice_get}
 use Rattle.std.specs.HashMap.{HashMap}
-use denote.Ref.{Bor}
 use Rattle.proto_visibility.specs.declared.fault.LinkFault.{LinkFault}
 use Rattle.proto_visibility.specs.declared.fault.LinkFault.TheVariants.{Broken, Duplicate, MissingImport, Unresolved}
 use Rattle.proto_visibility.specs.declared.fault.LinkFault.TheVariants.{Memory}
@@ -11,7 +10,7 @@ use Rattle.proto_visibility.specs.Items.{Item}
 use Rattle.proto_visibility.specs.Clashes.{ClashBy, NoClashBy}
 use Rattle.proto_visibility.specs.Absences.{IsUnread}
 use Rattle.proto_visibility.specs.Kept.{Omissions, IsKept, IsMet}
-use Rattle.proto_visibility.specs.Tables.ImportTables.{number_in}
+use Rattle.proto_visibility.specs.Tables.NameTables.{index_in}
 
 -- of each of the first so many files, whether it is left out because it has no facts
 pub record AreUnreadOf (files : List File) (count : ℕ) (omissions : Omissions) : Type 0 where
@@ -61,22 +60,22 @@ IsTold items count omissions number fault =
     × IsClashOmission (Contains items) omissions number (Some fault)
 
 -- the map has an index at the name, that of an open item, which is this one or before it
-abbrev pub IsFirst : {S : Type 0} → List Item → Omissions → HashMap (Bor (List ℕ)) ℕ S → (name : List ℕ) → (index : ℕ)
+abbrev pub IsFirst : {S : Type 0} → List Item → Omissions → HashMap (List ℕ) ℕ S → (name : List ℕ) → (index : ℕ)
     → Type 0
 IsFirst items omissions names name index =
-    (first : ℕ) × (number_in names name ≡ Some first) × (first ≤ index) × IsOpenAt items omissions first
+    (first : ℕ) × (index_in names name ≡ Some first) × (first ≤ index) × IsOpenAt items omissions first
 
 -- The pass over the first so many items: the map has for each name the first item of an open file, or one of a file
 -- that was left out.
 pub record ArePassed {S : Type 0} (items : List Item) (start : Omissions) (count : ℕ) (omissions : Omissions)
-    (names : HashMap (Bor (List ℕ)) ℕ S) : Type 0 where
+    (names : HashMap (List ℕ) ℕ S) : Type 0 where
   pub size : length omissions ≡ length start
   pub stays : (number : ℕ) (fault : LinkFault) → slice_get start number ≡ Some (Some fault)
       → slice_get omissions number ≡ Some (Some fault)
   pub told : (number : ℕ) (fault : LinkFault) → IsKept start number → slice_get omissions number ≡ Some (Some fault)
       → IsTold items count omissions number fault
   pub clear : NoneClash items omissions count
-  pub found : (name : List ℕ) (index : ℕ) → number_in names name ≡ Some index
+  pub found : (name : List ℕ) (index : ℕ) → index_in names name ≡ Some index
       → (index < count) × HasName items name index
   pub first : (index : ℕ) (item : Item) → index < count → slice_get items index ≡ Some item → IsOpen omissions item
       → IsFirst items omissions names item.full_name index

@@ -5,8 +5,7 @@ use Rattle.std.specs.Str.{bytes_eq}
 use Rattle.std.proofs.lemmas.Option.{slice_get_read}
 use Rattle.proto_visibility.specs.Items.{Item}
 use Rattle.proto_visibility.specs.Clashes.{ClashBy}
-use Rattle.proto_visibility.specs.Tables.NameTables.{HasNone, IsFirstNamed}
-use Rattle.proto_visibility.specs.Tables.ImportTables.{number_in}
+use Rattle.proto_visibility.specs.Tables.NameTables.{HasNone, IsFirstNamed, index_in}
 use Rattle.proto_visibility.proofs.ClashLemmas.{none_clash_more, is_clash, no_clash, first_more}
 use Rattle.proto_visibility.proofs.clash.first_clash.Goals as goal
 
@@ -20,8 +19,8 @@ returns-in-Some c =
     let within : index < length items = omega arith in
     let stands : slice_get items index ≡ Some item =
     slice_get_read items (length items) index item refl within c.index-items-index.is in
-    let name = ap (λ (i : Item). i.full_name) c.item.view_is in
-    let found = c.in_ok-first.ensures.found ∙ ap (number_in names) name in
+    let name = c.copy-name.ensures ∙ ap (λ (i : Item). i.full_name) c.item.view_is in
+    let found = c.in_ok-first.ensures.found ∙ ap (index_in names) name in
     let is = subst (λ o. MatchOption o (HasNone items index item.full_name) (IsFirstNamed items index item.full_name))
     (sym found) (c.loop-index.invariant.first item.full_name) in
     subst (ClashBy (Contains items) c.in-Some.earlier) (sym (ap (λ (i : Item). i.place) c.item.view_is))
@@ -39,13 +38,13 @@ loop-index-preserved c =
     let within : index < length items = omega arith in
     let stands : slice_get items index ≡ Some item =
     slice_get_read items (length items) index item refl within c.index-items-index.is in
-    let name = ap (λ (i : Item). i.full_name) c.item.view_is in
-    let found = c.in_ok-first.ensures.found ∙ ap (number_in names) name in
+    let name = c.copy-name.ensures ∙ ap (λ (i : Item). i.full_name) c.item.view_is in
+    let found = c.in_ok-first.ensures.found ∙ ap (index_in names) name in
     let is = subst (λ o. MatchOption o (HasNone items index item.full_name) (IsFirstNamed items index item.full_name))
     (sym found) (c.loop-index.invariant.first item.full_name) in
     let kept = λ (other : List ℕ). subst
-    (λ n. number_in new other
-    ≡ cond (is_some first) (number_in names other) (cond (bytes_eq n other) (Some index) (number_in names other)))
+    (λ n. index_in new other
+    ≡ cond (is_some first) (index_in names other) (cond (bytes_eq n other) (Some index) (index_in names other)))
     name (c.in_ok-first.ensures.kept other) in
     record {
       first = first_more items index item first names new stands found kept c.loop-index.invariant.first;

@@ -21,10 +21,10 @@ loop-index-preserved c =
     let prefix_stands : slice_get prefixes index ≡ Some prefix =
     slice_get_read prefixes (length components) index prefix
     (sym c.requires.one_each) within c.index-prefixes-index.is in
-    let name = c.as_str.ensures ∙ c.requires.each index prefix prefix_stands in
+    let name = c.whole.ensures ∙ (c.as_str.ensures ∙ c.requires.each index prefix prefix_stands) in
     let item : Item = record {
       place = record { file = c.args.number; span = component.span };
-      full_name = c.as_str.result.now;
+      full_name = c.whole.result;
       is_declaration = false;
     } in
     let is : item ≡ packaged_item c.args.number components index component =

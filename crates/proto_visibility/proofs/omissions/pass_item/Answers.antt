@@ -3,11 +3,9 @@ use Rattle.std.specs.List.{slice_get}
 use Rattle.std.specs.Str.{bytes_eq}
 use Rattle.std.proofs.lemmas.Bool.{false≢true}
 use Rattle.std.proofs.lemmas.Option.{slice_get_read, slice_get_within}
-use Rattle.std.proofs.lemmas.Map.Text.{hash_map_updates_str}
 use Rattle.proto_visibility.specs.Items.{Item}
 use Rattle.proto_visibility.specs.Kept.{Omissions}
-use Rattle.proto_visibility.specs.Tables.NameTables.{clash_with}
-use Rattle.proto_visibility.specs.Tables.ImportTables.{number_in}
+use Rattle.proto_visibility.specs.Tables.NameTables.{clash_with, index_in}
 use Rattle.proto_visibility.specs.Tables.Passes.{IsOpenAt}
 use Rattle.proto_visibility.proofs.PassLemmas.{same_kept, pass_closed, pass_new, pass_met}
 use Rattle.proto_visibility.proofs.omissions.pass_item.Goals as goal
@@ -48,8 +46,8 @@ returns-in-Some c = λ start so_far.
     let file = ap (λ (i : Item). i.place.file) c.item.view_is in
     let open_item = same_kept c.as_slice.result.now omissions c.item.inside.place.file item.place.file
     c.as_slice.ensures.value file (c.is_kept.ensures.0 c.if-not-is_kept.false) in
-    let known : number_in names item.full_name ≡ Some first =
-    ap (number_in names) (sym (ap (λ (i : Item). i.full_name) c.item.view_is)) ∙ c.in-Some.ensures.0 in
+    let known : index_in names item.full_name ≡ Some first =
+    ap (index_in names) (sym (ap (λ (i : Item). i.full_name) c.item.view_is)) ∙ c.in-Some.ensures.0 in
     let open_first = subst (λ (os : Omissions). IsOpenAt items os first) c.as_slice-2.ensures.value c.in-Some.ensures.1
     in
     pass_met items c.requires.placed start index omissions names item at so_far first known open_first open_item
@@ -70,9 +68,8 @@ returns-in_ok-insert-in-None c = λ start so_far.
     let open_item = same_kept c.as_slice.result.now omissions c.item.inside.place.file item.place.file
     c.as_slice.ensures.value file (c.is_kept.ensures.0 c.if-not-is_kept.false) in
     let after = λ (other : List ℕ). subst
-    (λ n. number_in new other ≡ cond (bytes_eq n other) (Some index) (number_in names other)) name
-    (hash_map_updates_str c.item.inside.full_name.now names new
-    (Some index) c.in_ok-insert-in-None.ensures.updates other) in
+    (λ n. index_in new other ≡ cond (bytes_eq n other) (Some index) (index_in names other)) (c.copy.ensures ∙ name)
+    (c.in_ok-insert-in-None.ensures.updates.0 other) in
     pass_new items c.requires.placed start index omissions names item at so_far new open_item
-    (λ k e its. c.in-None.ensures k (ap (number_in names) name ∙ e)
+    (λ k e its. c.in-None.ensures k (ap (index_in names) name ∙ e)
     (subst (λ (os : Omissions). IsOpenAt items os k) (sym c.as_slice-2.ensures.value) its)) after

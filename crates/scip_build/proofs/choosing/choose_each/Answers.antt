@@ -1,4 +1,3 @@
-use Rattle.std.proofs.Common.{subst}
 use Rattle.proto_decl.specs.Seen.{Seen}
 use Rattle.index_hooks.specs.declared.choice.Choice.{Choice}
 use Rattle.proto_decl.specs.declared.declaration.Declaration.{Declaration}
@@ -10,9 +9,7 @@ pub loop-declaration-preserved : goal.loop-declaration-preserved
 loop-declaration-preserved g c =
     let allows : Seen → Choice → Type 0 = g.C.Chooses.allows c.args.chooser.now in
     let may_come : Declaration → Choice → Type 0 = λ declaration choice. allows (seen_of declaration) choice in
-    let For : Seen → Type 0 = λ seen. allows seen c.choose.result in
-    let comes : may_come c.declaration-item.result c.choose.result = subst For c.view.ensures c.choose.ensures in
     rw c.in_ok-push.ensures.items
     (one_more may_come c.args.declarations.now c.loop-declaration.choices.items c.loop-declaration.declaration-index
-    c.declaration-item.result c.choose.result
-    c.loop-declaration-test.true c.declaration-item.is c.loop-declaration.invariant comes)
+    c.declaration-item.result c.in_ok-choice_for.field-0
+    c.loop-declaration-test.true c.declaration-item.is c.loop-declaration.invariant c.in_ok-choice_for.ensures)

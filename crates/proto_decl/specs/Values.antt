@@ -1,0 +1,22 @@
+-- What contracts see of a declaration, and of one before its comments are looked for.
+use Rattle.std.specs.Prelude.{ℕ, List}
+use Rattle.proto_lex.specs.declared.span.Span.{Span}
+use Rattle.proto_parse.specs.tree.Heading.{Heading}
+use Rattle.proto_decl.specs.declared.kind.DeclarationKind.{DeclarationKind}
+use Rattle.proto_decl.specs.declared.declaration.DeclarationStep.{DeclarationStep}
+
+-- Its full name, the path from the package to it, where its simple name is, and the texts of the comments before and
+-- behind it. Names and texts are lists of bytes.
+pub record Declaration : Type 0 where
+  pub kind : DeclarationKind
+  pub full_name : List ℕ
+  pub path : List DeclarationStep
+  pub name : Span
+  pub leading : List ℕ
+  pub trailing : List ℕ
+
+pub record Outline : Type 0 where
+  pub kind : DeclarationKind
+  pub full_name : List ℕ
+  pub path : List DeclarationStep
+  pub heading : Heading

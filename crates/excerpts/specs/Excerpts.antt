@@ -21,9 +21,22 @@ parts_in before marked behind =
 abbrev pub parts_of : List ℕ → (at len : ℕ) → Parts
 parts_of text at len = parts_in (line_before text at) (take len (line_after text at)) (drop len (line_after text at))
 
--- A line of at most 200 characters is shown whole; of a longer one at most 100 are shown on each side of the place.
+-- the most characters that are shown: of a line, on each side of a place of a longer line, and of a token in a
+-- sentence
+abbrev pub line_room : ℕ
+line_room = 200
+
+abbrev pub side_room : ℕ
+side_room = 100
+
+abbrev pub token_room : ℕ
+token_room = 40
+
+-- A line of at most `line_room` characters is shown whole; of a longer one at most `side_room` are shown on each side
+-- of the place.
 abbrev pub room : Parts → ℕ
-room parts = if nat_lt 200 (length parts.before + length parts.marked + length parts.behind) then 100 else 200
+room parts =
+    if nat_lt line_room (length parts.before + length parts.marked + length parts.behind) then side_room else line_room
 
 abbrev pub last_of : ℕ → List (List ℕ) → List (List ℕ)
 last_of count characters = drop (length characters - count) characters
@@ -74,8 +87,8 @@ excerpt text at len =
     numbered (decimal (line_number text at)) (parts_of text at len)
     ++ below (decimal (line_number text at)) (parts_of text at len)
 
--- bytes of a source in a sentence, at most 40 of their characters
+-- bytes of a source in a sentence, at most `token_room` of their characters
 abbrev pub quoted : List ℕ → List ℕ
 quoted bytes =
-    codes "`" ++ shown_text (take 40 (characters bytes))
-    ++ where_cut (nat_lt 40 (length (characters bytes))) (codes "...") ++ codes "`"
+    codes "`" ++ shown_text (take token_room (characters bytes))
+    ++ where_cut (nat_lt token_room (length (characters bytes))) (codes "...") ++ codes "`"

@@ -6,9 +6,11 @@ use Rattle.std.specs.Fmt.{decimal}
 use Rattle.std.specs.List.{AllByRecursion}
 use Rattle.std.specs.Str.{NoCharPasses}
 use Rattle.excerpts.specs.Characters.{characters}
-use Rattle.excerpts.specs.Excerpts.{parts_of, shown_before, shown_marked, shown_line, excerpt, quoted}
+use Rattle.excerpts.specs.Excerpts.{line_room, token_room, parts_of, shown_before, shown_marked, shown_line}
+use Rattle.excerpts.specs.Excerpts.{excerpt, quoted}
 use Rattle.excerpts.specs.Places.{line_number, line_after, column, place_text}
 use Rattle.excerpts.specs.Shown.{is_obeyed, is_tab}
+use Rattle.proto_lex.specs.Ascii as ascii
 use Rattle.proto_lex.specs.Position.{line_before}
 
 -- In UTF-8 the characters of bytes are those that the text has. (Unicode Standard, section 3.9)
@@ -33,7 +35,8 @@ QuotesAreTame = (bytes : List ℕ) → IsTame (quoted bytes)
 abbrev pub ExcerptsAreTame : Type 0
 ExcerptsAreTame =
     (text : List ℕ) (at len : ℕ) → length text < 2 ^ 64
-    → (line below : List ℕ) × (excerpt text at len ≡ 10 ∷ (line ++ 10 ∷ below)) × IsTame line × IsTame below
+    → (line below : List ℕ) × (excerpt text at len ≡ ascii.line_feed ∷ (line ++ ascii.line_feed ∷ below)) × IsTame line
+    × IsTame below
 
 -- ---- what stands below
 
@@ -43,12 +46,16 @@ width text = map is_tab (characters text)
 
 -- as wide as a text, and of a sign and tabs alone
 abbrev pub IsBelow : (sign : ℕ) → (below text : List ℕ) → Type 0
-IsBelow sign below text = (width below ≡ width text) × AllByRecursion (λ b. (b ≡ sign) ⊎ (b ≡ 9)) below
+IsBelow sign below text = (width below ≡ width text) × AllByRecursion (λ b. (b ≡ sign) ⊎ (b ≡ ascii.tab)) below
+
+-- `^`
+abbrev pub caret : ℕ
+caret = 94
 
 -- carets below what is marked; one where nothing is
 abbrev pub MarkIt : (carets marked : List ℕ) → Type 0
 MarkIt carets [] = carets ≡ codes "^"
-MarkIt carets (byte ∷ bytes) = IsBelow 94 carets (byte ∷ bytes)
+MarkIt carets (byte ∷ bytes) = IsBelow caret carets (byte ∷ bytes)
 
 -- a line's number in its margin
 abbrev pub margin : List ℕ → ℕ → List ℕ
@@ -60,22 +67,22 @@ MarksStandBelow =
     (text : List ℕ) (at len : ℕ) → length text < 2 ^ 64
     → (edge blanks carets : List ℕ)
     × (excerpt text at len
-    ≡ 10 ∷ (margin text at ++ codes " | " ++ shown_line (parts_of text at len)
-    ++ 10 ∷ (edge ++ codes " | " ++ blanks ++ carets)))
-    × IsBelow 32 edge (margin text at)
-    × IsBelow 32 blanks (shown_before (parts_of text at len))
+    ≡ ascii.line_feed ∷ (margin text at ++ codes " | " ++ shown_line (parts_of text at len)
+    ++ ascii.line_feed ∷ (edge ++ codes " | " ++ blanks ++ carets)))
+    × IsBelow ascii.space edge (margin text at)
+    × IsBelow ascii.space blanks (shown_before (parts_of text at len))
     × MarkIt carets (shown_marked (parts_of text at len))
 
 -- ---- what is shown whole
 
--- A line of at most 200 characters is shown as it is, if it is UTF-8 and a terminal obeys nothing in it, and its
--- marked part begins and ends with characters.
+-- A line of at most `line_room` characters is shown as it is, if it is UTF-8 and a terminal obeys nothing in it, and
+-- its marked part begins and ends with characters.
 abbrev pub ShortLinesAreWhole : Type 0
 ShortLinesAreWhole =
     (text : List ℕ) (at len : ℕ)
     → IsUtf8 (line_before text at) → IsUtf8 (take len (line_after text at)) → IsUtf8 (drop len (line_after text at))
     → IsTame (line_before text at ++ line_after text at)
-    → length (chars (line_before text at ++ line_after text at)) ≤ 200
+    → length (chars (line_before text at ++ line_after text at)) ≤ line_room
     → shown_line (parts_of text at len) ≡ line_before text at ++ line_after text at
 
 -- So is a path,
@@ -85,8 +92,8 @@ PathsAreWhole =
     → place_text path text at
     ≡ path ++ codes ":" ++ decimal (line_number text at) ++ codes ":" ++ decimal (column text at) ++ codes ": "
 
--- and what is quoted, of at most 40 characters.
+-- and what is quoted, of at most `token_room` characters.
 abbrev pub QuotesAreWhole : Type 0
 QuotesAreWhole =
-    (bytes : List ℕ) → IsUtf8 bytes → IsTame bytes → length (chars bytes) ≤ 40
+    (bytes : List ℕ) → IsUtf8 bytes → IsTame bytes → length (chars bytes) ≤ token_room
     → quoted bytes ≡ codes "`" ++ bytes ++ codes "`"

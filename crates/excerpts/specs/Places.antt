@@ -4,7 +4,7 @@ use Rattle.std.specs.Prelude.{slice_index, codes}
 use Rattle.std.specs.Prelude.{if◌then◌else◌}
 use Rattle.std.specs.Fmt.{decimal}
 use Rattle.std.specs.List.{before_first, prefix_len}
-use Rattle.proto_lex.specs.Ascii.{backslash}
+use Rattle.proto_lex.specs.Ascii.{backslash, carriage_return}
 use Rattle.proto_lex.specs.Bytes.{is_quote, is_word}
 use Rattle.proto_lex.specs.Position.{is_line_end, line_of, line_before}
 use Rattle.excerpts.specs.Characters.{characters}
@@ -25,7 +25,8 @@ place_text path text at =
 
 -- a line without the `\r` that ends it
 abbrev pub without_return : List ℕ → List ℕ
-without_return line = if nat_eq (slice_index line (length line - 1)) 13 then take (length line - 1) line else line
+without_return line =
+    if nat_eq (slice_index line (length line - 1)) carriage_return then take (length line - 1) line else line
 
 -- what is on an offset's line from it on
 abbrev pub line_after : List ℕ → ℕ → List ℕ

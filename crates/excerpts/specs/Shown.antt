@@ -5,6 +5,7 @@ use Rattle.std.specs.Char.{digit_char, encode_utf8, is_control}
 use Rattle.std.specs.Int.{is_in_range}
 use Rattle.std.specs.List.{flat_map, list_any}
 use Rattle.std.specs.Str.{chars, is_utf8}
+use Rattle.proto_lex.specs.Ascii.{tab}
 use Rattle.excerpts.specs.Characters.{characters}
 
 -- a character that turns the direction in which others are shown (Unicode Character Database, property Bidi_Control)
@@ -18,7 +19,7 @@ turns character =
 -- one that a terminal obeys: it turns, or is a control character (U+0000 to U+001F and U+007F to U+009F; ISO 6429),
 -- but no tab
 abbrev pub is_obeyed : ℕ → Bool
-is_obeyed character = (is_control character && not (nat_eq character 9)) || turns character
+is_obeyed character = (is_control character && not (nat_eq character tab)) || turns character
 
 -- bytes that are shown as they are: UTF-8 in which a terminal obeys nothing
 abbrev pub is_plain : List ℕ → Bool
@@ -37,7 +38,7 @@ shown_text characters = flat_map shown characters
 
 abbrev pub is_tab : List ℕ → Bool
 is_tab [] = false
-is_tab (byte ∷ []) = nat_eq byte 9
+is_tab (byte ∷ []) = nat_eq byte tab
 is_tab (byte ∷ second ∷ others) = false
 
 -- what is below a character that is shown: a tab below a tab, and else a sign

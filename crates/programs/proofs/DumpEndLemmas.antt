@@ -1,8 +1,9 @@
 -- How a dump ends.
-use Rattle.std.proofs.Common.{ℕ, List, [], Option, Some, None, Ok, Err, subst}
+use Rattle.std.proofs.Common.{ℕ, List, [], Option, Some, None, Err, subst}
 use Rattle.proto_parse.specs.tree.Dialect.{Dialect}
 use Rattle.source_tree.specs.Files.{TreeFile}
 use Rattle.source_tree.specs.Reading.{kept_bytes}
+use Rattle.scip_snapshot.specs.Showing.{Writer}
 use Rattle.protoscip.specs.Dump.{IsTreeOfFault, IsTreeOfSource, dump_tree}
 use Rattle.protoscip.specs.Explanations.{IsFaultText}
 use Rattle.protoscip.specs.Statuses.{status_of}
@@ -10,7 +11,7 @@ use Rattle.protoscip.specs.declared.fault.Fault.{Fault}
 use Rattle.protoscip.specs.declared.fault.Fault.TheVariants.{Spawn, Memory, Lex, Syntax, Duplicate, MissingImport}
 use Rattle.protoscip.specs.declared.fault.Fault.TheVariants.{Unresolved, TooLarge, Write, Read, Answer}
 use Rattle.programs.specs.Dumping.{EndsDump}
-use Rattle.programs.specs.Messages.{IsSilent, TellsOne}
+use Rattle.programs.specs.Messages.{TellsOne}
 use Rattle.programs.proofs.MessageLemmas.{tells_other}
 
 -- what is told of these faults is of no tree
@@ -24,19 +25,13 @@ memory_of_any : (explain : Option Dialect) (tree other : List TreeFile) (text : 
 memory_of_any None tree other text is = is
 memory_of_any (Some dialect) tree other text is = is
 
-module _ {R M : Type 0} (remaining : R → Option (List ℕ)) (said : M → Option (List ℕ)) (unsaid : M → ℕ)
-    (explain : Option Dialect)
-    (reader : R) (before after : M) (status : ℕ) where
+module _ {R M : Type 0} (remaining : R → Option (List ℕ)) (explain : Option Dialect) (reader : R)
+    (messages : Writer M) (status : ℕ) where
   abbrev tells : List TreeFile → Fault → Type 0
-  tells tree fault = TellsOne said unsaid (IsFaultText explain tree fault) (status_of fault) before after status
+  tells tree fault = TellsOne (IsFaultText explain tree fault) (status_of fault) messages status
 
   abbrev ends : Fault → Type 0
-  ends fault = EndsDump remaining said unsaid explain reader (Err fault) before after status
-
-  -- of a success nothing is said
-  pub silent : (done : Unit {0}) → IsSilent before after status
-      → EndsDump remaining said unsaid explain reader (Ok done) before after status
-  silent done is = record { some = ([], is); told = λ bytes known. is }
+  ends fault = EndsDump remaining explain reader (Err fault) messages status
 
   -- a fault is told of the source's tree,
   of_source : (fault : Fault) (tree : List TreeFile) → IsTreeOfSource remaining reader tree → tells tree fault
@@ -53,7 +48,7 @@ module _ {R M : Type 0} (remaining : R → Option (List ℕ)) (said : M → Opti
       → IsFaultText explain other fault text)
       → tells tree fault → ends fault
   of_any fault tree holds said_so =
-      let moved = λ (other : List TreeFile). tells_other said unsaid before after status (status_of fault)
+      let moved = λ (other : List TreeFile). tells_other messages status (status_of fault)
       (IsFaultText explain tree fault) (IsFaultText explain other fault) (holds other) said_so in
       record { some = ([], moved (dump_tree [])); told = λ bytes known. moved (dump_tree (kept_bytes bytes)) }
 

@@ -5,6 +5,7 @@ use Rattle.std.specs.Result.{result_map_both}
 use Rattle.proto_parse.specs.tree.Dialect.{Dialect}
 use Rattle.source_tree.specs.Files.{TreeFile}
 use Rattle.scip_build.specs.declared.fault.BuildFault.{BuildFault}
+use Rattle.scip_snapshot.specs.Showing.{Writer}
 use Rattle.protoscip.specs.declared.fault.Fault.{Fault}
 use Rattle.programs.specs.TreeRuns.{Ends}
 
@@ -19,10 +20,10 @@ holds_of_part f P (Ok a) holds = holds
 holds_of_part f P (Err e) holds = holds
 
 -- a run ends alike, if what is told is of the part
-pub ends_alike : {M A B : Type 0} (f : A → B) (told_of : B → List BuildFault) (said : M → Option (List ℕ))
-    (unsaid : M → ℕ) (says : (List ℕ → Type 0) → M → M → (status : ℕ) → Type 0) (explain : Option Dialect)
-    (tree : List TreeFile) (done : Result A Fault) (before after : M) (status : ℕ)
-    → Ends said unsaid says explain tree (λ a. told_of (f a)) done before after status
-    → Ends said unsaid says explain tree told_of (part_of f done) before after status
-ends_alike f told_of said unsaid says explain tree (Ok a) before after status ends = ends
-ends_alike f told_of said unsaid says explain tree (Err e) before after status ends = ends
+pub ends_alike : {M A B : Type 0} (f : A → B) (told_of : B → List BuildFault)
+    (says : (List ℕ → Type 0) → Writer M → (status : ℕ) → Type 0) (explain : Option Dialect)
+    (tree : List TreeFile) (done : Result A Fault) (messages : Writer M) (status : ℕ)
+    → Ends says explain tree (λ a. told_of (f a)) done messages status
+    → Ends says explain tree told_of (part_of f done) messages status
+ends_alike f told_of says explain tree (Ok a) messages status ends = ends
+ends_alike f told_of says explain tree (Err e) messages status ends = ends

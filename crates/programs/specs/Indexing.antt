@@ -1,11 +1,11 @@
 -- What the program `index` does.
 -- `lists` and `gives` are what the system of files gives; `out` is the file that the index goes to.
-use Rattle.std.specs.Prelude.{◌≡◌, ℕ, List, Option}
+use Rattle.std.specs.Prelude.{ℕ, List, Option}
 use Rattle.protoscip.specs.Indexes.{Indexes}
 use Rattle.command_line.specs.declared.options.IndexOptions.{IndexOptions}
 use Rattle.programs.specs.Messages.{SaysOfSuccess}
 use Rattle.programs.specs.Settings.{allowed_by, settings_in}
-use Rattle.scip_snapshot.specs.Showing.{Writer}
+use Rattle.scip_snapshot.specs.Showing.{Writer, IsUntouched}
 use Rattle.programs.specs.TreeRuns.{IsRun}
 use Rattle.source_files.specs.Entries.{Entry}
 
@@ -14,7 +14,6 @@ abbrev pub Indexed : {W M : Type 0} → (lists : List ℕ → List ℕ → Optio
     → (gives : List ℕ → Option (List ℕ) → Type 0)
     → IndexOptions → Writer W → Writer M → (status : ℕ) → Type 0
 Indexed lists gives options out messages status =
-    IsRun lists gives messages.contents messages.failures (SaysOfSuccess messages.contents messages.failures) options
-    (out.after ≡ out.before)
+    IsRun lists gives SaysOfSuccess options (IsUntouched out)
     (λ tree ids done. Indexes out.contents out.failures (allowed_by options)
-    (settings_in options ids) tree options.workers out.before out.after done) messages.before messages.after status
+    (settings_in options ids) tree options.workers out.before out.after done) messages status

@@ -30,15 +30,14 @@ pub record MakesAndEnds {O M : Type 0} (gives : List ℕ → Option (List ℕ) �
   pub done : Result (Unit {0}) ShowFault
   pub makes : MakesSite gives (string_bytes options.root) (string_bytes options.out) index files
       (writer messages.contents messages.failures messages.before now) done
-  pub ends : EndsShown messages.contents messages.failures options.explain done now messages.after status
+  pub ends : EndsShown options.explain done (writer messages.contents messages.failures now messages.after) status
 
 -- the index of the file with a path can't be read, and nothing is made; or it is read, and pages are made
 pub data ReadsAndMakes {O M : Type 0} (gives : List ℕ → Option (List ℕ) → Type 0) (options : PagesOptions)
     (files : Maker O) (messages : Writer M) (status : ℕ) : Type 0 where
   unread : (fault : QueryFault) → IsReadFrom (gives (string_bytes options.index)) (Err fault)
       → files.after ≡ files.before
-      → Tells messages.contents messages.failures (query_told options.explain (string_bytes options.index) fault)
-      (query_status fault) messages.before messages.after status
+      → Tells (query_told options.explain (string_bytes options.index) fault) (query_status fault) messages status
       → ReadsAndMakes gives options files messages status
   read : (index : Index) → IsReadFrom (gives (string_bytes options.index)) (Ok index)
       → MakesAndEnds gives options index files messages status
@@ -48,11 +47,10 @@ pub data ReadsAndMakes {O M : Type 0} (gives : List ℕ → Option (List ℕ) �
 pub data RunsPages {O M : Type 0} (frees : List ℕ → Bool → Type 0) (gives : List ℕ → Option (List ℕ) → Type 0)
     (options : PagesOptions) (files : Maker O) (messages : Writer M) (status : ℕ) : Type 0 where
   taken : frees (string_bytes options.out) false → files.after ≡ files.before
-      → Tells messages.contents messages.failures (taken_told options.explain (string_bytes options.out)) STREAM_STATUS
-      messages.before messages.after status
+      → Tells (taken_told options.explain (string_bytes options.out)) STREAM_STATUS messages status
       → RunsPages frees gives options files messages status
   unasked : files.after ≡ files.before
-      → Says messages.contents messages.failures memory_line memory_status messages.before messages.after status
+      → Says memory_line memory_status messages status
       → RunsPages frees gives options files messages status
   free : frees (string_bytes options.out) true → ReadsAndMakes gives options files messages status
       → RunsPages frees gives options files messages status

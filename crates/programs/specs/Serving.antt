@@ -16,8 +16,8 @@ abbrev pub Served : {R W M : Type 0} → (lists : List ℕ → List ℕ → Opti
     → (gives : List ℕ → Option (List ℕ) → Type 0)
     → IndexOptions → Reader R → Writer W → Writer M → (status : ℕ) → Type 0
 Served lists gives options commands answers messages status =
-    IsRun lists gives messages.contents messages.failures (TellsOfSuccess messages.contents messages.failures) options
+    IsRun lists gives TellsOfSuccess options
     (AreUntouched commands.before commands.after answers.before answers.after)
     (λ tree ids done. Serves commands.remaining commands.failures commands.reads commands.ends answers.contents
     answers.failures (allowed_by options) (settings_in options ids) tree options.workers
-    commands.before commands.after answers.before answers.after done) messages.before messages.after status
+    commands.before commands.after answers.before answers.after done) messages status

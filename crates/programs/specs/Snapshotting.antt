@@ -14,11 +14,9 @@ use Rattle.programs.specs.QueryFaults.{status_of as query_status}
 use Rattle.programs.specs.ShowFaults.{told, status_of}
 
 -- nothing more is said after a success; after a fault its line is, explained if that is asked for, with its status
-abbrev pub EndsShown : {M : Type 0} → (said : M → Option (List ℕ)) → (unsaid : M → ℕ) → (explain : Bool)
-    → Result (Unit {0}) ShowFault → M → M → (status : ℕ) → Type 0
-EndsShown said unsaid explain (Ok done) before after status = IsSilent before after status
-EndsShown said unsaid explain (Err fault) before after status =
-    Tells said unsaid (told explain fault) (status_of fault) before after status
+abbrev pub EndsShown : {M : Type 0} → (explain : Bool) → Result (Unit {0}) ShowFault → Writer M → (status : ℕ) → Type 0
+EndsShown explain (Ok done) messages status = IsSilent messages status
+EndsShown explain (Err fault) messages status = Tells (told explain fault) (status_of fault) messages status
 
 -- documents are printed, and no file is made; or they go to files, and nothing is printed
 abbrev pub ShowsTo : {W O M : Type 0} → (gives : List ℕ → Option (List ℕ) → Type 0) → (root : List ℕ)
@@ -36,7 +34,7 @@ pub record ShowsAndEnds {W O M : Type 0} (gives : List ℕ → Option (List ℕ)
   pub done : Result (Unit {0}) ShowFault
   pub shows : ShowsTo gives (string_bytes options.root) (option_map string_bytes options.to) index out files
       (writer messages.contents messages.failures messages.before now) done
-  pub ends : EndsShown messages.contents messages.failures options.explain done now messages.after status
+  pub ends : EndsShown options.explain done (writer messages.contents messages.failures now messages.after) status
 
 -- the index of the file with a path can't be read, and nothing is printed or made; or it is read, and its documents are
 -- shown
@@ -44,8 +42,7 @@ pub data RunsSnapshot {W O M : Type 0} (gives : List ℕ → Option (List ℕ) �
     (out : Writer W) (files : Maker O) (messages : Writer M) (status : ℕ) : Type 0 where
   unread : (fault : QueryFault) → IsReadFrom (gives (string_bytes options.index)) (Err fault)
       → out.after ≡ out.before → files.after ≡ files.before
-      → Tells messages.contents messages.failures (query_told options.explain (string_bytes options.index) fault)
-      (query_status fault) messages.before messages.after status
+      → Tells (query_told options.explain (string_bytes options.index) fault) (query_status fault) messages status
       → RunsSnapshot gives options out files messages status
   read : (index : Index) → IsReadFrom (gives (string_bytes options.index)) (Ok index)
       → ShowsAndEnds gives options index out files messages status

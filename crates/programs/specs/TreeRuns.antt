@@ -1,13 +1,12 @@
 -- What the programs about a tree do: `index` and `shell`.
--- `lists` and `gives` are what the system of files gives, `said` and `unsaid` the contents and failures of the stream
--- of messages;
--- `before` and `after` are that stream around the call.
+-- `lists` and `gives` are what the system of files gives, and `messages` is the stream of messages.
 use Rattle.std.specs.Prelude.{ℕ, List, [], ◌∷◌, Option, Result, Ok, Err}
 use Rattle.proto_parse.specs.tree.Dialect.{Dialect}
 use Rattle.source_tree.specs.Files.{TreeFile}
 use Rattle.source_tree.specs.Trees.{IsSourceCount}
 use Rattle.scip_document.specs.Packages.{Packages}
 use Rattle.scip_build.specs.declared.fault.BuildFault.{BuildFault}
+use Rattle.scip_snapshot.specs.Showing.{Writer}
 use Rattle.protoscip.specs.declared.fault.Fault.{Fault}
 use Rattle.protoscip.specs.declared.recorded.Recorded.{Recorded}
 use Rattle.protoscip.specs.Explanations.{IsFaultText, explain_in}
@@ -25,37 +24,35 @@ use Rattle.source_files.specs.Entries.{Entry}
 
 -- the end of a run that made an index which lacks this; `says` says how a text with a property is written after a
 -- success. If it lacks nothing, nothing is said; else a line for each, and their numbers
-abbrev pub Lacks : {M : Type 0} → (says : (List ℕ → Type 0) → M → M → (status : ℕ) → Type 0)
-    → (explain : Option Dialect) → List TreeFile → List BuildFault → M → M → (status : ℕ) → Type 0
-Lacks says explain tree [] before after status = IsSilent before after status
-Lacks says explain tree (first ∷ others) before after status =
+abbrev pub Lacks : {M : Type 0} → (says : (List ℕ → Type 0) → Writer M → (status : ℕ) → Type 0)
+    → (explain : Option Dialect) → List TreeFile → List BuildFault → Writer M → (status : ℕ) → Type 0
+Lacks says explain tree [] messages status = IsSilent messages status
+Lacks says explain tree (first ∷ others) messages status =
     (sources : ℕ) × IsSourceCount tree sources
-    × says (IsToldText explain tree sources (first ∷ others)) before after status
+    × says (IsToldText explain tree sources (first ∷ others)) messages status
 
 -- the end of a run over a tree: after a success, what is told of it is said; after a fault, the line of the fault,
 -- explained if that is asked for, with its status
-abbrev pub Ends : {M A : Type 0} → (said : M → Option (List ℕ)) → (unsaid : M → ℕ)
-    → (says : (List ℕ → Type 0) → M → M → (status : ℕ) → Type 0) → (explain : Option Dialect) → List TreeFile
-    → (A → List BuildFault) → Result A Fault → M → M → (status : ℕ) → Type 0
-Ends said unsaid says explain tree told_of (Ok done) before after status =
-    Lacks says explain tree (told_of done) before after status
-Ends said unsaid says explain tree told_of (Err fault) before after status =
-    TellsOne said unsaid (IsFaultText explain tree fault) (status_of fault) before after status
+abbrev pub Ends : {M A : Type 0} → (says : (List ℕ → Type 0) → Writer M → (status : ℕ) → Type 0)
+    → (explain : Option Dialect) → List TreeFile → (A → List BuildFault) → Result A Fault → Writer M → (status : ℕ)
+    → Type 0
+Ends says explain tree told_of (Ok done) messages status = Lacks says explain tree (told_of done) messages status
+Ends says explain tree told_of (Err fault) messages status =
+    TellsOne (IsFaultText explain tree fault) (status_of fault) messages status
 
 -- Either the program doesn't start, leaves all but the stream of messages `untouched`, and says why; or there is a
 -- tree of the files, and the run over it ends. `runs` says what the run answers.
 pub data IsRun {M : Type 0} (lists : List ℕ → List ℕ → Option (List Entry) → Type 0)
     (gives : List ℕ → Option (List ℕ) → Type 0)
-    (said : M → Option (List ℕ)) (unsaid : M → ℕ) (says : (List ℕ → Type 0) → M → M → (status : ℕ) → Type 0)
-    (options : IndexOptions) (untouched : Type 0)
+    (says : (List ℕ → Type 0) → Writer M → (status : ℕ) → Type 0) (options : IndexOptions) (untouched : Type 0)
     (runs : List TreeFile → Packages → Result Recorded Fault → Type 0)
-    (before after : M) (status : ℕ) : Type 0 where
+    (messages : Writer M) (status : ℕ) : Type 0 where
   not_started : (fault : StartFault) → MayNotStart lists gives options fault → untouched
-      → Tells said unsaid (start_told options.explain fault) (start_status fault) before after status
-      → IsRun lists gives said unsaid says options untouched runs before after status
+      → Tells (start_told options.explain fault) (start_status fault) messages status
+      → IsRun lists gives says options untouched runs messages status
   over_tree : (tree : List TreeFile) (ids : Packages) (done : Result Recorded Fault) → NamePackages options
       → AreFolders lists gives options tree ids
       → runs tree ids done
-      → Ends said unsaid says (explain_in options.explain (settings_in options ids).dialect) tree
-      (λ recorded. recorded.told) done before after status
-      → IsRun lists gives said unsaid says options untouched runs before after status
+      → Ends says (explain_in options.explain (settings_in options ids).dialect) tree
+      (λ recorded. recorded.told) done messages status
+      → IsRun lists gives says options untouched runs messages status

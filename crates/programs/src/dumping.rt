@@ -2,17 +2,19 @@
 
 ghost use Rattle.std.specs.Prelude.{Result};
 ghost use Rattle.streams.specs.WholeReads.{IsReadBriefly};
+ghost use Rattle.scip_snapshot.specs.Showing.{writer};
 ghost use Rattle.protoscip.specs.declared.fault.Fault.{Fault};
 ghost use Rattle.protoscip.specs.Dump.{IsDumped, LeavesReader};
 ghost use Rattle.protoscip.specs.Explanations.{explain_in};
 ghost use Rattle.programs.specs.Dumping.{EndsDump};
 ghost use Rattle.programs.specs.Settings.{dialect_of};
 
+use crate::ending::stop;
 use crate::host::Host;
 use crate::messages::report;
 use crate::settings::dialect_of;
 use command_line::DumpOptions;
-use protoscip::{MEMORY_STATUS, dump_and_keep, dump_tree, explain_in, fault_text};
+use protoscip::{MEMORY_STATUS, dump_and_keep, dump_tree, explain_in};
 use std::alloc::AllocError;
 use std::sync::Wait;
 use std::thread::Threads;
@@ -32,9 +34,9 @@ pub(crate) fn dump_source<R: Threads + Wait, F, I: Feed, W: Sink, M: Sink>(
         input.old out.old out.new done
         × LeavesReader I.failures I.reads I.ends input.old input.new done
         × IsReadBriefly I.reads input.old input.new
-        × EndsDump I.remaining M.contents M.failures
+        × EndsDump I.remaining
         (explain_in options.now.explain (dialect_of options.now.accept options.now.custom_options)) input.old done
-        messages.old messages.new result }
+        (writer M.contents M.failures messages.old messages.new) result }
 {
     let dialect = dialect_of(options.accept, options.custom_options);
     let mut tree = match dump_tree(host.alloc, Vec::new(host.alloc)) {
@@ -45,8 +47,7 @@ pub(crate) fn dump_source<R: Threads + Wait, F, I: Feed, W: Sink, M: Sink>(
         Ok(()) => 0,
         Err(fault) => {
             let explain = explain_in(options.explain, dialect);
-            let text = fault_text(host.alloc, &tree, &fault, explain);
-            report(text, fault.status(), messages)
+            stop(host.alloc, &tree, &fault, explain, messages)
         }
     }
 }

@@ -5,6 +5,7 @@ ghost use Rattle.std.specs.Option.{option_map};
 ghost use Rattle.protoscip.specs.Explanations.{IsFaultText};
 ghost use Rattle.protoscip.specs.FaultLines.{HasFilesOf, HaveFilesOf};
 ghost use Rattle.protoscip.specs.Statuses.{status_of};
+ghost use Rattle.scip_snapshot.specs.Showing.{writer};
 ghost use Rattle.programs.specs.Messages.{SaysIfAny, TellsOfSuccess, TellsOne};
 ghost use Rattle.programs.specs.TreeRuns.{Lacks};
 
@@ -25,7 +26,8 @@ pub(crate) fn tell<M: Sink>(
     messages: &mut M,
 ) -> u8
     requires { HaveFilesOf tree.now told.now }
-    ensures { Lacks (TellsOfSuccess M.contents M.failures) explain tree.now told.now messages.old messages.new result }
+    ensures { Lacks TellsOfSuccess explain tree.now told.now (writer M.contents M.failures messages.old messages.new)
+        result }
 {
     if told.is_empty() {
         return 0;
@@ -35,7 +37,7 @@ pub(crate) fn tell<M: Sink>(
 
 /// Says a text of a success, if there is one, and gives the exit status.
 pub(crate) fn say_text<M: Sink>(text: Option<String>, messages: &mut M) -> u8
-    ensures { SaysIfAny M.contents M.failures (option_map string_bytes text) messages.old messages.new result }
+    ensures { SaysIfAny (option_map string_bytes text) (writer M.contents M.failures messages.old messages.new) result }
 {
     match text {
         Some(text) => report(Ok(text), 0, messages),
@@ -52,8 +54,8 @@ pub(crate) fn stop<M: Sink>(
     messages: &mut M,
 ) -> u8
     requires { HasFilesOf tree.now fault.now }
-    ensures { TellsOne M.contents M.failures (IsFaultText explain tree.now fault.now) (status_of fault.now)
-        messages.old messages.new result }
+    ensures { TellsOne (IsFaultText explain tree.now fault.now) (status_of fault.now)
+        (writer M.contents M.failures messages.old messages.new) result }
 {
     let text = fault_text(alloc, tree, fault, explain);
     report(text, fault.status(), messages)

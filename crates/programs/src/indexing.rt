@@ -11,9 +11,8 @@ ghost use Rattle.programs.specs.TreeRuns.{Ends};
 
 use crate::ending::{say_text, stop};
 use crate::host::Host;
-use crate::messages::report;
 use crate::progress::Progress;
-use crate::start_explanations::start_text;
+use crate::start_explanations::report_start;
 use crate::starting::start;
 use command_line::IndexOptions;
 use proto_parse::Dialect;
@@ -40,8 +39,8 @@ fn end<M: Sink>(
     requires files { IfErr done (HasFilesOf tree.now) }
     requires said { IfOk done (λ kept. IsTextOfLacks explain tree.now kept.built.told (option_map string_bytes
         kept.text)) }
-    ensures { Ends M.contents M.failures (SaysOfSuccess M.contents M.failures) explain tree.now (λ kept.
-        kept.built.told) done.entry messages.old messages.new result }
+    ensures { Ends SaysOfSuccess explain tree.now (λ kept. kept.built.told) done.entry
+        (writer M.contents M.failures messages.old messages.new) result }
 {
     match done {
         Ok(kept) => {
@@ -87,10 +86,7 @@ where
     let begun = beginning(host, quiet);
     let run = match start(host, options) {
         Ok(start) => start,
-        Err(fault) => {
-            let text = start_text(host.alloc, &fault, options.explain);
-            return report(text, fault.status(), messages);
-        }
+        Err(fault) => return report_start(host.alloc, &fault, options.explain, messages),
     };
     let gate = Progress::new(host.alloc, host.rt, begun, run.tree.file_count());
     let work = Run {

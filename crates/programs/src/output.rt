@@ -1,5 +1,6 @@
 //! What is printed.
 
+ghost use Rattle.scip_snapshot.specs.Showing.{writer};
 ghost use Rattle.programs.specs.Printing.{Prints};
 
 use crate::messages::report;
@@ -14,8 +15,8 @@ pub(crate) fn print<W: Sink, M: Sink>(
     out: &mut W,
     messages: &mut M,
 ) -> u8
-    ensures { Prints W.contents W.failures M.contents M.failures text.now out.old out.new messages.old messages.new
-        result }
+    ensures { Prints text.now (writer W.contents W.failures out.old out.new)
+        (writer M.contents M.failures messages.old messages.new) result }
 {
     match write_all(out, text.as_bytes()) {
         Ok(()) => 0,

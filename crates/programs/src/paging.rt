@@ -6,7 +6,7 @@ ghost use Rattle.programs.specs.Paging.{MakesAndEnds, ReadsAndMakes, RunsPages, 
 
 use crate::host::Host;
 use crate::messages::report;
-use crate::query_explanations::query_text;
+use crate::query_explanations::report_query;
 use crate::snapshotting::{end, queries_of};
 use command_line::PagesOptions;
 use protoscip::{MEMORY_STATUS, STREAM_STATUS, path_line};
@@ -61,10 +61,7 @@ fn read_and_make<R, F: ReadFiles, O: MakeFiles, M: Sink>(
     let path = options.index.as_str();
     match queries_of(host.alloc, host.files, path) {
         Ok(queries) => make(host, options, &queries, made, messages),
-        Err(fault) => {
-            let text = query_text(host.alloc, &fault, path, options.explain);
-            report(text, fault.status(), messages)
-        }
+        Err(fault) => report_query(host.alloc, &fault, path, options.explain, messages),
     }
 }
 

@@ -1,12 +1,17 @@
 //! What explains why commands about the index of a file aren't answered.
 
 ghost use Rattle.std.specs.Prelude.{◌≡◌, IfOk, string_bytes};
+ghost use Rattle.scip_snapshot.specs.Showing.{writer};
+ghost use Rattle.programs.specs.Messages.{Tells};
 ghost use Rattle.programs.specs.QueryExplanations.{answer_explanation, explanation_of, told, wire_explanation};
+ghost use Rattle.programs.specs.QueryFaults.{status_of};
 
+use crate::messages::report;
 use crate::query_fault::QueryFault;
 use scip_query::AnswerFault;
 use scip_wire::WireFault;
 use std::alloc::{AllocError, Global};
+use streams::Sink;
 
 /// For bytes that decode to no index: a sentence after a line end; nothing for lack of memory.
 fn wire_explanation(fault: &WireFault) -> &'static str
@@ -56,7 +61,7 @@ fn explanation_of(fault: &QueryFault) -> &'static str
 }
 
 /// The line, without its end, that says this of the index with this path, explained if that is asked for.
-pub(crate) fn query_text(
+fn query_text(
     alloc: Global,
     fault: &QueryFault,
     path: &str,
@@ -69,4 +74,20 @@ pub(crate) fn query_text(
         text.push_str(explanation_of(fault))?;
     }
     Ok(text)
+}
+
+/// Says why commands about the index with this path aren't answered, or why there is no index, explained if that is
+/// asked for, and gives the exit status.
+pub(crate) fn report_query<M: Sink>(
+    alloc: Global,
+    fault: &QueryFault,
+    path: &str,
+    explain: bool,
+    messages: &mut M,
+) -> u8
+    ensures { Tells (told explain path.now fault.now) (status_of fault.now)
+        (writer M.contents M.failures messages.old messages.new) result }
+{
+    let text = query_text(alloc, fault, path, explain);
+    report(text, fault.status(), messages)
 }

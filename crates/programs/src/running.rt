@@ -39,7 +39,7 @@ use crate::indexing::index;
 use crate::messages::report;
 use crate::output::print;
 use crate::paging::pages;
-use crate::query_explanations::query_text;
+use crate::query_explanations::report_query;
 use crate::querying::query;
 use crate::serving::shell;
 use crate::snapshotting::snapshot;
@@ -76,14 +76,11 @@ fn answer<R, F: ReadFiles, I: Feed, W: Sink, M: Sink>(
     ensures { (done : Result (Unit {0}) QueryFault)
         × Queried (F.gives host.now.files.now path.now) (reader I.remaining I.failures I.reads I.ends input.old
         input.new) (writer W.contents W.failures out.old out.new) done
-        × Answers M.contents M.failures explain path.now done messages.old messages.new result }
+        × Answers explain path.now done (writer M.contents M.failures messages.old messages.new) result }
 {
     match query(host.alloc, host.files, path, input, out) {
         Ok(()) => 0,
-        Err(fault) => {
-            let text = query_text(host.alloc, &fault, path, explain);
-            report(text, fault.status(), messages)
-        }
+        Err(fault) => report_query(host.alloc, &fault, path, explain, messages),
     }
 }
 
@@ -113,7 +110,8 @@ where
     F: ReadFiles + EmptyFolders + Sync,
     // Help and the version are printed.
     ensures printed { IfOk asked.now (λ request. IfSome (printed_text request) (λ text.
-        Prints W.contents W.failures M.contents M.failures text out.old out.new messages.old messages.new result
+        Prints text (writer W.contents W.failures out.old out.new)
+        (writer M.contents M.failures messages.old messages.new) result
         × (input.new ≡ input.old) × (file.new ≡ file.old))) }
     // It says why a command line is refused.
     ensures refused { IfOk asked.now (λ request. IfSome (refused_text request) (λ text. (result ≡ COMMAND_LINE_STATUS)
@@ -127,16 +125,15 @@ where
         out.old out.new done
         × LeavesReader I.failures I.reads I.ends input.old input.new done
         × IsReadBriefly I.reads input.old input.new
-        × EndsDump I.remaining M.contents M.failures
-        (explain_in options.explain (dialect_of options.accept options.custom_options)) input.old done messages.old
-        messages.new result)
+        × EndsDump I.remaining (explain_in options.explain (dialect_of options.accept options.custom_options))
+        input.old done (writer M.contents M.failures messages.old messages.new) result)
         × (file.new ≡ file.old))) }
     // What `query` promises of its answers, and what becomes of that.
     ensures queried { IfOk asked.now (λ request. IfSome (index_path request) (λ path. ((done : Result (Unit {0})
         QueryFault)
         × Queried (F.gives host.now.files.now path) (reader I.remaining I.failures I.reads I.ends input.old input.new)
         (writer W.contents W.failures out.old out.new) done
-        × Answers M.contents M.failures (explains request) path done messages.old messages.new result)
+        × Answers (explains request) path done (writer M.contents M.failures messages.old messages.new) result)
         × (file.new ≡ file.old))) }
     // What `index` does.
     ensures indexed { IfOk asked.now (λ request. IfSome (index_options request) (λ options.
@@ -160,8 +157,8 @@ where
         (maker O.made file.old file.new) (writer M.contents M.failures messages.old messages.new) result
         × (input.new ≡ input.old) × (out.new ≡ out.old))) }
     // Nothing was asked for, since memory ran out, and that is said.
-    ensures unknown { IfErr asked.now (λ _. Tells M.contents M.failures memory_line memory_status messages.old
-        messages.new result
+    ensures unknown { IfErr asked.now (λ _.
+        Tells memory_line memory_status (writer M.contents M.failures messages.old messages.new) result
         × (input.new ≡ input.old) × (out.new ≡ out.old) × (file.new ≡ file.old)) }
 {
     match asked {

@@ -10,8 +10,7 @@ ghost use Rattle.programs.specs.TreeRuns.{Ends};
 
 use crate::ending::{stop, tell};
 use crate::host::Host;
-use crate::messages::report;
-use crate::start_explanations::start_text;
+use crate::start_explanations::report_start;
 use crate::starting::start;
 use command_line::IndexOptions;
 use index_pool::NoGate;
@@ -35,8 +34,8 @@ fn end<M: Sink>(
 ) -> u8
     requires files { IfErr done.now (HasFilesOf tree.now) }
     requires told { IfOk done.now (λ recorded. HaveFilesOf tree.now recorded.told) }
-    ensures { Ends M.contents M.failures (TellsOfSuccess M.contents M.failures) explain tree.now (λ recorded.
-        recorded.told) done.now messages.old messages.new result }
+    ensures { Ends TellsOfSuccess explain tree.now (λ recorded. recorded.told) done.now
+        (writer M.contents M.failures messages.old messages.new) result }
 {
     match done {
         Ok(recorded) => tell(alloc, tree, recorded.told.as_slice(), explain, messages),
@@ -63,10 +62,7 @@ pub(crate) fn shell<R: Threads + Wait, F: ReadFiles + Sync, I: Feed, W: Sink, M:
 {
     let run = match start(host, options) {
         Ok(start) => start,
-        Err(fault) => {
-            let text = start_text(host.alloc, &fault, options.explain);
-            return report(text, fault.status(), messages);
-        }
+        Err(fault) => return report_start(host.alloc, &fault, options.explain, messages),
     };
     let work = Run {
         rt: host.rt,

@@ -6,7 +6,7 @@ ghost use Rattle.programs.specs.Snapshotting.{EndsShown, RunsSnapshot, ShowsAndE
 
 use crate::host::Host;
 use crate::messages::report;
-use crate::query_explanations::query_text;
+use crate::query_explanations::report_query;
 use crate::query_fault::QueryFault;
 use crate::querying::index_of_file;
 use crate::show_faults::{show_status, show_text};
@@ -39,7 +39,7 @@ pub(crate) fn end<M: Sink>(
     done: Result<(), ShowFault>,
     messages: &mut M,
 ) -> u8
-    ensures { EndsShown M.contents M.failures explain done messages.old messages.new result }
+    ensures { EndsShown explain done (writer M.contents M.failures messages.old messages.new) result }
 {
     match done {
         Ok(()) => 0,
@@ -96,9 +96,6 @@ pub(crate) fn snapshot<R, F: ReadFiles, W: Sink, O: MakeFiles, M: Sink>(
     let path = options.index.as_str();
     match queries_of(host.alloc, host.files, path) {
         Ok(queries) => show(host, options, &queries, out, made, messages),
-        Err(fault) => {
-            let text = query_text(host.alloc, &fault, path, options.explain);
-            report(text, fault.status(), messages)
-        }
+        Err(fault) => report_query(host.alloc, &fault, path, options.explain, messages),
     }
 }

@@ -1,12 +1,17 @@
 //! What explains why a program about a tree doesn't start.
 
 ghost use Rattle.std.specs.Prelude.{◌≡◌, IfOk, string_bytes};
+ghost use Rattle.scip_snapshot.specs.Showing.{writer};
+ghost use Rattle.programs.specs.Messages.{Tells};
 ghost use Rattle.programs.specs.StartExplanations.{explanation_of, told};
+ghost use Rattle.programs.specs.StartFaults.{status_of};
 
+use crate::messages::report;
 use crate::start_fault::StartFault;
 use source_files::LoadFault;
 use source_tree::MAX_FILES;
 use std::alloc::{AllocError, Global};
+use streams::Sink;
 
 // The number in the sentence is the limit.
 const _: () = prove!(MAX_FILES == 65_536);
@@ -32,11 +37,7 @@ fn explanation_of(fault: &StartFault) -> &'static str
 }
 
 /// The line, without its end, that says this, explained if that is asked for.
-pub(crate) fn start_text(
-    alloc: Global,
-    fault: &StartFault,
-    explain: bool,
-) -> Result<String, AllocError>
+fn start_text(alloc: Global, fault: &StartFault, explain: bool) -> Result<String, AllocError>
     ensures { IfOk result (λ text. string_bytes text ≡ told explain fault.now) }
 {
     let mut text = fault.line(alloc)?;
@@ -44,4 +45,18 @@ pub(crate) fn start_text(
         text.push_str(explanation_of(fault))?;
     }
     Ok(text)
+}
+
+/// Says why a program about a tree doesn't start, explained if that is asked for, and gives the exit status.
+pub(crate) fn report_start<M: Sink>(
+    alloc: Global,
+    fault: &StartFault,
+    explain: bool,
+    messages: &mut M,
+) -> u8
+    ensures { Tells (told explain fault.now) (status_of fault.now)
+        (writer M.contents M.failures messages.old messages.new) result }
+{
+    let text = start_text(alloc, fault, explain);
+    report(text, fault.status(), messages)
 }

@@ -1,7 +1,7 @@
 -- What a dump answers, by where it stops.
-use Rattle.std.proofs.Common.{◌≡◌, ◌∙◌, inl, inr, ℕ, zero, suc, ◌<◌, ◌≤◌, List, [], ◌∷◌, length, Some, Option}
-use Rattle.std.proofs.Common.{Result, Ok, Err, refl, ap, sym, subst, arith}
-use Rattle.std.specs.Prelude.{true, false, IfErr, IfSome}
+use Rattle.std.proofs.Common.{◌≡◌, inl, inr, ℕ, zero, suc, ◌<◌, ◌≤◌, List, [], ◌∷◌, length, Some, Option}
+use Rattle.std.proofs.Common.{Result, Ok, Err, refl, sym, subst, arith}
+use Rattle.std.specs.Prelude.{true, false, IfErr, IfSome, MatchResult}
 use Rattle.std.proofs.lemmas.Option.{same_Some, none-some}
 use Rattle.std.proofs.lemmas.List.{take_all, length-take}
 use Rattle.proto_lex.specs.declared.fault.LexFault.{LexFault}
@@ -13,7 +13,6 @@ use Rattle.proto_decl.specs.Seen.{Seen}
 use Rattle.index_hooks.specs.declared.choice.Choice.{Choice}
 use Rattle.source_tree.specs.Files.{TreeFile}
 use Rattle.source_tree.specs.Reading.{kept_bytes, max_kept_length}
-use Rattle.scip_model.specs.declared.records.Index.{Index}
 use Rattle.scip_build.specs.Builds.{IsBuilt, IsBuildFault}
 use Rattle.proto_visibility.specs.Linked.{CanBeLinked}
 use Rattle.scip_build.specs.Documents.{IsLeastUnresolved}
@@ -32,12 +31,11 @@ use Rattle.scip_wire.specs.Spelling.{spelling_of}
 use Rattle.protoscip.specs.Faults.{fault_of_build}
 use Rattle.protoscip.specs.FaultLines.{HasFilesOf}
 use Rattle.protoscip.specs.Indexes.{IsRefused}
-use Rattle.protoscip.specs.Writing.{IsReadBack}
+use Rattle.protoscip.specs.Writing.{IsNotReadBack}
 use Rattle.protoscip.specs.Output.{Writes}
-use Rattle.protoscip.specs.DumpText.{dump_text}
 use Rattle.protoscip.specs.Indexes.{recorded_of}
 use Rattle.protoscip.specs.Dump.{source_path, dump_tree, dump_settings, default_choices, IsListing, IsRefusal, Dumps}
-use Rattle.protoscip.specs.Dump.{LeavesWriter, IsDumped, IsTreeOfFault, IsTreeOfSource}
+use Rattle.protoscip.specs.Dump.{LeavesWriter, IsDumped, IsListingOf, IsTreeOfFault, IsTreeOfSource}
 use Rattle.protoscip.specs.declared.fault.Fault.{Fault}
 use Rattle.protoscip.specs.declared.fault.Fault.TheVariants as fault
 use Rattle.protoscip.proofs.FileLemmas.{files_of_build}
@@ -68,20 +66,34 @@ module _ (dialect : Dialect) (bytes : List ℕ) (settings : Settings) (tree : Li
       subst (λ (n : ℕ). IsRefused default_choices (dump_settings dialect) (dump_tree bytes) n (fault_of_build e)) one
       of_tree
 
-  -- the listing of its index is that of the source
-  pub listing_of_built : (built : Built) (read : Index) (listing : List ℕ) → IsBuilt default_choices settings tree built
-      → IsReadBack built.index read → listing ≡ dump_text read
-      → IsListing dialect bytes listing
-  listing_of_built built read listing is back text =
-      let by_settings = subst (λ (s : Settings). IsBuilt default_choices s tree built) set is in
-      let of_tree = subst (λ (t : List TreeFile). IsBuilt default_choices (dump_settings dialect) t built) alone
-      by_settings in
-      record {
-        recorded = recorded_of built.choices built.told;
-        spelling = spelling_of built.index;
-        indexed = record { index = built.index; built = of_tree; spelled = back.0 };
-        listing_is = text ∙ ap dump_text back.1;
-      }
+  built_of_dump : (built : Built) → IsBuilt default_choices settings tree built
+      → IsBuilt default_choices (dump_settings dialect) (dump_tree bytes) built
+  built_of_dump built is =
+      subst (λ (t : List TreeFile). IsBuilt default_choices (dump_settings dialect) t built) alone
+      (subst (λ (s : Settings). IsBuilt default_choices s tree built) set is)
+
+  -- the listing of its index is that of the source; where it has none, the source has none
+  pub listed_or_refused : {S : Type 0} (text : S → List ℕ) (built : Built) (listed : Result S Fault)
+      → IsBuilt default_choices settings tree built
+      → MatchResult listed (λ s. IsListingOf built.index (text s)) (IsNotReadBack built.index)
+      → MatchResult listed (λ s. IsListing dialect bytes (text s)) (IsRefusal dialect bytes)
+  listed_or_refused text built (Ok s) is listing = record {
+    recorded = recorded_of built.choices built.told;
+    spelling = spelling_of built.index;
+    indexed = record { index = built.index; built = built_of_dump built is; spelled = listing.0 };
+    listing_is = listing.1;
+  }
+  listed_or_refused text built (Err fault.Memory) is none = tt
+  listed_or_refused text built (Err fault.TooLarge) is none = (built, built_of_dump built is, none)
+  listed_or_refused text built (Err fault.Spawn) is none = absurd none
+  listed_or_refused text built (Err (fault.Lex number e)) is none = absurd none
+  listed_or_refused text built (Err (fault.Syntax number e)) is none = absurd none
+  listed_or_refused text built (Err (fault.Duplicate first second)) is none = absurd none
+  listed_or_refused text built (Err (fault.MissingImport place)) is none = absurd none
+  listed_or_refused text built (Err (fault.Unresolved place)) is none = absurd none
+  listed_or_refused text built (Err (fault.Write count)) is none = absurd none
+  listed_or_refused text built (Err fault.Read) is none = absurd none
+  listed_or_refused text built (Err (fault.Answer count)) is none = absurd none
 
 -- ---- what is kept of bytes is all of them, where that isn't too long
 

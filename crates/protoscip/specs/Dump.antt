@@ -12,8 +12,10 @@ use Rattle.streams.specs.WholeReads.{IsReadFault, IsReadThrough}
 use Rattle.streams.specs.WholeWrites.{IsWritten, IsCutOff}
 use Rattle.scip_build.specs.declared.settings.Settings.{Settings}
 use Rattle.scip_build.specs.declared.faulty.Faulty.TheVariants.{Refuse}
+use Rattle.scip_model.specs.declared.records.Index.{Index}
+use Rattle.scip_wire.specs.Spelling.{spelling_of}
 use Rattle.protoscip.specs.DumpText.{dump_text}
-use Rattle.protoscip.specs.Indexes.{IsIndexed, IsRefused}
+use Rattle.protoscip.specs.Indexes.{IsIndexed, IsRefused, IsSpelled}
 use Rattle.protoscip.specs.declared.recorded.Recorded.{Recorded}
 use Rattle.protoscip.specs.declared.fault.Fault.{Fault}
 use Rattle.protoscip.specs.declared.fault.Fault.TheVariants.{Memory, Read, Write}
@@ -46,6 +48,10 @@ pub record IsListing (dialect : Dialect) (bytes listing : List ℕ) : Type 0 whe
   pub spelling : List ℕ
   pub indexed : IsIndexed default_choices (dump_settings dialect) (dump_tree bytes) recorded spelling
   pub listing_is : listing ≡ dump_text indexed.index
+
+-- the listing of an index that has a spelling
+abbrev pub IsListingOf : Index → List ℕ → Type 0
+IsListingOf index listing = IsSpelled index (spelling_of index) × (listing ≡ dump_text index)
 
 -- why a source has no listing: why its tree isn't indexed, by one worker
 abbrev pub IsRefusal : Dialect → List ℕ → Fault → Type 0

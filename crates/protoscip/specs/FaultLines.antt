@@ -3,7 +3,6 @@ use Rattle.std.specs.Prelude.{ℕ, ◌<◌, ⊤, List, [], ◌++◌, length, cod
 use Rattle.std.specs.Fmt.{decimal}
 use Rattle.std.specs.List.{All, slice_get}
 use Rattle.std.specs.Option.{option_map, unwrap_or}
-use Rattle.proto_visibility.specs.declared.place.FilePlace.{FilePlace}
 use Rattle.source_tree.specs.Files.{TreeFile}
 use Rattle.proto_lex.specs.FaultNames.{lex_name, lex_offset}
 use Rattle.proto_parse.specs.FaultNames.{syntax_name, syntax_offset}
@@ -39,20 +38,24 @@ duplicate_line path at later_path later_at =
     codes "protoscip: " ++ later_path ++ codes "@" ++ decimal later_at
     ++ codes ": Duplicate of " ++ path ++ codes "@" ++ decimal at
 
--- a fault at a place
-abbrev pub line_at_place : List TreeFile → FilePlace → List ℕ → List ℕ
-line_at_place tree place name = line_at (path_of tree place.file) place.span.start name
+-- the line of a fault, over this tree, with words before the path of the file at fault: `skipped` if the file is left
+-- out for it, and `untargeted` if it only has an import or a use without a target
+abbrev pub line_with : (skipped untargeted : List ℕ) → List TreeFile → Fault → List ℕ
+line_with skipped untargeted tree (Lex number fault) =
+    placed_line (skipped ++ path_of tree number) (lex_offset fault) (name_of (Lex number fault))
+line_with skipped untargeted tree (Syntax number fault) =
+    placed_line (skipped ++ path_of tree number) (syntax_offset fault) (name_of (Syntax number fault))
+line_with skipped untargeted tree (Duplicate first second) =
+    duplicate_line (path_of tree first.file) first.span.start (skipped ++ path_of tree second.file) second.span.start
+line_with skipped untargeted tree (MissingImport place) =
+    line_at (untargeted ++ path_of tree place.file) place.span.start (name_of (MissingImport place))
+line_with skipped untargeted tree (Unresolved place) =
+    line_at (untargeted ++ path_of tree place.file) place.span.start (name_of (Unresolved place))
+line_with skipped untargeted tree fault = plain_line (name_of fault)
 
--- the line of a run's fault, over this tree
+-- that of a run's fault: without words
 abbrev pub line_of : List TreeFile → Fault → List ℕ
-line_of tree (Lex number fault) = placed_line (path_of tree number) (lex_offset fault) (name_of (Lex number fault))
-line_of tree (Syntax number fault) =
-    placed_line (path_of tree number) (syntax_offset fault) (name_of (Syntax number fault))
-line_of tree (Duplicate first second) =
-    duplicate_line (path_of tree first.file) first.span.start (path_of tree second.file) second.span.start
-line_of tree (MissingImport place) = line_at_place tree place (name_of (MissingImport place))
-line_of tree (Unresolved place) = line_at_place tree place (name_of (Unresolved place))
-line_of tree fault = plain_line (name_of fault)
+line_of = line_with (codes "") (codes "")
 
 -- ---- the files that a fault names
 

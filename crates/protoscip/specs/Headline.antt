@@ -1,5 +1,5 @@
 -- The headline: what holds of the bytes of a tree's index, and of queries over them.
-use Rattle.std.specs.Prelude.{◌≡◌, ◌↔◌, ◌<◌, ◌≤◌, ℕ, ◌+◌, Bool, true, false, Option, Some, Result, Ok, Err, List}
+use Rattle.std.specs.Prelude.{◌≡◌, ◌↔◌, ◌<◌, ◌≤◌, ℕ, ◌+◌, Bool, true, false, Some, Result, Ok, Err, List}
 use Rattle.std.specs.Prelude.{length, Contains}
 use Rattle.std.specs.declared.cmp.Ordering.{Ordering}
 use Rattle.std.specs.Ordering.{nat_cmp, on, then_cmp}
@@ -25,7 +25,6 @@ use Rattle.scip_document.specs.Indexes.{HasDocument, IsAscendingListOf}
 use Rattle.scip_document.specs.Named.{HasDeclaration, NamesIn, text_of, package_at, declaration_at}
 use Rattle.scip_document.specs.Occurs.{Occurs}
 use Rattle.scip_document.specs.Occurs as rule
-use Rattle.streams.specs.WholeWrites.{IsWritten}
 use Rattle.scip_model.specs.declared.records.Index.{Index}
 use Rattle.scip_model.specs.declared.records.Document.{Document}
 use Rattle.scip_model.specs.declared.records.Occurrence.{Occurrence}
@@ -41,7 +40,6 @@ use Rattle.scip_query.specs.Sites.{Site, Numbered, document_named}
 use Rattle.scip_wire.specs.Decodes.{Decodes}
 use Rattle.protoscip.specs.declared.recorded.Recorded.{Recorded}
 use Rattle.protoscip.specs.Indexes.{built_of, IsIndexed}
-use Rattle.protoscip.specs.Sessions.{AreAnswered}
 
 -- ---- what is named
 
@@ -192,18 +190,8 @@ abbrev pub Headline : (allows : Seen → Choice → Type 0) → Type 0
 Headline allows = (settings : Settings) (tree : List TreeFile) → IsTree tree → ArePackages settings.package
     → HeadlineOfTree allows settings tree
 
--- An index of the tree by these choices navigates it, and its bytes are written.
-abbrev pub WritesNavigable : {W : Type 0} → (contents : W → Option (List ℕ)) → (failures : W → ℕ)
-    → (allows : Seen → Choice → Type 0) → Settings → List TreeFile → Recorded → W → W → Type 0
-WritesNavigable contents failures allows settings tree recorded before after =
-    (bytes : List ℕ) × (index : Index) × Navigates allows settings tree recorded bytes index
-    × IsWritten contents failures before after bytes
-
--- An index of the tree by these choices navigates it, and all commands are answered from it.
-abbrev pub AnswersNavigable : {R W : Type 0} → (remaining : R → Option (List ℕ)) → (read_failures reads ends : R → ℕ)
-    → (contents : W → Option (List ℕ)) → (write_failures : W → ℕ)
-    → (allows : Seen → Choice → Type 0) → Settings → List TreeFile → Recorded → R → R → W → W → Type 0
-AnswersNavigable remaining read_failures reads ends contents write_failures allows settings tree recorded before after
-    first last =
-    (bytes : List ℕ) × (index : Index) × Navigates allows settings tree recorded bytes index
-    × AreAnswered remaining read_failures reads ends contents write_failures index before after first last (Ok tt)
+-- An index of the tree by these choices navigates it, and `goes` says what becomes of its bytes and of it.
+abbrev pub IsNavigable : (goes : (bytes : List ℕ) → Index → Type 0) → (allows : Seen → Choice → Type 0) → Settings
+    → List TreeFile → Recorded → Type 0
+IsNavigable goes allows settings tree recorded =
+    (bytes : List ℕ) × (index : Index) × Navigates allows settings tree recorded bytes index × goes bytes index

@@ -6,38 +6,19 @@ use Rattle.std.specs.Fmt.{decimal}
 use Rattle.std.specs.List.{count_by}
 use Rattle.source_tree.specs.Files.{TreeFile}
 use Rattle.source_tree.specs.Trees.{IsSourceCount}
-use Rattle.proto_lex.specs.FaultNames.{lex_offset}
-use Rattle.proto_parse.specs.FaultNames.{syntax_offset}
 use Rattle.proto_parse.specs.tree.Dialect.{Dialect}
 use Rattle.scip_build.specs.declared.fault.BuildFault.{BuildFault}
 use Rattle.scip_build.specs.declared.fault.BuildFault.TheVariants as build
 use Rattle.protoscip.specs.Explanations.{IsExplained}
-use Rattle.protoscip.specs.FaultLines.{path_of, name_of, line_of, duplicate_line}
+use Rattle.protoscip.specs.FaultLines.{line_with}
 use Rattle.protoscip.specs.Faults.{fault_of_build}
-use Rattle.protoscip.specs.Lines.{line_at, placed_line}
 use Rattle.protoscip.specs.declared.fault.Fault.{Fault}
-use Rattle.protoscip.specs.declared.fault.Fault.TheVariants.{Lex, Syntax, Duplicate, MissingImport, Unresolved}
 
 -- ---- a line for each
 
--- the path of a file that is left out, and that of one in which an import or a use has no target
-abbrev pub skipped : List TreeFile → (number : ℕ) → List ℕ
-skipped tree number = codes "skipped: " ++ path_of tree number
-
-abbrev pub untargeted : List TreeFile → (number : ℕ) → List ℕ
-untargeted tree number = codes "no target: " ++ path_of tree number
-
 -- the line of the fault for which a tree would be refused, with `skipped: ` or `no target: ` before the path
 abbrev pub told_line : List TreeFile → Fault → List ℕ
-told_line tree (Lex number fault) = placed_line (skipped tree number) (lex_offset fault) (name_of (Lex number fault))
-told_line tree (Syntax number fault) =
-    placed_line (skipped tree number) (syntax_offset fault) (name_of (Syntax number fault))
-told_line tree (Duplicate first second) =
-    duplicate_line (path_of tree first.file) first.span.start (skipped tree second.file) second.span.start
-told_line tree (MissingImport place) =
-    line_at (untargeted tree place.file) place.span.start (name_of (MissingImport place))
-told_line tree (Unresolved place) = line_at (untargeted tree place.file) place.span.start (name_of (Unresolved place))
-told_line tree fault = line_of tree fault
+told_line = line_with (codes "skipped: ") (codes "no target: ")
 
 -- the same, and its explanation if that is asked for
 abbrev pub IsToldLine : (explain : Option Dialect) → List TreeFile → Fault → (text : List ℕ) → Type 0

@@ -8,11 +8,14 @@ ghost use Rattle.protoscip.specs.Dump.{
   dump_settings,
   IsDumped,
   IsListing,
+  IsListingOf,
   IsRefusal,
   IsTreeOfFault,
   LeavesReader,
 };
 ghost use Rattle.protoscip.specs.FaultLines.{HasFilesOf};
+ghost use Rattle.protoscip.specs.Writing.{IsNotReadBack};
+ghost use Rattle.proto_parse.specs.tree.Dialect.{Dialect};
 
 use crate::fault::Fault;
 use crate::listing::dump_text;
@@ -25,6 +28,7 @@ use proto_lex::Encoding;
 use proto_parse::Dialect;
 use scip_build::{Faulty, Run, Settings, build};
 use scip_document::FilePackages;
+use scip_model::Index;
 use scip_symbol::PackageId;
 use sequences::OwnedText;
 use source_tree::{Source, Tree, TreeFault, read_source};
@@ -89,6 +93,37 @@ fn one_worker() -> Workers
     Workers::new(1).unwrap()
 }
 
+/// The listing of an index, as it is read back from its bytes.
+fn listing_of_index(alloc: Global, index: Index) -> Result<String, Fault>
+    ensures { MatchResult result (λ listing. IsListingOf index (string_bytes listing)) (IsNotReadBack index) }
+{
+    let read = read_back(alloc, index)?;
+    let listing = dump_text(alloc, &read)?;
+    Ok(listing)
+}
+
+/// The listing of a source's tree, by the settings of its dump.
+fn listing_by<R: Threads + Wait>(
+    rt: &R,
+    alloc: Global,
+    settings: &Settings,
+    tree: &Tree,
+) -> Result<String, Fault>
+    ensures { (dialect : Dialect) → (bytes : List ℕ) → settings.now ≡ dump_settings dialect
+        → tree.now ≡ dump_tree bytes → MatchResult result
+        (λ listing. IsListing dialect bytes (string_bytes listing)) (IsRefusal dialect bytes) }
+{
+    let workers = one_worker();
+    let run = Run {
+        rt,
+        alloc,
+        workers,
+        gate: &NoGate,
+    };
+    let built = build(&run, tree, &DefaultChoices, settings)?;
+    listing_of_index(alloc, built.index)
+}
+
 /// The listing of a source, by the tree of its dump.
 fn listing_of<R: Threads + Wait>(
     rt: &R,
@@ -100,17 +135,7 @@ fn listing_of<R: Threads + Wait>(
         (λ listing. IsListing dialect bytes (string_bytes listing)) (IsRefusal dialect bytes) }
 {
     let settings = dump_settings(alloc, dialect)?;
-    let workers = one_worker();
-    let run = Run {
-        rt,
-        alloc,
-        workers,
-        gate: &NoGate,
-    };
-    let built = build(&run, tree, &DefaultChoices, &settings)?;
-    let index = read_back(alloc, built.index)?;
-    let listing = dump_text(alloc, &index)?;
-    Ok(listing)
+    listing_by(rt, alloc, &settings, tree)
 }
 
 /// Makes a tree that of these bytes.

@@ -1,10 +1,11 @@
 //! The line that says why a run stops.
 
-ghost use Rattle.std.specs.Prelude.{◌≡◌, IfOk, string_bytes};
-ghost use Rattle.protoscip.specs.FaultLines.{HasFile, HasFilesOf, path_of, line_at_place, duplicate_line, line_of};
+ghost use Rattle.std.specs.Prelude.{◌≡◌, ◌++◌, IfOk, string_bytes};
+ghost use Rattle.protoscip.specs.FaultLines.{HasFile, HasFilesOf, path_of, duplicate_line, line_of, line_with};
+ghost use Rattle.protoscip.specs.Lines.{line_at};
 
 use crate::fault::Fault;
-use crate::lines::{placed_line, plain_line};
+use crate::lines::{line_at, placed_with, plain_line};
 use proto_link::FilePlace;
 use source_tree::Tree;
 use std::alloc::{AllocError, Global};
@@ -15,21 +16,39 @@ pub fn fault_line(alloc: Global, tree: &Tree, fault: &Fault) -> Result<String, A
     requires { HasFilesOf tree.now fault.now }
     ensures { IfOk result (λ line. string_bytes line ≡ line_of tree.now fault.now) }
 {
+    line_with(alloc, tree, fault, "", "")
+}
+
+/// The line, without its end, that says this, with words before the path of the file at fault: `skipped` if the file is
+/// left out for it, and `untargeted` if it only has an import or a use without a target.
+pub(crate) fn line_with(
+    alloc: Global,
+    tree: &Tree,
+    fault: &Fault,
+    skipped: &str,
+    untargeted: &str,
+) -> Result<String, AllocError>
+    requires { HasFilesOf tree.now fault.now }
+    ensures { IfOk result (λ line. string_bytes line ≡ line_with skipped.now untargeted.now tree.now fault.now) }
+{
     let name = fault.name();
     match fault {
-        Fault::Lex(file, fault) => placed_line(alloc, path_of(tree, *file), fault.offset(), name),
+        Fault::Lex(file, fault) => {
+            placed_with(alloc, skipped, path_of(tree, *file), fault.offset(), name)
+        }
         Fault::Syntax(file, fault) => {
-            placed_line(alloc, path_of(tree, *file), fault.offset(), name)
+            placed_with(alloc, skipped, path_of(tree, *file), fault.offset(), name)
         }
         Fault::Duplicate(first, second) => duplicate_line(
             alloc,
             path_of(tree, first.file),
             first.span.start,
+            skipped,
             path_of(tree, second.file),
             second.span.start,
         ),
-        Fault::MissingImport(place) => line_at_place(alloc, tree, place, name),
-        Fault::Unresolved(place) => line_at_place(alloc, tree, place, name),
+        Fault::MissingImport(place) => line_at_place(alloc, untargeted, tree, place, name),
+        Fault::Unresolved(place) => line_at_place(alloc, untargeted, tree, place, name),
         Fault::Spawn
         | Fault::Memory
         | Fault::TooLarge
@@ -47,33 +66,39 @@ pub(crate) fn path_of(tree: &Tree, file: usize) -> &str
     tree.path(file)
 }
 
-/// The line of a fault at a place.
+/// The line of a fault at a place, with words before its file's path.
 fn line_at_place(
     alloc: Global,
+    words: &str,
     tree: &Tree,
     place: &FilePlace,
     name: &str,
 ) -> Result<String, AllocError>
     requires { HasFile tree.now place.now.file }
-    ensures { IfOk result (λ line. string_bytes line ≡ line_at_place tree.now place.now name.now) }
+    ensures { IfOk result (λ line. string_bytes line
+        ≡ line_at (words.now ++ path_of tree.now place.now.file) place.now.span.start name.now) }
 {
-    placed_line(
+    line_at(
         alloc,
+        words,
         path_of(tree, place.file),
-        Some(place.span.start),
+        place.span.start,
         name,
     )
 }
 
-/// The line of two places that give one full name, each told by its path and offset.
-pub(crate) fn duplicate_line(
+/// The line of two places that give one full name, each told by its path and offset, with words before the path of
+/// the later one.
+fn duplicate_line(
     alloc: Global,
     path: &str,
     offset: usize,
+    words: &str,
     later_path: &str,
     later_offset: usize,
 ) -> Result<String, AllocError>
-    ensures { IfOk result (λ line. string_bytes line ≡ duplicate_line path.now offset later_path.now later_offset) }
+    ensures { IfOk result (λ line. string_bytes line
+        ≡ duplicate_line path.now offset (words.now ++ later_path.now) later_offset) }
 {
-    format!(in alloc; "protoscip: {later_path}@{later_offset}: Duplicate of {path}@{offset}")
+    format!(in alloc; "protoscip: {words}{later_path}@{later_offset}: Duplicate of {path}@{offset}")
 }

@@ -2,11 +2,12 @@
 
 ghost use Rattle.std.specs.Prelude.{Ok, Err, IfErr, IfOk, MatchResult, string_bytes};
 ghost use Rattle.std.specs.Option.{option_map};
+ghost use Rattle.streams.specs.WholeWrites.{IsWritten};
 ghost use Rattle.scip_model.specs.declared.records.Index.{Index};
 ghost use Rattle.scip_build.specs.Forms.{ArePartsOf};
 ghost use Rattle.protoscip.specs.Explanations.{explain_in};
 ghost use Rattle.protoscip.specs.FaultLines.{HasFilesOf, HaveFilesOf};
-ghost use Rattle.protoscip.specs.Headline.{WritesNavigable};
+ghost use Rattle.protoscip.specs.Headline.{IsNavigable};
 ghost use Rattle.protoscip.specs.Indexes.{Indexes, recorded_of};
 ghost use Rattle.protoscip.specs.ToldLines.{IsTextOfLacks};
 ghost use Rattle.protoscip.specs.Writing.{IsRecordOf, WritesIndex};
@@ -74,8 +75,9 @@ pub fn index_and_keep<'a, R: Threads + Wait, C: Chooses + Sync, G: Gate, W: Sink
         out.new (Ok (recorded_of kept.built.choices kept.built.told)))
         (λ fault. Indexes W.contents W.failures (C.allows chooser.now) settings.now tree.now run.now.workers out.old
         out.new (Err fault)) }
-    ensures navigable { IfOk result (λ kept. WritesNavigable W.contents W.failures (C.allows chooser.now) settings.now
-        tree.now (recorded_of kept.built.choices kept.built.told) out.old out.new) }
+    ensures navigable { IfOk result (λ kept. IsNavigable
+        (λ bytes _. IsWritten W.contents W.failures out.old out.new bytes) (C.allows chooser.now) settings.now tree.now
+        (recorded_of kept.built.choices kept.built.told)) }
     ensures files { IfErr result (HasFilesOf tree.now) }
     ensures told { IfOk result (λ kept. HaveFilesOf tree.now kept.built.told) }
     ensures said { IfOk result (λ kept. IsTextOfLacks (explain_in explain settings.now.dialect) tree.now
@@ -103,8 +105,9 @@ pub fn index_tree<R: Threads + Wait, C: Chooses + Sync, G: Gate, W: Sink>(
 ) -> Result<Recorded, Fault>
     ensures indexed { Indexes W.contents W.failures (C.allows chooser.now) settings.now tree.now run.now.workers out.old
         out.new result }
-    ensures navigable { IfOk result (λ recorded. WritesNavigable W.contents W.failures (C.allows chooser.now)
-        settings.now tree.now recorded out.old out.new) }
+    ensures navigable { IfOk result (λ recorded. IsNavigable
+        (λ bytes _. IsWritten W.contents W.failures out.old out.new bytes) (C.allows chooser.now) settings.now tree.now
+        recorded) }
     ensures files { IfErr result (HasFilesOf tree.now) }
     ensures told { IfOk result (λ recorded. HaveFilesOf tree.now recorded.told) }
 {

@@ -1,6 +1,6 @@
 //! The forms of a line that says why a program stops.
 
-ghost use Rattle.std.specs.Prelude.{◌≡◌, IfOk, string_bytes};
+ghost use Rattle.std.specs.Prelude.{◌≡◌, ◌++◌, IfOk, string_bytes};
 ghost use Rattle.protoscip.specs.Lines.{plain_line, path_line, line_at, placed_line};
 
 use std::alloc::{AllocError, Global};
@@ -19,11 +19,33 @@ pub fn path_line(alloc: Global, path: &str, name: &str) -> Result<String, AllocE
     format!(in alloc; "protoscip: {path}: {name}")
 }
 
-/// `protoscip: PATH@OFFSET: NAME`
-fn line_at(alloc: Global, path: &str, offset: usize, name: &str) -> Result<String, AllocError>
-    ensures { IfOk result (λ line. string_bytes line ≡ line_at path.now offset name.now) }
+/// `protoscip: PATH@OFFSET: NAME`, with words before the path.
+pub(crate) fn line_at(
+    alloc: Global,
+    words: &str,
+    path: &str,
+    offset: usize,
+    name: &str,
+) -> Result<String, AllocError>
+    ensures { IfOk result (λ line. string_bytes line ≡ line_at (words.now ++ path.now) offset name.now) }
 {
-    format!(in alloc; "protoscip: {path}@{offset}: {name}")
+    format!(in alloc; "protoscip: {words}{path}@{offset}: {name}")
+}
+
+/// The same; without the path if there is no offset.
+pub(crate) fn placed_with(
+    alloc: Global,
+    words: &str,
+    path: &str,
+    offset: Option<usize>,
+    name: &str,
+) -> Result<String, AllocError>
+    ensures { IfOk result (λ line. string_bytes line ≡ placed_line (words.now ++ path.now) offset name.now) }
+{
+    match offset {
+        Some(offset) => line_at(alloc, words, path, offset, name),
+        None => plain_line(alloc, name),
+    }
 }
 
 /// `protoscip: PATH@OFFSET: NAME`; without the path if there is no offset.
@@ -35,8 +57,5 @@ pub fn placed_line(
 ) -> Result<String, AllocError>
     ensures { IfOk result (λ line. string_bytes line ≡ placed_line path.now offset name.now) }
 {
-    match offset {
-        Some(offset) => line_at(alloc, path, offset, name),
-        None => plain_line(alloc, name),
-    }
+    placed_with(alloc, "", path, offset, name)
 }

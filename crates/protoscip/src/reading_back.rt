@@ -10,13 +10,11 @@ use scip_wire::{
 };
 use std::alloc::Global;
 
-/// The index that an index's bytes decode to: itself.
-///
-/// `TooLarge`: it has more than `MAX_INDEX_LEN`.
-pub(crate) fn read_back(alloc: Global, index: Index) -> Result<Index, Fault>
-    ensures { MatchResult result (IsReadBack index) (IsNotReadBack index) }
+/// A copy of an index, decoded from its bytes.
+fn decoded(alloc: Global, index: &Index) -> Result<Index, Fault>
+    ensures { MatchResult result (IsReadBack index.now) (IsNotReadBack index.now) }
 {
-    let bytes = match spell_index(alloc, &index)? {
+    let bytes = match spell_index(alloc, index)? {
         Some(bytes) => bytes,
         None => return Err(Fault::TooLarge),
     };
@@ -27,4 +25,13 @@ pub(crate) fn read_back(alloc: Global, index: Index) -> Result<Index, Fault>
         Err(WireFault::Memory) => Err(Fault::Memory),
         Err(_) => unreachable!(),
     }
+}
+
+/// The index that an index's bytes decode to: itself.
+///
+/// `TooLarge`: it has more than `MAX_INDEX_LEN`.
+pub(crate) fn read_back(alloc: Global, index: Index) -> Result<Index, Fault>
+    ensures { MatchResult result (IsReadBack index) (IsNotReadBack index) }
+{
+    decoded(alloc, &index)
 }

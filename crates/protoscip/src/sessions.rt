@@ -1,10 +1,10 @@
 //! From a tree to answers to commands about its index.
 
-ghost use Rattle.std.specs.Prelude.{IfErr, IfOk};
+ghost use Rattle.std.specs.Prelude.{Ok, IfErr, IfOk};
 ghost use Rattle.protoscip.specs.FaultLines.{HasFilesOf, HaveFilesOf};
 ghost use Rattle.protoscip.specs.Conversing.{Converses};
-ghost use Rattle.protoscip.specs.Headline.{AnswersNavigable};
-ghost use Rattle.protoscip.specs.Sessions.{Serves};
+ghost use Rattle.protoscip.specs.Headline.{IsNavigable};
+ghost use Rattle.protoscip.specs.Sessions.{AreAnswered, Serves};
 
 use crate::answering::answer_commands;
 use crate::fault::Fault;
@@ -53,9 +53,9 @@ pub fn session<R: Threads + Wait, C: Chooses + Sync, G: Gate, F: Feed, W: Sink>(
 ) -> Result<Recorded, Fault>
     ensures served { Serves F.remaining F.failures F.reads F.ends W.contents W.failures (C.allows chooser.now)
         settings.now tree.now run.now.workers commands.old commands.new answers.old answers.new result }
-    ensures navigable { IfOk result (λ recorded. AnswersNavigable F.remaining F.failures F.reads F.ends W.contents
-        W.failures (C.allows chooser.now) settings.now tree.now recorded commands.old commands.new answers.old
-        answers.new) }
+    ensures navigable { IfOk result (λ recorded. IsNavigable
+        (λ _ index. AreAnswered F.remaining F.failures F.reads F.ends W.contents W.failures index commands.old
+        commands.new answers.old answers.new (Ok tt)) (C.allows chooser.now) settings.now tree.now recorded) }
     ensures files { IfErr result (HasFilesOf tree.now) }
     ensures told { IfOk result (λ recorded. HaveFilesOf tree.now recorded.told) }
 {

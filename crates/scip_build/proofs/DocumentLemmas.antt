@@ -4,11 +4,9 @@ use Rattle.std.specs.List.{Contains, slice_get}
 use Rattle.std.specs.Option.{option_map}
 use Rattle.std.specs.declared.cmp.Ordering.TheVariants.{Less}
 use Rattle.std.proofs.lemmas.Option.{same_Some, slice_get-map, slice_get_within}
-use Rattle.proto_lex.specs.declared.position.Encoding.{Encoding}
 use Rattle.proto_visibility.specs.Files.{File, IsSource}
 use Rattle.index_pool.specs.Phase.{AnswersEach, IsLeastFault}
 use Rattle.scip_model.specs.declared.records.Document.{Document}
-use Rattle.scip_document.specs.Packages.{Packages}
 use Rattle.scip_document.specs.Chosen.{Chosen}
 use Rattle.scip_document.specs.Conditions.{IsFirstUnresolved}
 use Rattle.scip_document.specs.Indexes.{IsAscendingListOf, IsDocumentOf, HasDocument, HaveDocuments, document_cmp}
@@ -16,8 +14,8 @@ use Rattle.scip_document.specs.Uses.{UsesResolve}
 use Rattle.scip_document.specs.declared.source_document.SourceDocument.{SourceDocument}
 use Rattle.scip_document.proofs.GapLemmas.{all_resolve}
 use Rattle.scip_document.specs.Laws.{OneDocument}
-use Rattle.scip_build.specs.declared.faulty.Faulty.{Faulty}
 use Rattle.scip_build.specs.declared.faulty.Faulty.TheVariants.{Refuse}
+use Rattle.scip_build.specs.declared.settings.Settings.{Settings}
 use Rattle.scip_build.specs.declared.fault.BuildFault.{BuildFault}
 use Rattle.scip_build.specs.declared.fault.BuildFault.TheVariants as build
 use Rattle.scip_build.specs.Files.{ReadFile}
@@ -31,8 +29,8 @@ use Rattle.scip_build.proofs.PlaceLemmas.{place_of, contained, rising_from_place
 abbrev pub document_in : SourceDocument → Document
 document_in made = made.document
 
-module _ (faulty : Faulty) (readings : List ReadFile) (files : List File) (chosen : Chosen) (ids : Packages)
-    (encoding : Encoding) (count : ℕ) (ready : AreReady readings files chosen count) where
+module _ (readings : List ReadFile) (files : List File) (chosen : Chosen) (settings : Settings) (count : ℕ)
+    (ready : AreReady readings files chosen count) where
   text_listed : (number : ℕ) (text : List ℕ) → HasReadText readings number text
       → slice_get (texts_of readings) number ≡ Some text
   text_listed number text has =
@@ -40,11 +38,11 @@ module _ (faulty : Faulty) (readings : List ReadFile) (files : List File) (chose
       ∙ (ap (option_map text_of) has.numbered ∙ (ap (λ c. Some (text_in c)) has.read ∙ ap Some has.text_is))
 
   module _ (one : OneDocument) (made : List SourceDocument)
-      (answers : AnswersEach (GivesDocument faulty readings files chosen ids encoding) count made) where
+      (answers : AnswersEach (GivesDocument readings files chosen settings) count made) where
     -- what was made of a source
     pub made_at : (number : ℕ) → IsSource files number
         → (document : SourceDocument) × (slice_get made number ≡ Some document)
-        × IsDocumentAt faulty readings files chosen ids encoding number document
+        × IsDocumentAt readings files chosen settings number document
     made_at number is =
         let below = (ready.sources number).1 is in
         let within : number < length made = rw answers.0 below in
@@ -61,11 +59,11 @@ module _ (faulty : Faulty) (readings : List ReadFile) (files : List File) (chose
     documents = map document_in made
 
     found : (document : Document) → Contains documents document
-        → HasDocument files (texts_of readings) chosen ids encoding document
+        → HasDocument files (texts_of readings) chosen settings.package settings.encoding document
     found document listed =
         let of = mapped_at document_in made listed.0 document (place_of documents document listed) in
         let is = answers.1 listed.0 of.0 of.1 in
-        let Is : Document → Type 0 = IsDocumentOf files chosen ids encoding listed.0 is.text in
+        let Is : Document → Type 0 = IsDocumentOf files chosen settings.package settings.encoding listed.0 is.text in
         record {
           source = listed.0;
           text = is.text;
@@ -77,7 +75,8 @@ module _ (faulty : Faulty) (readings : List ReadFile) (files : List File) (chose
         → slice_get documents number ≡ Some of.document
     listed_at number of at = slice_get-map document_in made number ∙ ap (option_map document_in) at
 
-    only : (document : Document) → HasDocument files (texts_of readings) chosen ids encoding document
+    only : (document : Document)
+        → HasDocument files (texts_of readings) chosen settings.package settings.encoding document
         → Contains documents document
     only document has =
         let source : IsSource files has.source =
@@ -86,9 +85,11 @@ module _ (faulty : Faulty) (readings : List ReadFile) (files : List File) (chose
         let of = here.2 in
         let text : of.text ≡ has.text =
         same_Some of.text has.text (sym (text_listed has.source of.text of.has_text) ∙ has.text_is) in
-        let Of : List ℕ → Type 0 = λ t. IsDocumentOf files chosen ids encoding has.source t here.0.document in
+        let Of : List ℕ → Type 0 =
+        λ t. IsDocumentOf files chosen settings.package settings.encoding has.source t here.0.document in
         let same : here.0.document ≡ document =
-        one files chosen ids encoding has.source has.text here.0.document document (subst Of text of.is) has.is in
+        one files chosen settings.package settings.encoding has.source has.text here.0.document document
+        (subst Of text of.is) has.is in
         contained documents has.source document (listed_at has.source here.0 here.1 ∙ ap Some same)
 
     ascending : (i j : ℕ) (a b : Document) → i < j → slice_get documents i ≡ Some a → slice_get documents j ≡ Some b
@@ -102,13 +103,14 @@ module _ (faulty : Faulty) (readings : List ReadFile) (files : List File) (chose
         let rises = ready.rising i j first.is.file second.is.file less below first.is.numbered second.is.numbered in
         rw (x.2, y.2, first.is.relative_path, second.is.relative_path) rises
 
-    pub list_of : IsAscendingListOf document_cmp (HasDocument files (texts_of readings) chosen ids encoding) documents
+    pub list_of : IsAscendingListOf document_cmp
+        (HasDocument files (texts_of readings) chosen settings.package settings.encoding) documents
     list_of = record {
       exact = λ document. (found document, only document);
       ascends = rising_from_places document_cmp documents ascending;
     }
 
-    pub each_of : HaveDocuments files (texts_of readings) chosen ids encoding documents
+    pub each_of : HaveDocuments files (texts_of readings) chosen settings.package settings.encoding documents
     each_of source is =
         let here = made_at source is in
         let of = here.2 in (
@@ -120,16 +122,16 @@ module _ (faulty : Faulty) (readings : List ReadFile) (files : List File) (chose
 
   -- a source without a use that is refused has none that names no type
   pub resolves : (number : ℕ) (made : SourceDocument)
-      → IsDocumentAt faulty readings files chosen ids encoding number made
-      → faulty ≡ Refuse → UsesResolve files number
+      → IsDocumentAt readings files chosen settings number made
+      → settings.faulty ≡ Refuse → UsesResolve files number
   resolves number made is refuse =
       let none : slice_get made.unresolved 0 ≡ None = rw (is.refused refuse) refl in
       all_resolve files number made.unresolved is.gaps none
 
   -- why a source has no document, the first of those that have none, is why there are no documents
   pub refused_of : (workers number : ℕ) (fault : BuildFault)
-      → IsLeastFault (GivesDocument faulty readings files chosen ids encoding) count number fault
-      → MayRefuseDocuments faulty files workers fault
+      → IsLeastFault (GivesDocument readings files chosen settings) count number fault
+      → MayRefuseDocuments settings.faulty files workers fault
   refused_of workers number build.Spawn least = absurd least.1
   refused_of workers number build.Memory least = tt
   refused_of workers number (build.File other fault) least = absurd least.1

@@ -3,7 +3,6 @@ use Rattle.std.proofs.Common.{◌≡◌, ◌∙◌, ℕ, ◌+◌, zero, suc, Lis
 use Rattle.std.proofs.Common.{arith}
 use Rattle.std.specs.List.{AllZip, Contains, slice_get, each_same}
 use Rattle.std.proofs.lemmas.Option.{same_Some, none-some}
-use Rattle.proto_lex.specs.declared.position.Encoding.{Encoding}
 use Rattle.proto_lex.specs.declared.span.Span.{Span}
 use Rattle.proto_visibility.specs.declared.place.FilePlace.{FilePlace}
 use Rattle.proto_visibility.specs.Files.{File, IsSource}
@@ -11,13 +10,11 @@ use Rattle.proto_visibility.specs.Linked.{HaveClearNames}
 use Rattle.index_pool.specs.Phase.{AnswersEach, IsLeastFault}
 use Rattle.scip_model.specs.declared.records.Document.{Document}
 use Rattle.scip_model.specs.declared.records.Index.{Index}
-use Rattle.scip_document.specs.Packages.{Packages}
 use Rattle.scip_document.specs.Chosen.{Chosen}
 use Rattle.scip_document.specs.Conditions.{AllResolve}
 use Rattle.scip_document.specs.Indexes.{metadata_of, AreExternals}
 use Rattle.scip_document.specs.Laws.{OneDocument}
 use Rattle.scip_document.specs.declared.source_document.SourceDocument.{SourceDocument}
-use Rattle.scip_build.specs.declared.faulty.Faulty.{Faulty}
 use Rattle.scip_build.specs.declared.faulty.Faulty.TheVariants.{Refuse}
 use Rattle.scip_build.specs.declared.fault.BuildFault.{BuildFault}
 use Rattle.scip_build.specs.declared.made.MadeDocument.{MadeDocument}
@@ -107,11 +104,10 @@ module _ {Out : Type 0} (Is : Document → Out → Type 0) where
       (o, refl, subst (λ (y : SourceDocument). IsMadeFrom y o) (same_Some x m at) all.0)
   to_zip (x ∷ made) (o ∷ outs) all (suc k) m at = to_zip made outs all.1 k m at
 
-module _ {Out : Type 0} (Is : Document → Out → Type 0) (faulty : Faulty) (readings : List ReadFile) (files : List File)
-    (chosen : Chosen) (ids : Packages) (encoding : Encoding) (count : ℕ)
-    (ready : AreReady readings files chosen count) where
+module _ {Out : Type 0} (Is : Document → Out → Type 0) (readings : List ReadFile) (files : List File)
+    (chosen : Chosen) (settings : Settings) (count : ℕ) (ready : AreReady readings files chosen count) where
   abbrev At : ℕ → SourceDocument → Type 0
-  At = IsDocumentAt faulty readings files chosen ids encoding
+  At = IsDocumentAt readings files chosen settings
 
   module _ (made : List SourceDocument) (outs : List (MadeDocument Out)) (zip : AllZip (IsMadeFrom Is) made outs)
       (sourced : (number : ℕ) (m : SourceDocument) → slice_get made number ≡ Some m → IsSource files number)
@@ -149,11 +145,11 @@ module _ {Out : Type 0} (Is : Document → Out → Type 0) (faulty : Faulty) (re
         let same : place_in (0 + place.file) place.span ≡ place = ap (λ n. place_in n place.span) file in
         subst (Contains (gaps_from 0 outs)) same (listed_from 0 outs place.file out.0 out.1 place.span kept)
 
-    none_refused : faulty ≡ Refuse → AllResolve files × (gaps_from 0 outs ≡ [])
+    none_refused : settings.faulty ≡ Refuse → AllResolve files × (gaps_from 0 outs ≡ [])
     none_refused refuse = (
       λ source facts type_use is known listed.
           let there = made_at source is in
-          resolves faulty readings files chosen ids encoding count ready source there.0 there.2 refuse facts type_use
+          resolves readings files chosen settings count ready source there.0 there.2 refuse facts type_use
           known listed,
       none_from 0 outs (λ number out at.
           let m = from_zip Is made outs zip number out at in
@@ -161,8 +157,8 @@ module _ {Out : Type 0} (Is : Document → Out → Type 0) (faulty : Faulty) (re
     )
 
   pub kept_of : OneDocument → (outs : List (MadeDocument Out))
-      → AnswersEach (GivesKept Is faulty readings files chosen ids encoding) count outs
-      → AreMade Is faulty readings files chosen ids encoding outs
+      → AnswersEach (GivesKept Is readings files chosen settings) count outs
+      → AreMade Is readings files chosen settings outs
   kept_of one outs answers =
       let of = kept_of_list (IsMadeFrom Is) At outs
       (λ k out at. let kept = answers.1 k out at in
@@ -171,10 +167,10 @@ module _ {Out : Type 0} (Is : Document → Out → Type 0) (faulty : Faulty) (re
         at = kept.made;
         kept = record { kept = kept.kept; gaps = kept.gaps };
       }) in
-      let made : AnswersEach (GivesDocument faulty readings files chosen ids encoding) count of.items =
+      let made : AnswersEach (GivesDocument readings files chosen settings) count of.items =
       (of.count ∙ answers.0, of.each) in
-      let sourced = is_source_at faulty readings files chosen ids encoding count ready one of.items made in
-      let made_there = made_at faulty readings files chosen ids encoding count ready one of.items made in
+      let sourced = is_source_at readings files chosen settings count ready one of.items made in
+      let made_there = made_at readings files chosen settings count ready one of.items made in
       record {
         documents = map document_in of.items;
         made = record {
@@ -184,25 +180,25 @@ module _ {Out : Type 0} (Is : Document → Out → Type 0) (faulty : Faulty) (re
             gap_back of.items outs of.kept sourced of.each made_there place,
           );
           refused = none_refused of.items outs of.kept sourced of.each made_there;
-          list = list_of faulty readings files chosen ids encoding count ready one of.items made;
-          each = each_of faulty readings files chosen ids encoding count ready one of.items made;
+          list = list_of readings files chosen settings count ready one of.items made;
+          each = each_of readings files chosen settings count ready one of.items made;
         };
         kept = each_kept Is of.items outs of.kept;
       }
 
   pub not_kept_of : (workers number : ℕ) (fault : BuildFault)
-      → IsLeastFault (GivesKept Is faulty readings files chosen ids encoding) count number fault
-      → MayRefuseDocuments faulty files workers fault
+      → IsLeastFault (GivesKept Is readings files chosen settings) count number fault
+      → MayRefuseDocuments settings.faulty files workers fault
   not_kept_of workers number fault least =
-      let made : IsLeastFault (GivesDocument faulty readings files chosen ids encoding) count number fault =
+      let made : IsLeastFault (GivesDocument readings files chosen settings) count number fault =
       (least.0, least.1, λ lesser less. let of = least.2 lesser less in (of.1.document, of.1.made)) in
-      refused_of faulty readings files chosen ids encoding count ready workers number fault made
+      refused_of readings files chosen settings count ready workers number fault made
 
 -- ---- the parts of an index
 
 pub parts_of : {Out : Type 0} (Is : Document → Out → Type 0) (readings : List ReadFile) (files : List File)
     (chosen : Chosen) (settings : Settings) (outs : List (MadeDocument Out)) (parts : Parts Out) (gaps : List FilePlace)
-    → AreMade Is settings.faulty readings files chosen settings.package settings.encoding outs
+    → AreMade Is readings files chosen settings outs
     → length (texts_of readings) ≡ length files → parts.metadata ≡ Some (metadata_of settings.project_root)
     → parts.documents ≡ map (λ (out : MadeDocument Out). out.kept) outs
     → AreExternals files chosen settings.package parts.external_symbols → gaps ≡ gaps_from 0 outs

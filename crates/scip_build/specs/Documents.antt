@@ -5,14 +5,12 @@ use Rattle.std.specs.declared.cmp.Ordering.TheVariants.{Less}
 use Rattle.std.specs.Ordering.{nat_cmp}
 use Rattle.std.specs.Cmp.Lexicographic.{slice_cmp}
 use Rattle.std.specs.List.{slice_get}
-use Rattle.proto_lex.specs.declared.position.Encoding.{Encoding}
 use Rattle.proto_decl.specs.Facts.{Facts}
 use Rattle.proto_decl.specs.declared.type_use.Use.{Use}
 use Rattle.proto_link.specs.Targets.{IsUnresolved}
 use Rattle.proto_visibility.specs.declared.place.FilePlace.{FilePlace}
 use Rattle.proto_visibility.specs.Files.{File, HasFacts, IsSource}
 use Rattle.scip_model.specs.declared.records.Document.{Document}
-use Rattle.scip_document.specs.Packages.{Packages}
 use Rattle.scip_document.specs.Chosen.{Chosen, HaveChoices}
 use Rattle.scip_document.specs.Conditions.{HaveGoodPaths, IsResolved, AllResolve, IsFirstUnresolved}
 use Rattle.scip_document.specs.Uses.{UsesResolve}
@@ -65,7 +63,6 @@ pub record AreReady (readings : List ReadFile) (files : List File) (chosen : Cho
 
 -- what the second phase works on
 pub record SourceWork : Type 0 where
-  pub faulty : Faulty
   pub readings : List ReadFile
   pub files : List File
   pub chosen : Chosen
@@ -73,13 +70,13 @@ pub record SourceWork : Type 0 where
   pub count : ℕ
 
 -- the document of the source with this number, and its uses that name no type; none if such are refused
-pub record IsDocumentAt (faulty : Faulty) (readings : List ReadFile) (files : List File) (chosen : Chosen)
-    (ids : Packages) (encoding : Encoding) (number : ℕ) (made : SourceDocument) : Type 0 where
+pub record IsDocumentAt (readings : List ReadFile) (files : List File) (chosen : Chosen) (settings : Settings)
+    (number : ℕ) (made : SourceDocument) : Type 0 where
   pub text : List ℕ
   pub has_text : HasReadText readings number text
-  pub is : IsDocumentOf files chosen ids encoding number text made.document
+  pub is : IsDocumentOf files chosen settings.package settings.encoding number text made.document
   pub gaps : AreGaps files number made.unresolved
-  pub refused : faulty ≡ Refuse → made.unresolved ≡ []
+  pub refused : settings.faulty ≡ Refuse → made.unresolved ≡ []
 
 -- why a source has no document: its first use that names no type, if such are refused; nothing is said about memory
 abbrev pub MayRefuseSource : Faulty → List File → (number : ℕ) → BuildFault → Type 0
@@ -92,11 +89,11 @@ MayRefuseSource faulty files number (build.Unresolved place) =
     (faulty ≡ Refuse) × (place.file ≡ number) × IsFirstUnresolved files number place.span
 
 -- what the making of a document gives
-abbrev pub GivesDocument : Faulty → List ReadFile → List File → Chosen → Packages → Encoding → (number : ℕ)
+abbrev pub GivesDocument : List ReadFile → List File → Chosen → Settings → (number : ℕ)
     → Result SourceDocument BuildFault → Type 0
-GivesDocument faulty readings files chosen ids encoding number result =
-    MatchResult result (IsDocumentAt faulty readings files chosen ids encoding number)
-    (MayRefuseSource faulty files number)
+GivesDocument readings files chosen settings number result =
+    MatchResult result (IsDocumentAt readings files chosen settings number)
+    (MayRefuseSource settings.faulty files number)
 
 -- each use of each source names a type, or none
 abbrev pub AllAreDecided : List File → Type 0
@@ -116,13 +113,14 @@ pub record IsUnresolvedAt (files : List File) (place : FilePlace) : Type 0 where
 
 -- The documents of all sources, one of each, by path, and all uses of the sources that name no type; none if such are
 -- refused.
-pub record AreDocuments (faulty : Faulty) (readings : List ReadFile) (files : List File) (chosen : Chosen)
-    (ids : Packages) (encoding : Encoding) (documents : List Document) (gaps : List FilePlace) : Type 0 where
+pub record AreDocuments (readings : List ReadFile) (files : List File) (chosen : Chosen) (settings : Settings)
+    (documents : List Document) (gaps : List FilePlace) : Type 0 where
   pub decided : AllAreDecided files
   pub unresolved : (place : FilePlace) → Contains gaps place ↔ IsUnresolvedAt files place
-  pub refused : faulty ≡ Refuse → AllResolve files × (gaps ≡ [])
-  pub list : IsAscendingListOf document_cmp (HasDocument files (texts_of readings) chosen ids encoding) documents
-  pub each : HaveDocuments files (texts_of readings) chosen ids encoding documents
+  pub refused : settings.faulty ≡ Refuse → AllResolve files × (gaps ≡ [])
+  pub list : IsAscendingListOf document_cmp
+      (HasDocument files (texts_of readings) chosen settings.package settings.encoding) documents
+  pub each : HaveDocuments files (texts_of readings) chosen settings.package settings.encoding documents
 
 -- the first use that names no type, of the first source in which one does
 pub record IsLeastUnresolved (files : List File) (place : FilePlace) : Type 0 where

@@ -1,7 +1,6 @@
 -- An index in a form: what is kept of its documents. `Is document out` says that this is kept of a document.
 use Rattle.std.specs.Prelude.{◌≡◌, ℕ, List, map, Result, MatchResult}
 use Rattle.std.specs.List.{AllZip}
-use Rattle.proto_lex.specs.declared.position.Encoding.{Encoding}
 use Rattle.proto_decl.specs.Seen.{Seen}
 use Rattle.proto_visibility.specs.declared.place.FilePlace.{FilePlace}
 use Rattle.proto_visibility.specs.Files.{File}
@@ -9,12 +8,10 @@ use Rattle.proto_visibility.specs.Linked.{HaveClearNames, CanBeLinked}
 use Rattle.index_hooks.specs.declared.choice.Choice.{Choice}
 use Rattle.scip_model.specs.declared.records.Document.{Document}
 use Rattle.scip_model.specs.declared.records.Index.{Index}
-use Rattle.scip_document.specs.Packages.{Packages}
 use Rattle.scip_document.specs.Chosen.{Chosen}
 use Rattle.scip_document.specs.declared.source_document.SourceDocument.{SourceDocument}
 use Rattle.source_tree.specs.Files.{TreeFile}
 use Rattle.scip_build.specs.declared.settings.Settings.{Settings}
-use Rattle.scip_build.specs.declared.faulty.Faulty.{Faulty}
 use Rattle.scip_build.specs.declared.parts.Parts.{Parts}
 use Rattle.scip_build.specs.declared.made.Made.{Made}
 use Rattle.scip_build.specs.declared.made.MadeDocument.{MadeDocument}
@@ -35,25 +32,24 @@ module _ {Out : Type 0} (Is : Document → Out → Type 0) where
     pub external_symbols : parts.external_symbols ≡ index.external_symbols
 
   -- what the making of a source's document gives, of which this is kept
-  pub record IsKeptAt (faulty : Faulty) (readings : List ReadFile) (files : List File) (chosen : Chosen)
-      (ids : Packages)
-      (encoding : Encoding) (number : ℕ) (out : MadeDocument Out) : Type 0 where
+  pub record IsKeptAt (readings : List ReadFile) (files : List File) (chosen : Chosen) (settings : Settings)
+      (number : ℕ) (out : MadeDocument Out) : Type 0 where
     pub document : SourceDocument
-    pub made : IsDocumentAt faulty readings files chosen ids encoding number document
+    pub made : IsDocumentAt readings files chosen settings number document
     pub kept : Is document.document out.kept
     pub gaps : out.unresolved ≡ document.unresolved
 
-  abbrev pub GivesKept : Faulty → List ReadFile → List File → Chosen → Packages → Encoding → (number : ℕ)
+  abbrev pub GivesKept : List ReadFile → List File → Chosen → Settings → (number : ℕ)
       → Result (MadeDocument Out) BuildFault → Type 0
-  GivesKept faulty readings files chosen ids encoding number result =
-      MatchResult result (IsKeptAt faulty readings files chosen ids encoding number)
-      (MayRefuseSource faulty files number)
+  GivesKept readings files chosen settings number result =
+      MatchResult result (IsKeptAt readings files chosen settings number)
+      (MayRefuseSource settings.faulty files number)
 
   -- what is kept of the documents of all sources, in order, and all uses that name no type
-  pub record AreMade (faulty : Faulty) (readings : List ReadFile) (files : List File) (chosen : Chosen) (ids : Packages)
-      (encoding : Encoding) (outs : List (MadeDocument Out)) : Type 0 where
+  pub record AreMade (readings : List ReadFile) (files : List File) (chosen : Chosen) (settings : Settings)
+      (outs : List (MadeDocument Out)) : Type 0 where
     pub documents : List Document
-    pub made : AreDocuments faulty readings files chosen ids encoding documents (gaps_from 0 outs)
+    pub made : AreDocuments readings files chosen settings documents (gaps_from 0 outs)
     pub kept : AllZip Is documents (map (λ (out : MadeDocument Out). out.kept) outs)
 
   -- there is an index, as linked files make it, and these are its parts

@@ -30,7 +30,6 @@ impl<'a, 'b, 'l, 'f, 'r, F: DocumentForm + Sync> Model for PhaseTwo<'a, 'b, 'l, 
     ghost Value = { SourceWork };
 
     ghost view = { λ job. record {
-      faulty = job.sources.now.settings.now.faulty;
       readings = job.sources.now.readings.now;
       files = job.sources.now.linker.now;
       chosen = job.sources.now.choices.now;
@@ -52,8 +51,7 @@ impl<'a, 'b, 'l, 'f, 'r, F: DocumentForm + Sync> Job for PhaseTwo<'a, 'b, 'l, 'f
     ghost inputs = { λ work. work.count };
 
     ghost gives = { λ work number result.
-        GivesKept F.is_kept work.faulty work.readings work.files work.chosen work.settings.package
-        work.settings.encoding number result };
+        GivesKept F.is_kept work.readings work.files work.chosen work.settings number result };
 
     fn run(&self, ticket: Ticket) -> Result<MadeDocument<F::Kept>, BuildFault> {
         let made = make_document(self.sources, ticket.number())?;
@@ -80,8 +78,8 @@ pub(crate) fn make_documents<R: Threads + Wait, G: Gate, F: DocumentForm + Sync>
     requires ready { AreReady
         sources.now.readings.now sources.now.linker.now sources.now.choices.now sources.now.count }
     ensures { MatchResult result
-        (λ made. AreMade F.is_kept sources.now.settings.now.faulty sources.now.readings.now sources.now.linker.now
-        sources.now.choices.now sources.now.settings.now.package sources.now.settings.now.encoding made.items)
+        (λ made. AreMade F.is_kept sources.now.readings.now sources.now.linker.now sources.now.choices.now
+        sources.now.settings.now made.items)
         (MayRefuseDocuments sources.now.settings.now.faulty sources.now.linker.now run.now.workers) }
 {
     one_document_a_source();

@@ -53,8 +53,8 @@ pub(crate) fn make_document(
         → HasText sources.now.linker.now number text }
     requires good { HaveGoodPaths sources.now.linker.now }
     requires choices { HaveChoices sources.now.linker.now sources.now.choices.now }
-    ensures { GivesDocument sources.now.settings.now.faulty sources.now.readings.now sources.now.linker.now
-        sources.now.choices.now sources.now.settings.now.package sources.now.settings.now.encoding number result }
+    ensures { GivesDocument sources.now.readings.now sources.now.linker.now sources.now.choices.now
+        sources.now.settings.now number result }
 {
     let text = text_at(sources.readings, number);
     let maker = DocumentMaker {

@@ -1,14 +1,14 @@
-use Rattle.std.specs.String.{string_bytes}
 use Rattle.std.proofs.Common.{inr, refl, arith, [], Option, Result, Err, subst}
-use Rattle.std.specs.Prelude.{IfOk}
 use Rattle.proto_parse.specs.tree.Dialect.{Dialect}
+use Rattle.scip_snapshot.specs.Showing.{writer}
 use Rattle.protoscip.specs.declared.fault.Fault.{Fault}
 use Rattle.protoscip.specs.declared.fault.Fault.TheVariants.{Memory}
 use Rattle.protoscip.specs.Dump.{IsDumped, dump_tree}
 use Rattle.protoscip.specs.Explanations.{IsFaultText, explain_in}
+use Rattle.protoscip.specs.Statuses.{status_of}
+use Rattle.programs.specs.Messages.{TellsOne}
 use Rattle.programs.specs.Settings.{dialect_of}
 use Rattle.programs.proofs.DumpEndLemmas.{of_fault}
-use Rattle.programs.proofs.MessageLemmas.{told_one}
 use Rattle.programs.proofs.dumping.dump_source.Goals as goal
 
 -- where memory doesn't suffice to begin
@@ -20,11 +20,11 @@ returns-in-Err g c =
       record { due = []; writer = refl; some = ([], tt); told = λ bytes known. tt },
       refl,
       omega arith,
-      of_fault g.I.Feed.remaining g.M.Sink.contents g.M.Sink.failures
+      of_fault g.I.Feed.remaining
           (explain_in c.args.options.now.explain
           (dialect_of c.args.options.now.accept c.args.options.now.custom_options))
-          c.args.input.now c.args.messages.now c.report.new.messages c.report.result Memory (dump_tree []) tt
-          (inr c.report.ensures),
+          c.args.input.now (writer g.M.Sink.contents g.M.Sink.failures c.args.messages.now c.report.new.messages)
+          c.report.result Memory (dump_tree []) tt (inr c.report.ensures),
     )
 
 -- where the dump stops
@@ -37,22 +37,16 @@ returns g c =
     let tree = c.dump_and_keep.new.tree in
     let explain =
     explain_in c.args.options.now.explain (dialect_of c.args.options.now.accept c.args.options.now.custom_options) in
+    let messages = writer g.M.Sink.contents g.M.Sink.failures c.args.messages.now c.stop.new.messages in
     let Told : Option Dialect → Type 0 =
-    λ asked. IfOk c.fault_text-text.result (λ text. IsFaultText asked tree fault (string_bytes text)) in
+    λ asked. TellsOne (IsFaultText asked tree fault) (status_of fault) messages c.stop.result in
     let Dumped : Dialect → Type 0 =
     λ dialect. IsDumped g.I.Feed.remaining g.W.Sink.contents g.W.Sink.failures dialect c.args.input.now c.args.out.now
     c.dump_and_keep.new.out done in
-    let said = told_one g.M.Sink.contents g.M.Sink.failures c.args.messages.now
-    c.report-in-Err-dump_and_keep.new.messages
-    c.report-in-Err-dump_and_keep.result _ _ string_bytes c.fault_text-text.result
-    (IsFaultText explain tree fault) c.status.ensures
-    (subst Told (rw c.dialect_of-dialect.ensures at c.explain_in-explain.ensures) c.fault_text-text.ensures)
-    c.report-in-Err-dump_and_keep.ensures in (
+    let said = subst Told (rw c.dialect_of-dialect.ensures at c.explain_in-explain.ensures) c.stop.ensures in (
       done,
       subst Dumped c.dialect_of-dialect.ensures of.dumped,
       of.reader,
       of.briefly,
-      of_fault g.I.Feed.remaining g.M.Sink.contents g.M.Sink.failures explain c.args.input.now
-          c.args.messages.now c.report-in-Err-dump_and_keep.new.messages c.report-in-Err-dump_and_keep.result fault tree
-          of.tree said,
+      of_fault g.I.Feed.remaining explain c.args.input.now messages c.stop.result fault tree of.tree said,
     )

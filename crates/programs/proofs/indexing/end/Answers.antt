@@ -1,6 +1,6 @@
-use Rattle.std.proofs.Common.{subst, Option, List, ℕ}
 use Rattle.std.specs.Option.{option_map}
 use Rattle.std.specs.String.{string_bytes}
+use Rattle.scip_snapshot.specs.Showing.{writer}
 use Rattle.programs.proofs.LackLemmas.{text_is_said}
 use Rattle.programs.proofs.indexing.end.Goals as goal
 
@@ -8,8 +8,9 @@ pub returns-in-Ok : goal.returns-in-Ok
 returns-in-Ok g c =
     let kept = c.in-Ok.kept in
     rw c.in-Ok.is
-    (text_is_said g.M.Sink.contents g.M.Sink.failures c.args.explain c.args.tree.now c.args.messages.now
-    c.say_text.new.messages c.say_text.result kept.built.told (option_map string_bytes kept.text)
+    (text_is_said c.args.explain c.args.tree.now
+    (writer g.M.Sink.contents g.M.Sink.failures c.args.messages.now c.say_text.new.messages) c.say_text.result
+    kept.built.told (option_map string_bytes kept.text)
     (rw c.in-Ok.is at c.requires.said) c.say_text.ensures)
 
 pub returns-in-Err : goal.returns-in-Err

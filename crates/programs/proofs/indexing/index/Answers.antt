@@ -1,15 +1,13 @@
-use Rattle.std.specs.String.{string_bytes}
 use Rattle.std.proofs.Common.{◌∙◌, ap, refl, subst, ℕ, List, Option, Result}
 use Rattle.proto_parse.specs.tree.Dialect.{Dialect}
 use Rattle.proto_decl.specs.Seen.{Seen}
 use Rattle.index_hooks.specs.declared.choice.Choice.{Choice}
 use Rattle.index_hooks.specs.declared.choice.DocChoice.{DocChoice}
 use Rattle.scip_build.specs.declared.settings.Settings.{Settings}
+use Rattle.scip_snapshot.specs.Showing.{writer}
 use Rattle.programs.specs.Choices.{IsChosenBy}
 use Rattle.programs.specs.Messages.{SaysOfSuccess}
-use Rattle.programs.specs.StartExplanations.{told as start_told}
 use Rattle.programs.specs.TreeRuns.{Ends, not_started, over_tree}
-use Rattle.programs.proofs.MessageLemmas.{told}
 use Rattle.programs.proofs.MoveLemmas.{moved4}
 use Rattle.programs.proofs.TreeRunLemmas.{part_of, holds_of_part, ends_alike}
 use Rattle.protoscip.specs.Explanations.{explain_in}
@@ -21,11 +19,7 @@ use Rattle.programs.proofs.indexing.index.Goals as goal
 
 pub returns-in-Err : goal.returns-in-Err
 returns-in-Err g c =
-    let fault = c.in-Err.fault in
-    let line = start_told c.args.options.now.explain fault in
-    not_started fault c.in-Err.ensures.stops refl
-    (told g.M.Sink.contents g.M.Sink.failures c.args.messages.now c.report.new.messages c.report.result _ _ string_bytes
-    c.start_text-text.result line c.status.ensures c.start_text-text.ensures c.report.ensures)
+    not_started c.in-Err.fault c.in-Err.ensures.stops refl c.report_start.ensures
 
 pub returns : goal.returns
 returns g c =
@@ -41,14 +35,13 @@ returns g c =
     λ only doc settings workers. Indexed (IsChosenBy only doc) settings workers done in
     let indexed = holds_of_part recorded (Indexed _ run.settings run.workers) kept c.index_and_keep-done.ensures.indexed
     in
+    let messages = writer g.M.Sink.contents g.M.Sink.failures c.args.messages.now c.end-status.new.messages in
     let Ended : Option Dialect → Type 0 = λ explain.
-    Ends g.M.Sink.contents g.M.Sink.failures (SaysOfSuccess g.M.Sink.contents g.M.Sink.failures) explain run.tree
-    (λ r. r.told) done c.args.messages.now c.end-status.new.messages c.end-status.result in
+    Ends SaysOfSuccess explain run.tree (λ r. r.told) done messages c.end-status.result in
     over_tree run.tree run.settings.package done c.in-Ok.ensures.named c.in-Ok.ensures.folders
     (moved4 By c.in-Ok.ensures.only c.in-Ok.ensures.doc c.in-Ok.ensures.settings c.in-Ok.ensures.workers indexed)
     (subst Ended
     (c.explain_in-explain.ensures
     ∙ ap (λ (s : Settings). explain_in c.args.options.now.explain s.dialect) c.in-Ok.ensures.settings)
-    (ends_alike recorded (λ r. r.told) g.M.Sink.contents g.M.Sink.failures
-    (SaysOfSuccess g.M.Sink.contents g.M.Sink.failures) c.explain_in-explain.result run.tree kept
-    c.args.messages.now c.end-status.new.messages c.end-status.result c.end-status.ensures))
+    (ends_alike recorded (λ r. r.told) SaysOfSuccess c.explain_in-explain.result run.tree kept messages
+    c.end-status.result c.end-status.ensures))

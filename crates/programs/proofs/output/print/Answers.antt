@@ -3,6 +3,7 @@ use Rattle.std.specs.String.{string_bytes}
 use Rattle.protoscip.specs.Lines.{plain_line}
 use Rattle.std.specs.Prelude.{codes}
 use Rattle.streams.specs.WholeWrites.{IsCutOff}
+use Rattle.scip_snapshot.specs.Showing.{writer}
 use Rattle.programs.proofs.MessageLemmas.{told}
 use Rattle.programs.proofs.output.print.Goals as goal
 
@@ -14,7 +15,7 @@ returns-in-Err g c =
     inr (
       count,
       cut,
-      told g.M.Sink.contents g.M.Sink.failures c.args.messages.now c.report.new.messages c.report.result
+      told (writer g.M.Sink.contents g.M.Sink.failures c.args.messages.now c.report.new.messages) c.report.result
           _ _ string_bytes c.plain_line-line.result
           (plain_line (codes "Write")) refl c.plain_line-line.ensures c.report.ensures,
     )

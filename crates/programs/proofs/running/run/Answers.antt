@@ -1,18 +1,29 @@
 use Rattle.std.specs.String.{string_bytes}
-use Rattle.std.proofs.Common.{◌≡◌, refl, subst, sym}
+use Rattle.std.proofs.Common.{◌≡◌, refl, subst, sym, ℕ, List}
 use Rattle.std.specs.Prelude.{IfOk, IfSome, Result}
 use Rattle.std.specs.declared.alloc.AllocError.{AllocError}
 use Rattle.scip_snapshot.specs.Showing.{maker, writer}
-use Rattle.command_line.specs.Requests.{index_options, pages_options, shell_options, snapshot_options}
+use Rattle.command_line.specs.Requests.{index_options, pages_options, printed_text, shell_options, snapshot_options}
 use Rattle.command_line.specs.declared.request.Request.{Request}
 use Rattle.programs.specs.Indexing.{Indexed}
 use Rattle.programs.specs.Messages.{memory_line}
 use Rattle.programs.specs.Paging.{RunsPages}
+use Rattle.programs.specs.Printing.{Prints}
 use Rattle.programs.specs.Serving.{Served}
 use Rattle.programs.specs.Snapshotting.{RunsSnapshot}
 use Rattle.programs.specs.Streams.{reader}
 use Rattle.programs.proofs.MessageLemmas.{told}
 use Rattle.programs.proofs.running.run.Goals as goal
+
+pub returns-in-Print-clause-printed : goal.returns-in-Print-clause-printed
+returns-in-Print-clause-printed g c =
+    let Printed : List ℕ → Type 0 = λ text.
+    Prints text (writer g.W.Sink.contents g.W.Sink.failures c.args.out.now c.print.new.out)
+    (writer g.M.Sink.contents g.M.Sink.failures c.args.messages.now c.print.new.messages) c.print.result in
+    let Here : Request → Type 0 = λ request. IfSome (printed_text request) (λ text. Printed text
+    × (c.args.input.now ≡ c.args.input.now) × (c.args.file.now ≡ c.args.file.now)) in
+    subst (λ (asked : Result Request AllocError). IfOk asked Here) (sym c.in-Ok.is)
+    (subst Here (sym c.in-Print.is) (subst Printed c.as_str-in-Print.ensures.value c.print.ensures, refl, refl))
 
 pub returns-in-Index-clause-indexed : goal.returns-in-Index-clause-indexed
 returns-in-Index-clause-indexed g c =
@@ -59,7 +70,7 @@ returns-in-Pages-clause-paged g c =
 pub returns-in-Err-clause-unknown : goal.returns-in-Err-clause-unknown
 returns-in-Err-clause-unknown g c =
     rw c.in-Err.is (
-      told g.M.Sink.contents g.M.Sink.failures c.args.messages.now c.report.new.messages c.report.result _
+      told (writer g.M.Sink.contents g.M.Sink.failures c.args.messages.now c.report.new.messages) c.report.result _
           _ string_bytes c.plain_line-line.result memory_line refl c.plain_line-line.ensures c.report.ensures,
       refl,
       refl,

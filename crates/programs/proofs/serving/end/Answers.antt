@@ -1,5 +1,6 @@
 use Rattle.std.proofs.Common.{subst, List}
 use Rattle.scip_build.specs.declared.fault.BuildFault.{BuildFault}
+use Rattle.scip_snapshot.specs.Showing.{writer}
 use Rattle.programs.specs.Messages.{TellsOfSuccess}
 use Rattle.programs.specs.TreeRuns.{Lacks}
 use Rattle.programs.proofs.serving.end.Goals as goal
@@ -7,8 +8,9 @@ use Rattle.programs.proofs.serving.end.Goals as goal
 pub returns-in-Ok : goal.returns-in-Ok
 returns-in-Ok g c =
     rw c.in-Ok.is
-    (subst (λ (told : List BuildFault). Lacks (TellsOfSuccess g.M.Sink.contents g.M.Sink.failures) c.args.explain
-    c.args.tree.now told c.args.messages.now c.tell.new.messages c.tell.result) c.as_slice.ensures c.tell.ensures)
+    (subst (λ (told : List BuildFault). Lacks TellsOfSuccess c.args.explain c.args.tree.now told
+    (writer g.M.Sink.contents g.M.Sink.failures c.args.messages.now c.tell.new.messages) c.tell.result)
+    c.as_slice.ensures c.tell.ensures)
 
 pub returns-in-Err : goal.returns-in-Err
 returns-in-Err g c = rw c.in-Err.is c.stop.ensures

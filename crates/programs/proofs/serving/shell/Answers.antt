@@ -1,13 +1,11 @@
-use Rattle.std.specs.String.{string_bytes}
 use Rattle.std.proofs.Common.{◌∙◌, ap, refl, subst, ℕ, List, Option}
 use Rattle.proto_parse.specs.tree.Dialect.{Dialect}
 use Rattle.index_hooks.specs.declared.choice.DocChoice.{DocChoice}
 use Rattle.scip_build.specs.declared.settings.Settings.{Settings}
+use Rattle.scip_snapshot.specs.Showing.{writer}
 use Rattle.programs.specs.Choices.{IsChosenBy}
 use Rattle.programs.specs.Messages.{TellsOfSuccess}
-use Rattle.programs.specs.StartExplanations.{told as start_told}
 use Rattle.programs.specs.TreeRuns.{Ends, not_started, over_tree}
-use Rattle.programs.proofs.MessageLemmas.{told}
 use Rattle.programs.proofs.MoveLemmas.{moved4}
 use Rattle.protoscip.specs.Explanations.{explain_in}
 use Rattle.protoscip.specs.Sessions.{Serves}
@@ -15,11 +13,8 @@ use Rattle.programs.proofs.serving.shell.Goals as goal
 
 pub returns-in-Err : goal.returns-in-Err
 returns-in-Err g c =
-    let fault = c.in-Err.fault in
-    let line = start_told c.args.options.now.explain fault in
-    not_started fault c.in-Err.ensures.stops (record { unread = refl; unwritten = refl })
-    (told g.M.Sink.contents g.M.Sink.failures c.args.messages.now c.report.new.messages c.report.result _ _ string_bytes
-    c.start_text-text.result line c.status.ensures c.start_text-text.ensures c.report.ensures)
+    not_started c.in-Err.fault c.in-Err.ensures.stops (record { unread = refl; unwritten = refl })
+    c.report_start.ensures
 
 pub returns : goal.returns
 returns g c =
@@ -30,8 +25,8 @@ returns g c =
     c.args.commands.now c.session-done.new.commands c.args.answers.now c.session-done.new.answers c.session-done.result
     in
     let Ended : Option Dialect → Type 0 = λ explain.
-    Ends g.M.Sink.contents g.M.Sink.failures (TellsOfSuccess g.M.Sink.contents g.M.Sink.failures) explain run.tree
-    (λ r. r.told) c.session-done.result c.args.messages.now c.end.new.messages c.end.result in
+    Ends TellsOfSuccess explain run.tree (λ r. r.told) c.session-done.result
+    (writer g.M.Sink.contents g.M.Sink.failures c.args.messages.now c.end.new.messages) c.end.result in
     over_tree run.tree run.settings.package c.session-done.result c.in-Ok.ensures.named c.in-Ok.ensures.folders
     (moved4 By c.in-Ok.ensures.only c.in-Ok.ensures.doc c.in-Ok.ensures.settings c.in-Ok.ensures.workers
     c.session-done.ensures.served) (subst Ended

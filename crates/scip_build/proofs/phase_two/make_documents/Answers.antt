@@ -8,20 +8,17 @@ use Rattle.scip_build.proofs.phase_two.make_documents.Goals as goal
 
 pub returns-in-Ok : goal.returns-in-Ok
 returns-in-Ok g c =
-    let settings = c.args.sources.now.settings.now in
-    kept_of g.F.DocumentForm.is_kept settings.faulty c.args.sources.now.readings.now c.args.sources.now.linker.now
-    c.args.sources.now.choices.now settings.package settings.encoding c.args.sources.now.count c.requires.ready
+    kept_of g.F.DocumentForm.is_kept c.args.sources.now.readings.now c.args.sources.now.linker.now
+    c.args.sources.now.choices.now c.args.sources.now.settings.now c.args.sources.now.count c.requires.ready
     c.one_document_a_source.ensures c.in-Ok.made.items c.in-Ok.ensures.answers
 
 pub returns-in-Err-Job : goal.returns-in-Err-Job
 returns-in-Err-Job g c =
-    let settings = c.args.sources.now.settings.now in
-    let gives = GivesKept g.F.DocumentForm.is_kept settings.faulty c.args.sources.now.readings.now
-    c.args.sources.now.linker.now c.args.sources.now.choices.now settings.package settings.encoding
-    in
+    let gives = GivesKept g.F.DocumentForm.is_kept c.args.sources.now.readings.now c.args.sources.now.linker.now
+    c.args.sources.now.choices.now c.args.sources.now.settings.now in
     let Refused : PoolFault BuildFault → Type 0 =
     λ fault. MayRefuse gives c.args.sources.now.count c.args.run.now.workers fault in
     let least = subst Refused c.in-Err-Job.field-0-is c.in-Err-Job.ensures.refused in
-    not_kept_of g.F.DocumentForm.is_kept settings.faulty c.args.sources.now.readings.now c.args.sources.now.linker.now
-    c.args.sources.now.choices.now settings.package settings.encoding c.args.sources.now.count c.requires.ready
+    not_kept_of g.F.DocumentForm.is_kept c.args.sources.now.readings.now c.args.sources.now.linker.now
+    c.args.sources.now.choices.now c.args.sources.now.settings.now c.args.sources.now.count c.requires.ready
     c.args.run.now.workers c.in-Err-Job.field-0-0 c.in-Err-Job.fault least

@@ -2,7 +2,7 @@ use Rattle.std.proofs.Common.{◌∙◌, ℕ, List, Ok, ap, sym, subst}
 use Rattle.scip_wire.specs.Decodes.{Decodes}
 use Rattle.protoscip.proofs.DumpLemmas.{said_of_read}
 use Rattle.protoscip.proofs.IndexingLemmas.{spelled_unless}
-use Rattle.protoscip.proofs.reading_back.read_back.Goals as goal
+use Rattle.protoscip.proofs.reading_back.decoded.Goals as goal
 
 pub returns-in-None : goal.returns-in-None
 returns-in-None c = c.in_ok-bytes.ensures.too_large.0 (ap Ok c.in-None.is)
@@ -10,9 +10,9 @@ returns-in-None c = c.in_ok-bytes.ensures.too_large.0 (ap Ok c.in-None.is)
 pub returns-in-Ok : goal.returns-in-Ok
 returns-in-Ok c =
     let spelling = c.in_ok-bytes.ensures in
-    let is = spelled_unless c.spelling_decodes_to_its_index.ensures c.bytes_decode_to_one_index.ensures c.args.index
+    let is = spelled_unless c.spelling_decodes_to_its_index.ensures c.bytes_decode_to_one_index.ensures c.args.index.now
     spelling.known _ spelling.too_large (λ same. let there = c.in-Some.is in cc) in
     let kept = said_of_read _ c.in_ok-bytes.field-0 c.in-Some.bytes c.in-Some.is spelling.bytes in
     let bytes = c.deref.ensures.value ∙ kept in
-    let decodes = subst (λ (b : List ℕ). Decodes b c.args.index) (sym bytes) is.decodes in
-    (is, c.in-Ok.ensures.only c.args.index decodes)
+    let decodes = subst (λ (b : List ℕ). Decodes b c.args.index.now) (sym bytes) is.decodes in
+    (is, c.in-Ok.ensures.only c.args.index.now decodes)

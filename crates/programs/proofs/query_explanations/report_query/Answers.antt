@@ -1,0 +1,11 @@
+use Rattle.std.specs.String.{string_bytes}
+use Rattle.scip_snapshot.specs.Showing.{writer}
+use Rattle.programs.specs.QueryExplanations.{told as told_of}
+use Rattle.programs.proofs.MessageLemmas.{told}
+use Rattle.programs.proofs.query_explanations.report_query.Goals as goal
+
+pub returns : goal.returns
+returns g c =
+    told (writer g.M.Sink.contents g.M.Sink.failures c.args.messages.now c.report.new.messages) c.report.result _ _
+    string_bytes c.query_text-text.result (told_of c.args.explain c.args.path.now c.args.fault.now) c.status.ensures
+    c.query_text-text.ensures c.report.ensures

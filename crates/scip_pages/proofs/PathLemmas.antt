@@ -1,16 +1,15 @@
 -- Where paths of pages lead.
 use Rattle.std.proofs.Common.{◌≡◌, ◌≢◌, ◌∙◌, sym, refl, ap, ℕ, ◌==◌, Bool, true, false, ◌||◌, cond, List, [], ◌∷◌, ◌++◌}
 use Rattle.std.proofs.Common.{nat_eq, append_assoc, append-nil}
-use Rattle.std.specs.Prelude.{codes, None, Some}
+use Rattle.std.specs.Prelude.{codes, not, ◌&&◌}
 use Rattle.std.specs.List.{list_any, onto_first, starts_with, join_with_byte, AllByRecursion}
 use Rattle.std.specs.Str.{bytes_eq}
 use Rattle.std.proofs.lemmas.Bool.{eqb-false, ne_eqb}
 use Rattle.std.proofs.lemmas.List.{append_cancel_left}
 use Rattle.std.proofs.lemmas.List.Splits.{join_with_byte-slice_split}
 use Rattle.std.proofs.lemmas.Slice.Eq.{bytes_eq-Decides}
-use Rattle.scip_pages.specs.declared.paths.PathFault.TheVariants.{Absolute, Empty, Dot, Parent}
 use Rattle.scip_pages.specs.Paths.{components, has_name, entered, entered_all}
-use Rattle.scip_pages.specs.PathLaws.{StaysBelow, HasItsOwnPlace, IsName, NamesHaveNoFault}
+use Rattle.scip_pages.specs.PathLaws.{StaysBelow, HasItsOwnPlace, IsName, NamesLeadBelow}
 
 abbrev none_is : List ℕ → List (List ℕ) → Type 0
 none_is name names = list_any (λ (other : List ℕ). bytes_eq other name) names ≡ false
@@ -35,9 +34,9 @@ enters_all folder (name ∷ names) a b c =
     ∙ enters_all (folder ++ name ∷ []) names d.1 e.1 f.1
     ∙ append_assoc folder (name ∷ []) names
 
--- where there is no fault, each test failed
+-- in the path of a page each test failed
 stays_by : (folder names : List (List ℕ)) (a b c d : Bool)
-    → cond a (Some Absolute) (cond b (Some Empty) (cond c (Some Dot) (cond d (Some Parent) None))) ≡ None
+    → (not a && not b && not c && not d) ≡ true
     → (b ≡ false → c ≡ false → d ≡ false → entered_all folder names ≡ folder ++ names)
     → entered_all (cond a [] folder) names ≡ folder ++ names
 stays_by folder names true b c d e enter = absurd cc
@@ -86,15 +85,15 @@ weaker : (P Q : List ℕ → Type 0) → ((name : List ℕ) → P name → Q nam
 weaker P Q so [] all = tt
 weaker P Q so (name ∷ names) all = (so name all.0, weaker P Q so names all.1)
 
-no_fault_by : (a b c d : Bool) → a ≡ false → b ≡ false → c ≡ false → d ≡ false
-    → cond a (Some Absolute) (cond b (Some Empty) (cond c (Some Dot) (cond d (Some Parent) None))) ≡ None
-no_fault_by a b c d e f g h = rw (e, f, g, h) refl
+below_by : (a b c d : Bool) → a ≡ false → b ≡ false → c ≡ false → d ≡ false
+    → (not a && not b && not c && not d) ≡ true
+below_by a b c d e f g h = rw (e, f, g, h) refl
 
-pub names_have_no_fault : NamesHaveNoFault
-names_have_no_fault path all =
+pub names_lead_below : NamesLeadBelow
+names_lead_below path all =
     let is_none : (name : List ℕ) → ((other : List ℕ) → IsName other → other ≢ name) → has_name name path ≡ false =
     λ name so. none_named name (components path) (weaker IsName (λ other. other ≢ name) so (components path) all) in
-    no_fault_by (starts_with nat_eq path (codes "/")) (has_name (codes "") path) (has_name (codes ".") path)
+    below_by (starts_with nat_eq path (codes "/")) (has_name (codes "") path) (has_name (codes ".") path)
     (has_name (codes "..") path) (not_absolute path all)
     (is_none (codes "") (λ other is. is.0)) (is_none (codes ".") (λ other is. is.1))
     (is_none (codes "..") (λ other is. is.2))

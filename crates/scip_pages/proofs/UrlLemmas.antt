@@ -2,15 +2,13 @@
 use Rattle.std.proofs.Common.{◌≡◌, ◌∙◌, sym, refl, ap, subst, ℕ, suc, ◌+◌, ◌-◌, ◌*◌, ◌/◌, ◌%◌, ◌<◌, ◌≤◌, ◌==◌, Bool}
 use Rattle.std.proofs.Common.{true, false, cond, List, [], ◌∷◌, ◌++◌, length, take, nat_eq, append_assoc, append-nil}
 use Rattle.std.proofs.Common.{arith}
-use Rattle.std.specs.Prelude.{codes, nat_lt, Option, None, Some}
+use Rattle.std.specs.Prelude.{codes, nat_lt, not, ◌&&◌}
 use Rattle.std.specs.List.{flat_map, slice_split, onto_first, starts_with, count_by, AllByRecursion}
 use Rattle.std.proofs.lemmas.Bool.{eqb-true, ltb-true, ltb-false, lt-ltb, le-ltb}
 use Rattle.std.proofs.lemmas.List.{length-append, length-take-le}
 use Rattle.std.proofs.lemmas.List.Recursion.{is_count_by}
 use Rattle.std.proofs.lemmas.List.Splits.{length-slice_split}
-use Rattle.scip_pages.specs.declared.paths.PathFault.{PathFault}
-use Rattle.scip_pages.specs.declared.paths.PathFault.TheVariants.{Absolute, Empty, Dot, Parent}
-use Rattle.scip_pages.specs.Paths.{components, has_name, path_fault, entered, entered_all, place_of}
+use Rattle.scip_pages.specs.Paths.{components, has_name, is_path_below, entered, entered_all, place_of}
 use Rattle.scip_pages.specs.Urls.{is_kept, hex_digit, encoded_byte, encoded, up, ups, digit_value, decoded, folder_of}
 use Rattle.scip_pages.specs.UrlLaws.{IsDecoded, LeadsToThePage}
 use Rattle.scip_pages.proofs.PathLemmas.{stays_below}
@@ -114,11 +112,11 @@ goes_back root (d ∷ dirs) (p ∷ ps) names all same =
 -- ---- paths that aren't absolute
 
 relative_by : (a b c d : Bool)
-    → cond a (Some Absolute) (cond b (Some Empty) (cond c (Some Dot) (cond d (Some Parent) None))) ≡ None → a ≡ false
+    → (not a && not b && not c && not d) ≡ true → a ≡ false
 relative_by true b c d e = absurd cc
 relative_by false b c d e = refl
 
-is_relative : (to : List ℕ) → path_fault to ≡ None → starts_with nat_eq to (codes "/") ≡ false
+is_relative : (to : List ℕ) → is_path_below to ≡ true → starts_with nat_eq to (codes "/") ≡ false
 is_relative to e = relative_by (starts_with nat_eq to (codes "/")) (has_name (codes "") to) (has_name (codes ".") to)
     (has_name (codes "..") to) e
 

@@ -1,10 +1,7 @@
 -- Paths of pages: those paths of documents that lead to one place each, below the folder of the pages.
-use Rattle.std.specs.Prelude.{ℕ, ◌==◌, Bool, cond, List, [], ◌∷◌, ◌++◌, length, take, ◌-◌, nat_eq, codes, Option, None}
-use Rattle.std.specs.Prelude.{Some}
+use Rattle.std.specs.Prelude.{ℕ, ◌==◌, Bool, not, ◌&&◌, cond, List, [], ◌∷◌, ◌++◌, length, take, ◌-◌, nat_eq, codes}
 use Rattle.std.specs.List.{list_any, slice_split, starts_with}
 use Rattle.std.specs.Str.{bytes_eq}
-use Rattle.scip_pages.specs.declared.paths.PathFault.{PathFault}
-use Rattle.scip_pages.specs.declared.paths.PathFault.TheVariants.{Absolute, Empty, Dot, Parent}
 
 -- what is between the slashes of a path, and before and after them
 abbrev pub components : List ℕ → List (List ℕ)
@@ -16,12 +13,10 @@ has_name name path = list_any (λ (other : List ℕ). bytes_eq other name) (comp
 
 -- A document's path is that of a page if it doesn't begin with a slash, and if each component has a character and
 -- is neither `.` nor `..`.
-abbrev pub path_fault : List ℕ → Option PathFault
-path_fault path =
-    cond (starts_with nat_eq path (codes "/")) (Some Absolute)
-    (cond (has_name (codes "") path) (Some Empty)
-    (cond (has_name (codes ".") path) (Some Dot)
-    (cond (has_name (codes "..") path) (Some Parent) None)))
+abbrev pub is_path_below : List ℕ → Bool
+is_path_below path =
+    not (starts_with nat_eq path (codes "/"))
+    && not (has_name (codes "") path) && not (has_name (codes ".") path) && not (has_name (codes "..") path)
 
 -- Where a name leads from a folder, which is the list of the names from the root to it. The root is its own parent.
 -- (POSIX, XBD 4.16 "Pathname Resolution", if nothing on the way is a link)

@@ -1,7 +1,7 @@
 -- Laws of URLs of pages.
-use Rattle.std.specs.Prelude.{ℕ, ◌≡◌, ◌≢◌, ◌<◌, List, ◌++◌, None}
+use Rattle.std.specs.Prelude.{ℕ, ◌≡◌, ◌<◌, true, List, ◌++◌}
 use Rattle.std.specs.List.{AllByRecursion}
-use Rattle.scip_pages.specs.Paths.{components, path_fault, place_of}
+use Rattle.scip_pages.specs.Paths.{components, is_path_below, place_of}
 use Rattle.scip_pages.specs.Urls.{encoded, ups, decoded, folder_of}
 
 -- What a reader makes of an encoded path is the path.
@@ -11,5 +11,5 @@ IsDecoded = (path : List ℕ) → AllByRecursion (λ b. b < 256) path → decode
 -- From the folder of a page a path after the ways up leads where it leads from the folder of all pages.
 abbrev pub LeadsToThePage : Type 0
 LeadsToThePage =
-    (root : List (List ℕ)) (from to : List ℕ) → path_fault to ≡ None
+    (root : List (List ℕ)) (from to : List ℕ) → is_path_below to ≡ true
     → place_of (root ++ folder_of from) (ups from ++ to) ≡ root ++ components to

@@ -9,7 +9,7 @@ ghost use Rattle.scip_pages.specs.EscapeLaws.{
 };
 ghost use Rattle.scip_pages.specs.ColumnLaws.{AtOneOffset, IsAtItsOffset, CountsUtf8, CountsUtf16, CountsUtf32};
 ghost use Rattle.scip_pages.specs.RunLaws.{NoneCovers, NoneIsNarrower};
-ghost use Rattle.scip_pages.specs.PathLaws.{StaysBelow, HasItsOwnPlace, NamesHaveNoFault};
+ghost use Rattle.scip_pages.specs.PathLaws.{StaysBelow, HasItsOwnPlace, NamesLeadBelow};
 ghost use Rattle.scip_pages.specs.UrlLaws.{IsDecoded, LeadsToThePage};
 ghost use Rattle.scip_pages.specs.SnapshotLaws.{HasTheSource, FlatIsOneLine};
 ghost use Rattle.scip_pages.specs.CodeLaws.{
@@ -56,12 +56,12 @@ pub fn code_shows_the_source()
     ensures links { PiecesHaveTheLinks }
 {}
 
-/// A path without a fault leads to a place below the folder of the pages, and no other such path leads to that place. A
-/// path whose components are names has no fault.
+/// The path of a page leads to a place below the folder of the pages, and no other such path leads to that place. A
+/// path whose components are names is that of a page.
 pub fn paths_stay_below()
     ensures below { StaysBelow }
     ensures own { HasItsOwnPlace }
-    ensures names { NamesHaveNoFault }
+    ensures names { NamesLeadBelow }
 {}
 
 /// What marks a byte covers it, and nothing narrower does; if nothing marks it, nothing covers it.

@@ -24,7 +24,7 @@ pub use laws::{
     units_are_those_of_their_encoding, urls_lead_to_their_pages,
 };
 pub use lines::{lines_of, misfit};
-pub use paths::{PathFault, path_fault};
+pub use paths::is_path_below;
 pub use runs::{Run, Span, line_runs, span_on};
 pub use snapshot_fault::SnapshotFault;
 pub use snapshots::{is_definition, parts_of, push_flat, snapshot};

@@ -15,16 +15,15 @@ use Rattle.source_files.specs.Made.{MadeFile}
 use Rattle.scip_query.specs.Tables.{numbers, path_listed, path_or_none}
 use Rattle.scip_pages.specs.declared.columns.ColumnUnit.{ColumnUnit}
 use Rattle.scip_pages.specs.declared.columns.ColumnUnit.TheVariants.{Utf8}
-use Rattle.scip_pages.specs.declared.paths.PathFault.{PathFault}
 use Rattle.scip_pages.specs.Columns.{unit_of}
-use Rattle.scip_pages.specs.Paths.{path_fault}
+use Rattle.scip_pages.specs.Paths.{is_path_below}
 use Rattle.scip_pages.specs.Snapshot.{lines_of, misfit}
 use Rattle.scip_site.specs.declared.no_page.NoPage.{NoPage}
 use Rattle.scip_site.specs.declared.no_page.NoPage.TheVariants.{NotText}
 use Rattle.source_page.specs.Ids.{unit_in, AllFit}
 use Rattle.scip_site.specs.Repeats.{has_path, is_repeated}
 use Rattle.source_page.specs.Site.{Sources, page_path}
-use Rattle.scip_site.specs.Reading.{Outcome, fit_or_misfit, in_unit, of_source, IsRead, fault_of, Read, AreRead, none}
+use Rattle.scip_site.specs.Reading.{Outcome, fit_or_misfit, in_unit, of_source, IsRead, is_below, Read, AreRead, none}
 use Rattle.scip_site.specs.Reading.{next, source_or_none, sources_of}
 use Rattle.scip_site.specs.Making.{page_or_none, page_at, source_at, page_file, page_file_at, pages, shared, site_files}
 use Rattle.scip_site.specs.Making.{script_text, paths_in}
@@ -64,21 +63,21 @@ fits_of d (Some bytes) source e = by (is_utf8 bytes) e
     by false e = absurd cc
 
 module _ (gives : List ℕ → Option (List ℕ) → Type 0) (root : List ℕ) where
-  good_by : (d : Document) (fault : Option PathFault) (repeated : Bool) (outcome : Outcome) (source : List ℕ)
-      → IsRead gives root d fault repeated outcome → source_or_none outcome ≡ Some source
-      → (fault ≡ None) × (repeated ≡ false) × Fits d source
-  good_by d (Some fault) repeated outcome source is e =
+  good_by : (d : Document) (below repeated : Bool) (outcome : Outcome) (source : List ℕ)
+      → IsRead gives root d below repeated outcome → source_or_none outcome ≡ Some source
+      → (below ≡ true) × (repeated ≡ false) × Fits d source
+  good_by d false repeated outcome source is e =
       let clash : None ≡ Some source = sym (ap source_or_none is) ∙ e in absurd cc
-  good_by d None true outcome source is e =
+  good_by d true true outcome source is e =
       let clash : None ≡ Some source = sym (ap source_or_none is) ∙ e in absurd cc
-  good_by d None false outcome source is e =
+  good_by d true false outcome source is e =
       (refl, refl, fits_of d is.0 source (sym (ap source_or_none is.2) ∙ e))
 
   good_so : (documents : List Document) (number : ℕ) (d : Document) (outcome : Outcome) (source : List ℕ)
-      → IsRead gives root d (fault_of d) (is_repeated documents number) outcome
+      → IsRead gives root d (is_below d) (is_repeated documents number) outcome
       → source_or_none outcome ≡ Some source → IsGood documents number d source
   good_so documents number d outcome source is e =
-      let by = good_by d (fault_of d) (is_repeated documents number) outcome source is e in
+      let by = good_by d (is_below d) (is_repeated documents number) outcome source is e in
       record { path = by.0; own = by.1; fits = by.2 }
 
   -- one of a list, or the one behind it
@@ -128,7 +127,7 @@ good_sources_fit index sources good number d source stands has = (good number d 
 -- ---- files
 
 abbrev StaysIn : MadeFile → Type 0
-StaysIn made = path_fault made.path ≡ None
+StaysIn made = is_path_below made.path ≡ true
 
 pub all_append : {X : Type 0} (P : X → Type 0) (xs ys : List X) → AllByRecursion P xs → AllByRecursion P ys
     → AllByRecursion P (xs ++ ys)

@@ -1,14 +1,12 @@
 -- Paths of pages.
-use Rattle.std.proofs.Common.{◌≡◌, ◌∙◌, sym, refl, ap, ℕ, ◌+◌, ◌<◌, ◌==◌, Bool, true, false, ◌||◌, cond, List, [], ◌∷◌}
+use Rattle.std.proofs.Common.{◌≡◌, ◌∙◌, sym, refl, ap, ℕ, ◌+◌, ◌<◌, ◌==◌, Bool, true, false, ◌||◌, List, [], ◌∷◌}
 use Rattle.std.proofs.Common.{◌++◌, nat_eq, length, drop, arith}
-use Rattle.std.specs.Prelude.{codes, Option, None, Some}
+use Rattle.std.specs.Prelude.{codes, not, ◌&&◌}
 use Rattle.std.specs.List.{list_any, onto_first, starts_with}
 use Rattle.std.specs.Str.{bytes_eq}
 use Rattle.std.proofs.lemmas.List.{length-append}
 use Rattle.std.proofs.lemmas.Slice.Eq.{bytes_eq-Decides}
-use Rattle.scip_pages.specs.declared.paths.PathFault.{PathFault}
-use Rattle.scip_pages.specs.declared.paths.PathFault.TheVariants.{Absolute, Empty, Dot, Parent}
-use Rattle.scip_pages.specs.Paths.{components, has_name, path_fault}
+use Rattle.scip_pages.specs.Paths.{components, has_name}
 use Rattle.scip_pages.specs.Urls.{decoded, encoded}
 use Rattle.scip_pages.proofs.UrlLemmas.{is_decoded}
 use Rattle.scip_site.specs.Laws.{HasAGoodPath, HasItsOwnPath, FoldersHaveTheirOwnIds}
@@ -87,27 +85,26 @@ none_there name path short none =
     (is_other (longer_path.last ++ codes ".html") name (omega (arith, short, size)))
     (sym (ap (is_among name) longer_path.are) ∙ none)
 
--- where there is no fault, each test failed
+-- in the path of a page each test failed
 none_by : (a b c d e f g : Bool)
-    → cond a (Some Absolute) (cond b (Some Empty) (cond c (Some Dot) (cond d (Some Parent) None))) ≡ None
+    → (not a && not b && not c && not d) ≡ true
     → (b ≡ false → e ≡ false) → (c ≡ false → f ≡ false) → (d ≡ false → g ≡ false)
-    → cond e (Some Empty) (cond f (Some Dot) (cond g (Some Parent) None)) ≡ None
+    → (not e && not f && not g) ≡ true
 none_by true b c d e f g none x y z = absurd cc
 none_by false true c d e f g none x y z = absurd cc
 none_by false false true d e f g none x y z = absurd cc
 none_by false false false true e f g none x y z = absurd cc
 none_by false false false false e f g none x y z = rw (x refl, y refl, z refl) refl
 
--- the fault of a path that isn't absolute, by its components
-abbrev fault_by : List (List ℕ) → Option PathFault
-fault_by names =
-    cond (is_among (codes "") names) (Some Empty)
-    (cond (is_among (codes ".") names) (Some Dot) (cond (is_among (codes "..") names) (Some Parent) None))
+-- whether a path that isn't absolute is that of a page, by its components
+abbrev below_by : List (List ℕ) → Bool
+below_by names =
+    not (is_among (codes "") names) && not (is_among (codes ".") names) && not (is_among (codes "..") names)
 
 pub has_a_good_path : HasAGoodPath
 has_a_good_path path none =
     let names : List (List ℕ) = components (path ++ codes ".html") in
-    ap fault_by (page_components path)
+    ap below_by (page_components path)
     ∙ none_by (starts_with nat_eq path (codes "/")) (has_name (codes "") path) (has_name (codes ".") path)
     (has_name (codes "..") path) (is_among (codes "") names) (is_among (codes ".") names) (is_among (codes "..") names)
     none

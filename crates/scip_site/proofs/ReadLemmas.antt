@@ -22,7 +22,7 @@ use Rattle.scip_site.specs.declared.no_page.NoPage.{NoPage}
 use Rattle.scip_site.specs.declared.no_page.NoPage.TheVariants.{NotText}
 use Rattle.scip_site.specs.Repeats.{is_repeated}
 use Rattle.source_page.specs.Site.{Sources}
-use Rattle.scip_site.specs.Reading.{Outcome, in_unit, of_source, IsRead, IsOutcome, fault_of, Read, AreRead, none, next}
+use Rattle.scip_site.specs.Reading.{Outcome, in_unit, of_source, IsRead, IsOutcome, is_below, Read, AreRead, none, next}
 use Rattle.scip_site.specs.Reading.{source_or_none, sources_of, name_of, told_by, told, Keeps, IsReadBy, ReadsOne}
 use Rattle.scip_site.specs.Reading.{AreReadBy, AreKept, ReadsAll, ReadsInto}
 
@@ -64,7 +64,7 @@ told_so heard unheard path outcome why old new here after is kept done says =
 -- what is kept of it
 pub read_so : {M : Type 0} (heard : M → Option (List ℕ)) (unheard : M → ℕ) (gives : List ℕ → Option (List ℕ) → Type 0)
     (root : List ℕ) (repeated : Bool) (d : Document) (old new : Sources) (here after : M) (outcome : Outcome)
-    → IsRead gives root d (fault_of d) repeated outcome → (done : Result (Unit {0}) ShowFault)
+    → IsRead gives root d (is_below d) repeated outcome → (done : Result (Unit {0}) ShowFault)
     → Keeps d.relative_path outcome old new (writer heard unheard here after) done
     → ReadsOne gives root repeated d old new (writer heard unheard here after) done
 read_so heard unheard gives root repeated d old new here after outcome is (Ok done) kept =
@@ -112,7 +112,7 @@ module _ {M : Type 0} (heard : M → Option (List ℕ)) (unheard : M → ℕ) (g
             are = next reads d outcome before.by.are
                 (subst (λ (n : ℕ). slice_get documents n ≡ Some d) (sym before.many_are) stands)
                 (subst (λ (n : ℕ). IsOutcome gives root documents n d outcome) (sym before.many_are)
-                (subst (λ (r : Bool). IsRead gives root d (fault_of d) r outcome) same one.is));
+                (subst (λ (r : Bool). IsRead gives root d (is_below d) r outcome) same one.is));
             told_are = subst (λ (ls : List (List ℕ)). AreSaid heard unheard ls start after)
                 (sym (flat_map-append (λ (r : Read). told_by r.document.relative_path r.outcome) reads (item ∷ [])))
                 (said_more heard unheard (told (item ∷ [])) after before.by.told_are lines);

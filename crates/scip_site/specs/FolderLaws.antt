@@ -1,10 +1,10 @@
 -- Laws of a folder of pages.
-use Rattle.std.specs.Prelude.{ℕ, ◌≡◌, ◌≢◌, ◌<◌, Bool, false, List, ◌++◌, codes, Option, None, Some}
+use Rattle.std.specs.Prelude.{ℕ, ◌≡◌, ◌≢◌, ◌<◌, true, false, List, ◌++◌, codes, Option, None, Some}
 use Rattle.std.specs.List.{AllByRecursion, flat_map, slice_get}
 use Rattle.scip_model.specs.declared.records.Index.{Index}
 use Rattle.scip_model.specs.declared.records.Document.{Document}
 use Rattle.source_files.specs.Made.{MadeFile}
-use Rattle.scip_pages.specs.Paths.{path_fault}
+use Rattle.scip_pages.specs.Paths.{is_path_below}
 use Rattle.scip_pages.specs.Snapshot.{lines_of, misfit}
 use Rattle.source_page.specs.Ids.{unit_in, AllFit}
 use Rattle.scip_site.specs.Making.{site_files}
@@ -13,10 +13,10 @@ use Rattle.scip_site.specs.Repeats.{is_repeated}
 use Rattle.scip_site.specs.Script.{quoted_byte, read_behind}
 use Rattle.source_page.specs.Site.{Sources, page_path}
 
--- What is known of a document with a number that has a page: its path has no fault, no document before it has its
--- path, and its ranges are ranges of its source.
+-- What is known of a document with a number that has a page: its path is that of a page, no document before it has
+-- its path, and its ranges are ranges of its source.
 pub record IsGood (documents : List Document) (number : ℕ) (d : Document) (source : List ℕ) : Type 0 where
-  pub path : path_fault d.relative_path ≡ None
+  pub path : is_path_below d.relative_path ≡ true
   pub own : is_repeated documents number ≡ false
   pub fits : misfit (unit_in d) (lines_of source) d.occurrences ≡ None
 
@@ -40,7 +40,7 @@ GoodSourcesFit = (index : Index) (sources : Sources) → AllAreGood index.docume
 abbrev pub FilesStayBelow : Type 0
 FilesStayBelow =
     (index : Index) (sources : Sources) (order : List ℕ) → AllAreGood index.documents sources
-    → AllByRecursion (λ (made : MadeFile). path_fault made.path ≡ None) (site_files index sources order)
+    → AllByRecursion (λ (made : MadeFile). is_path_below made.path ≡ true) (site_files index sources order)
 
 -- none is where another has a folder,
 abbrev pub IsNoFolder : MadeFile → MadeFile → Type 0

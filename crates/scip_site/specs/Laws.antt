@@ -1,7 +1,7 @@
 -- Laws of the places of pages.
-use Rattle.std.specs.Prelude.{ℕ, ◌≡◌, ◌<◌, List, [], map, None, Some}
+use Rattle.std.specs.Prelude.{ℕ, ◌≡◌, ◌<◌, true, List, [], map, Some}
 use Rattle.std.specs.List.{AllByRecursion, slice_get}
-use Rattle.scip_pages.specs.Paths.{path_fault}
+use Rattle.scip_pages.specs.Paths.{is_path_below}
 use Rattle.scip_pages.specs.Urls.{folder_of}
 use Rattle.source_page.specs.Crumbs.{folder_id, folders_on}
 use Rattle.source_page.specs.Site.{page_path}
@@ -10,10 +10,10 @@ use Rattle.source_page.specs.Tags.{tags_of}
 use Rattle.scip_site.specs.Nesting.{all_open, leaf_of, leaves_behind}
 use Rattle.scip_site.specs.Tree.{first_page}
 
--- The path of a page has no fault if that of its document has none. So it leads to a place below the folder of all
--- pages, by a URL too (`PathLaws` and `UrlLaws` of `scip_pages`),
+-- The path of a page is one below the folder of all pages if that of its document is. So it leads to a place there, by
+-- a URL too (`PathLaws` and `UrlLaws` of `scip_pages`),
 abbrev pub HasAGoodPath : Type 0
-HasAGoodPath = (path : List ℕ) → path_fault path ≡ None → path_fault (page_path path) ≡ None
+HasAGoodPath = (path : List ℕ) → is_path_below path ≡ true → is_path_below (page_path path) ≡ true
 
 -- and no page has the path of another.
 abbrev pub HasItsOwnPath : Type 0

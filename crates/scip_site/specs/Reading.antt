@@ -7,9 +7,8 @@ use Rattle.std.specs.Str.{is_utf8}
 use Rattle.scip_model.specs.declared.records.Document.{Document}
 use Rattle.scip_model.specs.declared.records.Occurrence.{Occurrence}
 use Rattle.scip_pages.specs.declared.columns.ColumnUnit.{ColumnUnit}
-use Rattle.scip_pages.specs.declared.paths.PathFault.{PathFault}
 use Rattle.scip_pages.specs.Columns.{unit_of}
-use Rattle.scip_pages.specs.Paths.{path_fault}
+use Rattle.scip_pages.specs.Paths.{is_path_below}
 use Rattle.scip_pages.specs.Snapshot.{lines_of, misfit}
 use Rattle.scip_snapshot.specs.declared.show_fault.ShowFault.{ShowFault}
 use Rattle.scip_snapshot.specs.declared.show_fault.ShowFault.TheVariants.{Write, Memory}
@@ -41,23 +40,23 @@ of_source d None = Err Unreadable
 of_source d (Some bytes) =
     cond (is_utf8 bytes) (in_unit (unit_of d.position_encoding) d.occurrences bytes) (Err NotText)
 
--- Its source is the file with its path below the root. If its path has a fault, or is that of a document before it,
--- nothing is read.
-abbrev pub IsRead : (gives : List ℕ → Option (List ℕ) → Type 0) → (root : List ℕ) → Document → Option PathFault → Bool
-    → Outcome → Type 0
-IsRead gives root d (Some fault) repeated outcome = outcome ≡ Err BadPath
-IsRead gives root d None true outcome = outcome ≡ Err Repeated
-IsRead gives root d None false outcome =
+-- Its source is the file with its path below the root. If its path isn't that of a page, or is that of a document
+-- before it, nothing is read.
+abbrev pub IsRead : (gives : List ℕ → Option (List ℕ) → Type 0) → (root : List ℕ) → Document
+    → (is_below repeated : Bool) → Outcome → Type 0
+IsRead gives root d false repeated outcome = outcome ≡ Err BadPath
+IsRead gives root d true true outcome = outcome ≡ Err Repeated
+IsRead gives root d true false outcome =
     (source : Option (List ℕ)) × gives (path_in root d.relative_path) source × (outcome ≡ of_source d source)
 
-abbrev pub fault_of : Document → Option PathFault
-fault_of d = path_fault d.relative_path
+abbrev pub is_below : Document → Bool
+is_below d = is_path_below d.relative_path
 
 -- of the document with a number
 abbrev pub IsOutcome : (gives : List ℕ → Option (List ℕ) → Type 0) → (root : List ℕ) → List Document → ℕ → Document
     → Outcome → Type 0
 IsOutcome gives root documents number d outcome =
-    IsRead gives root d (fault_of d) (is_repeated documents number) outcome
+    IsRead gives root d (is_below d) (is_repeated documents number) outcome
 
 -- ---- several documents
 
@@ -120,7 +119,7 @@ Keeps path outcome old new messages (Err Write) = ⊥
 pub record IsReadBy {M : Type 0} (gives : List ℕ → Option (List ℕ) → Type 0) (root : List ℕ) (repeated : Bool)
     (d : Document) (old new : Sources) (messages : Writer M) : Type 0 where
   pub outcome : Outcome
-  pub is : IsRead gives root d (fault_of d) repeated outcome
+  pub is : IsRead gives root d (is_below d) repeated outcome
   pub kept : IsKept d.relative_path outcome old new messages
 
 abbrev pub ReadsOne : {M : Type 0} → (gives : List ℕ → Option (List ℕ) → Type 0) → (root : List ℕ) → (repeated : Bool)

@@ -12,7 +12,7 @@ use streams::Sink;
 /// Why a document of an index has no page. The first of those that hold.
 #[derive(Clone, Copy, Debug, Drop, PartialEq, Eq)]
 pub(crate) enum NoPage {
-    /// Its path leads to no place of its own below the root (`scip_pages::path_fault`).
+    /// Its path leads to no place of its own below the root (`scip_pages::is_path_below`).
     BadPath,
     /// A document before it has its path.
     Repeated,

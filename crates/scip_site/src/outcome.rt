@@ -8,7 +8,7 @@ ghost use Rattle.scip_site.specs.Reading as spec;
 
 use crate::no_page::NoPage;
 use scip_model::Document;
-use scip_pages::{ColumnUnit, lines_of, misfit, path_fault, unit_of};
+use scip_pages::{ColumnUnit, is_path_below, lines_of, misfit, unit_of};
 use scip_snapshot::path_in;
 use sequences::OwnedText;
 use source_files::ReadFiles;
@@ -92,16 +92,13 @@ pub(crate) fn outcome_of<F: ReadFiles>(
     wanted: &Wanted<'_>,
 ) -> Result<Result<OwnedText, NoPage>, AllocError>
     ensures { IfOk result (λ outcome. spec.IsRead (F.gives files.now) wanted.now.root.now wanted.now.document.now
-        (spec.fault_of wanted.now.document.now) wanted.now.repeated outcome) }
+        (spec.is_below wanted.now.document.now) wanted.now.repeated outcome) }
 {
-    match path_fault(wanted.document.relative_path.as_str()) {
-        Some(_) => Ok(Err(NoPage::BadPath)),
-        None => {
-            if wanted.repeated {
-                Ok(Err(NoPage::Repeated))
-            } else {
-                below_root(alloc, files, wanted.root, wanted.document)
-            }
-        }
+    if !is_path_below(wanted.document.relative_path.as_str()) {
+        Ok(Err(NoPage::BadPath))
+    } else if wanted.repeated {
+        Ok(Err(NoPage::Repeated))
+    } else {
+        below_root(alloc, files, wanted.root, wanted.document)
     }
 }

@@ -1,17 +1,16 @@
 -- What becomes of the documents of an index whose sources are below a root: which snapshots are printed, and which
 -- documents are left out.
 -- `gives` is what reading a file may give.
-use Rattle.std.specs.Prelude.{◌≡◌, ℕ, ◌+◌, cond, List, [], ◌∷◌, ◌++◌, map, Vec, Option, Some, None, Result, Ok, Err}
-use Rattle.std.specs.Prelude.{codes}
+use Rattle.std.specs.Prelude.{◌≡◌, ℕ, ◌+◌, Bool, true, false, cond, List, [], ◌∷◌, ◌++◌, map, Vec, Option, Some, None}
+use Rattle.std.specs.Prelude.{Result, Ok, Err, codes}
 use Rattle.std.specs.List.{flat_map}
 use Rattle.std.specs.Str.{is_utf8}
 use Rattle.scip_model.specs.declared.records.Index.{Index}
 use Rattle.scip_model.specs.declared.records.Document.{Document}
 use Rattle.source_files.specs.Roots.{path_below}
 use Rattle.source_files.specs.Made.{MadeFile}
-use Rattle.scip_pages.specs.Paths.{path_fault}
+use Rattle.scip_pages.specs.Paths.{is_path_below}
 use Rattle.scip_pages.specs.Snapshot.{flat_byte, snapshot_of}
-use Rattle.scip_pages.specs.declared.paths.PathFault.{PathFault}
 use Rattle.scip_pages.specs.declared.snapshot_fault.SnapshotFault.{SnapshotFault}
 use Rattle.scip_snapshot.specs.declared.left_out.LeftOut.{LeftOut}
 use Rattle.scip_snapshot.specs.declared.left_out.LeftOut.TheVariants.{BadPath, Unreadable, NotText, NoSnapshot}
@@ -42,16 +41,16 @@ abbrev pub path_in : (folder path : List ℕ) → List ℕ
 path_in [] path = path
 path_in (byte ∷ folder) path = path_below (byte ∷ folder) path
 
--- Its source is the file with its path below the root. If the path has a fault, nothing is read.
+-- Its source is the file with its path below the root. If the path isn't that of a page, nothing is read.
 abbrev pub IsRead : (gives : List ℕ → Option (List ℕ) → Type 0) → (root : List ℕ) → Index → ℕ → (path : List ℕ)
-    → Option PathFault → Outcome → Type 0
-IsRead gives root index number path (Some fault) outcome = outcome ≡ Err BadPath
-IsRead gives root index number path None outcome =
+    → (is_below : Bool) → Outcome → Type 0
+IsRead gives root index number path false outcome = outcome ≡ Err BadPath
+IsRead gives root index number path true outcome =
     (source : Option (List ℕ)) × gives (path_in root path) source × (outcome ≡ of_source index number source)
 
 abbrev pub IsOutcome : (gives : List ℕ → Option (List ℕ) → Type 0) → (root : List ℕ) → Index → ℕ → (path : List ℕ)
     → Outcome → Type 0
-IsOutcome gives root index number path outcome = IsRead gives root index number path (path_fault path) outcome
+IsOutcome gives root index number path outcome = IsRead gives root index number path (is_path_below path) outcome
 
 -- a snapshot is printed below the document's path, which is on one line
 abbrev pub printed_by : (path : List ℕ) → Outcome → List ℕ

@@ -13,7 +13,7 @@ use streams::{Sink, write_all};
 /// Why a document of an index has no snapshot that is printed. The first of those that hold.
 #[derive(Clone, Copy, Debug, Drop, PartialEq, Eq)]
 pub enum LeftOut {
-    /// Its path leads to no place of its own below the root (`scip_pages::path_fault`).
+    /// Its path leads to no place of its own below the root (`scip_pages::is_path_below`).
     BadPath,
     /// Its source can't be read.
     Unreadable,

@@ -6,7 +6,7 @@ ghost use Rattle.scip_pages.specs.Snapshot.{snapshot_of};
 ghost use Rattle.scip_snapshot.specs.Snapshots.{IsOutcome, of_snapshot, of_source, outcome_view, path_in};
 
 use crate::left_out::LeftOut;
-use scip_pages::{SnapshotFault, path_fault, snapshot};
+use scip_pages::{SnapshotFault, is_path_below, snapshot};
 use scip_query::Queries;
 use source_files::ReadFiles;
 use std::alloc::{AllocError, Global};
@@ -98,8 +98,9 @@ pub(crate) fn outcome_of<F: ReadFiles>(
     ensures { IfOk result (λ outcome. IsOutcome (F.gives files.now) asked.now.root.now asked.now.queries.now
         asked.now.number asked.now.path.now (outcome_view outcome)) }
 {
-    match path_fault(asked.path) {
-        Some(_) => Ok(Err(LeftOut::BadPath)),
-        None => outcome_below(alloc, files, asked),
+    if is_path_below(asked.path) {
+        outcome_below(alloc, files, asked)
+    } else {
+        Ok(Err(LeftOut::BadPath))
     }
 }

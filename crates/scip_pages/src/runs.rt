@@ -1,12 +1,16 @@
 //! What of a line occurrences mark.
 
-ghost use Rattle.std.specs.Prelude.{◌≡◌, ◌≤◌, ◌<◌, ◌==◌, [], ℕ, length, map, cond, get_or, IfOk, None, Some, drop};
+ghost use Rattle.std.specs.Prelude.{◌≡◌, ◌≤◌, ◌<◌, ◌==◌, ◌++◌, [], ◌∷◌, ℕ, length, map, cond, get_or, drop};
+ghost use Rattle.std.specs.Prelude.{IfOk, OnOk, None, Some};
 ghost use Rattle.std.specs.List.{prefix_len, range_with_len};
 ghost use Rattle.scip_pages.specs.Runs as spec;
 
 use crate::columns::{ColumnUnit, offset_of};
 use scip_model::Range;
 use std::alloc::{AllocError, Global};
+
+/// A line that one span marks has so many runs at most.
+const ONCE_RUNS: usize = 3;
 
 /// The bytes of a line that an occurrence marks: from `start` up to, and without, `end`.
 #[derive(Clone, Copy, Debug, PartialEq, Eq)]
@@ -201,6 +205,44 @@ fn unmarked(alloc: Global, len: usize) -> Result<Vec<Run>, AllocError>
     }
 }
 
+/// Appends the run of so many bytes that nothing marks, if there are any.
+fn push_unmarked(runs: &mut Vec<Run>, len: usize) -> Result<(), AllocError>
+    ensures { OnOk result (runs.new.items ≡ runs.old.items ++ spec.runs_of (spec.marks_of [] len)) }
+{
+    if len == 0 {
+        return Ok(());
+    }
+    runs.push(Run {
+        len,
+        occurrence: None,
+    })?;
+    Ok(())
+}
+
+/// The run of so many bytes that nothing marks, if there are any, with room for those behind a span.
+fn runs_before(alloc: Global, len: usize) -> Result<Vec<Run>, AllocError>
+    ensures { IfOk result (λ runs. runs.items ≡ spec.runs_of (spec.marks_of [] len)) }
+{
+    let mut runs = Vec::with_capacity(alloc, ONCE_RUNS)?;
+    push_unmarked(&mut runs, len)?;
+    Ok(runs)
+}
+
+/// The runs of a line of `len` bytes that one span marks.
+fn marked_once(alloc: Global, span: Span, len: usize) -> Result<Vec<Run>, AllocError>
+    requires some { span.start < span.end }
+    requires within { span.end ≤ len }
+    ensures { IfOk result (λ runs. runs.items ≡ spec.runs_of (spec.marks_of (span ∷ []) len)) }
+{
+    let mut runs = runs_before(alloc, span.start)?;
+    runs.push(Run {
+        len: span.end - span.start,
+        occurrence: Some(span.occurrence),
+    })?;
+    push_unmarked(&mut runs, len - span.end)?;
+    Ok(runs)
+}
+
 /// The runs of a line of `len` bytes that spans mark.
 fn marked(alloc: Global, spans: &[Span], len: usize) -> Result<Vec<Run>, AllocError>
     ensures { IfOk result (λ runs. runs.items ≡ spec.runs_of (spec.marks_of spans.now len)) }
@@ -216,6 +258,12 @@ pub fn line_runs(alloc: Global, spans: &[Span], len: usize) -> Result<Vec<Run>, 
 {
     match spans {
         [] => unmarked(alloc, len),
-        [_, ..] => marked(alloc, spans, len),
+        [first, ..] => {
+            if spans.len() == 1 && first.start < first.end && first.end <= len {
+                marked_once(alloc, *first, len)
+            } else {
+                marked(alloc, spans, len)
+            }
+        }
     }
 }

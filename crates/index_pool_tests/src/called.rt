@@ -32,12 +32,14 @@ pub(crate) fn no_counts(alloc: Global, inputs: usize) -> Result<Counts, AllocErr
     })
 }
 
+/// Counts one more call for an input.
 fn add_one(counts: &Vec<AtomicU64>, number: usize) {
     if number < counts.len() {
         counts[number].fetch_add(1, Ordering::SeqCst);
     }
 }
 
+/// Whether there was one call for an input.
 fn is_one(counts: &Vec<AtomicU64>, number: usize) -> bool {
     number < counts.len() && counts[number].load(Ordering::SeqCst) == 1
 }

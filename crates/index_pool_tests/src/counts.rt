@@ -9,7 +9,6 @@ use index_pool::{
 };
 use std::alloc::{AllocError, Global};
 use std::sync::Wait;
-use std::test::Fail;
 use std::thread::Threads;
 
 const INPUTS: usize = 100;
@@ -68,68 +67,88 @@ fn told(answer: Result<Vec<usize>, PoolFault<()>>, inputs: usize) -> Option<bool
 /// Whether a phase of so many inputs (`INPUTS` at most) gives twice each number, and calls the job
 /// and the gate once for each. Nothing where memory or a thread is refused, and no input was called for
 /// twice.
-fn runs_each_once<R: Threads + Wait>(
+fn is_each_run_once<R: Threads + Wait>(
     rt: &R,
     alloc: Global,
+    counts: &Counts,
     inputs: usize,
     workers: Workers,
-) -> Result<Option<bool>, AllocError> {
+) -> Option<bool> {
     let inputs = inputs.min(INPUTS);
-    let counts = no_counts(alloc, INPUTS)?;
-    let answer = run_phase(rt, alloc, &counts, inputs, workers, &counts);
+    let answer = run_phase(rt, alloc, counts, inputs, workers, counts);
     match told(answer, inputs) {
-        Some(right) => Ok(Some(right && counts.are_once(inputs))),
-        None => Ok(none_if(counts.are_ended())),
+        Some(right) => Some(right && counts.are_once(inputs)),
+        None => none_if(counts.are_ended()),
     }
-}
-
-#[test]
-fn each_input_is_run_once(rt: HostRuntime) -> Result<(), Fail> {
-    // 3 inputs on 16 workers: the lanes of thirteen workers are empty.
-    for (inputs, count) in [
-        (100, 1),
-        (100, 2),
-        (100, 3),
-        (100, 16),
-        (1, 2),
-        (3, 16),
-        (0, 16),
-    ] {
-        let workers = workers(&rt, count);
-        let once = match runs_each_once(&rt, rt.alloc(), inputs, workers)? {
-            None => runs_each_once(&rt, rt.alloc(), inputs, workers)?,
-            told => told,
-        };
-        see(&rt, once == Some(true), "each once");
-    }
-    Ok(())
 }
 
 /// Whether a phase of the most inputs gives twice each number, by as many calls of `run` as there are
 /// inputs. Nothing where memory or a thread is refused, and there were no more calls.
-fn answers_the_most<R: Threads + Wait>(
+fn are_most_answered<R: Threads + Wait>(
     rt: &R,
     alloc: Global,
+    counts: &Counts,
     workers: Workers,
-) -> Result<Option<bool>, AllocError> {
-    let counts = no_counts(alloc, INPUTS)?;
-    let answer = run_phase(rt, alloc, &counts, MAX_INPUTS, workers, &NoGate);
+) -> Option<bool> {
+    let answer = run_phase(rt, alloc, counts, MAX_INPUTS, workers, &NoGate);
     let calls = counts.calls();
     match told(answer, MAX_INPUTS) {
-        Some(right) => Ok(Some(right && calls == MAX_INPUTS as u64)),
-        None => Ok(none_if(calls <= MAX_INPUTS as u64)),
+        Some(right) => Some(right && calls == MAX_INPUTS as u64),
+        None => none_if(calls <= MAX_INPUTS as u64),
     }
 }
 
+/// Whether a phase of so many inputs answers what is due: the calls for each are counted, or, of the most inputs, all
+/// calls. Nothing where memory or a thread is refused.
+fn is_answered<R: Threads + Wait>(
+    rt: &R,
+    alloc: Global,
+    counts: &Counts,
+    inputs: usize,
+    workers: Workers,
+) -> Option<bool> {
+    if inputs == MAX_INPUTS {
+        return are_most_answered(rt, alloc, counts, workers);
+    }
+    is_each_run_once(rt, alloc, counts, inputs, workers)
+}
+
+/// The same of a phase with counts of its own.
+fn answers_so<R: Threads + Wait>(
+    rt: &R,
+    alloc: Global,
+    inputs: usize,
+    workers: Workers,
+) -> Option<bool> {
+    match no_counts(alloc, INPUTS) {
+        Ok(counts) => is_answered(rt, alloc, &counts, inputs, workers),
+        Err(AllocError) => None,
+    }
+}
+
+/// Numbers of inputs and of workers. The sixth reads: 3 inputs on 16 workers, of which thirteen have no lane with an
+/// input.
+const PHASES: [(usize, usize); 8] = [
+    (100, 1),
+    (100, 2),
+    (100, 3),
+    (100, 16),
+    (1, 2),
+    (3, 16),
+    (0, 16),
+    (MAX_INPUTS, 3),
+];
+
 #[test]
-fn the_most_inputs_are_answered(rt: HostRuntime) -> Result<(), Fail> {
-    let three = workers(&rt, 3);
-    let answered = match answers_the_most(&rt, rt.alloc(), three)? {
-        None => answers_the_most(&rt, rt.alloc(), three)?,
-        told => told,
-    };
-    see(&rt, answered == Some(true), "the most inputs");
-    Ok(())
+fn each_input_is_run_once(rt: HostRuntime) {
+    for (inputs, count) in &PHASES {
+        let workers = workers(&rt, *count);
+        let is_so = match answers_so(&rt, rt.alloc(), *inputs, workers) {
+            None => answers_so(&rt, rt.alloc(), *inputs, workers),
+            is_so => is_so,
+        };
+        see(&rt, is_so == Some(true), "each once");
+    }
 }
 
 /// Whether a phase that has no start of this number answers, and any other says that a thread is
@@ -138,53 +157,69 @@ fn the_most_inputs_are_answered(rt: HostRuntime) -> Result<(), Fail> {
 fn ends_with<R: Threads + Wait>(
     rt: &R,
     alloc: Global,
+    counts: &Counts,
     workers: Workers,
     refused: usize,
-    spawned: bool,
-) -> Result<Option<bool>, AllocError> {
-    let counts = no_counts(alloc, INPUTS)?;
+) -> Option<bool> {
     let task = Task {
         alloc,
-        job: &counts,
-        gate: &counts,
+        job: counts,
+        gate: counts,
     };
+    let spawned = refused >= workers.count();
     let Ok(answer) = run_phase_refusing(rt, &task, INPUTS, workers, Some(refused)) else {
-        return Ok(none_if(counts.are_once(0)));
+        return none_if(counts.are_once(0));
     };
     let is_refused = matches!(&answer, Err(PoolFault::Spawn));
     let is_due = match told(answer, INPUTS) {
-        None if spawned => return Ok(none_if(counts.are_ended())),
+        None if spawned => return none_if(counts.are_ended()),
         None => is_refused,
         Some(right) => spawned && right,
     };
     if !is_due || !counts.are_ended() {
-        return Ok(Some(false));
+        return Some(false);
     }
-    let again = run_phase(rt, alloc, &counts, INPUTS, workers, &NoGate);
-    Ok(told(again, INPUTS))
+    told(
+        run_phase(rt, alloc, counts, INPUTS, workers, &NoGate),
+        INPUTS,
+    )
 }
 
+/// The same of a phase with counts of its own.
+fn ends_so<R: Threads + Wait>(
+    rt: &R,
+    alloc: Global,
+    workers: Workers,
+    refused: usize,
+) -> Option<bool> {
+    match no_counts(alloc, INPUTS) {
+        Ok(counts) => ends_with(rt, alloc, &counts, workers, refused),
+        Err(AllocError) => None,
+    }
+}
+
+/// Numbers of workers, and the start that is refused. With 4 workers, three threads are to be started: there is no
+/// start 4.
+const STARTS: [(usize, usize); 9] = [
+    (1, 1),
+    (2, 1),
+    (4, 1),
+    (4, 2),
+    (4, 3),
+    (4, 4),
+    (16, 1),
+    (16, 15),
+    (16, 16),
+];
+
 #[test]
-fn a_refused_start_is_spawn(rt: HostRuntime) -> Result<(), Fail> {
-    // With 4 workers, three threads are to be started: there is no start 4.
-    for (count, refused) in [
-        (1, 1),
-        (2, 1),
-        (4, 1),
-        (4, 2),
-        (4, 3),
-        (4, 4),
-        (16, 1),
-        (16, 15),
-        (16, 16),
-    ] {
-        let spawned = refused >= count;
-        let workers = workers(&rt, count);
-        let ended = match ends_with(&rt, rt.alloc(), workers, refused, spawned)? {
-            None => ends_with(&rt, rt.alloc(), workers, refused, spawned)?,
-            told => told,
+fn a_refused_start_is_spawn(rt: HostRuntime) {
+    for (count, refused) in &STARTS {
+        let workers = workers(&rt, *count);
+        let ended = match ends_so(&rt, rt.alloc(), workers, *refused) {
+            None => ends_so(&rt, rt.alloc(), workers, *refused),
+            ended => ended,
         };
         see(&rt, ended == Some(true), "refused start");
     }
-    Ok(())
 }

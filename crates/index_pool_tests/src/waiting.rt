@@ -69,10 +69,12 @@ impl<'a, C: Clock + Sync> Gate for Waiting<'a, C> {
     }
 }
 
+/// The bit of an input.
 fn bit_of(number: usize) -> u64 {
     if number < 64 { 1 << number } else { 0 }
 }
 
+/// One that nobody has come to.
 fn waiting_gate<'a, C: Drop>(
     alloc: Global,
     clock: C,

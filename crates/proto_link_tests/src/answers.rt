@@ -15,6 +15,7 @@ use proto_link::{Entity, FilePlace, LinkFault, LinkFile, Linker, Target};
 use std::alloc::{AllocError, Global};
 use test_kit::{Draft, Made};
 
+/// Adds a place.
 fn add_place(draft: &mut Draft, place: FilePlace) {
     draft.add(" ");
     draft.add_size(place.file);
@@ -61,6 +62,7 @@ pub(crate) fn add_part(draft: &mut Draft, part: Entity) {
     }
 }
 
+/// Adds a full name, and what each component names.
 fn add_target(draft: &mut Draft, target: &Target) {
     draft.add(target.name.as_str());
     for part in target.parts.as_slice() {
@@ -68,6 +70,7 @@ fn add_target(draft: &mut Draft, target: &Target) {
     }
 }
 
+/// Adds what a use names.
 fn add_use(draft: &mut Draft, linker: &Linker, file: usize, type_use: &Use)
     requires { file < length linker.now }
 {
@@ -79,6 +82,7 @@ fn add_use(draft: &mut Draft, linker: &Linker, file: usize, type_use: &Use)
     }
 }
 
+/// Adds what each use of a file names.
 fn add_uses(draft: &mut Draft, linker: &Linker, file: usize, facts: &FileFacts)
     requires { file < length linker.now }
 {
@@ -87,6 +91,7 @@ fn add_uses(draft: &mut Draft, linker: &Linker, file: usize, facts: &FileFacts)
     }
 }
 
+/// Adds which files a file sees.
 fn add_sights(draft: &mut Draft, linker: &Linker, file: usize)
     requires { file < length linker.now }
 {
@@ -96,6 +101,7 @@ fn add_sights(draft: &mut Draft, linker: &Linker, file: usize)
     }
 }
 
+/// Adds the line of a file.
 fn add_file(draft: &mut Draft, linker: &Linker, file: usize)
     requires { file < length linker.now }
 {

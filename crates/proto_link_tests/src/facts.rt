@@ -6,44 +6,36 @@ use proto_parse::{SyntaxFault, parse};
 use std::alloc::{AllocError, Global};
 use test_kit::Made;
 
-fn facts_of_tokens<'t>(
-    alloc: Global,
-    number: usize,
-    tokens: &Tokens<'_, 't>,
-) -> Result<FileFacts<'t>, LexFault> {
+/// The facts of a whole source; none where it isn't accepted.
+type Facts<'t> = Made<Option<FileFacts<'t>>>;
+
+/// These facts, if memory was there for them.
+fn some_of<'t>(facts: Made<FileFacts<'t>>) -> Facts<'t> {
+    Ok(Some(facts?))
+}
+
+/// The facts of tokens.
+fn facts_of_tokens<'t>(alloc: Global, number: usize, tokens: &Tokens<'_, 't>) -> Facts<'t> {
     match parse(alloc, tokens) {
-        Ok(file) => Ok(declare(alloc, number, tokens, &file)?),
-        Err(SyntaxFault::Memory) => Err(LexFault::Memory),
-        Err(_) => Err(LexFault::TooLong),
+        Ok(file) => some_of(declare(alloc, number, tokens, &file)),
+        Err(SyntaxFault::Memory) => Err(AllocError),
+        Err(_) => Ok(None),
     }
 }
 
-fn facts_of_text<'t>(
-    alloc: Global,
-    number: usize,
-    text: &Text<'t>,
-) -> Result<FileFacts<'t>, LexFault> {
-    let tokens = lex(alloc, text)?;
-    facts_of_tokens(alloc, number, &tokens)
+/// The facts of a text.
+fn facts_of_text<'t>(alloc: Global, number: usize, text: &Text<'t>) -> Facts<'t> {
+    match lex(alloc, text) {
+        Ok(tokens) => facts_of_tokens(alloc, number, &tokens),
+        Err(LexFault::Memory) => Err(AllocError),
+        Err(_) => Ok(None),
+    }
 }
 
-fn facts_of_source<'t>(
-    alloc: Global,
-    number: usize,
-    source: &'t str,
-) -> Result<FileFacts<'t>, LexFault> {
-    let text = Text::new(alloc, source.as_bytes())?;
-    facts_of_text(alloc, number, &text)
-}
-
-/// The facts of a whole source; none where it isn't accepted.
-pub(crate) fn facts_of<'t>(
-    alloc: Global,
-    number: usize,
-    source: &'t str,
-) -> Made<Option<FileFacts<'t>>> {
-    match facts_of_source(alloc, number, source) {
-        Ok(facts) => Ok(Some(facts)),
+/// The facts of a source.
+pub(crate) fn facts_of<'t>(alloc: Global, number: usize, source: &'t str) -> Facts<'t> {
+    match Text::new(alloc, source.as_bytes()) {
+        Ok(text) => facts_of_text(alloc, number, &text),
         Err(LexFault::Memory) => Err(AllocError),
         Err(_) => Ok(None),
     }

@@ -69,6 +69,7 @@ fn add_words(draft: &mut Draft, dice: &mut Dice, text: &str) {
     }
 }
 
+/// Adds a type.
 fn add_type(draft: &mut Draft, dice: &mut Dice) {
     let text = dice.one_of(&TYPES, 6);
     add_words(draft, dice, text);
@@ -81,6 +82,7 @@ fn add_path(draft: &mut Draft, dice: &mut Dice) {
     draft.add(dice.one_of(&WORDS, files));
 }
 
+/// Adds a part of a file.
 fn add_part(draft: &mut Draft, dice: &mut Dice) {
     let (outer, inner) = (dice.word(), dice.word());
     for mark in dice.one_of(&PARTS, 12).chars() {
@@ -95,6 +97,7 @@ fn add_part(draft: &mut Draft, dice: &mut Dice) {
     }
 }
 
+/// Adds the file with this word.
 fn add_file(draft: &mut Draft, dice: &mut Dice, word: &str) {
     draft.add(word);
     draft.add(".proto\nsyntax = \"proto3\";\n");

@@ -1,7 +1,7 @@
 //! What files declare, and the components of their packages.
 
 use proto_decl::{Component, Declaration, DeclarationKind};
-use proto_link::{Entity, FilePlace, LinkFile};
+use proto_link::{Entity, FilePlace, LinkFault, LinkFile};
 use std::alloc::Global;
 use test_kit::Made;
 
@@ -14,6 +14,7 @@ pub(crate) struct Item {
     pub(crate) entity: Entity,
 }
 
+/// Adds an item.
 fn add_item(
     alloc: Global,
     items: &mut Vec<Item>,
@@ -32,13 +33,14 @@ fn add_item(
     Ok(())
 }
 
-fn add_package(
+/// Adds the components of a package statement. The name is that of the components before them, with a dot behind it.
+fn add_components(
     alloc: Global,
     items: &mut Vec<Item>,
     file: usize,
+    name: &mut String,
     components: &[Component],
 ) -> Made<()> {
-    let mut name = String::new(alloc);
     for (index, component) in components.iter().enumerate() {
         name.push_str(component.name.as_str())?;
         let span = component.span;
@@ -50,6 +52,18 @@ fn add_package(
     Ok(())
 }
 
+/// Adds the components of a package statement.
+fn add_package(
+    alloc: Global,
+    items: &mut Vec<Item>,
+    file: usize,
+    components: &[Component],
+) -> Made<()> {
+    let mut name = String::new(alloc);
+    add_components(alloc, items, file, &mut name, components)
+}
+
+/// Adds declarations.
 fn add_declarations(
     alloc: Global,
     items: &mut Vec<Item>,
@@ -67,6 +81,7 @@ fn add_declarations(
     Ok(())
 }
 
+/// Adds the items of a file.
 fn add_items(alloc: Global, items: &mut Vec<Item>, number: usize, file: &LinkFile) -> Made<()> {
     match file.facts {
         Some(facts) => {
@@ -77,15 +92,19 @@ fn add_items(alloc: Global, items: &mut Vec<Item>, number: usize, file: &LinkFil
     }
 }
 
-/// The items of the files with these numbers.
-pub(crate) fn items_of(alloc: Global, files: &[LinkFile], numbers: &[usize]) -> Made<Vec<Item>> {
-    let mut items = Vec::new(alloc);
+/// Adds the items of the files with these numbers.
+pub(crate) fn add_items_of(
+    alloc: Global,
+    items: &mut Vec<Item>,
+    files: &[LinkFile],
+    numbers: &[usize],
+) -> Made<()> {
     for (number, file) in files.iter().enumerate() {
         if numbers.contains(&number) {
-            add_items(alloc, &mut items, number, file)?;
+            add_items(alloc, items, number, file)?;
         }
     }
-    Ok(items)
+    Ok(())
 }
 
 /// Whether the one place is before the other.
@@ -93,6 +112,7 @@ fn is_before(place: FilePlace, other: FilePlace) -> bool {
     place.file < other.file || (place.file == other.file && place.span.start < other.span.start)
 }
 
+/// Whether the second of two items clashes with the first.
 fn exclude_each_other(first: &Item, second: &Item) -> bool {
     is_before(first.place, second.place)
         && first.full_name.as_str() == second.full_name.as_str()
@@ -113,6 +133,7 @@ fn lesser(
     }
 }
 
+/// The lesser of a pair and of those in which this item is the second.
 fn least_with(
     items: &[Item],
     second: &Item,
@@ -127,10 +148,13 @@ fn least_with(
 }
 
 /// The first clash of items.
-pub(crate) fn first_clash(items: &[Item]) -> Option<(FilePlace, FilePlace)> {
+pub(crate) fn first_clash(items: &[Item]) -> Option<LinkFault> {
     let mut least = None;
     for second in items {
         least = least_with(items, second, least);
     }
-    least
+    match least {
+        Some((first, second)) => Some(LinkFault::Duplicate(first, second)),
+        None => None,
+    }
 }

@@ -12,6 +12,7 @@ use proto_link::{LinkFault, LinkFile, Linker, kept_files_are_clear, left_out};
 use std::alloc::Global;
 use test_kit::Made;
 
+/// The same file.
 fn same<'a, 't>(file: &LinkFile<'a, 't>) -> LinkFile<'a, 't>
     ensures { result ≡ file.now }
 {
@@ -45,29 +46,35 @@ fn kept_files<'a, 't>(
     Ok(kept)
 }
 
+/// Whether a linker answers what scans tell.
 fn is_listed_as_scanned(alloc: Global, linker: &Linker, files: &[LinkFile]) -> Made<bool> {
     let answer = listing_with_paths(alloc, linker)?;
     let scan = listing_of(alloc, files)?;
     Ok(answer.as_str() == scan.as_str())
 }
 
+/// Whether a linker tells the missing imports that scans tell.
 fn are_missing_as_scanned(alloc: Global, linker: &Linker, files: &[LinkFile]) -> Made<bool> {
     let missing = linker.missing_imports(alloc)?;
     let absent = absent_of(alloc, files)?;
     Ok(missing.as_slice() == absent.as_slice())
 }
 
+/// Whether it does both.
+fn is_as_scanned(alloc: Global, linker: &Linker, files: &[LinkFile]) -> Made<bool> {
+    Ok(is_listed_as_scanned(alloc, linker, files)? && are_missing_as_scanned(alloc, linker, files)?)
+}
+
+/// Whether the linker of kept files does.
 fn are_linked_as_scanned<'a>(alloc: Global, files: &'a [LinkFile<'a, '_>]) -> Made<bool>
     requires own { HaveOwnPaths files.now }
     requires clear { HaveClearNames files.now }
 {
     let linker = Linker::of_kept(alloc, files)?;
-    Ok(
-        is_listed_as_scanned(alloc, &linker, files)?
-            && are_missing_as_scanned(alloc, &linker, files)?,
-    )
+    is_as_scanned(alloc, &linker, files)
 }
 
+/// Whether scans leave out the same files, and tell the same of those that are kept.
 fn are_omitted_as_scanned<'a>(
     alloc: Global,
     files: &'a [LinkFile<'a, '_>],

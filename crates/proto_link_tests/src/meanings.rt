@@ -2,7 +2,7 @@
 //! that its file knows.
 
 use crate::answers::{add_fault, add_part, line_of};
-use crate::items::{Item, items_of};
+use crate::items::{Item, add_items_of};
 use crate::scans::{fault_of, seen_by};
 use proto_decl::{Component, DeclarationKind, Use};
 use proto_link::{FilePlace, LinkFault, LinkFile};
@@ -18,6 +18,7 @@ fn is_sought(kind: Option<DeclarationKind>, aggregates: bool) -> bool {
     }
 }
 
+/// Whether a name is one of these items'.
 fn is_known(known: &[Item], name: &str, aggregates: bool) -> bool {
     for item in known {
         if item.full_name.as_str() == name && is_sought(item.kind, aggregates) {
@@ -27,6 +28,7 @@ fn is_known(known: &[Item], name: &str, aggregates: bool) -> bool {
     false
 }
 
+/// How many words a name has.
 fn words_of(name: &str) -> usize {
     name.split_terminator('.').count()
 }
@@ -125,6 +127,7 @@ fn add_name(draft: &mut Draft, known: &[Item], name: &str, count: usize) -> Made
     Ok(())
 }
 
+/// Adds what a use names.
 fn add_use(draft: &mut Draft, known: &[Item], file: usize, type_use: &Use) -> Made<()> {
     draft.add("; ");
     match name_of(draft.alloc(), known, type_use)? {
@@ -140,6 +143,7 @@ fn add_use(draft: &mut Draft, known: &[Item], file: usize, type_use: &Use) -> Ma
     }
 }
 
+/// Adds what each of these uses names.
 fn add_uses(draft: &mut Draft, known: &[Item], file: usize, uses: &[Use]) -> Made<()> {
     for type_use in uses {
         add_use(draft, known, file, type_use)?;
@@ -162,15 +166,18 @@ fn add_seeing(draft: &mut Draft, files: &[LinkFile], number: usize, seen: &[usiz
         Some(facts) if !file.included => facts.uses(),
         _ => &[],
     };
-    let known = items_of(draft.alloc(), files, seen)?;
+    let mut known = Vec::new(draft.alloc());
+    add_items_of(draft.alloc(), &mut known, files, seen)?;
     add_uses(draft, known.as_slice(), number, uses)
 }
 
+/// Adds the line of a file.
 fn add_file(draft: &mut Draft, files: &[LinkFile], number: usize) -> Made<()> {
     let seen = seen_by(draft.alloc(), files, &[number])?;
     add_seeing(draft, files, number, seen.as_slice())
 }
 
+/// Adds the line of each file.
 fn add_files(draft: &mut Draft, files: &[LinkFile]) -> Made<()> {
     for number in 0..files.len() {
         add_file(draft, files, number)?;

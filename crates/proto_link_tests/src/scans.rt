@@ -1,6 +1,6 @@
 //! Which files see which, and why files can't be linked, found by scans of all files.
 
-use crate::items::{first_clash, items_of};
+use crate::items::{add_items_of, first_clash};
 use proto_link::{FilePlace, LinkFault, LinkFile};
 use proto_parse::ImportKind;
 use std::alloc::Global;
@@ -22,6 +22,7 @@ fn imports(files: &[LinkFile], file: usize, path: &str, publicly: bool) -> bool 
     false
 }
 
+/// Whether one of these files has an import of a path.
 fn is_imported(files: &[LinkFile], by: &[usize], path: &str, publicly: bool) -> bool {
     for file in by {
         if imports(files, *file, path, publicly) {
@@ -45,19 +46,25 @@ fn add_imported(files: &[LinkFile], by: Option<&[usize]>, seen: &mut Vec<usize>)
     Ok(())
 }
 
-/// What some of these files see: themselves, what they import, and, until there is no more, what those
-/// publicly import.
-pub(crate) fn seen_by(alloc: Global, files: &[LinkFile], numbers: &[usize]) -> Made<Vec<usize>> {
-    let mut seen = Vec::new(alloc);
-    add_imported(files, Some(numbers), &mut seen)?;
+/// Adds what some of these files see: what they import, and, until there is no more, what those publicly import; and
+/// themselves.
+fn add_seen(files: &[LinkFile], numbers: &[usize], seen: &mut Vec<usize>) -> Made<()> {
+    add_imported(files, Some(numbers), seen)?;
     for _ in files {
         let count = seen.len();
-        add_imported(files, None, &mut seen)?;
+        add_imported(files, None, seen)?;
         if seen.len() == count {
             break;
         }
     }
     seen.extend_from_slice(numbers)?;
+    Ok(())
+}
+
+/// What some of these files see.
+pub(crate) fn seen_by(alloc: Global, files: &[LinkFile], numbers: &[usize]) -> Made<Vec<usize>> {
+    let mut seen = Vec::new(alloc);
+    add_seen(files, numbers, &mut seen)?;
     Ok(seen)
 }
 
@@ -72,6 +79,7 @@ fn counted_of(alloc: Global, files: &[LinkFile]) -> Made<Vec<usize>> {
     seen_by(alloc, files, sources.as_slice())
 }
 
+/// The first file that counts and has no facts.
 fn first_unread(files: &[LinkFile], counted: &[usize]) -> Option<usize> {
     for (number, file) in files.iter().enumerate() {
         if file.facts.is_none() && counted.contains(&number) {
@@ -81,6 +89,7 @@ fn first_unread(files: &[LinkFile], counted: &[usize]) -> Option<usize> {
     None
 }
 
+/// Whether a file has this path.
 fn has_path(files: &[LinkFile], path: &str) -> bool {
     for file in files {
         if file.path == path {
@@ -110,18 +119,32 @@ fn add_absent(
     Ok(())
 }
 
+/// Adds the imports that have to be there and name no file, of the files that count.
+fn add_all_absent(files: &[LinkFile], counted: &[usize], absent: &mut Vec<FilePlace>) -> Made<()> {
+    for (number, file) in files.iter().enumerate() {
+        if counted.contains(&number) {
+            add_absent(files, number, file, absent)?;
+        }
+    }
+    Ok(())
+}
+
 /// The imports that have to be there and name no file, of all files that count, in order.
 pub(crate) fn absent_of(alloc: Global, files: &[LinkFile]) -> Made<Vec<FilePlace>> {
     let counted = counted_of(alloc, files)?;
     let mut absent = Vec::new(alloc);
-    for (number, file) in files.iter().enumerate() {
-        if counted.contains(&number) {
-            add_absent(files, number, file, &mut absent)?;
-        }
-    }
+    add_all_absent(files, counted.as_slice(), &mut absent)?;
     Ok(absent)
 }
 
+/// The first clash in files with these numbers.
+fn clash_of(alloc: Global, files: &[LinkFile], numbers: &[usize]) -> Made<Option<LinkFault>> {
+    let mut items = Vec::new(alloc);
+    add_items_of(alloc, &mut items, files, numbers)?;
+    Ok(first_clash(items.as_slice()))
+}
+
+/// Why files can't be linked of which these count, if they can't.
 fn fault_of_counted(
     alloc: Global,
     files: &[LinkFile],
@@ -130,9 +153,9 @@ fn fault_of_counted(
     if let Some(file) = first_unread(files, counted) {
         return Ok(Some(LinkFault::Broken(file)));
     }
-    let items = items_of(alloc, files, counted)?;
-    if let Some((first, second)) = first_clash(items.as_slice()) {
-        return Ok(Some(LinkFault::Duplicate(first, second)));
+    let clash = clash_of(alloc, files, counted)?;
+    if clash.is_some() {
+        return Ok(clash);
     }
     let absent = absent_of(alloc, files)?;
     Ok(absent.first().map(|place| LinkFault::MissingImport(*place)))
@@ -151,12 +174,30 @@ fn omission_of(
         return Ok(Some(LinkFault::Broken(number)));
     }
     kept.push(number)?;
-    let items = items_of(alloc, files, kept.as_slice())?;
-    let Some((first, second)) = first_clash(items.as_slice()) else {
-        return Ok(None);
-    };
-    kept.pop();
-    Ok(Some(LinkFault::Duplicate(first, second)))
+    let clash = clash_of(alloc, files, kept.as_slice())?;
+    if clash.is_some() {
+        kept.pop();
+    }
+    Ok(clash)
+}
+
+/// Adds for each file why it is left out, if it is. These files count.
+fn add_omissions(
+    alloc: Global,
+    files: &[LinkFile],
+    counted: &[usize],
+    kept: &mut Vec<usize>,
+    omissions: &mut Vec<Option<LinkFault>>,
+) -> Made<()> {
+    for (number, file) in files.iter().enumerate() {
+        let omission = if counted.contains(&number) {
+            omission_of(alloc, files, kept, number, file)?
+        } else {
+            None
+        };
+        omissions.push(omission)?;
+    }
+    Ok(())
 }
 
 /// For each file why it is left out, if it is.
@@ -164,14 +205,7 @@ pub(crate) fn omissions_of(alloc: Global, files: &[LinkFile]) -> Made<Vec<Option
     let counted = counted_of(alloc, files)?;
     let mut kept = Vec::new(alloc);
     let mut omissions = Vec::new(alloc);
-    for (number, file) in files.iter().enumerate() {
-        let omission = if counted.contains(&number) {
-            omission_of(alloc, files, &mut kept, number, file)?
-        } else {
-            None
-        };
-        omissions.push(omission)?;
-    }
+    add_omissions(alloc, files, counted.as_slice(), &mut kept, &mut omissions)?;
     Ok(omissions)
 }
 

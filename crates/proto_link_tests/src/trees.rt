@@ -10,6 +10,7 @@ use std::alloc::Global;
 use std::process::Abort;
 use test_kit::{FileText, Made, file_text};
 
+/// The files of a tree.
 fn sources_of<'a>(alloc: Global, tree: &'a str) -> Made<Vec<FileText<'a>>> {
     let mut sources = Vec::new(alloc);
     for file in tree.split_terminator('|') {
@@ -18,6 +19,7 @@ fn sources_of<'a>(alloc: Global, tree: &'a str) -> Made<Vec<FileText<'a>>> {
     Ok(sources)
 }
 
+/// Adds the facts of a source.
 fn add_facts<'t>(
     alloc: Global,
     all: &mut Vec<Option<FileFacts<'t>>>,
@@ -29,14 +31,19 @@ fn add_facts<'t>(
     Ok(())
 }
 
-fn facts_of_all<'t>(alloc: Global, sources: &[FileText<'t>]) -> Made<Vec<Option<FileFacts<'t>>>> {
-    let mut all = Vec::with_capacity(alloc, sources.len())?;
+/// Adds the facts of each source.
+fn add_all_facts<'t>(
+    alloc: Global,
+    all: &mut Vec<Option<FileFacts<'t>>>,
+    sources: &[FileText<'t>],
+) -> Made<()> {
     for (number, source) in sources.iter().enumerate() {
-        add_facts(alloc, &mut all, number, source.text)?;
+        add_facts(alloc, all, number, source.text)?;
     }
-    Ok(all)
+    Ok(())
 }
 
+/// The facts of the file with this number.
 fn facts_at<'a, 't>(
     facts: &'a [Option<FileFacts<'t>>],
     number: usize,
@@ -47,6 +54,7 @@ fn facts_at<'a, 't>(
     }
 }
 
+/// The files that are linked.
 fn files_of<'a, 't>(
     alloc: Global,
     sources: &'a [FileText<'a>],
@@ -63,11 +71,13 @@ fn files_of<'a, 't>(
     Ok(files)
 }
 
+/// Whether scans tell this answer, and it is what is due.
 fn is_as_scanned(alloc: Global, files: &[LinkFile], answer: &str, due: Option<&str>) -> Made<bool> {
     let scan = scan_of(alloc, files)?;
     Ok(scan.as_str() == answer && (due.is_none() || due == Some(answer)))
 }
 
+/// Whether linking answers to files what is due.
 fn are_files_answered<'a>(
     alloc: Global,
     files: &'a [LinkFile<'a, '_>],
@@ -80,6 +90,7 @@ fn are_files_answered<'a>(
     Ok(is_as_scanned(alloc, files, answer.as_str(), due)? && are_kept_as_scanned(alloc, files)?)
 }
 
+/// The same of sources and their facts.
 fn is_answered_with(
     alloc: Global,
     sources: &[FileText],
@@ -90,11 +101,14 @@ fn is_answered_with(
     are_files_answered(alloc, files.as_slice(), due)
 }
 
+/// The same of sources.
 fn is_answered_of(alloc: Global, sources: &[FileText], due: Option<&str>) -> Made<bool> {
-    let facts = facts_of_all(alloc, sources)?;
+    let mut facts = Vec::new(alloc);
+    add_all_facts(alloc, &mut facts, sources)?;
     is_answered_with(alloc, sources, facts.as_slice(), due)
 }
 
+/// The same of a tree.
 fn is_answered_once(alloc: Global, tree: &str, due: Option<&str>) -> Made<bool> {
     let sources = sources_of(alloc, tree)?;
     is_answered_of(alloc, sources.as_slice(), due)

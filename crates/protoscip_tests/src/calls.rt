@@ -1,185 +1,118 @@
 //! What several tests share.
 
-ghost use Rattle.protoscip.specs.FaultLines.{HasFilesOf, HaveFilesOf};
-
 use crate::faulty_streams::{AT_ONCE, Failing, PACES, Pace};
 use index_hooks::Registry;
 use index_pool::{NoGate, Workers};
 use proto_lex::Encoding;
 use proto_parse::{CustomOptions, Dialect};
-use protoscip::{Fault, fault_line, index_tree, told_text};
-use scip_build::{BuildFault, Faulty, Run, Settings};
+use protoscip::Fault;
+use scip_build::{Faulty, Run, Settings};
 use scip_document::FilePackages;
 use scip_symbol::PackageId;
 use sequences::OwnedText;
-use source_tree::{Source, Tree, TreeFault};
+use source_tree::Tree;
 use std::alloc::{AllocError, Global};
 use std::process::Abort;
 use std::sync::Wait;
 use std::thread::Threads;
 use streams::Std;
+use test_kit::tree_of;
 
 /// Sees that what a case says holds. (A formatted assertion is proved once, here.)
 pub(crate) fn see(rt: &impl Abort, holds: bool, case: &str) {
     assert!(rt; holds, "{case}");
 }
 
-/// So many workers, which are 1 to 16.
-pub(crate) fn workers(rt: &impl Abort, count: usize) -> Workers {
-    Workers::new(count).expect(rt, "1 to 16 workers")
-}
-
 /// The counts of workers of each case.
 pub(crate) const COUNTS: [usize; 3] = [1, 2, 16];
 
-/// Adds a file with this path and this text.
-fn add(alloc: Global, found: &mut Vec<Source>, path: &str, text: &str) -> Result<(), AllocError> {
-    let path = String::from_str(alloc, path)?;
-    let bytes = Vec::from_slice(alloc, text.as_bytes())?;
-    found.push(Source { path, bytes })?;
-    Ok(())
-}
-
-/// The sources among files, or the included ones.
-fn those(alloc: Global, files: &str, included: bool) -> Result<Vec<Source>, AllocError> {
-    let mut found = Vec::new(alloc);
-    for file in files.split_terminator('|') {
-        let (path, text) = file.split_once('\n').unwrap_or((file, ""));
-        let below = path.strip_prefix('+');
-        if below.is_some() == included {
-            add(alloc, &mut found, below.unwrap_or(path), text)?;
-        }
-    }
-    Ok(found)
-}
-
-fn tree_once(alloc: Global, files: &str) -> Result<Option<Tree>, AllocError> {
-    let sources = those(alloc, files, false)?;
-    let included = those(alloc, files, true)?;
-    match Tree::with_included(alloc, sources, included) {
-        Ok(tree) => Ok(Some(tree)),
-        Err((_, TreeFault::Memory)) => Err(AllocError),
-        Err(_) => Ok(None),
-    }
-}
-
-/// The tree of files. Each has a line with its path, which has a `+` in front where it is included, and
-/// then its text; between files stands `|`. After want of memory the tree is made again.
-fn tree_of(rt: &impl Abort, alloc: Global, files: &str) -> Result<Tree, AllocError> {
-    let made = match tree_once(alloc, files) {
-        Ok(made) => made,
-        Err(_) => tree_once(alloc, files)?,
-    };
-    Ok(made.expect(rt, "files with good paths of their own"))
-}
-
-/// A tree, and the settings of its index.
+/// A tree, the settings of its index, and the callbacks that are asked.
 #[derive(Drop)]
-pub(crate) struct Given {
+pub(crate) struct Given<'a> {
     pub(crate) tree: Tree,
     pub(crate) settings: Settings,
+    pub(crate) registry: &'a Registry,
 }
 
-/// The tree of files, as `tree_of` takes them, with plain settings and this unit of columns.
-pub(crate) fn given_of(
+/// The plain settings, with this unit of columns, and with this done with faults.
+fn settings_of(
     rt: &impl Abort,
     alloc: Global,
-    files: &str,
     encoding: Encoding,
-) -> Result<Given, AllocError> {
+    faulty: Faulty,
+) -> Result<Settings, AllocError> {
     let parts = [String::new(alloc), String::new(alloc), String::new(alloc)];
     let id = PackageId::new(parts).ok().expect(rt, "good parts");
-    let settings = Settings {
+    Ok(Settings {
         project_root: OwnedText::copy_of(alloc, "file:///")?,
         package: FilePackages::of_run(alloc, id),
         encoding,
         dialect: Dialect::Proto3(CustomOptions::Refuse),
-        faulty: Faulty::Refuse,
-    };
-    let tree = tree_of(rt, alloc, files)?;
-    Ok(Given { tree, settings })
+        faulty,
+    })
 }
 
+/// Where a test runs.
+#[derive(Drop)]
+pub(crate) struct Desk<'a, R> {
+    pub(crate) rt: &'a R,
+    pub(crate) alloc: Global,
+    gate: NoGate,
+}
+
+impl<'a, R: Threads + Wait + Abort> Desk<'a, R> {
+    /// That of a runtime, with this memory.
+    pub(crate) fn new(rt: &'a R, alloc: Global) -> Desk<'a, R> {
+        Desk {
+            rt,
+            alloc,
+            gate: NoGate,
+        }
+    }
+
+    /// A run by so many workers, which are 1 to 16.
+    pub(crate) fn run(&self, count: usize) -> Run<'_, R, NoGate> {
+        Run {
+            rt: self.rt,
+            alloc: self.alloc,
+            workers: Workers::new(count).expect(self.rt, "1 to 16 workers"),
+            gate: &self.gate,
+        }
+    }
+
+    /// The tree of files, as `test_kit` takes them, with plain settings, but for this unit of columns, and with this done
+    /// with faults.
+    pub(crate) fn given<'g>(
+        &self,
+        registry: &'g Registry,
+        files: &str,
+        encoding: Encoding,
+        faulty: Faulty,
+    ) -> Result<Given<'g>, AllocError> {
+        let settings = settings_of(self.rt, self.alloc, encoding, faulty)?;
+        let tree = tree_of(self.alloc, files)?.expect(
+            self.rt,
+            "files with good paths of their own",
+        );
+        Ok(Given {
+            tree,
+            settings,
+            registry,
+        })
+    }
+}
+
+/// Whether a call answered what is due; none after want of memory or of a thread.
+pub(crate) type Told = Result<Option<bool>, AllocError>;
+
 /// The status of want of memory and of a thread.
-const WANT: u8 = 4;
+pub(crate) const WANT: u8 = 4;
 
 /// Whether memory or a thread was wanting.
-pub(crate) fn is_want(answer: &Option<Fault>) -> bool {
+fn is_want(answer: &Option<Fault>) -> bool {
     match answer {
         Some(fault) => fault.status() == WANT,
         None => false,
-    }
-}
-
-/// The line and the status of a fault, but for want of memory or of a thread.
-fn said(alloc: Global, tree: &Tree, fault: &Fault) -> Result<Option<(String, u8)>, AllocError>
-    requires files { HasFilesOf tree.now fault.now }
-{
-    let status = fault.status();
-    if status == WANT {
-        return Err(AllocError);
-    }
-    let line = fault_line(alloc, tree, fault)?;
-    Ok(Some((line, status)))
-}
-
-/// Whether this is said, with this status.
-pub(crate) fn is_said(answer: Option<(String, u8)>, text: &str, status: u8) -> bool {
-    match answer {
-        Some((said, its)) => said.as_str() == text && its == status,
-        None => false,
-    }
-}
-
-/// What is said of an index that was written, with status 0; none where it lacks nothing.
-fn said_of_index(
-    alloc: Global,
-    tree: &Tree,
-    told: &[BuildFault],
-) -> Result<Option<(String, u8)>, AllocError>
-    requires { HaveFilesOf tree.now told.now }
-{
-    if told.is_empty() {
-        return Ok(None);
-    }
-    Ok(Some((told_text(alloc, tree, told, None)?, 0)))
-}
-
-/// What one call of `index_tree` has to say.
-fn indexed_once<R: Threads + Wait>(
-    rt: &R,
-    alloc: Global,
-    registry: &Registry,
-    given: &Given,
-    workers: Workers,
-    out: &mut Std<Failing>,
-) -> Result<Option<(String, u8)>, AllocError> {
-    let (tree, settings) = (&given.tree, &given.settings);
-    let run = Run {
-        rt,
-        alloc,
-        workers,
-        gate: &NoGate,
-    };
-    match index_tree(&run, tree, registry, settings, out) {
-        Ok(recorded) => said_of_index(alloc, tree, recorded.told.as_slice()),
-        Err(fault) => said(alloc, tree, &fault),
-    }
-}
-
-/// What `index_tree` has to say: nothing, or what the index lacks, with status 0, or the line and the status of
-/// the fault. After want of memory or of a thread it is called again, and the second answer counts.
-pub(crate) fn indexed<R: Threads + Wait>(
-    rt: &R,
-    alloc: Global,
-    registry: &Registry,
-    given: &Given,
-    workers: Workers,
-    out: &mut Std<Failing>,
-) -> Result<Option<(String, u8)>, AllocError> {
-    match indexed_once(rt, alloc, registry, given, workers, out) {
-        Ok(answer) => Ok(answer),
-        Err(_) => indexed_once(rt, alloc, registry, given, workers, out),
     }
 }
 
@@ -255,7 +188,7 @@ pub(crate) fn dues_of(
 }
 
 /// Whether a call answered what is due, and its writer has that; none after want of memory or of a thread.
-pub(crate) fn is_due(answer: Option<Fault>, out: Std<Failing>, due: &Due<'_>) -> Option<bool> {
+pub(crate) fn is_due(answer: Option<Fault>, out: Std<Failing>, due: &Due) -> Option<bool> {
     if is_want(&answer) {
         return None;
     }

@@ -1,10 +1,10 @@
 //! Sources dumped, by lines worked out by hand, and streams that fail.
 
-use crate::calls::{Due, dues_of, is_due, paced_writer, see, whole, writer};
+use crate::calls::{Desk, Due, Told, dues_of, is_due, paced_writer, see, whole, writer};
 use crate::faulty_streams::{AT_ONCE, Endless, drip, resting};
 use proto_parse::{CustomOptions, Dialect, SyntaxFault};
 use protoscip::{Fault, dump};
-use std::alloc::{AllocError, Global};
+use std::alloc::AllocError;
 use std::io::Read;
 use std::process::Abort;
 use std::sync::Wait;
@@ -15,36 +15,31 @@ use streams::Std;
 /// What is accepted, if no option says otherwise.
 const PROTO3: Dialect = Dialect::Proto3(CustomOptions::Refuse);
 
-/// Whether `dump` answers as is due; none after `Memory`.
-fn is_dumped<R: Threads + Wait, S: Read + Drop>(
-    rt: &R,
-    alloc: Global,
-    dialect: Dialect,
-    reader: S,
-    due: Due<'_>,
-) -> Result<Option<bool>, AllocError> {
-    let mut input = Std::new(reader);
-    let mut output = paced_writer(alloc, due.room, due.pace)?;
-    let answer = dump(rt, alloc, dialect, &mut input, &mut output).err();
-    Ok(is_due(answer, output, &due))
-}
+impl<'a, R: Threads + Wait + Abort> Desk<'a, R> {
+    /// Whether `dump` answers as is due.
+    fn is_dumped<S: Read + Drop>(&self, dialect: Dialect, reader: S, due: Due<'_>) -> Told {
+        let mut input = Std::new(reader);
+        let mut output = paced_writer(self.alloc, due.room, due.pace)?;
+        let answer = dump(self.rt, self.alloc, dialect, &mut input, &mut output).err();
+        Ok(is_due(answer, output, &due))
+    }
 
-/// Sees that `dump` answers as is due. After `Memory` it is called again with a new reader and writer, and
-/// the second answer counts.
-fn see_dump<R: Threads + Wait + Abort, S: Read + Drop + Copy>(
-    rt: &R,
-    alloc: Global,
-    dialect: Dialect,
-    reader: S,
-    due: Due<'_>,
-    case: &str,
-) -> Result<(), AllocError> {
-    let is_so = match is_dumped(rt, alloc, dialect, reader, due)? {
-        None => is_dumped(rt, alloc, dialect, reader, due)?,
-        is_so => is_so,
-    };
-    see(rt, is_so == Some(true), case);
-    Ok(())
+    /// Sees that it does. After `Memory` it is called again with a new reader and writer, and the second answer
+    /// counts.
+    fn see_dump<S: Read + Drop + Copy>(
+        &self,
+        dialect: Dialect,
+        reader: S,
+        due: Due<'_>,
+        case: &str,
+    ) -> Result<(), AllocError> {
+        let is_so = match self.is_dumped(dialect, reader, due)? {
+            None => self.is_dumped(dialect, reader, due)?,
+            is_so => is_so,
+        };
+        see(self.rt, is_so == Some(true), case);
+        Ok(())
+    }
 }
 
 /// A source, what is accepted, and the listing.
@@ -86,10 +81,10 @@ static ROWS: [Row; 5] = [
 
 #[test]
 fn sources_that_have_a_listing(rt: HostRuntime) -> Result<(), Fail> {
+    let desk = Desk::new(&rt, rt.alloc());
     for row in &ROWS {
         let due = whole(row.listing.as_bytes());
-        let source = row.source.as_bytes();
-        see_dump(&rt, rt.alloc(), row.dialect, source, due, row.source)?;
+        desk.see_dump(row.dialect, row.source.as_bytes(), due, row.source)?;
     }
     Ok(())
 }
@@ -101,9 +96,10 @@ const OF_NONE: &[u8] = b"0 0 0 0 1 scip-protobuf . . . `input.proto`/\n= 1\n";
 
 #[test]
 fn writers_that_fail(rt: HostRuntime) -> Result<(), Fail> {
+    let desk = Desk::new(&rt, rt.alloc());
     let dues = dues_of(rt.alloc(), OF_NONE, false)?;
     for due in &dues {
-        see_dump(&rt, rt.alloc(), PROTO3, NONE, *due, "a write fails")?;
+        desk.see_dump(PROTO3, NONE, *due, "a write fails")?;
     }
     Ok(())
 }
@@ -119,35 +115,23 @@ const UNREAD: Due<'static> = Due {
 /// The most bytes that a reader gives a call, and how many calls come to the end of the file.
 const READERS: [(usize, usize); 3] = [(1, 19), (7, 4), (usize::MAX, 2)];
 
-/// Sees what is due of a reader that fails at each of its calls, and of one that doesn't.
-fn see_reads<R: Threads + Wait + Abort>(
-    rt: &R,
-    alloc: Global,
-    most: usize,
-    to_end: usize,
-) -> Result<(), AllocError> {
-    for calls in 0..20 {
-        let due = if calls < to_end {
-            UNREAD
-        } else {
-            whole(OF_NONE)
-        };
-        see_dump(
-            rt,
-            alloc,
-            PROTO3,
-            drip(NONE, most, calls),
-            due,
-            "a read fails",
-        )?;
+impl<'a, R: Threads + Wait + Abort> Desk<'a, R> {
+    /// Sees what is due of a reader that fails at each of its calls, and of one that doesn't.
+    fn see_failing_reads(&self, most: usize, to_end: usize) -> Result<(), AllocError> {
+        for calls in 0..20 {
+            let is_read = to_end <= calls;
+            let due = if is_read { whole(OF_NONE) } else { UNREAD };
+            self.see_dump(PROTO3, drip(NONE, most, calls), due, "a read fails")?;
+        }
+        Ok(())
     }
-    Ok(())
 }
 
 #[test]
 fn readers_that_fail(rt: HostRuntime) -> Result<(), Fail> {
+    let desk = Desk::new(&rt, rt.alloc());
     for (most, to_end) in &READERS {
-        see_reads(&rt, rt.alloc(), *most, *to_end)?;
+        desk.see_failing_reads(*most, *to_end)?;
     }
     Ok(())
 }
@@ -162,14 +146,14 @@ const ENDED: [(usize, Option<Fault>, &[u8]); 3] = [
 
 #[test]
 fn readers_that_rest(rt: HostRuntime) -> Result<(), Fail> {
+    let desk = Desk::new(&rt, rt.alloc());
     for (most, fault, written) in &ENDED {
         let due = Due {
-            room: 49,
-            pace: AT_ONCE,
             fault: *fault,
             written: *written,
+            ..UNREAD
         };
-        see_dump(&rt, rt.alloc(), PROTO3, resting(NONE, *most), due, "an end")?;
+        desk.see_dump(PROTO3, resting(NONE, *most), due, "an end")?;
     }
     Ok(())
 }
@@ -195,53 +179,47 @@ const SOURCES: [(&str, usize); 4] = [
     ),
 ];
 
-/// Whether a source has a listing, or is refused by name with nothing written; none where neither is so.
-fn is_listed<R: Threads + Wait>(
-    rt: &R,
-    alloc: Global,
-    source: &[u8],
-) -> Result<Option<bool>, AllocError> {
-    let mut input = Std::new(source);
-    let mut output = writer(alloc, 512)?;
-    let answer = dump(rt, alloc, PROTO3, &mut input, &mut output).err();
-    let bytes = output.into_inner().bytes;
-    Ok(match answer {
-        None if bytes.as_slice().ends_with(b"\n") => Some(true),
-        Some(fault) if fault.status() == 1 && bytes.is_empty() => Some(false),
-        _ => None,
-    })
-}
-
-/// Sees how many beginnings of a source have a listing. After want of memory one is dumped again.
-fn see_beginnings<R: Threads + Wait + Abort>(
-    rt: &R,
-    alloc: Global,
-    source: &str,
-    due: usize,
-) -> Result<(), AllocError> {
-    let mut listed = 0usize;
-    for end in 0..=source.len() {
-        let front = source.as_bytes().split_at(end.min(source.len())).0;
-        let is = match is_listed(rt, alloc, front)? {
-            None => is_listed(rt, alloc, front)?,
-            is => is,
-        };
-        see(rt, is.is_some(), source);
-        listed = listed.wrapping_add(usize::from(is == Some(true)));
+impl<'a, R: Threads + Wait + Abort> Desk<'a, R> {
+    /// Whether a source has a listing, or is refused by name with nothing written; none where neither is so.
+    fn is_listed(&self, source: &[u8]) -> Told {
+        let mut input = Std::new(source);
+        let mut output = writer(self.alloc, 512)?;
+        let answer = dump(self.rt, self.alloc, PROTO3, &mut input, &mut output).err();
+        let bytes = output.into_inner().bytes;
+        Ok(match answer {
+            None if bytes.as_slice().ends_with(b"\n") => Some(true),
+            Some(fault) if fault.status() == 1 && bytes.is_empty() => Some(false),
+            _ => None,
+        })
     }
-    see(rt, listed == due, source);
-    Ok(())
+
+    /// Sees how many beginnings of a source have a listing. After want of memory one is dumped again.
+    fn see_beginnings(&self, source: &str, due: usize) -> Result<(), AllocError> {
+        let mut listed = 0usize;
+        for end in 0..=source.len() {
+            let front = source.as_bytes().split_at(end.min(source.len())).0;
+            let is = match self.is_listed(front)? {
+                None => self.is_listed(front)?,
+                is => is,
+            };
+            see(self.rt, is.is_some(), source);
+            listed = listed.wrapping_add(usize::from(is == Some(true)));
+        }
+        see(self.rt, listed == due, source);
+        Ok(())
+    }
 }
 
 #[test]
 fn each_beginning_of_a_source(rt: HostRuntime) -> Result<(), Fail> {
+    let desk = Desk::new(&rt, rt.alloc());
     for (source, due) in &SOURCES {
-        see_beginnings(&rt, rt.alloc(), *source, *due)?;
+        desk.see_beginnings(*source, *due)?;
     }
     Ok(())
 }
 
 #[test]
 fn a_source_without_an_end(rt: HostRuntime) -> Result<(), Fail> {
-    Ok(see_dump(&rt, rt.alloc(), PROTO3, Endless, UNREAD, "no end")?)
+    Ok(Desk::new(&rt, rt.alloc()).see_dump(PROTO3, Endless, UNREAD, "no end")?)
 }

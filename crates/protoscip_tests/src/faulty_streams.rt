@@ -3,8 +3,8 @@
 use std::io;
 use std::io::{ErrorKind, Read, Write};
 
-/// A reader that gives at most `most` bytes a call, and fails behind so many calls. If it rests at each second call, that
-/// one gives nothing, as at an end.
+/// A reader that gives at most `most` bytes a call, and fails behind so many calls. If it rests at each second call,
+/// that one gives nothing, as at an end.
 #[derive(Clone, Copy)]
 pub struct Dripping<'a> {
     pub bytes: &'a [u8],

@@ -1,14 +1,11 @@
 //! Trees indexed, by whole bytes, as an encoder of another hand writes them.
 
-use crate::calls::{
-    COUNTS, Due, Given, dues_of, given_of, is_due, paced_writer, see, whole, workers,
-};
+use crate::calls::{COUNTS, Desk, Due, Given, Told, dues_of, is_due, paced_writer, see, whole};
 use index_hooks::Registry;
-use index_pool::{NoGate, Workers};
 use proto_lex::Encoding;
 use protoscip::index_tree;
-use scip_build::Run;
-use std::alloc::{AllocError, Global};
+use scip_build::Faulty;
+use std::alloc::AllocError;
 use std::process::Abort;
 use std::sync::Wait;
 use std::test::Fail;
@@ -21,7 +18,7 @@ const NO_FILES: &[u8; 30] = b"\n\x1C\x12\x0E\n\x09protoscip\x12\x011\x1A\x08file
 const INCLUDED: &[u8] =
     b"\n\x1C\x12\x0E\n\x09protoscip\x12\x011\x1A\x08file:/// \x01\x12\xD6\x02\n\x07a.proto\x12'\n\x03\x00\x00\x00\x12\x1Escip-protobuf . . . `a.proto`/\x18\x01\x12'\n\x03\x01\x07\x10\x12\x1Escip-protobuf . . . `t.proto`/\x18\x02\x12\x1F\n\x03\x02\x08\x09\x12\x16scip-protobuf . . . M#\x18\x01\x12\x1F\n\x03\x02\x0C\x0F\x12\x18scip-protobuf . . . lib/\x12!\n\x03\x02\x10\x11\x12\x1Ascip-protobuf . . . lib/T#\x12!\n\x03\x02\x12\x13\x12\x18scip-protobuf . . . M#t.\x18\x01\x1A\x1B\n\x16scip-protobuf . . . M#2\x01M\x1A\x1D\n\x18scip-protobuf . . . M#t.2\x01t\x1A)\n\x1Escip-protobuf . . . `a.proto`/2\x07a.proto\"\x08Protobuf0\x01\x1A)\n\x1Ascip-protobuf . . . lib/T#\x1A\x08A thing.2\x01T";
 
-/// Files, as `tree_of` takes them, the unit of columns, and the bytes of the index.
+/// Files, as `test_kit` takes them, the unit of columns, and the bytes of the index.
 struct Row {
     files: &'static str,
     encoding: Encoding,
@@ -134,111 +131,71 @@ a.proto\nsyntax = \"proto3\";\nimport \"t.proto\";\nmessage M { lib.T t = 1; }\n
     },
 ];
 
-/// Whether the index of a tree is written as is due; none after want of memory or of a thread.
-fn is_written<R: Threads + Wait>(
-    rt: &R,
-    alloc: Global,
-    registry: &Registry,
-    given: &Given,
-    workers: Workers,
-    due: &Due<'_>,
-) -> Result<Option<bool>, AllocError> {
-    let (tree, settings) = (&given.tree, &given.settings);
-    let mut out = paced_writer(alloc, due.room, due.pace)?;
-    let run = Run {
-        rt,
-        alloc,
-        workers,
-        gate: &NoGate,
-    };
-    let answer = index_tree(&run, tree, registry, settings, &mut out).err();
-    Ok(is_due(answer, out, due))
-}
-
-/// Sees that it is, by so many workers. After want of memory or of a thread it is written again, to a new writer.
-fn see_written<R: Threads + Wait + Abort>(
-    rt: &R,
-    alloc: Global,
-    registry: &Registry,
-    given: &Given,
-    count: usize,
-    due: &Due<'_>,
-) -> Result<(), AllocError> {
-    let workers = workers(rt, count);
-    let is_so = match is_written(rt, alloc, registry, given, workers, due)? {
-        None => is_written(rt, alloc, registry, given, workers, due)?,
-        is_so => is_so,
-    };
-    see(rt, is_so == Some(true), "the bytes of an index");
-    Ok(())
-}
-
-/// Sees that the index of a row's tree has the bytes that are due, on 1, 2 and 16 workers.
-fn see_bytes<R: Threads + Wait + Abort>(
-    rt: &R,
-    alloc: Global,
-    registry: &Registry,
-    given: &Given,
-    row: &Row,
-) -> Result<(), AllocError> {
-    for count in &COUNTS {
-        see_written(rt, alloc, registry, given, *count, &whole(row.due))?;
+impl<'a, R: Threads + Wait + Abort> Desk<'a, R> {
+    /// Whether the index of a tree is written as is due, by so many workers.
+    fn is_written(&self, given: &Given, count: usize, due: &Due) -> Told {
+        let run = self.run(count);
+        let mut out = paced_writer(self.alloc, due.room, due.pace)?;
+        let answer = index_tree(&run, &given.tree, given.registry, &given.settings, &mut out).err();
+        Ok(is_due(answer, out, due))
     }
-    Ok(())
-}
 
-fn see_row<R: Threads + Wait + Abort>(
-    rt: &R,
-    alloc: Global,
-    registry: &Registry,
-    row: &Row,
-) -> Result<(), AllocError> {
-    let given = given_of(rt, alloc, row.files, row.encoding)?;
-    see_bytes(rt, alloc, registry, &given, row)
-}
-
-fn see_rows<R: Threads + Wait + Abort>(
-    rt: &R,
-    alloc: Global,
-    registry: &Registry,
-) -> Result<(), AllocError> {
-    for row in &ROWS {
-        see_row(rt, alloc, registry, row)?;
+    /// Sees that it is. After want of memory or of a thread it is written again, to a new writer.
+    fn see_written(&self, given: &Given, count: usize, due: &Due) -> Result<(), AllocError> {
+        let is_so = match self.is_written(given, count, due)? {
+            None => self.is_written(given, count, due)?,
+            is_so => is_so,
+        };
+        see(self.rt, is_so == Some(true), "the bytes of an index");
+        Ok(())
     }
-    Ok(())
+
+    /// Sees that the index of a tree has these bytes, on 1, 2 and 16 workers.
+    fn see_bytes(&self, given: &Given, due: &[u8]) -> Result<(), AllocError> {
+        for count in &COUNTS {
+            self.see_written(given, *count, &whole(due))?;
+        }
+        Ok(())
+    }
+
+    /// Sees that the index of a row's tree has the bytes that are due.
+    fn see_index(&self, registry: &Registry, row: &Row) -> Result<(), AllocError> {
+        let given = self.given(registry, row.files, row.encoding, Faulty::Refuse)?;
+        self.see_bytes(&given, row.due)
+    }
+
+    /// Sees that of each row.
+    fn see_indexes(&self, registry: &Registry) -> Result<(), AllocError> {
+        for row in &ROWS {
+            self.see_index(registry, row)?;
+        }
+        Ok(())
+    }
+
+    /// Sees what is due of an index to each of these writers.
+    fn see_dues(&self, given: &Given, dues: &[Due<'_>]) -> Result<(), AllocError> {
+        for due in dues {
+            self.see_written(given, 1, due)?;
+        }
+        Ok(())
+    }
+
+    /// Sees what is due of the index of no files, to writers that fail.
+    fn see_failing_writers(&self, registry: &Registry) -> Result<(), AllocError> {
+        let dues = dues_of(self.alloc, NO_FILES, false)?;
+        let given = self.given(registry, "", Encoding::Utf8, Faulty::Refuse)?;
+        self.see_dues(&given, &dues)
+    }
 }
 
 #[test]
 fn bytes_of_indexes(rt: HostRuntime) -> Result<(), Fail> {
     let registry = Registry::new(rt.alloc());
-    Ok(see_rows(&rt, rt.alloc(), &registry)?)
-}
-
-fn see_dues<R: Threads + Wait + Abort>(
-    rt: &R,
-    alloc: Global,
-    registry: &Registry,
-    given: &Given,
-    dues: &[Due<'_>],
-) -> Result<(), AllocError> {
-    for due in dues {
-        see_written(rt, alloc, registry, given, 1, due)?;
-    }
-    Ok(())
-}
-
-fn see_writers<R: Threads + Wait + Abort>(
-    rt: &R,
-    alloc: Global,
-    registry: &Registry,
-) -> Result<(), AllocError> {
-    let dues = dues_of(alloc, NO_FILES, false)?;
-    let given = given_of(rt, alloc, "", Encoding::Utf8)?;
-    see_dues(rt, alloc, registry, &given, &dues)
+    Ok(Desk::new(&rt, rt.alloc()).see_indexes(&registry)?)
 }
 
 #[test]
 fn writers_that_fail(rt: HostRuntime) -> Result<(), Fail> {
     let registry = Registry::new(rt.alloc());
-    Ok(see_writers(&rt, rt.alloc(), &registry)?)
+    Ok(Desk::new(&rt, rt.alloc()).see_failing_writers(&registry)?)
 }

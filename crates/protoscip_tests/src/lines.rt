@@ -1,10 +1,14 @@
 //! What a user is told of trees with faults: the line of the first one, where trees are refused, and a line for each,
 //! where faults are skipped.
 
-use crate::calls::{COUNTS, Given, given_of, indexed, is_said, see, workers, writer};
+ghost use Rattle.protoscip.specs.FaultLines.{HasFilesOf, HaveFilesOf};
+
+use crate::calls::{COUNTS, Desk, Given, WANT, see, writer};
 use index_hooks::Registry;
 use proto_lex::Encoding;
-use scip_build::Faulty;
+use protoscip::{Fault, fault_line, index_tree, told_text};
+use scip_build::{BuildFault, Faulty};
+use source_tree::Tree;
 use std::alloc::{AllocError, Global};
 use std::process::Abort;
 use std::sync::Wait;
@@ -14,7 +18,7 @@ use std::thread::Threads;
 /// The most bytes of an index in these tests.
 const ROOM: usize = 4096;
 
-/// Files, as `tree_of` takes them; the line that is said where they are refused; and the text that is said
+/// Files, as `test_kit` takes them; the line that is said where they are refused; and the text that is said
 /// where faults are skipped.
 struct Row {
     files: &'static str,
@@ -89,48 +93,88 @@ protoscip: 1 sources indexed, 1 skipped, 1 imports and 0 uses without a target",
     },
 ];
 
-/// Sees that this is said of a tree, with this status, on 1, 2 and 16 workers.
-fn see_said<R: Threads + Wait + Abort>(
-    rt: &R,
-    alloc: Global,
-    registry: &Registry,
-    given: &Given,
-    text: &str,
-    status: u8,
-) -> Result<(), AllocError> {
-    for count in &COUNTS {
-        let mut out = writer(alloc, ROOM)?;
-        let answer = indexed(rt, alloc, registry, given, workers(rt, *count), &mut out)?;
-        see(rt, is_said(answer, text, status), text);
+/// What is said, and the status; nothing of a tree whose index lacks nothing.
+type Said = Option<(String, u8)>;
+
+/// The line and the status of a fault, but for want of memory or of a thread.
+fn said(alloc: Global, tree: &Tree, fault: &Fault) -> Result<Said, AllocError>
+    requires files { HasFilesOf tree.now fault.now }
+{
+    let status = fault.status();
+    if status == WANT {
+        return Err(AllocError);
     }
-    Ok(())
+    let line = fault_line(alloc, tree, fault)?;
+    Ok(Some((line, status)))
 }
 
-fn see_row<R: Threads + Wait + Abort>(
-    rt: &R,
-    alloc: Global,
-    registry: &Registry,
-    row: &Row,
-) -> Result<(), AllocError> {
-    let mut given = given_of(rt, alloc, row.files, Encoding::Utf8)?;
-    see_said(rt, alloc, registry, &given, row.line, 1)?;
-    given.settings.faulty = Faulty::Skip;
-    see_said(rt, alloc, registry, &given, row.told, 0)
+/// What is said of an index that was written, with status 0.
+fn said_of_index(alloc: Global, tree: &Tree, told: &[BuildFault]) -> Result<Said, AllocError>
+    requires { HaveFilesOf tree.now told.now }
+{
+    if told.is_empty() {
+        return Ok(None);
+    }
+    Ok(Some((told_text(alloc, tree, told, None)?, 0)))
 }
 
-fn see_rows<R: Threads + Wait + Abort>(
-    rt: &R,
-    alloc: Global,
-    registry: &Registry,
-) -> Result<(), AllocError> {
-    for row in &ROWS {
-        see_row(rt, alloc, registry, row)?;
+/// Whether this is said, with this status.
+fn is_said(answer: Said, text: &str, status: u8) -> bool {
+    match answer {
+        Some((said, its)) => said.as_str() == text && its == status,
+        None => false,
     }
-    Ok(())
+}
+
+impl<'a, R: Threads + Wait + Abort> Desk<'a, R> {
+    /// What one call of `index_tree` has to say.
+    fn indexed(&self, given: &Given, count: usize) -> Result<Said, AllocError> {
+        let run = self.run(count);
+        let (tree, settings) = (&given.tree, &given.settings);
+        let mut out = writer(self.alloc, ROOM)?;
+        match index_tree(&run, tree, given.registry, settings, &mut out) {
+            Ok(recorded) => said_of_index(self.alloc, tree, recorded.told.as_slice()),
+            Err(fault) => said(self.alloc, tree, &fault),
+        }
+    }
+
+    /// Sees that this is said of a tree, with this status, on 1, 2 and 16 workers. After want of memory or of a thread
+    /// it is indexed again, and the second answer counts.
+    fn see_said(&self, given: &Given, text: &str, status: u8) -> Result<(), AllocError> {
+        for count in &COUNTS {
+            let answer = match self.indexed(given, *count) {
+                Err(_) => self.indexed(given, *count)?,
+                Ok(answer) => answer,
+            };
+            see(self.rt, is_said(answer, text, status), text);
+        }
+        Ok(())
+    }
+
+    /// Sees what is said of the tree of a row where it is refused.
+    fn see_refused(&self, registry: &Registry, row: &Row) -> Result<(), AllocError> {
+        let given = self.given(registry, row.files, Encoding::Utf8, Faulty::Refuse)?;
+        self.see_said(&given, row.line, 1)
+    }
+
+    /// Sees what is said of it where faults are skipped.
+    fn see_skipped(&self, registry: &Registry, row: &Row) -> Result<(), AllocError> {
+        let given = self.given(registry, row.files, Encoding::Utf8, Faulty::Skip)?;
+        self.see_said(&given, row.told, 0)
+    }
+
+    /// Sees that of each row.
+    fn see_all_faulty(&self, registry: &Registry) -> Result<(), AllocError> {
+        for row in &ROWS {
+            self.see_refused(registry, row)?;
+            self.see_skipped(registry, row)?;
+        }
+        Ok(())
+    }
 }
 
 #[test]
 fn what_is_said_of_faults(rt: HostRuntime) -> Result<(), Fail> {
     let registry = Registry::new(rt.alloc());
-    Ok(see_rows(&rt, rt.alloc(), &registry)?)
+    Ok(Desk::new(&rt, rt.alloc()).see_all_faulty(&registry)?)
 }

@@ -1,20 +1,18 @@
 //! Sessions: commands about the index of a tree, and their answers.
 
-use crate::calls::{
-    COUNTS, Due, Given, dues_of, given_of, is_due, paced_writer, see, whole, workers,
-};
+use crate::calls::{COUNTS, Desk, Due, Given, Told, dues_of, is_due, paced_writer, see, whole};
 use crate::faulty_streams::{Dripping, drip, resting};
 use index_hooks::{DocAlways, DocChoice, Registry};
-use index_pool::{NoGate, Workers};
 use proto_lex::Encoding;
 use protoscip::{Fault, session};
-use scip_build::Run;
+use scip_build::Faulty;
 use std::alloc::{AllocError, Global};
 use std::process::Abort;
 use std::sync::Wait;
 use std::test::Fail;
 use std::thread::Threads;
 use streams::Std;
+use test_kit::Draft;
 
 /// What a session is held over, and what is due of it.
 #[derive(Clone, Copy, Drop)]
@@ -23,48 +21,29 @@ struct Talk<'a> {
     due: Due<'a>,
 }
 
-/// Whether a session answers as is due; none after want of memory or of a thread.
-fn is_served<R: Threads + Wait>(
-    rt: &R,
-    alloc: Global,
-    registry: &Registry,
-    given: &Given,
-    workers: Workers,
-    talk: &Talk<'_>,
-) -> Result<Option<bool>, AllocError> {
-    let (tree, settings) = (&given.tree, &given.settings);
-    let mut input = Std::new(talk.commands);
-    let mut output = paced_writer(alloc, talk.due.room, talk.due.pace)?;
-    let run = Run {
-        rt,
-        alloc,
-        workers,
-        gate: &NoGate,
-    };
-    let answer = session(&run, tree, registry, settings, &mut input, &mut output).err();
-    Ok(is_due(answer, output, &talk.due))
+impl<'a, R: Threads + Wait + Abort> Desk<'a, R> {
+    /// Whether a session answers as is due, by so many workers.
+    fn is_served(&self, given: &Given, count: usize, talk: &Talk) -> Told {
+        let run = self.run(count);
+        let (tree, registry, settings) = (&given.tree, given.registry, &given.settings);
+        let mut input = Std::new(talk.commands);
+        let mut output = paced_writer(self.alloc, talk.due.room, talk.due.pace)?;
+        let answer = session(&run, tree, registry, settings, &mut input, &mut output).err();
+        Ok(is_due(answer, output, &talk.due))
+    }
+
+    /// Sees that it does. After want of memory or of a thread it is held again, and the second answers count.
+    fn see_served(&self, given: &Given, count: usize, talk: &Talk) -> Result<(), AllocError> {
+        let is_so = match self.is_served(given, count, talk)? {
+            None => self.is_served(given, count, talk)?,
+            is_so => is_so,
+        };
+        see(self.rt, is_so == Some(true), "a session");
+        Ok(())
+    }
 }
 
-/// Sees that a session answers as is due, by so many workers. After want of memory or of a thread it is
-/// held again, and the second answers count.
-fn see_served<R: Threads + Wait + Abort>(
-    rt: &R,
-    alloc: Global,
-    registry: &Registry,
-    given: &Given,
-    count: usize,
-    talk: &Talk<'_>,
-) -> Result<(), AllocError> {
-    let workers = workers(rt, count);
-    let is_so = match is_served(rt, alloc, registry, given, workers, talk)? {
-        None => is_served(rt, alloc, registry, given, workers, talk)?,
-        is_so => is_so,
-    };
-    see(rt, is_so == Some(true), "a session");
-    Ok(())
-}
-
-/// Files, as `tree_of` takes them, commands, and the answers that are due.
+/// Files, as `test_kit` takes them, commands, and the answers that are due.
 #[derive(Drop)]
 struct Row<'a> {
     files: &'a str,
@@ -103,52 +82,38 @@ const FIELDS: &str =
 const COMMENTS: &str =
     "a.proto\nsyntax = \"proto3\";\n// One.\n// Two.\nmessage A { // tail\n  int32 x = 1; /* unit */\n}\n";
 
-/// Sees that a session answers as is due, by each of these counts of workers.
-fn see_talk<R: Threads + Wait + Abort>(
-    rt: &R,
-    alloc: Global,
-    registry: &Registry,
-    given: &Given,
-    talk: &Talk<'_>,
-    counts: &[usize],
-) -> Result<(), AllocError> {
-    for count in counts {
-        see_served(rt, alloc, registry, given, *count, talk)?;
+impl<'a, R: Threads + Wait + Abort> Desk<'a, R> {
+    /// Sees that a session answers as is due, by each of these counts of workers.
+    fn see_talk(&self, given: &Given, talk: &Talk, by: &[usize]) -> Result<(), AllocError> {
+        for count in by {
+            self.see_served(given, *count, talk)?;
+        }
+        Ok(())
     }
-    Ok(())
-}
 
-/// Sees that the commands of a row are answered as is due, by each of these counts of workers.
-fn see_row<R: Threads + Wait + Abort>(
-    rt: &R,
-    alloc: Global,
-    registry: &Registry,
-    row: &Row<'_>,
-    counts: &[usize],
-) -> Result<(), AllocError> {
-    let talk = Talk {
-        commands: drip(row.commands.as_bytes(), 1, usize::MAX),
-        due: whole(row.answers.as_bytes()),
-    };
-    let given = given_of(rt, alloc, row.files, Encoding::Utf8)?;
-    see_talk(rt, alloc, registry, &given, &talk, counts)
-}
-
-fn see_rows<R: Threads + Wait + Abort>(
-    rt: &R,
-    alloc: Global,
-    registry: &Registry,
-) -> Result<(), AllocError> {
-    for row in &ROWS {
-        see_row(rt, alloc, registry, row, &COUNTS)?;
+    /// Sees that the commands of a row are answered as is due, by each of these counts of workers.
+    fn see_row(&self, registry: &Registry, row: &Row, by: &[usize]) -> Result<(), AllocError> {
+        let talk = Talk {
+            commands: drip(row.commands.as_bytes(), 1, usize::MAX),
+            due: whole(row.answers.as_bytes()),
+        };
+        let given = self.given(registry, row.files, Encoding::Utf8, Faulty::Refuse)?;
+        self.see_talk(&given, &talk, by)
     }
-    Ok(())
+
+    /// Sees that the commands of each row are answered as is due.
+    fn see_rows(&self, registry: &Registry) -> Result<(), AllocError> {
+        for row in &ROWS {
+            self.see_row(registry, row, &COUNTS)?;
+        }
+        Ok(())
+    }
 }
 
 #[test]
 fn answers_to_commands(rt: HostRuntime) -> Result<(), Fail> {
     let registry = Registry::new(rt.alloc());
-    Ok(see_rows(&rt, rt.alloc(), &registry)?)
+    Ok(Desk::new(&rt, rt.alloc()).see_rows(&registry)?)
 }
 
 static COMPOUND_NAME: Row<'static> = Row {
@@ -163,7 +128,7 @@ b.proto\nsyntax = \"proto3\";\npackage acme.google;\n",
 #[test]
 fn a_compound_name_on_1_and_4_workers(rt: HostRuntime) -> Result<(), Fail> {
     let registry = Registry::new(rt.alloc());
-    Ok(see_row(&rt, rt.alloc(), &registry, &COMPOUND_NAME, &[1, 4])?)
+    Ok(Desk::new(&rt, rt.alloc()).see_row(&registry, &COMPOUND_NAME, &[1, 4])?)
 }
 
 static BOTH_TEXTS: Row<'static> = Row {
@@ -179,7 +144,7 @@ fn texts_that_a_rule_takes(rt: HostRuntime) -> Result<(), Fail> {
     if let Err((rule, _)) = registry.add_doc(rule) {
         see(&rt, registry.add_doc(rule).is_ok(), "added again");
     }
-    Ok(see_row(&rt, rt.alloc(), &registry, &BOTH_TEXTS, &COUNTS)?)
+    Ok(Desk::new(&rt, rt.alloc()).see_row(&registry, &BOTH_TEXTS, &COUNTS)?)
 }
 
 /// The longest path, for which `@` stands, with 4,090 letters before its ending; a name of 10,000 letters, `^`; and a
@@ -191,16 +156,15 @@ static LONG: Row<'static> = Row {
 };
 
 /// Adds a letter so often.
-fn add_times(text: &mut String, letter: char, count: usize) -> Result<(), AllocError> {
+fn add_times(text: &mut Draft, letter: char, count: usize) {
     for _ in 0..count {
-        text.push(letter)?;
+        text.add_char(letter);
     }
-    Ok(())
 }
 
 /// A text with what its marks stand for.
 fn spelled_out(alloc: Global, marked: &str) -> Result<String, AllocError> {
-    let mut text = String::new(alloc);
+    let mut text = Draft::new(alloc);
     for mark in marked.chars() {
         let (letter, count) = match mark {
             '@' => ('a', 4_090),
@@ -208,31 +172,30 @@ fn spelled_out(alloc: Global, marked: &str) -> Result<String, AllocError> {
             '~' => ('b', 65_528),
             _ => (mark, 1),
         };
-        add_times(&mut text, letter, count)?;
+        add_times(&mut text, letter, count);
     }
-    Ok(text)
+    text.finish()
 }
 
-fn see_long<R: Threads + Wait + Abort>(
-    rt: &R,
-    alloc: Global,
-    registry: &Registry,
-) -> Result<(), AllocError> {
-    let files = spelled_out(alloc, LONG.files)?;
-    let commands = spelled_out(alloc, LONG.commands)?;
-    let answers = spelled_out(alloc, LONG.answers)?;
-    let row = Row {
-        files: files.as_str(),
-        commands: commands.as_str(),
-        answers: answers.as_str(),
-    };
-    see_row(rt, alloc, registry, &row, &[1])
+impl<'a, R: Threads + Wait + Abort> Desk<'a, R> {
+    /// Sees that the commands of the long row are answered as is due.
+    fn see_long(&self, registry: &Registry) -> Result<(), AllocError> {
+        let files = spelled_out(self.alloc, LONG.files)?;
+        let commands = spelled_out(self.alloc, LONG.commands)?;
+        let answers = spelled_out(self.alloc, LONG.answers)?;
+        let row = Row {
+            files: files.as_str(),
+            commands: commands.as_str(),
+            answers: answers.as_str(),
+        };
+        self.see_row(registry, &row, &[1])
+    }
 }
 
 #[test]
 fn a_long_path_a_long_name_and_long_commands(rt: HostRuntime) -> Result<(), Fail> {
     let registry = Registry::new(rt.alloc());
-    Ok(see_long(&rt, rt.alloc(), &registry)?)
+    Ok(Desk::new(&rt, rt.alloc()).see_long(&registry)?)
 }
 
 const DEFINITION: &[u8] = b"2 8 2 11 1 a.proto\n= 1\n";
@@ -242,24 +205,6 @@ const BOTH_ANSWERS: &[u8] =
 
 /// Two commands, of 17 and 18 bytes.
 const COMMANDS: &[u8] = b"def 3 28 a.proto\nref 3 28 a.proto\n";
-
-/// Sees what is due of a command to writers that fail.
-fn see_writers<R: Threads + Wait + Abort>(
-    rt: &R,
-    alloc: Global,
-    registry: &Registry,
-    given: &Given,
-    dues: &[Due<'_>],
-) -> Result<(), AllocError> {
-    for due in dues {
-        let talk = Talk {
-            commands: drip(b"def 3 28 a.proto", usize::MAX, usize::MAX),
-            due: *due,
-        };
-        see_served(rt, alloc, registry, given, 1, &talk)?;
-    }
-    Ok(())
-}
 
 /// The most bytes that a reader gives a call, and how many calls come to the end of the commands.
 const READERS: [(usize, usize); 3] = [(1, 35), (7, 6), (usize::MAX, 2)];
@@ -299,47 +244,46 @@ fn rested(most: usize) -> Talk<'static> {
     }
 }
 
-/// Sees what is due of a reader that fails behind each of its calls, of one that doesn't, and of one that rests.
-fn see_reads<R: Threads + Wait + Abort>(
-    rt: &R,
-    alloc: Global,
-    registry: &Registry,
-    given: &Given,
-    most: usize,
-    to_end: usize,
-) -> Result<(), AllocError> {
-    for calls in 0..36 {
-        let talk = read_until(most, to_end, calls);
-        see_served(rt, alloc, registry, given, 1, &talk)?;
+impl<'a, R: Threads + Wait + Abort> Desk<'a, R> {
+    /// Sees what is due of a command to writers that fail.
+    fn see_writers(&self, given: &Given, dues: &[Due<'_>]) -> Result<(), AllocError> {
+        for due in dues {
+            let talk = Talk {
+                commands: drip(b"def 3 28 a.proto", usize::MAX, usize::MAX),
+                due: *due,
+            };
+            self.see_served(given, 1, &talk)?;
+        }
+        Ok(())
     }
-    see_served(rt, alloc, registry, given, 1, &rested(most))
-}
 
-fn see_readers<R: Threads + Wait + Abort>(
-    rt: &R,
-    alloc: Global,
-    registry: &Registry,
-    given: &Given,
-) -> Result<(), AllocError> {
-    for (most, to_end) in &READERS {
-        see_reads(rt, alloc, registry, given, *most, *to_end)?;
+    /// Sees what is due of a reader that fails behind each of its calls, of one that doesn't, and of one that rests.
+    fn see_reads(&self, given: &Given, most: usize, to_end: usize) -> Result<(), AllocError> {
+        for calls in 0..36 {
+            self.see_served(given, 1, &read_until(most, to_end, calls))?;
+        }
+        self.see_served(given, 1, &rested(most))
     }
-    Ok(())
-}
 
-fn see_streams<R: Threads + Wait + Abort>(
-    rt: &R,
-    alloc: Global,
-    registry: &Registry,
-) -> Result<(), AllocError> {
-    let dues = dues_of(alloc, DEFINITION, true)?;
-    let given = given_of(rt, alloc, FIELDS, Encoding::Utf8)?;
-    see_writers(rt, alloc, registry, &given, &dues)?;
-    see_readers(rt, alloc, registry, &given)
+    /// Sees what is due of each reader.
+    fn see_readers(&self, given: &Given) -> Result<(), AllocError> {
+        for (most, to_end) in &READERS {
+            self.see_reads(given, *most, *to_end)?;
+        }
+        Ok(())
+    }
+
+    /// Sees what is due of writers and readers that fail.
+    fn see_streams(&self, registry: &Registry) -> Result<(), AllocError> {
+        let dues = dues_of(self.alloc, DEFINITION, true)?;
+        let given = self.given(registry, FIELDS, Encoding::Utf8, Faulty::Refuse)?;
+        self.see_writers(&given, &dues)?;
+        self.see_readers(&given)
+    }
 }
 
 #[test]
 fn streams_that_fail_or_rest(rt: HostRuntime) -> Result<(), Fail> {
     let registry = Registry::new(rt.alloc());
-    Ok(see_streams(&rt, rt.alloc(), &registry)?)
+    Ok(Desk::new(&rt, rt.alloc()).see_streams(&registry)?)
 }

@@ -46,21 +46,25 @@ fn way<'t>(alloc: Global, name: &'t str) -> Result<DeclarationPath<'t>, AllocErr
     DeclarationPath::from_steps(alloc, Sequence::new(alloc), step)
 }
 
+/// The text of a file's symbol.
 fn file_text(alloc: Global, id: &PackageId) -> Result<String, AllocError> {
     text_of_symbol(alloc, file_symbol(alloc, id, "a b.proto"))
 }
 
+/// The text of a package's symbol.
 fn package_text(alloc: Global, id: &PackageId) -> Result<String, AllocError> {
     let a = component("a");
     let b = component("b");
     text_of_symbol(alloc, package_symbol(alloc, id, &[a, b]))
 }
 
+/// The text of a message's symbol.
 fn message_text(alloc: Global, id: &PackageId) -> Result<String, AllocError> {
     let a = way(alloc, "A")?;
     text_of_symbol(alloc, symbol_of(alloc, id, &[], &a))
 }
 
+/// The text of a local symbol.
 fn local_text(alloc: Global) -> Result<String, AllocError> {
     let name = OwnedText::copy_of(alloc, "x9")?;
     text_of_symbol(alloc, Ok(Symbol::from_parts(SymbolParts::Local(name))))
@@ -75,6 +79,7 @@ enum Of {
     Local,
 }
 
+/// The text of one of these symbols.
 fn text_of(alloc: Global, id: &PackageId, of: Of) -> Result<String, AllocError> {
     match of {
         Of::File => file_text(alloc, id),
@@ -100,6 +105,7 @@ fn is_text(alloc: Global, id: &PackageId, of: Of, want: &str) -> Result<bool, Al
     Ok(parts == ["my mgr", "", "1.0"] && text.as_str() == want)
 }
 
+/// Whether such a text is the one wanted.
 fn is_right(alloc: Global, of: Of, want: &str) -> Result<bool, AllocError> {
     match package_of(alloc, "my mgr", "1.0")? {
         Ok(id) => is_text(alloc, &id, of, want),

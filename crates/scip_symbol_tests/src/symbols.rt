@@ -6,6 +6,7 @@ use scip_symbol::{Symbol, SymbolFault, print, read};
 use std::alloc::Global;
 use std::test::Fail;
 
+/// The text that a symbol is printed as.
 fn printed(alloc: Global, symbol: &Symbol) -> Result<String, SymbolFault> {
     match print(alloc, symbol) {
         Ok(text) => Ok(text),
@@ -53,13 +54,6 @@ fn texts_are_read_and_printed_or_refused_where_no_symbol_goes_on(rt: HostRuntime
         let fault = reprinted_again(rt.alloc(), text).err();
         see(&rt, fault == Some(SymbolFault::BadSymbol(*offset)), text);
     }
-}
-
-#[test]
-fn faults_are_printed_by_their_names(rt: HostRuntime) -> Result<(), Fail> {
-    let text = format!(in rt.alloc(); "{} {}", SymbolFault::BadSymbol(7), SymbolFault::Memory)?;
-    see(&rt, text.as_str() == "BadSymbol(7) Memory", "texts");
-    Ok(())
 }
 
 /// A name of 10,000 letters.

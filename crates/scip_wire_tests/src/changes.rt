@@ -24,33 +24,54 @@ fn stays(alloc: Global, index: &Index) -> bool {
     }
 }
 
-/// Whether bytes are read. What is read is the same once it was written and read again.
-fn is_read(rt: &impl Abort, alloc: Global, bytes: &[u8]) -> bool {
+/// What becomes of bytes.
+#[derive(Clone, Copy)]
+enum Fate {
+    /// They are read, and what is read is the same once it was written and read again.
+    Read,
+    /// They are refused by name.
+    Refused,
+    /// Neither.
+    Lost,
+}
+
+/// What becomes of bytes that are read as this index.
+fn fate_of_index(alloc: Global, index: &Index) -> Fate {
+    if stays(alloc, index) {
+        Fate::Read
+    } else {
+        Fate::Lost
+    }
+}
+
+/// What becomes of bytes.
+fn fate_of_bytes(alloc: Global, bytes: &[u8]) -> Fate {
     match decoded(alloc, bytes) {
-        Ok(index) => {
-            see(rt, stays(alloc, &index), "again");
-            true
-        }
-        Err(fault) => {
-            see(rt, fault != WireFault::Memory, "a fault of the bytes");
-            false
-        }
+        Ok(index) => fate_of_index(alloc, &index),
+        Err(WireFault::Memory) => Fate::Lost,
+        Err(_) => Fate::Refused,
+    }
+}
+
+/// Changes the byte at a place; the same change puts it back.
+fn flip(bytes: &mut [u8], at: usize, change: u8) {
+    if let Some(byte) = bytes.get_mut(at) {
+        *byte ^= change;
     }
 }
 
 /// How many of the changes of one byte at a place are read.
 fn read_changes(rt: &impl Abort, alloc: Global, bytes: &mut [u8], at: usize) -> u32 {
     let mut read = 0u32;
-    let Some(kept) = bytes.get(at).copied() else {
-        return read;
-    };
     for change in 1..=255u8 {
-        bytes[at] = kept ^ change;
-        if is_read(rt, alloc, bytes) {
-            read = read.wrapping_add(1);
+        flip(bytes, at, change);
+        match fate_of_bytes(alloc, bytes) {
+            Fate::Read => read = read.wrapping_add(1),
+            Fate::Refused => {}
+            Fate::Lost => see(rt, false, "read again, or refused"),
         }
+        flip(bytes, at, change);
     }
-    bytes[at] = kept;
     read
 }
 

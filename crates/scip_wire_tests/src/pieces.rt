@@ -30,16 +30,27 @@ fn see_pieces(rt: &impl Abort, index: &Index, records: &[DocumentRecord], bytes:
     see(rt, found.answer == Ok(()) && found.calls == 1, "answer");
 }
 
-/// Sees that an index with these bytes is written in pieces as them.
+/// Sees that an index is written in pieces as these bytes.
+fn see_index(
+    rt: &impl Abort,
+    alloc: Global,
+    index: &Index,
+    bytes: &[u8],
+) -> Result<(), AllocError> {
+    let records = records_of(alloc, index)?;
+    see_pieces(rt, index, records.as_slice(), bytes);
+    Ok(())
+}
+
+/// Sees that the index with these bytes is written in pieces as them.
 fn see_row(rt: &impl Abort, alloc: Global, bytes: &[u8]) -> Result<(), AllocError> {
     match decoded(alloc, bytes) {
-        Ok(index) => {
-            let records = records_of(alloc, &index)?;
-            see_pieces(rt, &index, records.as_slice(), bytes);
+        Ok(index) => see_index(rt, alloc, &index, bytes),
+        Err(_) => {
+            see(rt, false, "read");
+            Ok(())
         }
-        Err(_) => see(rt, false, "read"),
     }
-    Ok(())
 }
 
 #[test]

@@ -35,15 +35,16 @@ static OTHERS: [(&[u8], &[u8]); 3] = [
 ];
 
 /// Sees that an index is as long as these bytes, and spelled and written as them.
-fn is_written(rt: &impl Abort, alloc: Global, index: &Index, want: &[u8]) -> bool {
+fn see_index(rt: &impl Abort, alloc: Global, index: &Index, want: &[u8]) {
     see_written(rt, index, want);
-    is_long(index, want.len()) && is_spelled(alloc, index, want)
+    let is_so = is_long(index, want.len()) && is_spelled(alloc, index, want);
+    see(rt, is_so, "written");
 }
 
 /// Sees that bytes are read, and what they decode to is written as these.
 fn see_row(rt: &impl Abort, alloc: Global, read: &[u8], spelled: &[u8]) {
     match decoded(alloc, read) {
-        Ok(index) => see(rt, is_written(rt, alloc, &index, spelled), "written"),
+        Ok(index) => see_index(rt, alloc, &index, spelled),
         Err(_) => see(rt, false, "read"),
     }
 }

@@ -1,6 +1,7 @@
 //! A file that is made where the standard streams are closed.
 
 use crate::outputs::holds;
+use crate::roots::see;
 use source_files::OutFile;
 use std::alloc::Allocator;
 use std::cell::Cell;
@@ -76,9 +77,8 @@ fn made_beside_closed_streams(rt: HostRuntime) -> Result<(), Fail> {
         opened: Cell::new(0),
     };
     let mut out = OutFile::new(&system, "beside.scip");
-    assert!(&rt; out.write(b"ab") == Ok(2), "first");
-    assert!(&rt; out.write(b"c") == Ok(1), "second");
-    assert!(&rt; holds(&rt, "beside.scip", b"abc")?, "after");
-    fs::remove_file(&rt, "beside.scip")?;
-    Ok(())
+    see(&rt, out.write(b"ab") == Ok(2), "first");
+    see(&rt, out.write(b"c") == Ok(1), "second");
+    see(&rt, holds(&rt, "beside.scip", b"abc"), "after");
+    Ok(fs::remove_file(&rt, "beside.scip")?)
 }

@@ -1,10 +1,14 @@
 //! Folders that are free for files, and others.
 
+use crate::roots::{remove_again, see};
 use source_files::{EmptyFolders, SystemFiles};
 use std::alloc::AllocError;
 use std::fs;
 use std::rt::Files;
 use std::test::Fail;
+
+/// Folders that are made.
+const FOLDERS: [&str; 4] = ["site", "site/empty", "site/taken", "site/hidden"];
 
 /// Paths, and whether files may go there. The last but one is a link to a folder without entries.
 const PLACES: [(&str, bool); 10] = [
@@ -31,8 +35,8 @@ fn answer_of<F: EmptyFolders>(files: &F, path: &str) -> Option<bool> {
 #[test]
 fn absent_or_empty(rt: HostRuntime) -> Result<(), Fail> {
     // What an earlier run has left that didn't come to its end.
-    let _ = fs::remove_dir_all(&rt, "site");
-    for folder in &["site", "site/empty", "site/taken", "site/hidden"] {
+    let _ = remove_again(&rt, "site");
+    for folder in &FOLDERS {
         fs::create_dir(&rt, *folder)?;
     }
     fs::write(&rt, "site/taken/file", "")?;
@@ -44,8 +48,7 @@ fn absent_or_empty(rt: HostRuntime) -> Result<(), Fail> {
             None => answer_of(&files, *path),
             free => free,
         };
-        assert!(&rt; free == Some(*due), "{path}");
+        see(&rt, free == Some(*due), path);
     }
-    fs::remove_dir_all(&rt, "site")?;
-    Ok(())
+    Ok(remove_again(&rt, "site")?)
 }

@@ -6,8 +6,6 @@ mod closed_streams;
 #[cfg(test)]
 mod free_folders;
 #[cfg(test)]
-mod nested;
-#[cfg(test)]
 mod outputs;
 #[cfg(test)]
 mod roots;

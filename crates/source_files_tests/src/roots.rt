@@ -11,9 +11,9 @@ use std::test::Fail;
 use std::thread::Threads;
 use std::{fs, io};
 
-/// Sees that a text is what is due.
-fn see_text(rt: &impl Abort, found: &str, due: &str) {
-    assert!(rt; found == due, "{found} in place of {due}");
+/// Sees that what a case says holds. (A formatted assertion is proved once, here.)
+pub(crate) fn see(rt: &impl Abort, holds: bool, case: &str) {
+    assert!(rt; holds, "{case}");
 }
 
 /// The paths of the sources, each with a space behind it.
@@ -62,7 +62,7 @@ fn read_again<R: Threads + Wait, F: ReadFiles + Sync>(
 }
 
 /// Removes a folder with all that it holds. Where it can't, as where memory ran out, it tries again.
-fn remove_again<S: Files + AllocGlobal>(system: &S, path: &str) -> io::Result<()> {
+pub(crate) fn remove_again<S: Files + AllocGlobal>(system: &S, path: &str) -> io::Result<()> {
     match fs::remove_dir_all(system, path) {
         Err(_) => fs::remove_dir_all(system, path),
         done => done,
@@ -70,7 +70,7 @@ fn remove_again<S: Files + AllocGlobal>(system: &S, path: &str) -> io::Result<()
 }
 
 /// Sees that below a root these sources are read, or what can't be: on one worker and on more.
-pub(crate) fn see_read<R: Threads + Wait + Abort, F: ReadFiles + Sync>(
+fn see_read<R: Threads + Wait + Abort, F: ReadFiles + Sync>(
     rt: &R,
     alloc: Global,
     files: &F,
@@ -80,7 +80,7 @@ pub(crate) fn see_read<R: Threads + Wait + Abort, F: ReadFiles + Sync>(
     for count in &[1usize, 3, 16] {
         if let Some(workers) = Workers::new(*count) {
             let found = text_of(alloc, read_again(rt, alloc, workers, files, root))?;
-            see_text(rt, found.as_str(), due);
+            see(rt, found.as_str() == due, found.as_str());
         }
     }
     Ok(())
@@ -108,9 +108,34 @@ fn see_held<R: Threads + Wait + Abort, F: ReadFiles + Sync>(
             Ok(sources) => are_five(&sources),
             Err(_) => false,
         };
-        see_text(rt, if held { "held" } else { "not so" }, "held");
+        see(rt, held, "each holds its path");
     }
 }
+
+/// Folders that are made.
+const FOLDERS: [&str; 4] = ["walk", "walk/x.proto", "walk/deep", "walk/deep/er"];
+
+/// Files that are made. Each holds its path.
+const FILES: [&str; 7] = [
+    "walk/z.proto",
+    "walk/a.proto",
+    "walk/a.txt",
+    "walk/.proto",
+    "walk/x.proto/b.proto",
+    "walk/x.proto/proto",
+    "walk/deep/er/c.proto",
+];
+
+/// Links that are made, each behind what it leads to.
+const LINKS: [(&str, &str); 4] = [
+    ("a.proto", "walk/link.proto"),
+    ("deep", "walk/link"),
+    ("nowhere", "walk/dangling.proto"),
+    ("walk", "root"),
+];
+
+/// The same folder by four names.
+const ROOTS: [&str; 4] = ["walk", "walk/", "./walk", "root"];
 
 /// The sources below `walk`.
 const SOURCES: &str = ".proto a.proto deep/er/c.proto x.proto/b.proto z.proto ";
@@ -128,27 +153,17 @@ fn regular_files_by_path(rt: HostRuntime) -> Result<(), Fail> {
     // What an earlier run has left that didn't come to its end.
     let _ = fs::remove_file(&rt, "root");
     let _ = remove_again(&rt, "walk");
-    fs::create_dir(&rt, "walk")?;
-    fs::create_dir(&rt, "walk/x.proto")?;
-    fs::create_dir(&rt, "walk/deep")?;
-    fs::create_dir(&rt, "walk/deep/er")?;
-    for path in &[
-        "walk/z.proto",
-        "walk/a.proto",
-        "walk/a.txt",
-        "walk/.proto",
-        "walk/x.proto/b.proto",
-        "walk/x.proto/proto",
-        "walk/deep/er/c.proto",
-    ] {
+    for folder in &FOLDERS {
+        fs::create_dir(&rt, *folder)?;
+    }
+    for path in &FILES {
         fs::write(&rt, *path, *path)?;
     }
-    rt.symlink("a.proto", "walk/link.proto")?;
-    rt.symlink("deep", "walk/link")?;
-    rt.symlink("nowhere", "walk/dangling.proto")?;
-    rt.symlink("walk", "root")?;
+    for (to, link) in &LINKS {
+        rt.symlink(*to, *link)?;
+    }
     let files = SystemFiles::new(&rt);
-    for root in &["walk", "walk/", "./walk", "root"] {
+    for root in &ROOTS {
         see_read(&rt, rt.alloc(), &files, *root, SOURCES)?;
     }
     for (root, due) in &UNREAD {
@@ -156,6 +171,5 @@ fn regular_files_by_path(rt: HostRuntime) -> Result<(), Fail> {
     }
     see_held(&rt, rt.alloc(), &files, "walk");
     fs::remove_file(&rt, "root")?;
-    remove_again(&rt, "walk")?;
-    Ok(())
+    Ok(remove_again(&rt, "walk")?)
 }

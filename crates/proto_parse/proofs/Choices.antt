@@ -10,6 +10,7 @@ use Rattle.proto_grammar.specs.declared.tree.Syntax.TheVariants.{Proto3, Extende
 use Rattle.proto_grammar.specs.declared.tree.Heading.{Heading}
 use Rattle.proto_grammar.specs.declared.tree.MapField.{MapField}
 use Rattle.proto_grammar.specs.declared.tree.Enum.{Enum}
+use Rattle.proto_grammar.specs.declared.tree.Method.{Method}
 use Rattle.proto_grammar.specs.declared.tree.Service.{Service}
 use Rattle.proto_grammar.specs.declared.tree.Import.{Import}
 use Rattle.proto_grammar.specs.declared.tree.Item.{Item}
@@ -43,7 +44,8 @@ use Rattle.proto_parse.specs.Grammar.Messages.IsExtend.{extend}
 use Rattle.proto_parse.specs.Grammar.Messages.IsPassedExtend.{passed_extend}
 use Rattle.proto_parse.specs.Grammar.Messages.IsExtendStatement.{kept, passed}
 use Rattle.proto_parse.specs.Grammar.Messages.IsMessage.{message}
-use Rattle.proto_parse.specs.Grammar.Services.{IsService}
+use Rattle.proto_parse.specs.Grammar.Services.{IsMethod, IsService}
+use Rattle.proto_parse.specs.Grammar.Services.IsMethod.{method}
 use Rattle.proto_parse.specs.Grammar.Services.IsService.{service}
 
 -- ---- a word, by its spelling
@@ -115,6 +117,10 @@ extend_begins x (passed (passed_extend k n o u c)) = one_next k
 pub reserved_begins : {negative : Bool} {a b : List Lexeme} → IsReserved negative a b
     → first_is (is_word (codes "reserved")) a ≡ true
 reserved_begins (reserved k is i u s) = one_next k
+
+pub method_begins : {custom : CustomOptions} {a b : List Lexeme} {x : Method} → IsMethod custom a x b
+    → first_is (is_word (codes "rpc")) a ≡ true
+method_begins (method f n i r o c) = one_next f
 
 pub extensions_begins : {custom : CustomOptions} {a b : List Lexeme} → IsExtensions custom a b
     → first_is (is_word (codes "extensions")) a ≡ true

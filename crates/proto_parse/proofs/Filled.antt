@@ -158,7 +158,7 @@ member_filled syntax Inner fills a c x (member {t = t} {b = b} {label = label} l
 oneof_item_filled : (syntax : Syntax) (Inner : List Lexeme → List Item → List Lexeme → Type 0) → Fills FilledItems Inner
     → Fills FilledOption (IsOneofItem syntax Inner)
 oneof_item_filled syntax Inner fills a b x (oneofs-empty s) = tt
-oneof_item_filled syntax Inner fills a b x (oneofs-option is o) = tt
+oneof_item_filled syntax Inner fills a b x (oneofs-option o) = tt
 oneof_item_filled syntax Inner fills a b x (oneofs-member {item = y} p q (oneof_member {t = t} {rest = rest} i)) =
     labelled_filled syntax Inner fills t.span None (t ∷ rest) b y i
 
@@ -216,7 +216,7 @@ method_type_filled (method_type o s none_next n c) = type_name_filled n
 
 service_item_filled : (custom : CustomOptions) (a b : List Lexeme) (x : Method) → IsServiceItem custom a (Some x) b
     → FilledMethod x
-service_item_filled custom a b x (services-method is (method f n i r o c)) =
+service_item_filled custom a b x (services-method (method f n i r o c)) =
     (method_type_filled i, method_type_filled o)
 
 service_filled : {custom : CustomOptions} {a b : List Lexeme} {x : Service} → IsService custom a x b → FilledService x

@@ -81,8 +81,8 @@ value_shorter (value n q i o s) =
 pub enum_item_shorter : (custom : CustomOptions) (a b : List Lexeme) (x : Option Heading) → IsEnumItem custom a x b
     → length b < length a
 enum_item_shorter custom a b x (enums-empty s) = one_shorter s
-enum_item_shorter custom a b x (enums-option is o) = option_shorter o
-enum_item_shorter custom a b x (enums-reserved is r) = reserved_shorter r
+enum_item_shorter custom a b x (enums-option o) = option_shorter o
+enum_item_shorter custom a b x (enums-reserved r) = reserved_shorter r
 enum_item_shorter custom a b x (enums-value p q r v) = value_shorter v
 
 enum_shorter : {custom : CustomOptions} {a b : List Lexeme} {x : Enum} → IsEnum custom a x b → length b < length a
@@ -126,7 +126,7 @@ oneof_member_shorter syntax Inner shorter a b x (oneof_member {t = t} i) =
 oneof_item_shorter : (syntax : Syntax) (Inner : List Lexeme → List Item → List Lexeme → Type 0) → Shortens Inner
     → Shortens (IsOneofItem syntax Inner)
 oneof_item_shorter syntax Inner shorter a b x (oneofs-empty s) = one_shorter s
-oneof_item_shorter syntax Inner shorter a b x (oneofs-option is o) = option_shorter o
+oneof_item_shorter syntax Inner shorter a b x (oneofs-option o) = option_shorter o
 oneof_item_shorter syntax Inner shorter a b x (oneofs-member p q m) = oneof_member_shorter syntax Inner shorter a b _ m
 
 extend_item_shorter : (syntax : Syntax) (Inner : List Lexeme → List Item → List Lexeme → Type 0) → Shortens Inner
@@ -214,7 +214,7 @@ method_type_shorter (method_type o s none_next n c) =
 
 pub method_item_shorter : (custom : CustomOptions) (a b : List Lexeme) → IsMethodItem custom a b → length b < length a
 method_item_shorter custom a b (method_items-empty s) = one_shorter s
-method_item_shorter custom a b (method_items-option is o) = option_shorter o
+method_item_shorter custom a b (method_items-option o) = option_shorter o
 
 method_end_shorter : {custom : CustomOptions} {a b : List Lexeme} {x : Span} → IsMethodEnd custom a x b
     → length b < length a
@@ -242,8 +242,8 @@ method_shorter (method f n i r o c) =
 pub service_item_shorter : (custom : CustomOptions) (a b : List Lexeme) (x : Option Method) → IsServiceItem custom a x b
     → length b < length a
 service_item_shorter custom a b x (services-empty s) = one_shorter s
-service_item_shorter custom a b x (services-option is o) = option_shorter o
-service_item_shorter custom a b x (services-method is m) = method_shorter m
+service_item_shorter custom a b x (services-option o) = option_shorter o
+service_item_shorter custom a b x (services-method m) = method_shorter m
 
 service_shorter : {custom : CustomOptions} {a b : List Lexeme} {x : Service} → IsService custom a x b
     → length b < length a

@@ -255,7 +255,7 @@ passed_extend_past {tail = tail} (passed_extend k n o u c) behind =
 pub method_item_past : (custom : CustomOptions) (tail : List Lexeme) (s t : Unit {0}) (a b : List Lexeme)
     → Passes (IsMethodItem custom) s a t b → IsTail tail b → IsTail tail a
 method_item_past custom tail s t a b (passes (method_items-empty e)) behind = one_past e behind
-method_item_past custom tail s t a b (passes (method_items-option is o)) behind = option_past o behind
+method_item_past custom tail s t a b (passes (method_items-option o)) behind = option_past o behind
 
 pub joined_past : {a b : List Lexeme} {text : List ℕ} {tail : List Lexeme} → SpellsJoined a text b → IsTail tail b
     → IsTail tail a
@@ -270,8 +270,8 @@ heading_past (heading f n c) behind = one_past f (one_past n (one_past c behind)
 pub enum_item_past : (custom : CustomOptions) (tail : List Lexeme) (s t : List Heading) (a b : List Lexeme)
     → Adds (IsEnumItem custom) s a t b → IsTail tail b → IsTail tail a
 enum_item_past custom tail s t a b (adds (enums-empty e)) behind = one_past e behind
-enum_item_past custom tail s t a b (adds (enums-option is o)) behind = option_past o behind
-enum_item_past custom tail s t a b (adds (enums-reserved is r)) behind = reserved_past r behind
+enum_item_past custom tail s t a b (adds (enums-option o)) behind = option_past o behind
+enum_item_past custom tail s t a b (adds (enums-reserved r)) behind = reserved_past r behind
 enum_item_past custom tail s t a b (adds (enums-value p q r (value n e i o c))) behind =
     one_past n (one_past e (integer_past i (options_past o (one_past c behind))))
 
@@ -328,7 +328,7 @@ member_past syntax Inner over a c x (member {t = t} {b = b} {label = label} l i)
 pub oneof_item_past : (syntax : Syntax) (Inner : List Lexeme → List Item → List Lexeme → Type 0) → PassedOver Inner
     → PassedOver (IsOneofItem syntax Inner)
 oneof_item_past syntax Inner over a b x (oneofs-empty e) tail behind = one_past e behind
-oneof_item_past syntax Inner over a b x (oneofs-option is o) tail behind = option_past o behind
+oneof_item_past syntax Inner over a b x (oneofs-option o) tail behind = option_past o behind
 oneof_item_past syntax Inner over a b x (oneofs-member {item = y} p q (oneof_member {t = t} i)) tail behind =
     labelled_past syntax Inner over t.span None a b y i tail behind
 
@@ -401,8 +401,8 @@ method_end_past {custom} {tail = tail} (body o u c) behind =
 pub service_item_past : (custom : CustomOptions) (tail : List Lexeme) (s t : List Method) (a b : List Lexeme)
     → Adds (IsServiceItem custom) s a t b → IsTail tail b → IsTail tail a
 service_item_past custom tail s t a b (adds (services-empty e)) behind = one_past e behind
-service_item_past custom tail s t a b (adds (services-option is o)) behind = option_past o behind
-service_item_past custom tail s t a b (adds (services-method is (method f n i r o c))) behind =
+service_item_past custom tail s t a b (adds (services-option o)) behind = option_past o behind
+service_item_past custom tail s t a b (adds (services-method (method f n i r o c))) behind =
     one_past f (one_past n (method_type_past i (one_past r (method_type_past o (method_end_past c behind)))))
 
 pub service_past : {custom : CustomOptions} {a b : List Lexeme} {x : Service} {tail : List Lexeme}

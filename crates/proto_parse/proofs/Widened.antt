@@ -155,8 +155,8 @@ map_field_wide (map_field f l k c v g h) = map_field f l k c v g (numbered_wide 
 enum_item_wide : {custom : CustomOptions} (a b : List Lexeme) (x : Option Heading) → IsEnumItem custom a x b
     → IsEnumItem Skip a x b
 enum_item_wide a b x (enums-empty s) = enums-empty s
-enum_item_wide a b x (enums-option is o) = enums-option is (option_wide o)
-enum_item_wide a b x (enums-reserved is r) = enums-reserved is r
+enum_item_wide a b x (enums-option o) = enums-option (option_wide o)
+enum_item_wide a b x (enums-reserved r) = enums-reserved r
 enum_item_wide a b x (enums-value p q r (value n e i o c)) = enums-value p q r (value n e i (options_wide o) c)
 
 enum_wide : {custom : CustomOptions} {a b : List Lexeme} {x : Enum} → IsEnum custom a x b → IsEnum Skip a x b
@@ -224,7 +224,7 @@ module _ (custom : CustomOptions) (Inner Wide : List Lexeme → List Item → Li
 
   oneof_item_wide : Widens custom (IsOneofItem (Proto3 custom) Inner) (IsOneofItem Extended Wide)
   oneof_item_wide a b x (oneofs-empty s) free = oneofs-empty s
-  oneof_item_wide a b x (oneofs-option is o) free = oneofs-option is (option_wide o)
+  oneof_item_wide a b x (oneofs-option o) free = oneofs-option (option_wide o)
   oneof_item_wide a b x (oneofs-member p q (oneof_member i)) free = oneofs-member p q (oneof_member (labelled_wide i))
 
   message_wide : Widens custom (IsMessage Inner) (IsMessage Wide)
@@ -269,7 +269,7 @@ inside_wide custom (suc levels) a b x i free =
 -- services
 method_item_wide : {custom : CustomOptions} (a b : List Lexeme) → IsMethodItem custom a b → IsMethodItem Skip a b
 method_item_wide a b (method_items-empty s) = method_items-empty s
-method_item_wide a b (method_items-option is o) = method_items-option is (option_wide o)
+method_item_wide a b (method_items-option o) = method_items-option (option_wide o)
 
 method_end_wide : {custom : CustomOptions} {a b : List Lexeme} {x : Span} → IsMethodEnd custom a x b
     → IsMethodEnd Skip a x b
@@ -279,9 +279,9 @@ method_end_wide (body o u c) = body o (until_wide (passes_wide method_item_wide)
 service_item_wide : {custom : CustomOptions} (a b : List Lexeme) (x : Option Method)
     → IsServiceItem custom a x b → IsServiceItem Skip a x b
 service_item_wide a b x (services-empty s) = services-empty s
-service_item_wide a b x (services-option is o) = services-option is (option_wide o)
-service_item_wide a b x (services-method is (method f n i r o e)) =
-    services-method is (method f n i r o (method_end_wide e))
+service_item_wide a b x (services-option o) = services-option (option_wide o)
+service_item_wide a b x (services-method (method f n i r o e)) =
+    services-method (method f n i r o (method_end_wide e))
 
 service_wide : {custom : CustomOptions} {a b : List Lexeme} {x : Service} → IsService custom a x b
     → IsService Skip a x b

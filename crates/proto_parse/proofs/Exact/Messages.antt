@@ -73,7 +73,8 @@ use Rattle.proto_grammar.proofs.TokenLemmas.{token_exact, one_next, one_others, 
 use Rattle.proto_grammar.proofs.TokenLemmas.{next_other_word}
 use Rattle.proto_grammar.proofs.UntilLemmas.{until_at-exact, adding-exact, passing-exact, Falls}
 use Rattle.proto_parse.proofs.Choices.{message_word, map_chosen, member_chosen, message_begins, enum_begins}
-use Rattle.proto_parse.proofs.Choices.{option_begins, oneof_begins, reserved_begins, extend_begins, extensions_begins}
+use Rattle.proto_parse.proofs.Choices.{option_begins, oneof_begins, reserved_begins, method_begins, extend_begins}
+use Rattle.proto_parse.proofs.Choices.{extensions_begins}
 use Rattle.proto_parse.proofs.StepsFall.{enum_items_fall, passed_items_fall, items_fall}
 use Rattle.proto_parse.proofs.StepsFall.{method_items_fall, service_items_fall}
 use Rattle.proto_grammar.proofs.Exact.Names.{named_type_exact, pass_type_name_exact}
@@ -110,9 +111,10 @@ module _ (end : ℕ) where
       → enum_item_at custom (place_of end a) ≡ Ok (x, place_of end b)
   unfolding enum_item_at
   enum_item_exact custom a b x (enums-empty s) = rw (one_next s, one_others s) refl
-  enum_item_exact custom a b x (enums-option is o) = rw
-      (word_no_semicolon (codes "option") a is, is, option_exact end o) refl
-  enum_item_exact custom a b x (enums-reserved is r) =
+  enum_item_exact custom a b x (enums-option o) =
+      let is = option_begins o in rw (word_no_semicolon (codes "option") a is, is, option_exact end o) refl
+  enum_item_exact custom a b x (enums-reserved r) =
+      let is = reserved_begins r in
       rw (
         word_no_semicolon (codes "reserved") a is,
         next_other_word (codes "reserved") (codes "option") a refl is,
@@ -186,8 +188,8 @@ module _ (end : ℕ) where
       → ReadsInside inner Inner → Reads (oneof_item_at syntax inner) (IsOneofItem syntax Inner)
   unfolding oneof_item_at
   oneof_item_exact syntax inner Inner reads a b x (oneofs-empty s) = rw (one_next s, one_others s) refl
-  oneof_item_exact syntax inner Inner reads a b x (oneofs-option is o) =
-      rw (word_no_semicolon (codes "option") a is, is, option_exact end o) refl
+  oneof_item_exact syntax inner Inner reads a b x (oneofs-option o) =
+      let is = option_begins o in rw (word_no_semicolon (codes "option") a is, is, option_exact end o) refl
   oneof_item_exact syntax inner Inner reads a b x (oneofs-member {item = i} p q m) =
       rw (p, q, oneof_member_exact syntax inner Inner reads a b i m) refl
 
@@ -327,8 +329,8 @@ module _ (end : ℕ) where
       → method_item_at custom (place_of end a) ≡ Ok (tt, place_of end b)
   unfolding method_item_at
   method_item_exact custom a b (method_items-empty s) = rw (one_next s, one_others s) refl
-  method_item_exact custom a b (method_items-option is o) = rw (word_no_semicolon (codes "option") a is)
-      (option_exact end o)
+  method_item_exact custom a b (method_items-option o) =
+      rw (word_no_semicolon (codes "option") a (option_begins o)) (option_exact end o)
 
   method_end_exact : {custom : CustomOptions} {a b : List Lexeme} {x : Span} → IsMethodEnd custom a x b
       → method_end_at custom (place_of end a) ≡ Ok (x, place_of end b)
@@ -361,16 +363,15 @@ module _ (end : ℕ) where
       → service_item_at custom (place_of end a) ≡ Ok (x, place_of end b)
   unfolding service_item_at
   service_item_exact custom a b x (services-empty s) = rw (one_next s, one_others s) refl
-  service_item_exact custom a b x (services-option is o) =
-      rw (word_no_semicolon (codes "option") a is, is, option_exact end o) refl
-  service_item_exact custom a b x (services-method is m) =
+  service_item_exact custom a b x (services-option o) =
+      let is = option_begins o in rw (word_no_semicolon (codes "option") a is, is, option_exact end o) refl
+  service_item_exact custom a b x (services-method m) =
+      let is = method_begins m in
       rw (
         word_no_semicolon (codes "rpc") a is,
         next_other_word (codes "rpc") (codes "option") a refl is,
-        method_exact
-            m,
-      )
-      refl
+        method_exact m,
+      ) refl
 
   pub service_exact : {custom : CustomOptions} {a b : List Lexeme} {x : Service} → IsService custom a x b
       → service_at custom (place_of end a) ≡ Ok (x, place_of end b)

@@ -77,8 +77,8 @@ use Rattle.proto_parse.specs.Reading.Services.{stream_at, method_type_at, method
 use Rattle.proto_parse.specs.Reading.Services.{method_body_at, method_end_at, method_at, service_item_at}
 use Rattle.proto_parse.specs.Reading.Services.{service_items_at, service_at}
 use Rattle.proto_grammar.proofs.Steps.{same_ok, bind_ok, guard_ok, chosen}
-use Rattle.proto_grammar.proofs.TokenLemmas.{token_found, next_found, one_next}
-use Rattle.proto_parse.proofs.Choices.{option_begins, member_next}
+use Rattle.proto_grammar.proofs.TokenLemmas.{token_found, next_found}
+use Rattle.proto_parse.proofs.Choices.{member_next}
 use Rattle.proto_grammar.proofs.UntilLemmas.{until_at-found, adding-found, passing-found}
 use Rattle.proto_grammar.proofs.Found.Names.{named_type_found, pass_type_name_found}
 use Rattle.proto_grammar.proofs.Found.Options.{left_of, option_found, options_found}
@@ -123,15 +123,15 @@ enum_item_found custom tokens x e =
     (λ is read. subst (λ (y : Option Heading × Place). IsEnumItem custom tokens.left y.0 y.1.left) (same_ok _ x read)
     (enums-empty (next_found tokens.left is).1))
     (λ no_semicolon read. chosen (first_is (is_word (codes "option")) tokens.left) _ _ (Ok x) read
-    (λ is read.
+    (λ _ read.
     let o = bind_ok (option_at custom tokens) _ x read in
     subst (λ (y : Option Heading × Place). IsEnumItem custom tokens.left y.0 y.1.left) (same_ok _ x o.2)
-    (enums-option is (option_found custom _ _ o.1)))
+    (enums-option (option_found custom _ _ o.1)))
     (λ no_option read. chosen (first_is (is_word (codes "reserved")) tokens.left) _ _ (Ok x) read
-    (λ is read.
+    (λ _ read.
     let r = bind_ok (reserved_at true tokens) _ x read in
     subst (λ (y : Option Heading × Place). IsEnumItem custom tokens.left y.0 y.1.left) (same_ok _ x r.2)
-    (enums-reserved is (reserved_found true _ _ r.1)))
+    (enums-reserved (reserved_found true _ _ r.1)))
     (λ no_reserved read.
     let v = bind_ok (value_at custom tokens) _ x read in
     subst (λ (y : Option Heading × Place). IsEnumItem custom tokens.left y.0 y.1.left) (same_ok _ x v.2)
@@ -232,10 +232,10 @@ oneof_item_found syntax inner Inner finds tokens x e =
     (same_ok _ x read)
     (oneofs-empty (next_found tokens.left is).1))
     (λ no_semicolon read. chosen (first_is (is_word (codes "option")) tokens.left) _ _ (Ok x) read
-    (λ is read.
+    (λ _ read.
     let o = bind_ok (option_at (custom_of syntax) tokens) _ x read in
     subst (λ (y : Option Item × Place). IsOneofItem syntax Inner tokens.left y.0 y.1.left) (same_ok _ x o.2)
-    (oneofs-option is (option_found (custom_of syntax) _ _ o.1)))
+    (oneofs-option (option_found (custom_of syntax) _ _ o.1)))
     (λ no_option read.
     let m = bind_ok (oneof_member_at syntax inner tokens) _ x read in
     subst (λ (y : Option Item × Place). IsOneofItem syntax Inner tokens.left y.0 y.1.left) (same_ok _ x m.2)
@@ -431,7 +431,7 @@ method_item_found custom tokens x e =
     chosen (first_is (of_kind Semicolon) tokens.left) _ _ (Ok x) e
     (λ is read. subst (λ (y : Place). IsMethodItem custom tokens.left y.left) (left_of x read)
     (method_items-empty (next_found tokens.left is).1))
-    (λ _ read. method_items-option (option_begins (option_found custom _ _ read)) (option_found custom _ _ read))
+    (λ _ read. method_items-option (option_found custom _ _ read))
 
 method_end_found : (custom : CustomOptions) (tokens : Place) (x : Span × Place)
     → method_end_at custom tokens ≡ Ok x → IsMethodEnd custom tokens.left x.0 x.1.left
@@ -463,10 +463,6 @@ method_found custom tokens x e =
     (method (token_found _ _ f.1) (token_found _ _ n.1) (method_type_found _ _ i.1) (token_found _ _ r.1)
     (method_type_found _ _ o.1) (method_end_found custom _ _ c.1))
 
-method_begins : {custom : CustomOptions} {a b : List Lexeme} {found : Method} → IsMethod custom a found b
-    → first_is (is_word (codes "rpc")) a ≡ true
-method_begins (method f n i r o c) = one_next f
-
 pub service_item_found : (custom : CustomOptions) (tokens : Place) (x : Option Method × Place)
     → service_item_at custom tokens ≡ Ok x → IsServiceItem custom tokens.left x.0 x.1.left
 unfolding service_item_at
@@ -474,15 +470,15 @@ service_item_found custom tokens x e =
     chosen (first_is (of_kind Semicolon) tokens.left) _ _ (Ok x) e
     (λ is read. subst (λ (y : Option Method × Place). IsServiceItem custom tokens.left y.0 y.1.left) (same_ok _ x read)
     (services-empty (next_found tokens.left is).1))
-    (λ no_semicolon read. chosen (first_is (is_word (codes "option")) tokens.left) _ _ (Ok x) read
-    (λ is read.
+    (λ _ read. chosen (first_is (is_word (codes "option")) tokens.left) _ _ (Ok x) read
+    (λ _ read.
     let o = bind_ok (option_at custom tokens) _ x read in
     subst (λ (y : Option Method × Place). IsServiceItem custom tokens.left y.0 y.1.left) (same_ok _ x o.2)
-    (services-option is (option_found custom _ _ o.1)))
-    (λ no_option read.
+    (services-option (option_found custom _ _ o.1)))
+    (λ _ read.
     let m = bind_ok (method_at custom tokens) _ x read in
     subst (λ (y : Option Method × Place). IsServiceItem custom tokens.left y.0 y.1.left) (same_ok _ x m.2)
-    (services-method (method_begins (method_found custom _ _ m.1)) (method_found custom _ _ m.1))))
+    (services-method (method_found custom _ _ m.1))))
 
 pub service_found : (custom : CustomOptions) (tokens : Place) (x : Service × Place)
     → service_at custom tokens ≡ Ok x → IsService custom tokens.left x.0 x.1.left

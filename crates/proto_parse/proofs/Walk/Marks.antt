@@ -208,8 +208,8 @@ enum_item_marks : (custom : CustomOptions) (a b : List Lexeme) (x : Option Headi
     → (marks : List Mark) → Among marks b
     → Among (each_then heading_then (option_to_list x) marks) a
 enum_item_marks custom a b x (enums-empty s) marks behind = past s behind
-enum_item_marks custom a b x (enums-option is o) marks behind = over (option_past o here) behind
-enum_item_marks custom a b x (enums-reserved is r) marks behind = over (reserved_past r here) behind
+enum_item_marks custom a b x (enums-option o) marks behind = over (option_past o here) behind
+enum_item_marks custom a b x (enums-reserved r) marks behind = over (reserved_past r here) behind
 enum_item_marks custom a b x (enums-value p q r v) marks behind = value_marks v behind
 
 enum_marks : {custom : CustomOptions} {a b : List Lexeme} {x : Enum} {marks : List Mark} → IsEnum custom a x b
@@ -283,7 +283,7 @@ member_marks syntax Inner marked a c x (member {t = t} {rest = rest} {b = b} {la
 oneof_item_marks : (syntax : Syntax) (Inner : List Lexeme → List Item → List Lexeme → Type 0)
     → MarkedBy items_then Inner → MarkedBy option_then (IsOneofItem syntax Inner)
 oneof_item_marks syntax Inner marked a b x (oneofs-empty s) marks behind = past s behind
-oneof_item_marks syntax Inner marked a b x (oneofs-option is o) marks behind = over (option_past o here) behind
+oneof_item_marks syntax Inner marked a b x (oneofs-option o) marks behind = over (option_past o here) behind
 oneof_item_marks syntax Inner marked a b x
     (oneofs-member {item = y} p q (oneof_member {t = t} {rest = rest} i)) marks behind =
     labelled_marks syntax Inner marked t None rest (t ∷ rest) b y (λ marks behind. behind) i marks behind
@@ -371,8 +371,8 @@ service_item_marks : (custom : CustomOptions) (a b : List Lexeme) (x : Option Me
     → (marks : List Mark) → Among marks b
     → Among (each_then method_then (option_to_list x) marks) a
 service_item_marks custom a b x (services-empty s) marks behind = past s behind
-service_item_marks custom a b x (services-option is o) marks behind = over (option_past o here) behind
-service_item_marks custom a b x (services-method is m) marks behind = method_marks m behind
+service_item_marks custom a b x (services-option o) marks behind = over (option_past o here) behind
+service_item_marks custom a b x (services-method m) marks behind = method_marks m behind
 
 service_marks : {custom : CustomOptions} {a b : List Lexeme} {x : Service} {marks : List Mark} → IsService custom a x b
     → Among marks b → Among (service_then x marks) a

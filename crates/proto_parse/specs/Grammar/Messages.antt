@@ -50,10 +50,8 @@ pub data IsValue (custom : CustomOptions) : List Lexeme → Heading → List Lex
 -- option | enumReserved | value | ";". The words `option` and `reserved` choose, anything else begins a value.
 pub data IsEnumItem (custom : CustomOptions) : List Lexeme → Option Heading → List Lexeme → Type 0 where
   empty : {a b : List Lexeme} {semicolon : Span} → One (of_kind Semicolon) a semicolon b → IsEnumItem custom a None b
-  option : {a b : List Lexeme} → first_is (is_word (codes "option")) a ≡ true → IsOption custom a b
-      → IsEnumItem custom a None b
-  reserved : {a b : List Lexeme} → first_is (is_word (codes "reserved")) a ≡ true → IsReserved true a b
-      → IsEnumItem custom a None b
+  option : {a b : List Lexeme} → IsOption custom a b → IsEnumItem custom a None b
+  reserved : {a b : List Lexeme} → IsReserved true a b → IsEnumItem custom a None b
   value : {a b : List Lexeme} {value : Heading}
       → first_is (of_kind Semicolon) a ≡ false → first_is (is_word (codes "option")) a ≡ false
       → first_is (is_word (codes "reserved")) a ≡ false → IsValue custom a value b
@@ -109,8 +107,7 @@ pub data IsOneofItem (syntax : Syntax) (Inner : List Lexeme → List Item → Li
     → Option Item → List Lexeme → Type 0 where
   empty : {a b : List Lexeme} {semicolon : Span} → One (of_kind Semicolon) a semicolon b
       → IsOneofItem syntax Inner a None b
-  option : {a b : List Lexeme} → first_is (is_word (codes "option")) a ≡ true → IsOption (custom_of syntax) a b
-      → IsOneofItem syntax Inner a None b
+  option : {a b : List Lexeme} → IsOption (custom_of syntax) a b → IsOneofItem syntax Inner a None b
   member : {a b : List Lexeme} {item : Item}
       → first_is (of_kind Semicolon) a ≡ false → first_is (is_word (codes "option")) a ≡ false
       → IsOneofMember syntax Inner a item b

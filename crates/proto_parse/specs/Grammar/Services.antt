@@ -1,5 +1,5 @@
 -- Services (proto3 specification, "Service definition").
-use Rattle.std.specs.Prelude.{◌≡◌, true, false, Option, Some, None, List, [], codes}
+use Rattle.std.specs.Prelude.{◌≡◌, false, Option, Some, None, List, [], codes}
 use Rattle.proto_lex.specs.declared.span.Span.{Span}
 use Rattle.proto_lex.specs.declared.token.TokenKind.TheVariants.{Identifier, Semicolon, OpenBrace, CloseBrace}
 use Rattle.proto_lex.specs.declared.token.TokenKind.TheVariants.{OpenParenthesis, CloseParenthesis}
@@ -31,8 +31,7 @@ pub data IsMethodType : List Lexeme → TypeName → List Lexeme → Type 0 wher
 -- option | ";"
 pub data IsMethodItem (custom : CustomOptions) : List Lexeme → List Lexeme → Type 0 where
   empty : {a b : List Lexeme} {semicolon : Span} → One (of_kind Semicolon) a semicolon b → IsMethodItem custom a b
-  option : {a b : List Lexeme} → first_is (is_word (codes "option")) a ≡ true → IsOption custom a b
-      → IsMethodItem custom a b
+  option : {a b : List Lexeme} → IsOption custom a b → IsMethodItem custom a b
 
 -- ";" | "{" { option | ";" } "}", with its first token
 pub data IsMethodEnd (custom : CustomOptions) : List Lexeme → Span → List Lexeme → Type 0 where
@@ -59,10 +58,8 @@ pub data IsMethod (custom : CustomOptions) : List Lexeme → Method → List Lex
 -- option | rpc | ";"
 pub data IsServiceItem (custom : CustomOptions) : List Lexeme → Option Method → List Lexeme → Type 0 where
   empty : {a b : List Lexeme} {semicolon : Span} → One (of_kind Semicolon) a semicolon b → IsServiceItem custom a None b
-  option : {a b : List Lexeme} → first_is (is_word (codes "option")) a ≡ true → IsOption custom a b
-      → IsServiceItem custom a None b
-  method : {a b : List Lexeme} {method : Method} → first_is (is_word (codes "rpc")) a ≡ true
-      → IsMethod custom a method b → IsServiceItem custom a (Some method) b
+  option : {a b : List Lexeme} → IsOption custom a b → IsServiceItem custom a None b
+  method : {a b : List Lexeme} {method : Method} → IsMethod custom a method b → IsServiceItem custom a (Some method) b
 
 -- service = "service" IDENT "{" { option | rpc | ";" } "}"
 pub data IsService (custom : CustomOptions) : List Lexeme → Service → List Lexeme → Type 0 where

@@ -51,6 +51,4 @@ pub use host::Host;
 pub use laws::headline_of_options;
 pub use messages::report;
 pub use progress::Progress;
-pub use query_fault::QueryFault;
-pub use querying::query;
 pub use running::{out_path, run};

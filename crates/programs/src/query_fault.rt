@@ -8,13 +8,11 @@ use protoscip::{MEMORY_STATUS, STREAM_STATUS, path_line, placed_line, plain_line
 use scip_query::AnswerFault;
 use scip_wire::WireFault;
 use std::alloc::{AllocError, Global};
-use std::error::Error;
-use std::fmt;
 
 /// Why commands about the index that a file holds aren't answered: the first of those that hold. Memory may run out
 /// at any step.
-#[derive(Clone, Copy, Debug, Drop, PartialEq, Eq)]
-pub enum QueryFault {
+#[derive(Clone, Copy, Debug, Drop)]
+pub(crate) enum QueryFault {
     /// The file can't be read.
     Unreadable,
     /// Its bytes decode to no index.
@@ -22,15 +20,6 @@ pub enum QueryFault {
     /// Reading commands or writing answers failed, or memory ran out, there or before.
     Answers(AnswerFault),
 }
-
-/// Its name.
-impl fmt::Display for QueryFault {
-    fn fmt<W: fmt::Write>(&self, f: &mut fmt::Formatter<W>) -> fmt::Result {
-        f.write_str(self.name())
-    }
-}
-
-impl Error for QueryFault {}
 
 impl From<AllocError> for QueryFault {
     ghost use Rattle.scip_query.specs.declared.answer_fault.AnswerFault.TheVariants.{Memory};
@@ -58,7 +47,7 @@ impl From<WireFault> for QueryFault {
 
 impl QueryFault {
     /// The name in its line: the variant's, or that of what it holds.
-    pub fn name(&self) -> &'static str
+    fn name(&self) -> &'static str
         ensures { result.now ≡ name_of self.now }
     {
         match self {
@@ -69,7 +58,7 @@ impl QueryFault {
     }
 
     /// The line, without its end, that says this about the index with this path. Offsets are in bytes.
-    pub fn line(&self, alloc: Global, path: &str) -> Result<String, AllocError>
+    pub(crate) fn line(&self, alloc: Global, path: &str) -> Result<String, AllocError>
         ensures { IfOk result (λ line. string_bytes line ≡ line_of path.now self.now) }
     {
         let name = self.name();
@@ -81,7 +70,7 @@ impl QueryFault {
     }
 
     /// The exit status.
-    pub fn status(&self) -> u8
+    pub(crate) fn status(&self) -> u8
         ensures { result ≡ status_of self.now }
     {
         match self {

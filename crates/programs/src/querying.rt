@@ -34,7 +34,7 @@ pub(crate) fn index_of_file<F: ReadFiles>(
 /// - `Unreadable`: the file can't be read.
 /// - `Wire`: its bytes decode to no index.
 /// - `Answers`: reading commands or writing answers failed, as `Queries::answer_all` says.
-pub fn query<F: ReadFiles, R: Feed, W: Sink>(
+pub(crate) fn query<F: ReadFiles, R: Feed, W: Sink>(
     alloc: Global,
     files: &F,
     path: &str,

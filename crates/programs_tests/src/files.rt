@@ -122,6 +122,7 @@ impl ReadFiles for Files {
             "a.scip" =>
                 b"\x12\x0f\x0a\x01a\x12\x0a\x0a\x03\x01\x08\x09\x12\x01x\x18\x01".as_slice(),
             "cut.scip" => b"\x0a".as_slice(),
+            "twice.scip" => b"\x0a\x00\x0a\x00".as_slice(),
             "seen.scip" => SEEN,
             "src/a.txt" => b"ab\n".as_slice(),
             "src/b/c.txt" => b"\tx".as_slice(),

@@ -6,8 +6,6 @@ mod files;
 #[cfg(test)]
 mod laws;
 #[cfg(test)]
-mod names;
-#[cfg(test)]
 mod pages;
 #[cfg(test)]
 mod progress;

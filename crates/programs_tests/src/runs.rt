@@ -39,7 +39,7 @@ pub(crate) const SILENT: Row = Row {
 };
 
 // The second row reads: there is no program `nothing`, which is said, with status 2.
-static ROWS: [Row; 22] = [
+static ROWS: [Row; 23] = [
     Row {
         words: "--version",
         printed: "protoscip 1\n\0",
@@ -105,6 +105,13 @@ input.proto:1:8: met `=`: the grammar wants something else here: `(` or a name
         input: "sym a\n",
         status: 5,
         said: "protoscip: cut.scip@0: Truncated\n",
+        ..SILENT
+    },
+    Row {
+        words: "query twice.scip",
+        input: "sym a\n",
+        status: 5,
+        said: "protoscip: twice.scip@2: Repeated\n",
         ..SILENT
     },
     Row {

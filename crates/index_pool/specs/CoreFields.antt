@@ -3,6 +3,7 @@ use Rattle.std.specs.Prelude.{◌≡◌, ℕ, ◌+◌, ◌<◌, ◌≤◌, List,
 use Rattle.std.specs.VecDeque.{deque_capacity}
 use Rattle.std.specs.List.{range_with_len}
 use Rattle.index_pool.specs.CoreMachine.{WorkerState, CoreState}
+use Rattle.index_pool.specs.Workers.{most_workers}
 use Rattle.index_pool.specs.declared.workers.TheConstants.{MAX_INPUTS}
 use Rattle.index_pool.specs.declared.core_machine.worker.CoreWorker.{CoreWorker}
 
@@ -36,7 +37,7 @@ pub record IsSound (s : CoreState) : Type 0 where
 
 pub record IsKept (inputs seeded : ℕ) (workers : List CoreWorker) : Type 0 where
   pub some_worker : 0 < length workers
-  pub few_workers : length workers ≤ 16
+  pub few_workers : length workers ≤ most_workers
   pub few_inputs : inputs ≤ MAX_INPUTS
   pub roomy : All (HasRoom inputs) workers
   pub sound : IsSound (core_state inputs seeded workers)

@@ -1,3 +1,4 @@
+pub mod Workers
 pub mod Once
 pub mod CoreMachine
 pub mod CoreFields

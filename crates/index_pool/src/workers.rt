@@ -1,6 +1,7 @@
 //! How many workers and inputs a phase has.
 
 ghost use Rattle.std.specs.Prelude.{◌≡◌, ◌<◌, ◌≤◌, SomeIff};
+ghost use Rattle.index_pool.specs.Workers.{most_workers};
 
 use std::marker::Model;
 
@@ -18,12 +19,13 @@ pub struct Workers {
 
 impl Model for Workers {
     ghost use Rattle.std.specs.Prelude.{ℕ, ◌<◌, ◌≤◌};
+    ghost use Rattle.index_pool.specs.Workers.{most_workers};
 
     ghost Value = { ℕ };
 
     ghost view = { λ w. w.count };
 
-    ghost invariant = { λ w. (0 < w.count) × (w.count ≤ 16) };
+    ghost invariant = { λ w. (0 < w.count) × (w.count ≤ most_workers) };
 
     ghost inverse = { λ n. record { count = n } };
 }
@@ -31,7 +33,7 @@ impl Model for Workers {
 impl Workers {
     /// This many workers, if they are 1 to `MAX_WORKERS`.
     pub fn new(count: usize) -> Option<Workers>
-        ensures { SomeIff result ((0 < count) × (count ≤ 16)) count }
+        ensures { SomeIff result ((0 < count) × (count ≤ most_workers)) count }
     {
         if 0 < count && count <= MAX_WORKERS {
             Some(Workers { count })
@@ -43,7 +45,7 @@ impl Workers {
     /// How many they are: 1 to `MAX_WORKERS`.
     pub fn count(self) -> usize
         ensures value { result ≡ self }
-        ensures range { (0 < result) × (result ≤ 16) }
+        ensures range { (0 < result) × (result ≤ most_workers) }
     {
         self.count
     }

@@ -1,4 +1,5 @@
 use Rattle.std.proofs.Common.{◌≡◌, ◌≤◌, ◌<◌, length, arith}
+use Rattle.index_pool.specs.Workers.{most_workers}
 use Rattle.index_pool.proofs.CoreFieldsLemmas.{start_kept}
 use Rattle.index_pool.proofs.core_machine.Core.new.Goals as goal
 
@@ -14,5 +15,5 @@ returns c =
     let value = c.count-end.ensures.value in
     let full : length c.loop.all.items ≡ c.args.workers = omega (arith, c.loop.invariant.count) in
     let some : 0 < c.args.workers = omega arith in
-    let few : c.args.workers ≤ 16 = omega arith in
+    let few : c.args.workers ≤ most_workers = omega arith in
     (start_kept _ _ _ some few c.requires full c.loop.invariant.idles c.loop.invariant.roomy).1

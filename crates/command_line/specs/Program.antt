@@ -7,7 +7,7 @@ use Rattle.clap.specs.Words.{App, Rule, Shape, Text, new_app, new_rule, with_rul
 use Rattle.clap.specs.declared.builder.arg.Arg.{Arg}
 use Rattle.clap.specs.declared.builder.action.ArgAction.TheVariants.{Append, SetTrue}
 use Rattle.clap.specs.declared.builder.value_parser.ValueParser.TheVariants as values
-use Rattle.index_pool.specs.declared.workers.TheConstants.{MAX_WORKERS}
+use Rattle.index_pool.specs.Workers.{most_workers}
 use Rattle.command_line.specs.declared.words.WordLists.{WordLists}
 
 -- ---- arguments and options
@@ -28,9 +28,9 @@ or_default text rule = record rule { defaults = text ∷ [] }
 abbrev pub taking_words : Bor (List (Bor Text)) → Rule → Rule
 taking_words words rule = record rule { parser = Some (values.Names words) }
 
--- the option takes a number from 1 to `MAX_WORKERS`
+-- the option takes a number from 1 to `most_workers`
 abbrev pub taking_threads : Rule → Rule
-taking_threads rule = record rule { parser = Some (values.Unsigned 1 MAX_WORKERS) }
+taking_threads rule = record rule { parser = Some (values.Unsigned 1 most_workers) }
 
 -- such a number, and 4 if it isn't given
 abbrev pub workers_rule : Rule

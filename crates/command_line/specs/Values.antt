@@ -7,7 +7,7 @@ use Rattle.std.specs.Str.{bytes_eq}
 use Rattle.std.specs.Str.Parse.{digits_value, without_leading_plus}
 use Rattle.clap.specs.Words.{Row, Text, all_of, first_of, one_of}
 use Rattle.clap.specs.ValueTests.{is_unsigned_in}
-use Rattle.index_pool.specs.declared.workers.TheConstants.{MAX_WORKERS}
+use Rattle.index_pool.specs.Workers.{most_workers}
 use Rattle.command_line.specs.Words.{accept_word, custom_options_word, doc_word, faulty_word, positions_word}
 use Rattle.command_line.specs.declared.options.IndexOptions.{IndexOptions}
 use Rattle.command_line.specs.declared.options.DumpOptions.{DumpOptions}
@@ -28,15 +28,15 @@ rows_in program = option_map_or (λ p. p.1) program []
 abbrev pub text_of : Text → List Row → Text
 text_of id rows = unwrap_or (first_of id rows) []
 
--- the number from 1 to `MAX_WORKERS` that the text spells, with or without a plus sign and zeros before it;
+-- the number from 1 to `most_workers` that the text spells, with or without a plus sign and zeros before it;
 -- `clap` refuses every other text
 abbrev pub workers_in : Text → ℕ
-workers_in text = if is_unsigned_in 1 MAX_WORKERS text then digits_value 10 (without_leading_plus text) else 4
+workers_in text = if is_unsigned_in 1 most_workers text then digits_value 10 (without_leading_plus text) else 4
 
--- a number from 1 to `MAX_WORKERS`, or 4
+-- a number from 1 to `most_workers`, or 4
 abbrev pub fitting : Option ℕ → ℕ
 fitting None = 4
-fitting (Some n) = if nat_le 1 n && nat_le n MAX_WORKERS then n else 4
+fitting (Some n) = if nat_le 1 n && nat_le n most_workers then n else 4
 
 abbrev pub workers_of : List Row → ℕ
 workers_of rows = option_map_or workers_in (one_of (codes "workers") rows) 4
@@ -89,7 +89,7 @@ folders_in others = []
 pub record Carries (rows : List Row) (options : IndexOptions) : Type 0 where
   pub root : string_bytes options.root ≡ text_of (codes "ROOT") rows
   pub workers : options.workers ≡ workers_of rows
-  pub workers_fit : (1 ≤ options.workers) × (options.workers ≤ MAX_WORKERS)
+  pub workers_fit : (1 ≤ options.workers) × (options.workers ≤ most_workers)
   pub project_root : string_bytes options.project_root ≡ text_of (codes "project-root") rows
   pub manager : string_bytes options.manager ≡ text_of (codes "manager") rows
   pub «package» : string_bytes options.«package» ≡ text_of (codes "package") rows

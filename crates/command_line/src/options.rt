@@ -1,7 +1,7 @@
 //! What `index` and `shell` are told of a tree.
 
 ghost use Rattle.std.specs.Prelude.{◌≤◌};
-ghost use Rattle.index_pool.specs.declared.workers.TheConstants.{MAX_WORKERS};
+ghost use Rattle.index_pool.specs.Workers.{most_workers};
 
 /// The values of the argument ROOT and of the options of `index` and `shell`. An option that isn't given
 /// has its default.
@@ -37,7 +37,7 @@ pub struct IndexOptions {
     pub faulty: FaultyWord,
     /// Whether a fault is explained.
     pub explain: bool,
-    ghost workers_fit: { (1 ≤ workers) × (workers ≤ MAX_WORKERS) },
+    ghost workers_fit: { (1 ≤ workers) × (workers ≤ most_workers) },
 }
 
 /// What `dump` is given.

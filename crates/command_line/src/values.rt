@@ -2,7 +2,7 @@
 
 ghost use Rattle.std.specs.Prelude.{◌≡◌, ◌≤◌, IfOk, [], map, codes, string_bytes, option_map, unwrap_or};
 ghost use Rattle.clap.specs.Words.{all_of, first_of, found_of, rows_of};
-ghost use Rattle.index_pool.specs.declared.workers.TheConstants.{MAX_WORKERS};
+ghost use Rattle.index_pool.specs.Workers.{most_workers};
 ghost use Rattle.command_line.specs.Values.{
   Carries,
   CarriesDump,
@@ -149,7 +149,7 @@ fn package_folders_of(
 /// The number of threads. `clap` takes no number but 1 to `MAX_WORKERS`.
 fn workers_of(given: &ArgMatches<'_>) -> usize
     ensures number { result ≡ workers_of (rows_of (found_of given.now)) }
-    ensures fits { (1 ≤ result) × (result ≤ MAX_WORKERS) }
+    ensures fits { (1 ≤ result) × (result ≤ most_workers) }
 {
     fitting(given.get_one::<usize>(WORKERS))
 }
@@ -157,7 +157,7 @@ fn workers_of(given: &ArgMatches<'_>) -> usize
 /// A number from 1 to `MAX_WORKERS`, or the default for any other.
 fn fitting(number: Option<usize>) -> usize
     ensures number { result ≡ fitting number }
-    ensures fits { (1 ≤ result) × (result ≤ MAX_WORKERS) }
+    ensures fits { (1 ≤ result) × (result ≤ most_workers) }
 {
     match number {
         Some(number) if 1 <= number && number <= MAX_WORKERS => number,

@@ -9,7 +9,7 @@ ghost use Rattle.scip_site.specs.Laws.{
 };
 ghost use Rattle.scip_site.specs.SharedLaws.{StyleAsks, StyleIsAlone, ScriptIsAlone, ScriptMakesNoMarks};
 
-/// The page of a document whose path has no fault is below the folder of all pages, at a place of its own.
+/// If the path of a document leads below a folder, its page is below the folder of all pages, at a place of its own.
 pub fn pages_have_their_own_places()
     ensures good { HasAGoodPath }
     ensures own { HasItsOwnPath }

@@ -7,7 +7,7 @@ use Rattle.std.proofs.lemmas.List.{append_cancel_left}
 use Rattle.std.proofs.lemmas.List.Elements.{All-head}
 use Rattle.proto_lex.specs.Bytes.{is_letter, is_word}
 use Rattle.proto_lex.specs.Lexes.{identifier, sign}
-use Rattle.scip_symbol.specs.Path.{IsGoodPath}
+use Rattle.source_tree.specs.Path.{IsGoodPath}
 use Rattle.scip_symbol.specs.Parts.{IsSymbol}
 use Rattle.scip_symbol.specs.Package.{Package, IsPackage}
 use Rattle.scip_symbol.specs.SpellsSymbol.{SpellsSymbol}

@@ -4,7 +4,7 @@ use Rattle.proto_lex.specs.Lexes.{Spells}
 use Rattle.proto_lex.specs.declared.token.TokenKind.TheVariants.{Identifier}
 use Rattle.scip_symbol.specs.SpellsSymbol.{descriptor}
 use Rattle.scip_symbol.specs.Package.{Package}
-use Rattle.scip_symbol.specs.Path.{IsGoodPath}
+use Rattle.source_tree.specs.Path.{IsGoodPath}
 use Rattle.proto_decl.specs.declared.kind.DeclarationKind.{DeclarationKind}
 use Rattle.proto_decl.specs.declared.kind.DeclarationKind.TheVariants.{Message, Enum, Service, Field, Oneof, Value}
 use Rattle.proto_decl.specs.declared.kind.DeclarationKind.TheVariants.{Method}

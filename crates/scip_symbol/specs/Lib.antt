@@ -5,7 +5,7 @@ pub mod Parts
 pub mod SpellsSymbol
 pub mod SymbolText
 -- the entities that symbols name
-pub mod Path
+pub use Rattle.source_tree.specs.Path
 pub mod Package
 pub mod Entities
 pub mod EntityTexts

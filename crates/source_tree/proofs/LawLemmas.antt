@@ -6,7 +6,7 @@ use Rattle.std.proofs.lemmas.Slice.Eq.{bytes_eq-Decides}
 use Rattle.std.proofs.lemmas.Option.{slice_get_within, get_or_from_slice_get}
 use Rattle.std.proofs.lemmas.Map.Made.{IsDistinct-from_AllPairs}
 use Rattle.std.proofs.lemmas.List.Elements.{All-head, All-tail}
-use Rattle.scip_symbol.specs.Path.{IsGoodPath}
+use Rattle.source_tree.specs.Path.{IsGoodPath}
 use Rattle.source_tree.specs.declared.fault.TreeFault.TheVariants.{TooMany, BadPath, SamePath, Memory}
 use Rattle.source_tree.specs.Files.{SourceFile, paths_of}
 use Rattle.source_tree.specs.Trees.{HaveGoodPaths}

@@ -6,7 +6,7 @@ use Rattle.std.specs.List.Sorted.{IsSorted}
 use Rattle.std.proofs.lemmas.Bool.{cases_lt}
 use Rattle.std.proofs.lemmas.Option.{slice_get_read, slice_get_within}
 use Rattle.std.proofs.lemmas.List.Elements.{All-append}
-use Rattle.scip_symbol.specs.Path.{IsGoodPath}
+use Rattle.source_tree.specs.Path.{IsGoodPath}
 use Rattle.source_tree.specs.Files.{SourceFile, path_cmp, RepeatsAPath}
 use Rattle.source_tree.specs.Trees.{HaveGoodPaths}
 use Rattle.source_tree.specs.Refusals.{IsFirstBad, IsFirstRepeat}

@@ -18,7 +18,7 @@ use Rattle.std.proofs.lemmas.List.Sorted.{IsPermutation-sym, length_permutation,
 use Rattle.std.proofs.lemmas.List.Elements.{All-cons, All-head, All-tail, All-map, All-append, All-from_recursion}
 use Rattle.std.proofs.lemmas.List.Elements.{recursion_from_All, Contains-append_left, Contains-append_right}
 use Rattle.std.proofs.lemmas.List.Elements.{Contains-append_cases}
-use Rattle.scip_symbol.specs.Path.{IsGoodPath}
+use Rattle.source_tree.specs.Path.{IsGoodPath}
 use Rattle.source_tree.specs.Files.{SourceFile, TreeFile, in_tree, path_cmp, paths_of, HasPath, file_cmp, IsByPath}
 use Rattle.source_tree.specs.Files.{RepeatsAPath}
 use Rattle.source_tree.specs.Trees.{max_files, HaveOwnPaths, IsTree, Counts, IsFileOf, of_source, of_included}

@@ -1,5 +1,7 @@
 -- files as they are handed in, and as a tree has them
 pub mod Files
+-- what a good path is
+pub mod Path
 -- what is kept of a source that is read
 pub mod Reading
 -- what a tree is, and the tree of files handed in

@@ -1,6 +1,6 @@
 -- Why sources and included files make no tree, and what is handed back.
 use Rattle.std.specs.Prelude.{◌≡◌, ℕ, ◌+◌, ◌<◌, ◌≤◌, ⊤, List, ◌++◌, Some, length, take, slice_get}
-use Rattle.scip_symbol.specs.Path.{IsGoodPath}
+use Rattle.source_tree.specs.Path.{IsGoodPath}
 use Rattle.source_tree.specs.declared.fault.TreeFault.{TreeFault}
 use Rattle.source_tree.specs.declared.fault.TreeFault.TheVariants.{TooMany, BadPath, SamePath, Memory}
 use Rattle.source_tree.specs.Files.{SourceFile, IsByPath, RepeatsAPath}

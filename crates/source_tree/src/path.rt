@@ -2,7 +2,7 @@
 
 ghost use Rattle.std.specs.Prelude.{ℕ, ◌≤◌, ◌↔◌, All, IsTrue, nat_eq};
 ghost use Rattle.std.specs.List.{slice_split};
-ghost use Rattle.scip_symbol.specs.Path.{IsGoodPath, IsComponent, slash};
+ghost use Rattle.source_tree.specs.Path.{IsGoodPath, IsComponent, slash};
 
 /// The most bytes of a path.
 const MAX_PATH_LENGTH: usize = 4096;

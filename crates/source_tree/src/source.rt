@@ -1,7 +1,7 @@
 //! Files as they are handed in.
 
 ghost use Rattle.std.specs.Prelude.{◌≡◌, ◌↔◌, IsTrue};
-ghost use Rattle.scip_symbol.specs.Path.{IsGoodPath};
+ghost use Rattle.source_tree.specs.Path.{IsGoodPath};
 ghost use Rattle.source_tree.specs.Files.{path_cmp};
 
 use crate::path::is_good_path;

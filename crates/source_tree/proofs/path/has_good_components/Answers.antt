@@ -4,7 +4,7 @@ use Rattle.std.proofs.lemmas.Iterator.Splits.{YieldsList-from_str_split}
 use Rattle.std.specs.List.{slice_split}
 use Rattle.std.specs.Prelude.{nat_eq}
 use borrow.Author.Tests.{tests}
-use Rattle.scip_symbol.specs.Path.{IsComponent, slash}
+use Rattle.source_tree.specs.Path.{IsComponent, slash}
 use Rattle.source_tree.proofs.ComponentLemmas.{all_from}
 use Rattle.source_tree.proofs.path.has_good_components.Goals as goal
 

@@ -1,7 +1,7 @@
 use Rattle.std.proofs.Common.{subst, refl, arith}
 use Rattle.std.proofs.lemmas.List.{take_all}
 use Rattle.std.proofs.lemmas.List.Elements.{All-more}
-use Rattle.scip_symbol.specs.Path.{IsGoodPath}
+use Rattle.source_tree.specs.Path.{IsGoodPath}
 use Rattle.source_tree.specs.Files.{SourceFile}
 use Rattle.source_tree.specs.Trees.{HaveGoodPaths}
 use Rattle.source_tree.proofs.tree.first_bad.Goals as goal

@@ -18,8 +18,7 @@ pub record IsComponent (component : List ℕ) : Type 0 where
   pub no_dots : component ≢ codes ".."
 
 -- So it isn't empty, and neither begins nor ends with `/`. A text is the list of its bytes in UTF-8, of which those
--- below
--- 32 are just the characters below U+0020.
+-- below 32 are just the characters below U+0020.
 pub record IsGoodPath (path : List ℕ) : Type 0 where
   pub short : length path ≤ max_path_length
   pub printable : All (λ b. 32 ≤ b) path

@@ -41,6 +41,7 @@ pub(crate) enum By {
     Fault,
 }
 
+/// What these words ask for, read in this way.
 fn request_by(alloc: Global, arguments: &str, by: By) -> Result<Request, AllocError> {
     let words = words_of(alloc, arguments)?;
     match by {
@@ -50,6 +51,7 @@ fn request_by(alloc: Global, arguments: &str, by: By) -> Result<Request, AllocEr
     }
 }
 
+/// The text of what these words ask for; memory may run out.
 fn asked_once(alloc: Global, arguments: &str, by: By) -> Result<String, AllocError> {
     let request = request_by(alloc, arguments, by)?;
     text_of(alloc, &request)

@@ -15,6 +15,7 @@ fn is_named(asked: &Result<Request, AllocError>) -> bool {
     out_path(asked) == "out"
 }
 
+/// Whether the words `index api out` ask for an index that goes to `out`.
 fn is_asked(alloc: Global) -> Result<bool, AllocError> {
     let words = words_of(alloc, "index api out")?;
     let asked = request_of(alloc, &words);

@@ -57,6 +57,7 @@ fn see_reported(
     see(rt, told.split_at(count.min(32)).0 == due, "what is told");
 }
 
+/// The line of a fault.
 fn line_of(alloc: Global) -> Result<String, AllocError> {
     String::from_str(alloc, "protoscip: Read")
 }

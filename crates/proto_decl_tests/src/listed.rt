@@ -93,6 +93,7 @@ fn add_name(text: &mut String, source: &str, span: Span, name: &str) {
     }
 }
 
+/// Adds the components of a name, each with its place.
 fn add_components(text: &mut String, source: &str, components: &[Component]) {
     for component in components {
         add(text, " ");
@@ -100,6 +101,7 @@ fn add_components(text: &mut String, source: &str, components: &[Component]) {
     }
 }
 
+/// Adds the line of an import.
 fn add_import(text: &mut String, source: &str, import: &Imported) {
     add(
         text,
@@ -115,6 +117,7 @@ fn add_import(text: &mut String, source: &str, import: &Imported) {
     add(text, "\n");
 }
 
+/// The word that a declaration's line begins with.
 fn mark_of(kind: DeclarationKind) -> &'static str {
     match kind {
         DeclarationKind::Message => "message ",
@@ -184,6 +187,7 @@ fn add_named(alloc: Global, text: &mut String, source: &str, declaration: &Decla
     }
 }
 
+/// Adds the line of a use.
 fn add_use(text: &mut String, source: &str, found: &Use) {
     add(text, "use ");
     add_part(text, source, found.span);

@@ -50,6 +50,7 @@ pub fn fault_of_tokens(
     tree_of(alloc, tokens, dialect).err()
 }
 
+/// The fault of the parser in a text, in this dialect.
 fn fault_of_text(alloc: Global, text: &Text<'_>, dialect: Dialect) -> Option<SyntaxFault> {
     match tokens_of(alloc, text) {
         Ok(tokens) => fault_of_tokens(alloc, &tokens, dialect),

@@ -30,6 +30,7 @@ const SOURCES: [(&str, usize); 4] = [
 /// No offset: for want of memory.
 const NOWHERE: usize = usize::MAX;
 
+/// The offset at which a text is refused, by the lexer or by the parser.
 fn refusal_of_text(alloc: Global, text: &Text<'_>) -> Option<usize> {
     match tokens_of(alloc, text) {
         Ok(tokens) => match fault_of_tokens(alloc, &tokens, PROTO3) {

@@ -115,6 +115,7 @@ fn second_type<'a>(source: &'a str, file: &File) -> Option<&'a str> {
     }
 }
 
+/// Whether the type of the second field has the due name.
 fn is_second_type(alloc: Global, tokens: &Tokens<'_, '_>, due: &str) -> bool {
     match tree_of(alloc, tokens, PROTO3) {
         Ok(file) => second_type(tokens.text().as_str(), &file) == Some(due),
@@ -122,6 +123,7 @@ fn is_second_type(alloc: Global, tokens: &Tokens<'_, '_>, due: &str) -> bool {
     }
 }
 
+/// The same of a text.
 fn is_type_in_text(alloc: Global, text: &Text<'_>, due: &str) -> bool {
     match tokens_of(alloc, text) {
         Ok(tokens) => is_second_type(alloc, &tokens, due),

@@ -12,6 +12,7 @@ pub(crate) struct Asking<'a> {
 }
 
 impl<'a> Asking<'a> {
+    /// One that nobody has asked yet.
     pub(crate) fn new(registry: &'a Registry) -> Asking<'a> {
         Asking {
             registry,

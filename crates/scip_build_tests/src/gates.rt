@@ -87,6 +87,7 @@ fn is_met<R: Threads + Wait + Clock + Sync + Abort>(rt: &R, alloc: Global, site:
         && gate.run_outs.load(Ordering::SeqCst) == 0
 }
 
+/// Sees that two workers met, at the first try or at the second.
 fn see_met<R: Threads + Wait + Clock + Sync + Abort>(
     rt: &R,
     alloc: Global,

@@ -72,6 +72,7 @@ fn see_site<R: Threads + Wait + Abort>(rt: &R, alloc: Global, site: &Site, row: 
     }
 }
 
+/// Sees it of the files of a row.
 fn see_row<R: Threads + Wait + Abort>(
     rt: &R,
     alloc: Global,
@@ -132,6 +133,7 @@ static ASKED: [Row; 3] = [
     },
 ];
 
+/// Sees it of each row.
 fn see_rows<R: Threads + Wait + Abort>(
     rt: &R,
     alloc: Global,
@@ -167,6 +169,7 @@ b.proto
 2 23 2 24 1 C#b.
 ";
 
+/// Whether the index is that of every second declaration, after seven questions.
 fn are_second_ones<R: Threads + Wait + Abort>(
     rt: &R,
     alloc: Global,

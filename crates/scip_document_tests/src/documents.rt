@@ -122,6 +122,7 @@ fn is_listed(maker: &DocumentMaker, listed: &str) -> Result<bool, AllocError>
     Ok(draft.finish()?.as_str() == listed)
 }
 
+/// Whether the document of a source that is linked alone is listed as is due.
 fn is_linked_right(
     alloc: Global,
     text: &Text,
@@ -151,6 +152,7 @@ fn is_linked_right(
     is_listed(&maker, listed)
 }
 
+/// The same, in the empty package.
 fn is_chosen_right(
     alloc: Global,
     text: &Text,
@@ -165,6 +167,7 @@ fn is_chosen_right(
     is_linked_right(alloc, text, facts, choices, &package, listed)
 }
 
+/// The same, with what is chosen by default.
 fn is_declared_right(
     alloc: Global,
     text: &Text,
@@ -177,11 +180,13 @@ fn is_declared_right(
     is_chosen_right(alloc, text, facts, &choices, listed)
 }
 
+/// The same of a text.
 fn is_text_right(alloc: Global, text: &Text, listed: &str) -> Result<bool, AllocError> {
     let facts = facts_of(alloc, text)?;
     is_declared_right(alloc, text, &facts, listed)
 }
 
+/// The same of the bytes of a source; memory may run out.
 fn is_right_once(alloc: Global, source: &str, listed: &str) -> Result<bool, AllocError> {
     match text_of(alloc, source.as_bytes()) {
         Ok(text) => is_text_right(alloc, &text, listed),

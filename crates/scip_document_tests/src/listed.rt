@@ -15,12 +15,14 @@ fn add_number(draft: &mut Draft, number: i64) {
     draft.add(" ");
 }
 
+/// Adds a symbol without what all symbols begin with.
 fn add_symbol(draft: &mut Draft, symbol: &OwnedText) {
     let symbol = symbol.as_str();
     let front = "scip-protobuf . . . ";
     draft.add(symbol.strip_prefix(front).unwrap_or(symbol));
 }
 
+/// Adds an occurrence: its range, its roles and its symbol.
 fn add_occurrence(draft: &mut Draft, occurrence: &Occurrence) {
     let range = &occurrence.range;
     draft.add(" ");
@@ -33,6 +35,7 @@ fn add_occurrence(draft: &mut Draft, occurrence: &Occurrence) {
     draft.add(";");
 }
 
+/// Adds the entry of a symbol: its name and its documentation.
 fn add_entry(draft: &mut Draft, info: &SymbolInformation) {
     draft.add(" ");
     add_symbol(draft, &info.symbol);

@@ -18,6 +18,7 @@ static ROWS: [(&str, Option<MergeFault>); 4] = [
     ("a.proto c.proto", Some(MergeFault::Stranger(1))),
 ];
 
+/// A document with this path in which nothing occurs.
 fn piece(alloc: Global, path: &str) -> Result<Document, AllocError> {
     Ok(Document {
         relative_path: OwnedText::copy_of(alloc, path)?,
@@ -28,12 +29,14 @@ fn piece(alloc: Global, path: &str) -> Result<Document, AllocError> {
     })
 }
 
+/// Adds one with this path.
 fn add_piece(alloc: Global, pieces: &mut Vec<Document>, path: &str) -> Result<(), AllocError> {
     let piece = piece(alloc, path)?;
     pieces.push(piece)?;
     Ok(())
 }
 
+/// Documents with these paths, in order.
 fn pieces_of(alloc: Global, paths: &str) -> Result<Vec<Document>, AllocError> {
     let mut pieces = Vec::new(alloc);
     for path in paths.split_terminator(' ') {
@@ -42,6 +45,7 @@ fn pieces_of(alloc: Global, paths: &str) -> Result<Vec<Document>, AllocError> {
     Ok(pieces)
 }
 
+/// What `merge` answers of these pieces for two paths.
 fn merged(
     alloc: Global,
     pieces: Vec<Document>,
@@ -84,6 +88,7 @@ fn is_due(answer: &Result<Index, Unmerged>, fault: Option<MergeFault>) -> bool {
     }
 }
 
+/// Whether pieces with these paths have an index, or this fault.
 fn is_row_due(alloc: Global, paths: &str, fault: Option<MergeFault>) -> Result<bool, AllocError> {
     let pieces = pieces_of(alloc, paths)?;
     let answer = merged_again(alloc, pieces);

@@ -12,6 +12,7 @@ pub fn see(rt: &impl Abort, holds: bool, case: &str) {
     assert!(rt; holds, "{case}");
 }
 
+/// The index that bytes decode to, read again if memory runs out.
 fn read(alloc: Global, bytes: &[u8]) -> Result<Index, WireFault> {
     match read_index(alloc, bytes) {
         Err(WireFault::Memory) => read_index(alloc, bytes),
@@ -30,6 +31,7 @@ fn index(rt: &impl Abort, alloc: Global, bytes: &[u8]) -> Result<Index, AllocErr
     }
 }
 
+/// Queries over an index, once more.
 fn queries_again(alloc: Global, index: Index) -> Result<Queries, AllocError> {
     match Queries::new(alloc, index) {
         Ok(queries) => Ok(queries),

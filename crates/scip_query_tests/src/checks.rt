@@ -20,6 +20,7 @@ pub enum Check<'a> {
     Innermost,
 }
 
+/// Sees the answers to commands, and to a single one without its line end too.
 fn see_answers(rt: &impl Abort, alloc: Global, asked: &Queries, commands: &str, answers: &str) {
     if commands.split_once('\n').is_none() {
         see_answered(rt, alloc, asked, commands, false, answers);
@@ -27,6 +28,7 @@ fn see_answers(rt: &impl Abort, alloc: Global, asked: &Queries, commands: &str, 
     see_answered(rt, alloc, asked, commands, true, answers);
 }
 
+/// Sees what a check asks for.
 fn see_check(rt: &impl Abort, alloc: Global, asked: &Queries, check: Check<'_>) {
     match check {
         Check::Answers(commands, answers) => see_answers(rt, alloc, asked, commands, answers),

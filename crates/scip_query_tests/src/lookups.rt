@@ -18,6 +18,7 @@ fn see_are(rt: &impl Abort, places: Result<Vec<Place>, QueryFault>, due: &[usize
     see(rt, are, "places");
 }
 
+/// Whether places are these occurrences of the first document.
 fn are_places(places: &[Place], due: &[usize]) -> bool {
     let mut rest = places;
     for occurrence in due {
@@ -41,6 +42,7 @@ pub fn see_places(rt: &impl Abort, alloc: Global, asked: &Queries) {
     see_are(rt, definitions(alloc, asked, at), &[2]);
 }
 
+/// Whether entries are those of these two symbols.
 fn are_entries(entries: Result<Vec<&SymbolInformation>, QueryFault>, due: [&str; 2]) -> bool {
     match entries {
         Ok(entries) => match entries.as_slice() {

@@ -11,6 +11,7 @@ pub fn see(rt: &impl Abort, holds: bool, case: &str) {
     assert!(rt; holds, "{case}");
 }
 
+/// The index that bytes decode to, read again if memory runs out.
 fn index_again(alloc: Global, bytes: &[u8]) -> Result<Index, WireFault> {
     match read_index(alloc, bytes) {
         Err(WireFault::Memory) => read_index(alloc, bytes),

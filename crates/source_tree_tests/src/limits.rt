@@ -19,6 +19,7 @@ fn nameless(alloc: Global, count: usize) -> Result<Vec<Source>, AllocError> {
     Ok(files)
 }
 
+/// The fault of so many files without a path.
 fn fault_of_many(alloc: Global, count: usize) -> Result<Option<TreeFault>, AllocError> {
     fault_of(alloc, nameless(alloc, count)?)
 }

@@ -15,6 +15,7 @@ const DUE: [(&str, &[u8]); 4] = [
     ("b.proto", b"3"),
 ];
 
+/// Whether a tree has the files that are due, of which the first two are sources.
 fn is_due(tree: &Tree) -> bool {
     for number in 0..tree.file_count() {
         let is = match DUE.get(number) {
@@ -46,6 +47,7 @@ fn fault_of_files(alloc: Global, files: &str) -> Result<Option<TreeFault>, Alloc
     fault_of(alloc, sources_of(alloc, files)?)
 }
 
+/// The fault of files, asked for again if memory runs out.
 fn fault_again(alloc: Global, files: &str) -> Result<Option<TreeFault>, AllocError> {
     match fault_of_files(alloc, files) {
         Err(_) => fault_of_files(alloc, files),

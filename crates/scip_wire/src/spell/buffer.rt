@@ -37,7 +37,7 @@ impl Progress {
 /// A failed write is kept: what is put behind it is dropped, so that nobody has to ask after each put.
 #[derive(Drop)]
 pub(crate) struct Buffer {
-    waiting: ArrayVec<u8, 8192>,
+    waiting: ArrayVec<u8, 65_536>,
     progress: Progress,
 }
 

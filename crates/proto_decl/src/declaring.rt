@@ -83,28 +83,28 @@ fn all_documented<'t>(
 /// The facts of the file with this number, whose tree these tokens derive by some dialect.
 ///
 /// The tree must be that of these tokens: its spans are read off their text, of which the names of the
-/// facts are parts. It is refused only for want of memory.
+/// facts are parts. It is refused only for want of memory. Each item of the tree is let go when it has been walked,
+/// and all of it before comments are looked for.
 pub fn declare<'t>(
     alloc: Global,
     number: usize,
     lexed: &Tokens<'_, 't>,
-    file: &File,
+    file: File,
 ) -> Result<FileFacts<'t>, AllocError>
-    requires { (dialect : Dialect) × Derives dialect lexed.now.text lexed.now.tokens file.now }
-    ensures { IfOk result (AreFactsOf number lexed.now file.now) }
+    requires { (dialect : Dialect) × Derives dialect lexed.now.text lexed.now.tokens file }
+    ensures { IfOk result (AreFactsOf number lexed.now file) }
 {
     are_lexed(lexed);
-    spans_of_tree(lexed, file);
+    spans_of_tree(lexed, &file);
     let text = lexed.text().as_str();
-    let items = file.items.as_slice();
-    let package_name = package_spans(file);
+    let package_name = package_spans(&file);
     let scope = package_scope(alloc, text, package_name)?;
-    let found = found_in(alloc, text, scope, items)?;
-    let declarations = all_documented(alloc, lexed, found.outlines)?;
+    let package_name = components_at(alloc, text, package_name)?;
+    let imports = imports_of(alloc, text, file.imports.as_slice())?;
+    let found = found_in(alloc, text, scope, file.items.into_vec())?;
     let mut uses = found.uses;
     uses.shrink_to_fit();
     let uses = Sequence::from_vec(uses);
-    let imports = imports_of(alloc, text, file.imports.as_slice())?;
-    let package_name = components_at(alloc, text, package_name)?;
+    let declarations = all_documented(alloc, lexed, found.outlines)?;
     Ok(FileFacts::new(number, package_name, imports, declarations, uses))
 }

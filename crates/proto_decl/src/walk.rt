@@ -163,25 +163,42 @@ fn walk_item<'t>(
     }
 }
 
-/// What a file's items declare and use, at a surrounding.
+/// Adds what stands in a file, which is let go.
+fn walk_last<'t>(
+    alloc: Global,
+    text: &'t str,
+    surrounding: &Surrounding<'t>,
+    item: FileItem,
+    found: &mut Found<'t>,
+) -> Result<(), AllocError>
+    requires { OfItem (IsPart text.now) item }
+    ensures outlines { OnOk result (found.new.outlines.items
+        ≡ found.old.outlines.items ++ in_item text.now surrounding.now item) }
+    ensures uses { OnOk result (found.new.uses.items
+        ≡ found.old.uses.items ++ uses_in_item text.now surrounding.now.scope item) }
+{
+    walk_item(alloc, text, surrounding, &item, found)
+}
+
+/// What a file's items declare and use, at a surrounding. Each item is let go when it has been walked.
 fn found_at<'t>(
     alloc: Global,
     text: &'t str,
     surrounding: &Surrounding<'t>,
-    items: &[FileItem],
+    items: Vec<FileItem>,
 ) -> Result<Found<'t>, AllocError>
-    requires { All (OfItem (IsPart text.now)) items.now }
+    requires { All (OfItem (IsPart text.now)) items.items }
     ensures outlines { IfOk result (λ found. found.outlines.items
-        ≡ flat_map (in_item text.now surrounding.now) items.now) }
+        ≡ flat_map (in_item text.now surrounding.now) items.items) }
     ensures uses { IfOk result (λ found. found.uses.items
-        ≡ flat_map (uses_in_item text.now surrounding.now.scope) items.now) }
+        ≡ flat_map (uses_in_item text.now surrounding.now.scope) items.items) }
 {
     let mut found = Found {
         outlines: Vec::new(alloc),
         uses: Vec::new(alloc),
     };
     for item in items {
-        walk_item(alloc, text, surrounding, item, &mut found)?;
+        walk_last(alloc, text, surrounding, item, &mut found)?;
     }
     Ok(found)
 }
@@ -191,13 +208,13 @@ pub(crate) fn found_in<'t>(
     alloc: Global,
     text: &'t str,
     scope: OwnedText,
-    items: &[FileItem],
+    items: Vec<FileItem>,
 ) -> Result<Found<'t>, AllocError>
-    requires { All (OfItem (IsPart text.now)) items.now }
+    requires { All (OfItem (IsPart text.now)) items.items }
     ensures outlines { IfOk result (λ found. found.outlines.items
-        ≡ flat_map (in_item text.now (record { scope = scope; path = [] })) items.now) }
+        ≡ flat_map (in_item text.now (record { scope = scope; path = [] })) items.items) }
     ensures uses { IfOk result (λ found. found.uses.items
-        ≡ flat_map (uses_in_item text.now scope) items.now) }
+        ≡ flat_map (uses_in_item text.now scope) items.items) }
 {
     let surrounding = Surrounding {
         scope: ScopeName::new(alloc, scope)?,

@@ -3,22 +3,22 @@
 use crate::listed::is_listed;
 use proto_decl::{FileFacts, declare};
 use proto_lex::{Text, Tokens};
-use proto_parse::{SyntaxFault, parse};
+use proto_parse::{File, SyntaxFault, parse};
 use std::alloc::Global;
 use test_kit::{text_of, tokens_of};
 
+fn file_of(alloc: Global, tokens: &Tokens<'_, '_>) -> Option<File> {
+    match parse(alloc, tokens) {
+        Ok(file) => Some(file),
+        Err(SyntaxFault::Memory) => parse(alloc, tokens).ok(),
+        Err(_) => None,
+    }
+}
+
 fn facts_of<'t>(alloc: Global, tokens: &Tokens<'_, 't>) -> Option<FileFacts<'t>> {
-    let file = match parse(alloc, tokens) {
-        Ok(file) => file,
-        Err(SyntaxFault::Memory) => match parse(alloc, tokens) {
-            Ok(file) => file,
-            Err(_) => return None,
-        },
-        Err(_) => return None,
-    };
-    match declare(alloc, 7, tokens, &file) {
+    match declare(alloc, 7, tokens, file_of(alloc, tokens)?) {
         Ok(facts) => Some(facts),
-        Err(_) => declare(alloc, 7, tokens, &file).ok(),
+        Err(_) => declare(alloc, 7, tokens, file_of(alloc, tokens)?).ok(),
     }
 }
 

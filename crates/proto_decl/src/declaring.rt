@@ -1,13 +1,16 @@
 //! From tokens and their tree to a file's facts.
 
-ghost use Rattle.std.specs.Prelude.{All, IfOk};
-ghost use Rattle.std.specs.List.{AllZip};
+ghost use Rattle.std.specs.Prelude.{◌≡◌, ◌++◌, [], List, All, IfOk, OnOk};
+ghost use Rattle.std.specs.List.{AllZip, flat_map};
 ghost use Rattle.proto_lex.specs.Lexed.{IsPart, IsLexed};
 ghost use Rattle.proto_parse.specs.Derives.{Derives};
 ghost use Rattle.proto_parse.specs.tree.Dialect.{Dialect};
 ghost use Rattle.proto_decl.specs.Spans.{OfItem, OfPackage};
 ghost use Rattle.proto_decl.specs.Imports.{IsLiteral};
 ghost use Rattle.proto_decl.specs.Declares.{IsDeclaration};
+ghost use Rattle.proto_decl.specs.Outlines.{in_item};
+ghost use Rattle.proto_decl.specs.Uses.{uses_in_item};
+ghost use Rattle.proto_decl.specs.declared.declaration.Outline.{Outline};
 ghost use Rattle.proto_decl.specs.Layout.{AreBegun};
 ghost use Rattle.proto_decl.specs.Facts.{AreFactsOf};
 
@@ -17,12 +20,23 @@ use crate::facts::FileFacts;
 use crate::imports::imports_of;
 use crate::layout::{Begun, begun_before};
 use crate::package::{package_scope, package_spans};
+use crate::path::SharedSteps;
+use crate::scope_name::ScopeName;
+use crate::surrounding::Surrounding;
+use crate::type_use::Use;
 use crate::type_uses::components_at;
-use crate::walk::found_in;
+use crate::walk::walk_last;
 use proto_lex::Tokens;
-use proto_parse::{File, spans_of_tokens};
-use sequences::Sequence;
+use proto_parse::{File, FileItem, spans_of_tokens};
+use sequences::{OwnedText, Sequence};
 use std::alloc::{AllocError, Global};
+
+/// What a file declares so far, and how many tokens and comments begin before the last declaration's first token.
+#[derive(Drop)]
+struct Declared<'t> {
+    declarations: Vec<Declaration<'t>>,
+    begun: Begun,
+}
 
 /// What is known of tokens and comments.
 fn are_lexed(lexed: &Tokens<'_, '_>)
@@ -59,32 +73,83 @@ fn documented<'t>(
     Ok(Declaration::new(outline, leading, trailing))
 }
 
-/// Declarations with the comments that document them. They are in the order of their first tokens, so each one's
-/// comments are looked for from those of the one before on.
-fn all_documented<'t>(
+/// Appends declarations with the comments that document them. They are in the order of their first tokens, so each
+/// one's comments are looked for from those of the one before on.
+fn push_documented<'t>(
     alloc: Global,
     lexed: &Tokens<'_, 't>,
     outlines: Vec<Outline<'t>>,
-) -> Result<Sequence<Declaration<'t>>, AllocError>
-    ensures { IfOk result (AllZip (IsDeclaration lexed.now) outlines.entry.items) }
+    declared: &mut Declared<'t>,
+) -> Result<(), AllocError>
+    ensures { OnOk result ((before : List Outline)
+        → AllZip (IsDeclaration lexed.now) before declared.old.declarations.items
+        → AllZip (IsDeclaration lexed.now) (before ++ outlines.entry.items) declared.new.declarations.items) }
 {
-    let mut declarations = Vec::with_capacity(alloc, outlines.len())?;
-    let mut begun = Begun {
-        tokens: 0,
-        comments: 0,
-    };
     for outline in outlines {
-        begun = begun_before(lexed, begun, outline.heading().first.start);
-        declarations.push(documented(alloc, lexed, begun, outline)?)?;
+        declared.begun = begun_before(lexed, declared.begun, outline.heading().first.start);
+        let declaration = documented(alloc, lexed, declared.begun, outline)?;
+        declared.declarations.push(declaration)?;
     }
-    Ok(Sequence::from_vec(declarations))
+    Ok(())
+}
+
+/// What a file's items declare, with the comments that document it, and which types they use, at a surrounding. Each
+/// item is let go when it has been walked, and its outlines when its declarations are made.
+fn declared_at<'t>(
+    alloc: Global,
+    lexed: &Tokens<'_, 't>,
+    text: &'t str,
+    surrounding: &Surrounding<'t>,
+    items: Vec<FileItem>,
+) -> Result<(Vec<Declaration<'t>>, Vec<Use<'t>>), AllocError>
+    requires { All (OfItem (IsPart text.now)) items.items }
+    ensures declarations { IfOk result (λ made. AllZip (IsDeclaration lexed.now)
+        (flat_map (in_item text.now surrounding.now) items.items) made.0.items) }
+    ensures uses { IfOk result (λ made. made.1.items
+        ≡ flat_map (uses_in_item text.now surrounding.now.scope) items.items) }
+{
+    let mut uses = Vec::new(alloc);
+    let mut declared = Declared {
+        declarations: Vec::new(alloc),
+        begun: Begun {
+            tokens: 0,
+            comments: 0,
+        },
+    };
+    for item in items {
+        let found = walk_last(alloc, text, surrounding, item, uses)?;
+        uses = found.uses;
+        push_documented(alloc, lexed, found.outlines, &mut declared)?;
+    }
+    Ok((declared.declarations, uses))
+}
+
+/// What a file's items declare and use, in the scope of the file's package.
+fn declared_in<'t>(
+    alloc: Global,
+    lexed: &Tokens<'_, 't>,
+    text: &'t str,
+    scope: OwnedText,
+    items: Vec<FileItem>,
+) -> Result<(Vec<Declaration<'t>>, Vec<Use<'t>>), AllocError>
+    requires { All (OfItem (IsPart text.now)) items.items }
+    ensures declarations { IfOk result (λ made. AllZip (IsDeclaration lexed.now)
+        (flat_map (in_item text.now (record { scope = scope; path = [] })) items.items) made.0.items) }
+    ensures uses { IfOk result (λ made. made.1.items
+        ≡ flat_map (uses_in_item text.now scope) items.items) }
+{
+    let surrounding = Surrounding {
+        scope: ScopeName::new(alloc, scope)?,
+        path: SharedSteps::new(alloc, Sequence::new(alloc))?,
+    };
+    declared_at(alloc, lexed, text, &surrounding, items)
 }
 
 /// The facts of the file with this number, whose tree these tokens derive by some dialect.
 ///
 /// The tree must be that of these tokens: its spans are read off their text, of which the names of the
-/// facts are parts. It is refused only for want of memory. Each item of the tree is let go when it has been walked,
-/// and all of it before comments are looked for.
+/// facts are parts. It is refused only for want of memory. Each item of the tree is let go when what it declares
+/// is known.
 pub fn declare<'t>(
     alloc: Global,
     number: usize,
@@ -101,10 +166,16 @@ pub fn declare<'t>(
     let scope = package_scope(alloc, text, package_name)?;
     let package_name = components_at(alloc, text, package_name)?;
     let imports = imports_of(alloc, text, file.imports.as_slice())?;
-    let found = found_in(alloc, text, scope, file.items.into_vec())?;
-    let mut uses = found.uses;
+    let (mut declarations, mut uses) = declared_in(
+        alloc,
+        lexed,
+        text,
+        scope,
+        file.items.into_vec(),
+    )?;
+    declarations.shrink_to_fit();
     uses.shrink_to_fit();
+    let declarations = Sequence::from_vec(declarations);
     let uses = Sequence::from_vec(uses);
-    let declarations = all_documented(alloc, lexed, found.outlines)?;
     Ok(FileFacts::new(number, package_name, imports, declarations, uses))
 }

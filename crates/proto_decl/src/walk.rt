@@ -1,7 +1,6 @@
 //! The walk over a tree, which finds what a file declares and which types it uses.
 
-ghost use Rattle.std.specs.Prelude.{◌≡◌, ◌++◌, [], All, IfOk, OnOk};
-ghost use Rattle.std.specs.List.{flat_map};
+ghost use Rattle.std.specs.Prelude.{◌≡◌, ◌++◌, IfOk, OnOk};
 ghost use Rattle.proto_lex.specs.Lexed.{IsPart};
 ghost use Rattle.proto_parse.specs.Items.{body_of};
 ghost use Rattle.proto_decl.specs.Spans.{OfHead, OfLeaf, OfBody, OfBlock, OfService, OfItem};
@@ -12,13 +11,10 @@ ghost use Rattle.proto_decl.specs.Uses.{uses_in_item};
 use crate::declaration::Outline;
 use crate::kind::DeclarationKind;
 use crate::outlines::{outline_at, outline_enum, outline_head, outline_leaf, outline_methods};
-use crate::path::SharedSteps;
-use crate::scope_name::ScopeName;
 use crate::surrounding::{Surrounding, inside, scope_heading};
 use crate::type_use::Use;
 use crate::type_uses::{use_head, use_leaf, use_methods};
 use proto_parse::{Block, FileItem, Head, Item, Leaf, Service};
-use sequences::{OwnedText, Sequence};
 use std::alloc::{AllocError, Global};
 
 /// What a walk has found, in order of place.
@@ -163,62 +159,23 @@ fn walk_item<'t>(
     }
 }
 
-/// Adds what stands in a file, which is let go.
-fn walk_last<'t>(
+/// What an item of a file declares, and which types it uses, behind uses that were found before. The item is let go.
+pub(crate) fn walk_last<'t>(
     alloc: Global,
     text: &'t str,
     surrounding: &Surrounding<'t>,
     item: FileItem,
-    found: &mut Found<'t>,
-) -> Result<(), AllocError>
-    requires { OfItem (IsPart text.now) item }
-    ensures outlines { OnOk result (found.new.outlines.items
-        ≡ found.old.outlines.items ++ in_item text.now surrounding.now item) }
-    ensures uses { OnOk result (found.new.uses.items
-        ≡ found.old.uses.items ++ uses_in_item text.now surrounding.now.scope item) }
-{
-    walk_item(alloc, text, surrounding, &item, found)
-}
-
-/// What a file's items declare and use, at a surrounding. Each item is let go when it has been walked.
-fn found_at<'t>(
-    alloc: Global,
-    text: &'t str,
-    surrounding: &Surrounding<'t>,
-    items: Vec<FileItem>,
+    uses: Vec<Use<'t>>,
 ) -> Result<Found<'t>, AllocError>
-    requires { All (OfItem (IsPart text.now)) items.items }
-    ensures outlines { IfOk result (λ found. found.outlines.items
-        ≡ flat_map (in_item text.now surrounding.now) items.items) }
+    requires { OfItem (IsPart text.now) item }
+    ensures outlines { IfOk result (λ found. found.outlines.items ≡ in_item text.now surrounding.now item) }
     ensures uses { IfOk result (λ found. found.uses.items
-        ≡ flat_map (uses_in_item text.now surrounding.now.scope) items.items) }
+        ≡ uses.entry.items ++ uses_in_item text.now surrounding.now.scope item) }
 {
     let mut found = Found {
         outlines: Vec::new(alloc),
-        uses: Vec::new(alloc),
+        uses,
     };
-    for item in items {
-        walk_last(alloc, text, surrounding, item, &mut found)?;
-    }
+    walk_item(alloc, text, surrounding, &item, &mut found)?;
     Ok(found)
-}
-
-/// What a file's items declare and use, in the scope of the file's package.
-pub(crate) fn found_in<'t>(
-    alloc: Global,
-    text: &'t str,
-    scope: OwnedText,
-    items: Vec<FileItem>,
-) -> Result<Found<'t>, AllocError>
-    requires { All (OfItem (IsPart text.now)) items.items }
-    ensures outlines { IfOk result (λ found. found.outlines.items
-        ≡ flat_map (in_item text.now (record { scope = scope; path = [] })) items.items) }
-    ensures uses { IfOk result (λ found. found.uses.items
-        ≡ flat_map (uses_in_item text.now scope) items.items) }
-{
-    let surrounding = Surrounding {
-        scope: ScopeName::new(alloc, scope)?,
-        path: SharedSteps::new(alloc, Sequence::new(alloc))?,
-    };
-    found_at(alloc, text, &surrounding, items)
 }

@@ -3,22 +3,21 @@
 use crate::listed::is_listed;
 use proto_decl::{FileFacts, declare};
 use proto_lex::{Text, Tokens};
-use proto_parse::{File, SyntaxFault, parse};
+use proto_parse::parse;
 use std::alloc::Global;
 use test_kit::{text_of, tokens_of};
 
-fn file_of(alloc: Global, tokens: &Tokens<'_, '_>) -> Option<File> {
+fn facts_once<'t>(alloc: Global, tokens: &Tokens<'_, 't>) -> Option<FileFacts<'t>> {
     match parse(alloc, tokens) {
-        Ok(file) => Some(file),
-        Err(SyntaxFault::Memory) => parse(alloc, tokens).ok(),
+        Ok(file) => declare(alloc, 7, tokens, file).ok(),
         Err(_) => None,
     }
 }
 
 fn facts_of<'t>(alloc: Global, tokens: &Tokens<'_, 't>) -> Option<FileFacts<'t>> {
-    match declare(alloc, 7, tokens, file_of(alloc, tokens)?) {
-        Ok(facts) => Some(facts),
-        Err(_) => declare(alloc, 7, tokens, file_of(alloc, tokens)?).ok(),
+    match facts_once(alloc, tokens) {
+        Some(facts) => Some(facts),
+        None => facts_once(alloc, tokens),
     }
 }
 

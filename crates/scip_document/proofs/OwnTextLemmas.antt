@@ -1,5 +1,5 @@
 -- The texts of the symbols of a file's own declarations.
-use Rattle.std.proofs.Common.{◌≡◌, ◌∙◌, ap, sym, ℕ, Some, List, length}
+use Rattle.std.proofs.Common.{◌≡◌, ◌∙◌, ap, sym, refl, ℕ, zero, suc, Some, List, [], ◌∷◌, drop, length}
 use Rattle.std.specs.List.{slice_get}
 use Rattle.std.specs.Option.{option_map}
 use Rattle.std.proofs.lemmas.List.{length-map}
@@ -16,6 +16,13 @@ use Rattle.scip_document.specs.Tables.OwnTexts.{declaration_texts}
 
 same_some : {Y : Type 0} {x y : Y} → Some x ≡ Some y → x ≡ y
 same_some h = cc
+
+-- what is first behind so many
+pub first_behind : {X : Type 0} (xs : List X) (i : ℕ) → slice_get (drop i xs) 0 ≡ slice_get xs i
+first_behind [] zero = refl
+first_behind [] (suc i) = refl
+first_behind (x ∷ xs) zero = refl
+first_behind (x ∷ xs) (suc i) = first_behind xs i
 
 -- a package with all components
 pub front_text : (id : Package) (facts : Facts) (parts : List Component) (front : List ℕ) → parts ≡ facts.package_name

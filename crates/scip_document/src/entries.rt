@@ -1,6 +1,7 @@
 //! The symbol entries of the document of a source.
 
-ghost use Rattle.std.specs.Prelude.{ℕ, ◌≡◌, ◌<◌, ◌≤◌, ◌∷◌, ◌++◌, IfOk, OnOk, Contains, length};
+ghost use Rattle.std.specs.Prelude.{ℕ, ◌≡◌, ◌<◌, ◌≤◌, ◌∷◌, ◌++◌, IfOk, OnOk, Some, Contains, drop, length};
+ghost use Rattle.std.specs.List.{slice_get};
 ghost use Rattle.proto_decl.specs.Names.{dotted};
 ghost use Rattle.proto_decl.specs.Ancestors.{component_names};
 ghost use Rattle.scip_symbol.specs.Path.{IsGoodPath};
@@ -27,6 +28,7 @@ use scip_symbol::PackageId;
 use sequences::{OwnedText, Sequence};
 use std::alloc::{AllocError, Global};
 use std::cmp::Ordering;
+use std::collections::VecDeque;
 
 /// The components joined by dots.
 fn joined(alloc: Global, components: &[Component]) -> Result<OwnedText, AllocError>
@@ -143,47 +145,51 @@ fn push_packages(
 fn push_if_kept(
     alloc: Global,
     entries: &mut Vec<SymbolInformation>,
-    symbol: &str,
+    symbol: OwnedText,
     declaration: &Declaration,
     choice: Choice,
 ) -> Result<(), AllocError>
     ensures { OnOk result
-        (entries.new.items ≡ entries.old.items ++ entries_with symbol.now declaration.now choice) }
+        (entries.new.items ≡ entries.old.items ++ entries_with symbol declaration.now choice) }
 {
     if !choice.keep {
         return Ok(());
     }
-    let symbol = OwnedText::copy_of(alloc, symbol)?;
     let entry = entry_with(alloc, symbol, declaration, choice)?;
     entries.push(entry)?;
     Ok(())
 }
 
-/// Appends those of the source's declarations that are kept, whose symbols have these texts.
+/// Takes the first of the texts that are left.
+fn take_first(left: &mut VecDeque<OwnedText>) -> OwnedText
+    requires { 0 < length left.old.items }
+    ensures first { slice_get left.old.items 0 ≡ Some result }
+    ensures rest { left.new.items ≡ drop 1 left.old.items }
+{
+    left.pop_front().unwrap()
+}
+
+/// Appends those of the source's declarations that are kept, whose symbols have these texts. The texts are moved.
 fn push_declarations(
     entries: &mut Vec<SymbolInformation>,
     maker: &DocumentMaker<'_, '_, '_, '_>,
     id: &PackageId,
-    texts: &[OwnedText],
+    texts: Vec<OwnedText>,
     facts: &FileFacts,
 ) -> Result<(), AllocError>
-    requires texts { texts.now ≡ declaration_texts id.now facts.now }
-    requires one_each { length texts.now ≡ length facts.now.declarations }
+    requires texts { texts.items ≡ declaration_texts id.now facts.now }
+    requires one_each { length texts.items ≡ length facts.now.declarations }
     requires choices { (index : ℕ) → index < length facts.now.declarations
         → HasChoice maker.now.choices.now maker.now.source index }
     ensures { OnOk result (entries.new.items ≡ entries.old.items
         ++ kept_entries id.now facts.now facts.now.declarations
         (choices_for maker.now.choices.now maker.now.source)) }
 {
+    let mut left = VecDeque::from_vec(texts);
     for (index, declaration) in facts.declarations().iter().enumerate() {
+        let symbol = take_first(&mut left);
         let choice = maker.choices.of(maker.source, index);
-        push_if_kept(
-            maker.alloc,
-            entries,
-            texts[index].as_str(),
-            declaration,
-            choice,
-        )?;
+        push_if_kept(maker.alloc, entries, symbol, declaration, choice)?;
     }
     Ok(())
 }
@@ -193,18 +199,18 @@ fn listed_entries(
     maker: &DocumentMaker<'_, '_, '_, '_>,
     id: &PackageId,
     path: &str,
-    texts: &[OwnedText],
+    texts: Vec<OwnedText>,
     facts: &FileFacts,
 ) -> Result<Vec<SymbolInformation>, AllocError>
     requires path { IsGoodPath path.now }
-    requires texts { texts.now ≡ declaration_texts id.now facts.now }
-    requires one_each { length texts.now ≡ length facts.now.declarations }
+    requires texts { texts.items ≡ declaration_texts id.now facts.now }
+    requires one_each { length texts.items ≡ length facts.now.declarations }
     requires choices { (index : ℕ) → index < length facts.now.declarations
         → HasChoice maker.now.choices.now maker.now.source index }
     ensures { IfOk result (λ entries. entries.items ≡ source_entries id.now maker.now.package.now.run path.now
         facts.now (choices_for maker.now.choices.now maker.now.source)) }
 {
-    let room = 1 + facts.package_name().len() + texts.len();
+    let room = 1 + facts.package_name().len() + facts.declarations().len();
     let mut entries = Vec::with_capacity(maker.alloc, room)?;
     let first = file_entry(maker.alloc, id, path)?;
     entries.push(first)?;
@@ -220,16 +226,16 @@ pub(crate) fn compare_symbols(a: &SymbolInformation, b: &SymbolInformation) -> O
     a.symbol.as_str().cmp(b.symbol.as_str())
 }
 
-/// The entries of the source, by symbol; the symbols of its declarations have these texts.
+/// The entries of the source, by symbol; the symbols of its declarations have these texts, which are moved.
 pub(crate) fn entries(
     maker: &DocumentMaker<'_, '_, '_, '_>,
-    texts: &[OwnedText],
+    texts: Vec<OwnedText>,
 ) -> Result<Sequence<SymbolInformation>, AllocError>
     requires source { IsSource maker.now.linker.now maker.now.source }
     requires paths { HaveGoodPaths maker.now.linker.now }
     requires choices { HaveChoices maker.now.linker.now maker.now.choices.now }
     requires texts { (facts : Facts) → HasFacts maker.now.linker.now maker.now.source facts
-        → texts.now ≡ declaration_texts (package_of_file
+        → texts.items ≡ declaration_texts (package_of_file
         maker.now.linker.now maker.now.package.now maker.now.source) facts }
     ensures { IfOk result (IsAscendingListOf info_cmp
         (HasEntry maker.now.linker.now maker.now.choices.now maker.now.package.now maker.now.source)) }

@@ -119,9 +119,8 @@ pub fn document_and_gaps(maker: &DocumentMaker<'_, '_, '_, '_>) -> Result<Source
     let unresolved = unresolved_uses(alloc, facts.uses(), found.as_slice())?;
     let id = package_of_file(maker.linker, maker.package, maker.source);
     let texts = declaration_texts(alloc, id, facts)?;
-    let own = texts.as_slice();
-    let occurrences = occurrences(maker, facts, found.as_slice(), own)?;
-    let symbols = entries(maker, own)?;
+    let occurrences = occurrences(maker, facts, found.as_slice(), texts.as_slice())?;
+    let symbols = entries(maker, texts)?;
     let relative_path = OwnedText::copy_of(alloc, maker.linker.path_of(maker.source))?;
     let language = OwnedText::copy_of(alloc, "Protobuf")?;
     let document = Document {

@@ -49,7 +49,7 @@ listed_entries-requires-clause-one_each c =
     let facts = c.unwrap-facts.result.now in
     let known = MatchOption-at_some ((other : Facts) → HasFacts files source other → ⊥)
     (λ facts. HasFacts files source facts.now) c.unwrap-facts.result c.unwrap-facts.ensures c.facts_of.ensures in
-    texts_count (package_of_file files c.args.maker.now.package.now source) facts c.args.texts.now
+    texts_count (package_of_file files c.args.maker.now.package.now source) facts c.args.texts.items
     (c.requires.texts facts known)
 
 pub listed_entries-requires-clause-texts : goal.listed_entries-requires-clause-texts

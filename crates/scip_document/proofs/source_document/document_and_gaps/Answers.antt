@@ -35,7 +35,7 @@ package_of_file-id-requires c =
 
 pub occurrences-requires-clause-texts : goal.occurrences-requires-clause-texts
 occurrences-requires-clause-texts c =
-    c.as_slice-own.ensures.value
+    c.as_slice-3.ensures.value
     ∙ (c.in_ok-texts.ensures
     ∙ ap (λ (id : Package). declaration_texts id c.unwrap-facts.result.now) c.package_of_file-id.ensures)
 
@@ -47,10 +47,9 @@ entries-requires-clause-texts c = λ other known.
     let given = given_facts files source c.facts_of.result c.unwrap-facts.result c.unwrap-facts.ensures
     c.facts_of.ensures in
     let id = package_of_file files c.args.maker.now.package.now source in
-    c.as_slice-own.ensures.value
-    ∙ (c.in_ok-texts.ensures
+    c.in_ok-texts.ensures
     ∙ (ap (λ (p : Package). declaration_texts p facts) c.package_of_file-id.ensures
-    ∙ ap (λ (f : Facts). declaration_texts id f) (same_facts files source facts other given known)))
+    ∙ ap (λ (f : Facts). declaration_texts id f) (same_facts files source facts other given known))
 
 pub unresolved_uses-requires : goal.unresolved_uses-requires
 unresolved_uses-requires c =

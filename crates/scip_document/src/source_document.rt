@@ -57,16 +57,16 @@ fn own_occurrences(alloc: Global, id: &PackageId, path: &str) -> Result<Vec<Occu
 }
 
 /// What occurs in the source, of which this was found for the uses, in order; the symbols of its declarations
-/// have these texts.
+/// have these texts. What was found is let go as soon as the uses are listed.
 fn occurrences(
     maker: &DocumentMaker<'_, '_, '_, '_>,
     facts: &FileFacts,
-    found: &[Option<Target>],
+    found: Vec<Option<Target>>,
     texts: &[OwnedText],
 ) -> Result<Vec<Occurrence>, AllocError>
     requires source { IsSource maker.now.linker.now maker.now.source }
     requires known { HasFacts maker.now.linker.now maker.now.source facts.now }
-    requires found { AllZip (IsFound maker.now.linker.now maker.now.source) facts.now.uses found.now }
+    requires found { AllZip (IsFound maker.now.linker.now maker.now.source) facts.now.uses found.items }
     requires text { AreOfText maker.now.text.now facts.now }
     requires paths { HaveGoodPaths maker.now.linker.now }
     requires choices { HaveChoices maker.now.linker.now maker.now.choices.now }
@@ -83,7 +83,8 @@ fn occurrences(
     let imports = import_occurrences(maker, facts.imports())?;
     let packages = package_occurrences(maker, facts)?;
     let names = declaration_occurrences(maker, id, texts, facts)?;
-    let uses = use_occurrences(maker, found, facts.uses())?;
+    let uses = use_occurrences(maker, found.as_slice(), facts.uses())?;
+    drop(found);
     let with_imports = merged(alloc, own, imports)?;
     let with_packages = merged(alloc, with_imports, packages)?;
     let with_names = merged(alloc, with_packages, names)?;
@@ -119,7 +120,7 @@ pub fn document_and_gaps(maker: &DocumentMaker<'_, '_, '_, '_>) -> Result<Source
     let unresolved = unresolved_uses(alloc, facts.uses(), found.as_slice())?;
     let id = package_of_file(maker.linker, maker.package, maker.source);
     let texts = declaration_texts(alloc, id, facts)?;
-    let occurrences = occurrences(maker, facts, found.as_slice(), texts.as_slice())?;
+    let occurrences = occurrences(maker, facts, found, texts.as_slice())?;
     let symbols = entries(maker, texts)?;
     let relative_path = OwnedText::copy_of(alloc, maker.linker.path_of(maker.source))?;
     let language = OwnedText::copy_of(alloc, "Protobuf")?;

@@ -35,7 +35,7 @@ package_of_file-id-requires c =
 
 pub occurrences-requires-clause-texts : goal.occurrences-requires-clause-texts
 occurrences-requires-clause-texts c =
-    c.as_slice-3.ensures.value
+    c.as_slice-2.ensures.value
     ∙ (c.in_ok-texts.ensures
     ∙ ap (λ (id : Package). declaration_texts id c.unwrap-facts.result.now) c.package_of_file-id.ensures)
 

@@ -1,4 +1,4 @@
-use Rattle.std.proofs.Common.{◌≡◌, ◌∙◌, ap, sym, subst, refl, List, ℕ, [], ◌∷◌}
+use Rattle.std.proofs.Common.{◌≡◌, ◌∙◌, ap, sym, subst, refl, Option, List, ℕ, [], ◌∷◌, length}
 use Rattle.std.specs.List.{All, AllZip}
 use Rattle.std.proofs.lemmas.Option.{slice_get_within}
 use Rattle.proto_lex.specs.Lexed.{IsPart}
@@ -6,6 +6,7 @@ use Rattle.proto_decl.specs.declared.imported.Imported.{Imported}
 use Rattle.proto_decl.specs.declared.declaration.Declaration.{Declaration}
 use Rattle.proto_decl.specs.declared.type_use.Component.{Component}
 use Rattle.proto_decl.specs.declared.type_use.Use.{Use}
+use Rattle.proto_link.specs.declared.target.Target.{Target}
 use Rattle.scip_symbol.specs.Path.{IsGoodPath}
 use Rattle.scip_symbol.specs.Package.{Package}
 use Rattle.scip_document.specs.Tables.Listing.{own_occurrence, each_from, at_import, at_declaration, at_use}
@@ -85,15 +86,21 @@ use_occurrences-requires-clause-stand c =
 
 pub use_occurrences-requires-clause-one_each : goal.use_occurrences-requires-clause-one_each
 use_occurrences-requires-clause-one_each c =
-    zip_length (IsFound c.args.maker.now.linker.now c.args.maker.now.source) c.uses.result.now c.args.found.now
+    ap (λ (found : List (Option Target)). length found) c.as_slice.ensures.value
+    ∙ zip_length (IsFound c.args.maker.now.linker.now c.args.maker.now.source) c.uses.result.now c.args.found.items
     (subst (λ (uses : List Use). AllZip
-    (IsFound c.args.maker.now.linker.now c.args.maker.now.source) uses c.args.found.now)
+    (IsFound c.args.maker.now.linker.now c.args.maker.now.source) uses c.args.found.items)
     (sym c.uses.ensures) c.requires.found)
 
 pub use_occurrences-requires-clause-nameable : goal.use_occurrences-requires-clause-nameable
 use_occurrences-requires-clause-nameable c =
-    found_nameable c.args.maker.now.linker.now c.args.maker.now.source c.facts_occur_in_order.ensures.origins
-    c.facts_occur_in_order.ensures.spelled c.args.facts.now.uses c.args.found.now c.requires.found
+    let files = c.args.maker.now.linker.now in
+    let source = c.args.maker.now.source in
+    let uses = c.args.facts.now.uses in
+    found_nameable files source c.facts_occur_in_order.ensures.origins c.facts_occur_in_order.ensures.spelled uses
+    c.as_slice.result.now
+    (subst (λ (found : List (Option Target)). AllZip (IsFound files source) uses found) (sym c.as_slice.ensures.value)
+    c.requires.found)
 
 pub returns : goal.returns
 returns c =
@@ -105,7 +112,7 @@ returns c =
     let source = c.args.maker.now.source in
     let text = c.args.maker.now.text.now in
     let facts = c.args.facts.now in
-    let found = c.args.found.now in
+    let found = c.args.found.items in
     let path = c.path_of.ensures in
     let origin = c.requires.text.origin in
     let own = c.in_ok-own.ensures
@@ -122,7 +129,9 @@ returns c =
     (λ other known. subst (AreOfText text) (same_facts files source facts other c.requires.known known) c.requires.text)
     x y first second (tied x y e).0 (tied x y e).1 in
     let uses = c.in_ok-uses.ensures
-    ∙ ap (λ (xs : List Use). each_from (at_use ids encoding text files chosen found) 0 xs) c.uses.ensures in
+    ∙ (ap (λ (its : List (Option Target)). each_from (at_use ids encoding text files chosen its) 0 c.uses.result.now)
+    c.as_slice.ensures.value
+    ∙ ap (λ (xs : List Use). each_from (at_use ids encoding text files chosen found) 0 xs) c.uses.ensures) in
     merged_lists ids encoding text c.facts_occur_in_order.ensures.characters files chosen source path.0 path.1 facts
     c.requires.known
     (stand_there text facts c.requires.text c.facts_occur_in_order.ensures.placed)

@@ -1,4 +1,5 @@
-//! The texts of the symbols of files, packages and declarations.
+//! The texts of the symbols of files, packages and declarations. Each is kept as a copy of what was printed, which has
+//! room that it doesn't need.
 
 ghost use Rattle.std.specs.Prelude.{◌≡◌, ◌<◌, ◌≤◌, ◌++◌, ◌∷◌, [], IfOk, OnOk, Contains, length};
 ghost use Rattle.proto_decl.specs.Facts.{Facts};
@@ -20,8 +21,9 @@ pub(crate) fn file_text(alloc: Global, id: &PackageId, path: &str) -> Result<Own
     requires { IsGoodPath path.now }
     ensures { IfOk result (λ text. text ≡ text_of id.now (OfFile path.now)) }
 {
-    let text = print_file(alloc, id, path)?;
-    Ok(OwnedText::from_string(text))
+    let printed = print_file(alloc, id, path)?;
+    let text = OwnedText::copy_of(alloc, printed.as_str())?;
+    Ok(text)
 }
 
 /// Of the package that the first components of a file's package name make, so many.
@@ -37,8 +39,9 @@ pub(crate) fn package_text(
     ensures { IfOk result (λ text. text ≡ text_of id.now (package_at facts.now count)) }
 {
     let (front, _) = facts.package_name().split_at(count);
-    let text = print_package(alloc, id, front)?;
-    Ok(OwnedText::from_string(text))
+    let printed = print_package(alloc, id, front)?;
+    let text = OwnedText::copy_of(alloc, printed.as_str())?;
+    Ok(text)
 }
 
 /// Of a declaration of a file.
@@ -52,8 +55,9 @@ pub(crate) fn declaration_text(
     requires { Contains facts.now.declarations declaration.now }
     ensures { IfOk result (λ text. text ≡ text_of id.now (declaration_at facts.now declaration.now)) }
 {
-    let text = print_declaration(alloc, id, facts.package_name(), declaration.path())?;
-    Ok(OwnedText::from_string(text))
+    let printed = print_declaration(alloc, id, facts.package_name(), declaration.path())?;
+    let text = OwnedText::copy_of(alloc, printed.as_str())?;
+    Ok(text)
 }
 
 /// Of a declaration of a file, of which the package with all components of its name has this text.
@@ -67,8 +71,9 @@ fn text_below(
         → front.now ≡ text_of id (OfPackage (component_names facts.package_name))
         → text ≡ text_of id (declaration_at facts declaration.now)) }
 {
-    let text = print_below(alloc, front, declaration.path())?;
-    Ok(OwnedText::from_string(text))
+    let printed = print_below(alloc, front, declaration.path())?;
+    let text = OwnedText::copy_of(alloc, printed.as_str())?;
+    Ok(text)
 }
 
 /// Adds it.

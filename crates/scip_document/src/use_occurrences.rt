@@ -74,8 +74,9 @@ fn named_package_text(
     let parts = components_in(alloc, name)?;
     let few = at_most(count, parts.as_slice());
     let (front, _) = parts.as_slice().split_at(few);
-    let text = print_package_named(alloc, id, front)?;
-    Ok(OwnedText::from_string(text))
+    let printed = print_package_named(alloc, id, front)?;
+    let text = OwnedText::copy_of(alloc, printed.as_str())?;
+    Ok(text)
 }
 
 /// A declaration of a file, by its number.

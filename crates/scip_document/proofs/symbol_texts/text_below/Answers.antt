@@ -9,6 +9,7 @@ pub returns : goal.returns
 unfolding text_of
 returns c = λ id facts known.
     let names = component_names facts.package_name in
-    c.from_string.ensures
-    ∙ (c.in_ok-text.ensures id names known
-    ∙ ap (λ (path : List DeclarationStep). text_of id (OfDeclaration names path)) c.path.ensures)
+    c.in_ok-text.ensures
+    ∙ (c.as_str.ensures.value
+    ∙ (c.in_ok-printed.ensures id names known
+    ∙ ap (λ (path : List DeclarationStep). text_of id (OfDeclaration names path)) c.path.ensures))

@@ -245,6 +245,6 @@ pub(crate) fn entries(
     let facts = maker.linker.facts_of(maker.source).unwrap();
     let id = package_of_file(maker.linker, maker.package, maker.source);
     let mut entries = listed_entries(maker, id, path, texts, facts)?;
-    entries.sort_by(|a, b| compare_symbols(a, b))?;
+    entries.sort_unstable_by(|a, b| compare_symbols(a, b));
     Ok(Sequence::from_vec(entries))
 }

@@ -90,6 +90,6 @@ returns c =
     (c.in_ok-entries.ensures
     ∙ (ap (λ (p : List ℕ). source_entries c.package_of_file-id.result.now ids.run p facts choices) (sym path.2)
     ∙ ap (λ (id : Package). source_entries id ids.run path.0.path facts choices) c.package_of_file-id.ensures))
-    c.in_ok-sort_by.ensures.permutation
-    (c.in_ok-sort_by.ensures.sorted (λ x y. is_lt (info_cmp x y)) infos_rank
+    c.sort_unstable_by.ensures.permutation
+    (c.sort_unstable_by.ensures.sorted (λ x y. is_lt (info_cmp x y)) infos_rank
     (answers_always _ (λ a r. is_lt r ≡ is_lt (info_cmp a.0.now a.1.0.now)) _ (λ f a r g called. search rules))))

@@ -1,3 +1,5 @@
 -- The records.
 pub mod Range
 pub mod RangeFields
+-- Texts of which an empty one is left out.
+pub mod Texts

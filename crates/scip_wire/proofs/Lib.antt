@@ -33,3 +33,5 @@ pub mod PieceLemmas
 pub mod SpelledFieldLemmas
 pub mod SpelledPayloadLemmas
 pub mod SpellingLemmas
+-- Lent texts
+pub mod LentLemmas

@@ -15,6 +15,7 @@ ghost use Rattle.scip_wire.specs.Outputs.{IsPut};
 
 use super::output::Output;
 use super::varint::{encode_varint, varint_len};
+use scip_model::LentTexts;
 use sequences::{OwnedText, Sequence};
 
 /// The length of a record with so many bytes, with its tag and length.
@@ -46,15 +47,34 @@ pub(super) fn encode_record<W, O: Output<W>>(out: &mut O, sink: &mut W, number: 
     out.put(sink, bytes);
 }
 
+/// The length of a lent text's record, which an empty text doesn't have.
+pub(super) fn lent_len(number: u64, text: &str) -> u64
+    requires { number ≤ max_field_number }
+    ensures value { result ≡ saturated (fields_len (text_fields number text.now)) }
+    ensures fit { IsUtf8 text.now }
+{
+    let len = element_len(number, text);
+    if text.is_empty() { 0 } else { len }
+}
+
+/// Puts a lent text's record, which an empty text doesn't have.
+pub(super) fn encode_lent<W, O: Output<W>>(out: &mut O, sink: &mut W, number: u64, text: &str)
+    requires { number ≤ max_field_number }
+    ensures { IsPut O.holds sink.old out.old sink.new out.new (bytes_of (text_fields number text.now)) }
+{
+    let bytes = text.as_bytes();
+    if !bytes.is_empty() {
+        encode_record(out, sink, number, bytes);
+    }
+}
+
 /// The length of a text's record, which an empty text doesn't have.
 pub(super) fn text_len(number: u64, text: &OwnedText) -> u64
     requires { number ≤ max_field_number }
     ensures value { result ≡ saturated (fields_len (text_fields number text.now)) }
     ensures fit { IsUtf8 text.now }
 {
-    let text = text.as_str();
-    let len = element_len(number, text);
-    if text.is_empty() { 0 } else { len }
+    lent_len(number, text.as_str())
 }
 
 /// Puts a text's record, which an empty text doesn't have.
@@ -62,10 +82,7 @@ pub(super) fn encode_text<W, O: Output<W>>(out: &mut O, sink: &mut W, number: u6
     requires { number ≤ max_field_number }
     ensures { IsPut O.holds sink.old out.old sink.new out.new (bytes_of (text_fields number text.now)) }
 {
-    let bytes = text.as_str().as_bytes();
-    if !bytes.is_empty() {
-        encode_record(out, sink, number, bytes);
-    }
+    encode_lent(out, sink, number, text.as_str());
 }
 
 /// The length of the records of a repeated text.
@@ -111,6 +128,35 @@ fn encode_slice<W, O: Output<W>>(out: &mut O, sink: &mut W, number: u64, texts: 
     'texts: for text in texts {
         encode_record(out, sink, number, text.as_str().as_bytes());
     }
+}
+
+/// The length of the records of lent texts.
+pub(super) fn lent_texts_len(number: u64, texts: &LentTexts<'_>) -> u64
+    requires { number ≤ max_field_number }
+    ensures value { result ≡ saturated (fields_len (repeated_text_fields number texts.now)) }
+    ensures fit { All IsUtf8 texts.now }
+{
+    let (listed, first, second) = texts.parts();
+    let len = slice_len(number, listed);
+    let first_len = lent_len(number, first);
+    let second_len = lent_len(number, second);
+    len.saturating_add(first_len.saturating_add(second_len))
+}
+
+/// Puts the records of lent texts.
+pub(super) fn encode_lent_texts<W, O: Output<W>>(
+    out: &mut O,
+    sink: &mut W,
+    number: u64,
+    texts: &LentTexts<'_>,
+)
+    requires { number ≤ max_field_number }
+    ensures { IsPut O.holds sink.old out.old sink.new out.new (bytes_of (repeated_text_fields number texts.now)) }
+{
+    let (listed, first, second) = texts.parts();
+    encode_slice(out, sink, number, listed);
+    encode_lent(out, sink, number, first);
+    encode_lent(out, sink, number, second);
 }
 
 /// An int32 or an enum in 64 bits, as its varint has it.

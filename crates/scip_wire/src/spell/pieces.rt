@@ -7,6 +7,7 @@ ghost use Rattle.scip_wire.specs.Saturated.{saturated};
 ghost use Rattle.scip_wire.specs.Spelling.{document_record, joined_pieces, max_index_len};
 ghost use Rattle.scip_wire.specs.WellFormed.{IsFitDocument, IsFitInfo, IsFitMetadata};
 
+use super::document::DocumentMessage;
 use super::document_record::DocumentRecord;
 use super::fields::record_len;
 use super::message::{
@@ -15,34 +16,44 @@ use super::message::{
 };
 use super::output::Output;
 use super::shortened::Shortened;
-use scip_model::{Document, Metadata, SymbolInformation};
+use scip_model::{DocumentParts, Metadata, SymbolInformation};
 use sequences::Sequence;
 use std::alloc::{AllocError, Global};
 
-/// What most symbols of a document begin with: that of its middle entry, before the last `/`.
-fn common_prefix(document: &Document) -> &str {
-    let entries = document.symbols.as_slice();
-    match entries.get(entries.len() / 2) {
+/// How many symbols a document has, in its occurrences and its entries.
+fn symbol_count<D: DocumentParts>(document: &D) -> usize {
+    document
+        .occurrence_count()
+        .saturating_add(document.entry_count())
+}
+
+/// What a symbol begins with, before the last `/`.
+fn before_last_slash(symbol: &str) -> &str {
+    match symbol.rsplit_once('/') {
         None => "",
-        Some(entry) => match entry.symbol.as_str().rsplit_once('/') {
-            None => "",
-            Some((prefix, _)) => prefix,
-        },
+        Some((prefix, _)) => prefix,
     }
 }
 
-/// How many symbols a document has, in its occurrences and its entries.
-fn symbol_count(document: &Document) -> usize {
-    let occurrences = document.occurrences.as_slice().len();
-    occurrences.saturating_add(document.symbols.as_slice().len())
+/// What most symbols of a document begin with: that of its middle entry, before the last `/`.
+fn common_prefix<D: DocumentParts>(document: &D) -> &str {
+    let count = document.entry_count();
+    if count == 0 {
+        return "";
+    }
+    before_last_slash(document.entry(count / 2).symbol)
 }
 
 /// A document's record, as in the spelling of an index, with its tag and length.
-pub fn spell_document(alloc: Global, document: &Document) -> Result<DocumentRecord, AllocError>
-    ensures bytes { IfOk result (λ bytes. bytes ≡ document_record document.now) }
-    ensures known { IsFitDocument document.now }
+pub fn spell_document<D: DocumentParts>(
+    alloc: Global,
+    document: &D,
+) -> Result<DocumentRecord, AllocError>
+    ensures bytes { IfOk result (λ bytes. bytes ≡ document_record (D.document document.now)) }
+    ensures known { IsFitDocument (D.document document.now) }
 {
-    let len = document.encoded_len();
+    let message = DocumentMessage { document };
+    let len = message.encoded_len();
     let room = record_len(2, len) as usize;
     let prefix = common_prefix(document).as_bytes();
     let places = if prefix.is_empty() {
@@ -51,7 +62,7 @@ pub fn spell_document(alloc: Global, document: &Document) -> Result<DocumentReco
         symbol_count(document)
     };
     let mut bytes = Shortened::with_room(alloc, prefix, room, places)?;
-    encode_message_of_len(&mut bytes, &mut (), 2, document, len);
+    encode_message_of_len(&mut bytes, &mut (), 2, &message, len);
     Ok(DocumentRecord::new(bytes, room))
 }
 

@@ -1,12 +1,19 @@
 //! The records of an index as messages of `scip.proto`.
 
-use super::fields::{encode_int, encode_text, encode_texts, int_len, text_len, texts_len};
+use super::document::DocumentMessage;
+use super::fields::{
+    encode_int, encode_lent, encode_lent_texts, encode_text, encode_texts, int_len, lent_len,
+    lent_texts_len, text_len, texts_len,
+};
 use super::message::{
     Encode, encode_messages, encode_optional_message, messages_len, optional_message_len,
 };
 use super::output::Output;
 use super::range::{encode_range, range_len};
-use scip_model::{Document, Index, Metadata, Occurrence, SymbolInformation, ToolInfo};
+use scip_model::{
+    Document, Index, LentInformation, LentOccurrence, Metadata, Occurrence, SymbolInformation,
+    ToolInfo,
+};
 
 impl Encode for Index {
     ghost use Rattle.scip_wire.specs.Spelling.{index_fields};
@@ -90,24 +97,11 @@ impl Encode for Document {
     ghost is_fit = { IsFitDocument };
 
     fn encoded_len(&self) -> u64 {
-        let relative_path = text_len(1, &self.relative_path);
-        let occurrences = messages_len(2, &self.occurrences);
-        let symbols = messages_len(3, &self.symbols);
-        let language = text_len(4, &self.language);
-        let encoding = int_len(6, self.position_encoding);
-        relative_path
-            .saturating_add(occurrences)
-            .saturating_add(symbols)
-            .saturating_add(language)
-            .saturating_add(encoding)
+        DocumentMessage { document: self }.encoded_len()
     }
 
     fn encode<W, O: Output<W>>(&self, out: &mut O, sink: &mut W) {
-        encode_text(out, sink, 1, &self.relative_path);
-        encode_messages(out, sink, 2, &self.occurrences);
-        encode_messages(out, sink, 3, &self.symbols);
-        encode_text(out, sink, 4, &self.language);
-        encode_int(out, sink, 6, self.position_encoding);
+        DocumentMessage { document: self }.encode(out, sink);
     }
 }
 
@@ -120,18 +114,35 @@ impl Encode for SymbolInformation {
     ghost is_fit = { IsFitInfo };
 
     fn encoded_len(&self) -> u64 {
-        let symbol = text_len(1, &self.symbol);
-        let documentation = texts_len(3, &self.documentation);
-        let display_name = text_len(6, &self.display_name);
+        LentInformation::of(self).encoded_len()
+    }
+
+    fn encode<W, O: Output<W>>(&self, out: &mut O, sink: &mut W) {
+        LentInformation::of(self).encode(out, sink);
+    }
+}
+
+impl<'a> Encode for LentInformation<'a> {
+    ghost use Rattle.scip_wire.specs.Spelling.{info_fields};
+    ghost use Rattle.scip_wire.specs.WellFormed.{IsFitInfo};
+
+    ghost fields = { info_fields };
+
+    ghost is_fit = { IsFitInfo };
+
+    fn encoded_len(&self) -> u64 {
+        let symbol = lent_len(1, self.symbol);
+        let documentation = lent_texts_len(3, &self.documentation);
+        let display_name = lent_len(6, self.display_name);
         symbol
             .saturating_add(documentation)
             .saturating_add(display_name)
     }
 
     fn encode<W, O: Output<W>>(&self, out: &mut O, sink: &mut W) {
-        encode_text(out, sink, 1, &self.symbol);
-        encode_texts(out, sink, 3, &self.documentation);
-        encode_text(out, sink, 6, &self.display_name);
+        encode_lent(out, sink, 1, self.symbol);
+        encode_lent_texts(out, sink, 3, &self.documentation);
+        encode_lent(out, sink, 6, self.display_name);
     }
 }
 
@@ -144,15 +155,32 @@ impl Encode for Occurrence {
     ghost is_fit = { IsFitOccurrence };
 
     fn encoded_len(&self) -> u64 {
+        LentOccurrence::of(self).encoded_len()
+    }
+
+    fn encode<W, O: Output<W>>(&self, out: &mut O, sink: &mut W) {
+        LentOccurrence::of(self).encode(out, sink);
+    }
+}
+
+impl<'a> Encode for LentOccurrence<'a> {
+    ghost use Rattle.scip_wire.specs.Spelling.{occurrence_fields};
+    ghost use Rattle.scip_wire.specs.WellFormed.{IsFitOccurrence};
+
+    ghost fields = { occurrence_fields };
+
+    ghost is_fit = { IsFitOccurrence };
+
+    fn encoded_len(&self) -> u64 {
         let range = range_len(1, &self.range);
-        let symbol = text_len(2, &self.symbol);
+        let symbol = lent_len(2, self.symbol);
         let roles = int_len(3, self.symbol_roles);
         range.saturating_add(symbol).saturating_add(roles)
     }
 
     fn encode<W, O: Output<W>>(&self, out: &mut O, sink: &mut W) {
         encode_range(out, sink, 1, &self.range);
-        encode_text(out, sink, 2, &self.symbol);
+        encode_lent(out, sink, 2, self.symbol);
         encode_int(out, sink, 3, self.symbol_roles);
     }
 }

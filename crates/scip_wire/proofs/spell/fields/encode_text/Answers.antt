@@ -1,10 +1,7 @@
-use Rattle.std.proofs.Common.{sym, ap, ◌∙◌}
+use Rattle.std.proofs.Common.{ap}
 use Rattle.scip_wire.specs.Spelling.{bytes_of, text_fields}
-use Rattle.scip_wire.proofs.OutputLemmas.{alike, nothing, text_none}
+use Rattle.scip_wire.proofs.OutputLemmas.{alike}
 use Rattle.scip_wire.proofs.spell.fields.encode_text.Goals as goal
 
-pub returns-else-not-is_empty : goal.returns-else-not-is_empty
-returns-else-not-is_empty g c =
-    let text = c.as_bytes-bytes.ensures.value ∙ c.as_str.ensures in
-    alike (text_none c.args.number _ (sym c.is_empty.ensures ∙ c.if-not-is_empty.false)
-    ∙ ap (λ bytes. bytes_of (text_fields c.args.number bytes)) text) nothing
+pub returns : goal.returns
+returns g c = alike (ap (λ bytes. bytes_of (text_fields c.args.number bytes)) c.as_str.ensures) c.encode_lent.ensures

@@ -5,9 +5,9 @@ use Rattle.scip_wire.proofs.ShortenedLemmas.{all_shortened}
 use Rattle.scip_wire.proofs.spell.pieces.spell_document.Goals as goal
 
 pub encode_message_of_len-requires-clause-len : goal.encode_message_of_len-requires-clause-len
-encode_message_of_len-requires-clause-len c =
+encode_message_of_len-requires-clause-len g c =
     let begun = c.in_ok-bytes.ensures in
-    let body = bytes_of (document_fields c.args.document.now) in
+    let body = bytes_of (document_fields (g.D.DocumentParts.document c.args.document.now)) in
     omega (
       arith,
       c.encoded_len-len.ensures.value,
@@ -18,9 +18,9 @@ encode_message_of_len-requires-clause-len c =
     )
 
 pub new-requires-clause-placed : goal.new-requires-clause-placed
-new-requires-clause-placed c =
+new-requires-clause-placed g c =
     let begun = c.in_ok-bytes.ensures in
-    let body = bytes_of (document_fields c.args.document.now) in
+    let body = bytes_of (document_fields (g.D.DocumentParts.document c.args.document.now)) in
     let bytes = bytes_of (bytes_field 2 body ∷ []) in
     let room : length bytes ≤ c.record_len-room.result =
     omega (
@@ -32,9 +32,9 @@ new-requires-clause-placed c =
     (all_shortened _ _ _ _ _ bytes begun room c.encode_message_of_len.ensures).1
 
 pub new-requires-clause-len : goal.new-requires-clause-len
-new-requires-clause-len c =
+new-requires-clause-len g c =
     let begun = c.in_ok-bytes.ensures in
-    let body = bytes_of (document_fields c.args.document.now) in
+    let body = bytes_of (document_fields (g.D.DocumentParts.document c.args.document.now)) in
     let bytes = bytes_of (bytes_field 2 body ∷ []) in
     let sum = c.record_len-room.ensures body c.encoded_len-len.ensures.value in
     let room : length bytes ≤ c.record_len-room.result =
@@ -43,9 +43,9 @@ new-requires-clause-len c =
     omega (arith, ap length whole, sum, begun.has_room, c.in_ok-bytes.bytes.rest.small)
 
 pub returns-clause-bytes : goal.returns-clause-bytes
-returns-clause-bytes c =
+returns-clause-bytes g c =
     let begun = c.in_ok-bytes.ensures in
-    let body = bytes_of (document_fields c.args.document.now) in
+    let body = bytes_of (document_fields (g.D.DocumentParts.document c.args.document.now)) in
     let bytes = bytes_of (bytes_field 2 body ∷ []) in
     let room : length bytes ≤ c.record_len-room.result =
     omega (

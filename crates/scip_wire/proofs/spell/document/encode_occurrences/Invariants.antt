@@ -1,0 +1,14 @@
+use Rattle.std.proofs.Common.{drop}
+use Rattle.scip_wire.specs.Spelling.{bytes_of, repeated_message_fields, occurrence_fields}
+use Rattle.scip_wire.specs.Outputs.{IsPut}
+use Rattle.scip_wire.proofs.spell.document.encode_occurrences.Given as goal
+
+-- where the records that are left are put behind those that were, all are
+abbrev pub invariant-numbers : goal.invariant-numbers
+invariant-numbers g l =
+    (sink : g.row.W.Denot) (out : g.row.O.Denot)
+    → IsPut g.O.Output.holds l.sink l.out sink out
+    (bytes_of (repeated_message_fields 2 occurrence_fields
+    (drop l.number (g.D.DocumentParts.document l.document).occurrences)))
+    → IsPut g.O.Output.holds l.initial.sink l.initial.out sink out
+    (bytes_of (repeated_message_fields 2 occurrence_fields (g.D.DocumentParts.document l.document).occurrences))

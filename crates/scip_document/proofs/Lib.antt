@@ -17,8 +17,11 @@ pub mod MeetLemmas
 pub mod EntityLemmas
 -- Texts of own declarations
 pub mod OwnTextLemmas
+-- Texts with numbers
+pub mod PlanLemmas
 -- Lists of entries
 pub mod EntryLemmas
+pub mod EntryNumberLemmas
 pub mod ApartLemmas
 pub mod LinkedLemmas
 pub mod ExternalLemmas

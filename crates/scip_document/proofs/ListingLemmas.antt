@@ -19,7 +19,7 @@ use Rattle.scip_model.specs.declared.records.Occurrence.{Occurrence}
 use Rattle.scip_document.specs.Occurs.{range_over}
 use Rattle.scip_document.specs.OccurrenceOrder.{occurrence_cmp}
 use Rattle.scip_document.specs.Tables.Listing.{each_from}
-use Rattle.std.proofs.lemmas.List.{append_assoc}
+use Rattle.std.proofs.lemmas.List.{append_assoc, append-nil, length-drop, nil_from_length}
 use Rattle.std.proofs.lemmas.Bool.{cases_order}
 use Rattle.std.proofs.lemmas.Bool.Decides.{nat_tests}
 use Rattle.scip_document.proofs.MergeLemmas.{not_in_none, either}
@@ -88,6 +88,13 @@ module _ {A B : Type 0} (gives : ℕ → A → List B) where
       ap (λ (front : List B). front ++ each_from gives (k + 1) (drop (k + 1) xs)) added
       ∙ (append_assoc old (gives k x) (each_from gives (k + 1) (drop (k + 1) xs))
       ∙ (ap (λ (rest : List B). old ++ rest) (sym (each_more k xs k x e)) ∙ before))
+
+  -- where all items are behind
+  pub each_done : (xs : List A) (k : ℕ) (list whole : List B) → length xs ≤ k
+      → list ++ each_from gives k (drop k xs) ≡ whole → list ≡ whole
+  each_done xs k list whole past is =
+      let none : drop k xs ≡ [] = nil_from_length (drop k xs) (omega (arith, length-drop k xs, past)) in
+      sym (append-nil list) ∙ (ap (λ (rest : List A). list ++ each_from gives k rest) (sym none) ∙ is)
 
 -- occurrences stand at some of the spans, in their order
 pub data StandAt (encoding : Encoding) (text : List ℕ) : List Span → List Occurrence → Type 0 where

@@ -1,13 +1,10 @@
 -- The texts that document a declaration.
-use Rattle.std.specs.Prelude.{ℕ, List, [], ◌∷◌, ◌++◌}
+use Rattle.std.specs.Prelude.{ℕ, List, [], ◌++◌}
 use Rattle.proto_decl.specs.declared.declaration.Declaration.{Declaration}
 use Rattle.index_hooks.specs.declared.choice.DocChoice.{DocChoice}
 use Rattle.index_hooks.specs.declared.choice.DocChoice.TheVariants.{Pass, Nothing, Leading, Trailing, Both}
-
 -- an empty text is left out
-abbrev pub unless_empty : List ℕ → List (List ℕ)
-unless_empty [] = []
-unless_empty (byte ∷ others) = (byte ∷ others) ∷ []
+pub use Rattle.scip_model.specs.Texts.{unless_empty}
 
 -- the texts that document a declaration (`scip.proto`, SymbolInformation.documentation; which they are is the
 -- profile's)

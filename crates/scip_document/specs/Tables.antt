@@ -9,5 +9,8 @@ pub mod EntryLists
 pub mod ExternalLists
 -- the texts of own declarations
 pub mod OwnTexts
+-- numbers for texts
+pub mod Plans
+pub mod EntryNumbers
 -- the marks of paths that pieces have
 pub mod TakenPaths

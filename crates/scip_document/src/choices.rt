@@ -2,6 +2,7 @@
 
 ghost use Rattle.std.specs.Prelude.{◌≡◌, map};
 ghost use Rattle.scip_document.specs.Chosen.{IsChosen, HasChoice};
+ghost use Rattle.scip_document.specs.Tables.EntryLists.{choices_for};
 
 use index_hooks::Choice;
 use std::marker::Model;
@@ -36,5 +37,15 @@ impl Choices {
         ensures { IsChosen self.now file declaration result }
     {
         self.lists[file][declaration]
+    }
+
+    /// The choices for a file's declarations.
+    pub(crate) fn of_file(&self, file: usize) -> &[Choice]
+        ensures { result.now ≡ choices_for self.now file }
+    {
+        match self.lists.get(file) {
+            Some(list) => list.as_slice(),
+            None => &[],
+        }
     }
 }

@@ -1,34 +1,36 @@
-//! The symbol entries of the document of a source.
+//! The symbol entries of the document of a source, and one of a declaration.
 
-ghost use Rattle.std.specs.Prelude.{ℕ, ◌≡◌, ◌<◌, ◌≤◌, ◌∷◌, ◌++◌, IfOk, OnOk, Some, Contains, drop, length};
-ghost use Rattle.std.specs.List.{slice_get};
-ghost use Rattle.proto_decl.specs.Names.{dotted};
+ghost use Rattle.std.specs.Prelude.{ℕ, ◌≡◌, ◌+◌, ◌<◌, ◌≤◌, ◌∷◌, [], ◌++◌, IfOk, OnOk, Contains, length, map, if◌then◌else◌};
+ghost use Rattle.std.specs.List.{range_with_len};
+ghost use Rattle.std.specs.Ordering.{nat_cmp};
+ghost use Rattle.std.specs.Cmp.Lexicographic.{slice_cmp};
+ghost use Rattle.proto_decl.specs.Names.{dotted, package_of};
 ghost use Rattle.proto_decl.specs.Ancestors.{component_names};
-ghost use Rattle.scip_symbol.specs.Path.{IsGoodPath};
-ghost use Rattle.proto_decl.specs.Facts.{Facts};
-ghost use Rattle.proto_visibility.specs.Files.{HasFacts, IsSource};
+ghost use Rattle.proto_visibility.specs.Files.{HasFacts, HasPathAt, IsSource};
+ghost use Rattle.scip_model.specs.declared.records.SymbolInformation.{SymbolInformation};
+ghost use Rattle.scip_symbol.specs.Package.{Package};
 ghost use Rattle.scip_document.specs.Packages.{package_of_file};
 ghost use Rattle.scip_document.specs.Chosen.{HasChoice, HaveChoices};
 ghost use Rattle.scip_document.specs.Conditions.{HaveGoodPaths};
-ghost use Rattle.scip_document.specs.Entries.{file_entry, package_entry, declaration_entry, HasEntry};
-ghost use Rattle.scip_document.specs.Tables.EntryLists.{package_entries, kept_entries};
-ghost use Rattle.scip_document.specs.Tables.EntryLists.{choices_for, source_entries};
-ghost use Rattle.scip_document.specs.Tables.OwnTexts.{declaration_texts, entry_with, entries_with};
+ghost use Rattle.scip_document.specs.Entries.{declaration_entry, HasEntry};
+ghost use Rattle.scip_document.specs.Tables.EntryLists.{kept_entries, choices_for};
+ghost use Rattle.scip_document.specs.Tables.OwnTexts.{entry_with};
+ghost use Rattle.scip_document.specs.Tables.EntryNumbers.{package_names, AreNumbered};
+ghost use Rattle.scip_document.specs.Tables.Plans.{Grown, own_texts, text_at, entry_of};
 ghost use Rattle.scip_document.specs.Indexes.{info_cmp, IsAscendingListOf};
 
 use crate::document_maker::DocumentMaker;
 use crate::documentation::documentation_of;
 use crate::known_facts::symbols_stand_apart;
-use crate::packages::package_of_file;
-use crate::symbol_texts::{declaration_text, file_text, package_text};
+use crate::symbol_table::{SymbolTable, declaration_number, number_at};
+use crate::symbol_texts::declaration_text;
 use index_hooks::Choice;
 use proto_decl::{Component, Declaration, FileFacts};
-use scip_model::SymbolInformation;
+use scip_model::{LentInformation, SymbolInformation};
 use scip_symbol::PackageId;
-use sequences::{OwnedText, Sequence};
+use sequences::OwnedText;
 use std::alloc::{AllocError, Global};
 use std::cmp::Ordering;
-use std::collections::VecDeque;
 
 /// The components joined by dots.
 fn joined(alloc: Global, components: &[Component]) -> Result<OwnedText, AllocError>
@@ -56,58 +58,47 @@ fn joined_behind(
     Ok(OwnedText::from_string(name))
 }
 
-/// That of a file, whose name is its path.
-fn file_entry(alloc: Global, id: &PackageId, path: &str) -> Result<SymbolInformation, AllocError>
-    requires { IsGoodPath path.now }
-    ensures { IfOk result (λ entry. entry ≡ file_entry id.now path.now) }
-{
-    let symbol = file_text(alloc, id, path)?;
-    let documentation = Sequence::new(alloc);
-    let display_name = OwnedText::copy_of(alloc, path)?;
-    Ok(SymbolInformation {
-        symbol,
-        documentation,
-        display_name,
-    })
-}
-
-/// Of the package of the first components, so many.
-fn package_entry(
+/// The full name of the package that the first components make, so many.
+fn package_name(
     alloc: Global,
-    id: &PackageId,
-    facts: &FileFacts,
+    components: &[Component],
     count: usize,
-) -> Result<SymbolInformation, AllocError>
-    requires some { 0 < count }
-    requires within { count ≤ length facts.now.package_name }
-    ensures { IfOk result (λ entry. entry ≡ package_entry id.now facts.now count) }
+) -> Result<OwnedText, AllocError>
+    requires { count ≤ length components.now }
+    ensures { IfOk result (λ name. name ≡ package_of components.now count) }
 {
-    let symbol = package_text(alloc, id, facts, count)?;
-    let (front, _) = facts.package_name().split_at(count);
-    let display_name = joined(alloc, front)?;
-    Ok(SymbolInformation {
-        symbol,
-        documentation: Sequence::new(alloc),
-        display_name,
-    })
+    let (front, _) = components.split_at(count);
+    joined(alloc, front)
 }
 
-/// Of a declaration whose symbol has this text.
-fn entry_with(
+/// The full names of a file's packages: of the first component, the first two, and so on.
+pub(crate) fn package_names(
     alloc: Global,
-    symbol: OwnedText,
-    declaration: &Declaration,
-    choice: Choice,
-) -> Result<SymbolInformation, AllocError>
-    ensures { IfOk result (λ entry. entry ≡ entry_with symbol declaration.now choice) }
+    components: &[Component],
+) -> Result<Vec<OwnedText>, AllocError>
+    ensures { IfOk result (λ names. names.items ≡ package_names components.now) }
 {
-    let documentation = documentation_of(alloc, choice.doc, declaration)?;
-    let display_name = OwnedText::copy_of(alloc, declaration.simple_name())?;
-    Ok(SymbolInformation {
+    let mut names = Vec::with_capacity(alloc, components.len())?;
+    for index in 0..components.len() {
+        let name = package_name(alloc, components, index + 1)?;
+        names.push(name)?;
+    }
+    Ok(names)
+}
+
+/// The entry of a declaration whose symbol has this text.
+pub(crate) fn lent_entry<'a>(
+    symbol: &'a str,
+    declaration: &'a Declaration,
+    choice: Choice,
+) -> LentInformation<'a>
+    ensures { result ≡ entry_with symbol.now declaration.now choice }
+{
+    LentInformation {
         symbol,
-        documentation,
-        display_name,
-    })
+        documentation: documentation_of(choice.doc, declaration),
+        display_name: declaration.simple_name(),
+    }
 }
 
 /// That of a declaration, with the texts that were chosen.
@@ -122,101 +113,53 @@ pub(crate) fn declaration_entry(
     ensures { IfOk result (λ entry. entry ≡ declaration_entry id.now facts.now declaration.now choice) }
 {
     let symbol = declaration_text(alloc, id, facts, declaration)?;
-    entry_with(alloc, symbol, declaration, choice)
+    let entry = lent_entry(symbol.as_str(), declaration, choice);
+    entry.to_record(alloc)
 }
 
-/// Appends those of a file's packages.
-fn push_packages(
-    alloc: Global,
-    entries: &mut Vec<SymbolInformation>,
-    id: &PackageId,
-    facts: &FileFacts,
-) -> Result<(), AllocError>
-    ensures { OnOk result (entries.new.items ≡ entries.old.items ++ package_entries id.now facts.now) }
+/// The numbers of a file's own text and those of its packages, with room for those of its declarations.
+fn first_numbers(alloc: Global, facts: &FileFacts) -> Result<Vec<u32>, AllocError>
+    ensures { IfOk result (λ numbers. (entry : ℕ → SymbolInformation)
+        → map entry numbers.items ≡ map entry (range_with_len 0 (1 + length facts.now.package_name))) }
 {
-    for index in 0..facts.package_name().len() {
-        let entry = package_entry(alloc, id, facts, index + 1)?;
-        entries.push(entry)?;
+    let first = 1 + facts.package_name().len();
+    let mut numbers = Vec::with_capacity(alloc, first + facts.declarations().len())?;
+    for index in 0..first {
+        let number = number_at(index)?;
+        numbers.push(number)?;
+    }
+    Ok(numbers)
+}
+
+/// Appends a number that is kept.
+fn push_if_kept(numbers: &mut Vec<u32>, number: u32, keep: bool) -> Result<(), AllocError>
+    ensures { OnOk result (numbers.new.items ≡ numbers.old.items ++ (if keep then number ∷ [] else [])) }
+{
+    if keep {
+        numbers.push(number)?;
     }
     Ok(())
 }
 
-/// Appends that of a declaration whose symbol has this text, if it is kept.
-fn push_if_kept(
-    alloc: Global,
-    entries: &mut Vec<SymbolInformation>,
-    symbol: OwnedText,
-    declaration: &Declaration,
-    choice: Choice,
-) -> Result<(), AllocError>
-    ensures { OnOk result
-        (entries.new.items ≡ entries.old.items ++ entries_with symbol declaration.now choice) }
-{
-    if !choice.keep {
-        return Ok(());
-    }
-    let entry = entry_with(alloc, symbol, declaration, choice)?;
-    entries.push(entry)?;
-    Ok(())
-}
-
-/// Takes the first of the texts that are left.
-fn take_first(left: &mut VecDeque<OwnedText>) -> OwnedText
-    requires { 0 < length left.old.items }
-    ensures first { slice_get left.old.items 0 ≡ Some result }
-    ensures rest { left.new.items ≡ drop 1 left.old.items }
-{
-    left.pop_front().unwrap()
-}
-
-/// Appends those of the source's declarations that are kept, whose symbols have these texts. The texts are moved.
+/// Appends the numbers of the source's declarations that are kept.
 fn push_declarations(
-    entries: &mut Vec<SymbolInformation>,
+    numbers: &mut Vec<u32>,
     maker: &DocumentMaker<'_, '_, '_, '_>,
-    id: &PackageId,
-    texts: Vec<OwnedText>,
     facts: &FileFacts,
 ) -> Result<(), AllocError>
-    requires texts { texts.items ≡ declaration_texts id.now facts.now }
-    requires one_each { length texts.items ≡ length facts.now.declarations }
-    requires choices { (index : ℕ) → index < length facts.now.declarations
+    requires { (index : ℕ) → index < length facts.now.declarations
         → HasChoice maker.now.choices.now maker.now.source index }
-    ensures { OnOk result (entries.new.items ≡ entries.old.items
-        ++ kept_entries id.now facts.now facts.now.declarations
-        (choices_for maker.now.choices.now maker.now.source)) }
+    ensures { OnOk result ((id : Package) (entry : ℕ → SymbolInformation)
+        → AreNumbered id facts.now (choices_for maker.now.choices.now maker.now.source) entry
+        → map entry numbers.new.items ≡ map entry numbers.old.items
+        ++ kept_entries id facts.now facts.now.declarations (choices_for maker.now.choices.now maker.now.source)) }
 {
-    let mut left = VecDeque::from_vec(texts);
-    for (index, declaration) in facts.declarations().iter().enumerate() {
-        let symbol = take_first(&mut left);
+    for index in 0..facts.declarations().len() {
         let choice = maker.choices.of(maker.source, index);
-        push_if_kept(maker.alloc, entries, symbol, declaration, choice)?;
+        let number = declaration_number(facts, index)?;
+        push_if_kept(numbers, number, choice.keep)?;
     }
     Ok(())
-}
-
-/// Those of the source, by kind; it belongs to this package, and the symbols of its declarations have these texts.
-fn listed_entries(
-    maker: &DocumentMaker<'_, '_, '_, '_>,
-    id: &PackageId,
-    path: &str,
-    texts: Vec<OwnedText>,
-    facts: &FileFacts,
-) -> Result<Vec<SymbolInformation>, AllocError>
-    requires path { IsGoodPath path.now }
-    requires texts { texts.items ≡ declaration_texts id.now facts.now }
-    requires one_each { length texts.items ≡ length facts.now.declarations }
-    requires choices { (index : ℕ) → index < length facts.now.declarations
-        → HasChoice maker.now.choices.now maker.now.source index }
-    ensures { IfOk result (λ entries. entries.items ≡ source_entries id.now maker.now.package.now.run path.now
-        facts.now (choices_for maker.now.choices.now maker.now.source)) }
-{
-    let room = 1 + facts.package_name().len() + facts.declarations().len();
-    let mut entries = Vec::with_capacity(maker.alloc, room)?;
-    let first = file_entry(maker.alloc, id, path)?;
-    entries.push(first)?;
-    push_packages(maker.alloc, &mut entries, maker.package.run(), facts)?;
-    push_declarations(&mut entries, maker, id, texts, facts)?;
-    Ok(entries)
 }
 
 /// By symbol.
@@ -226,25 +169,35 @@ pub(crate) fn compare_symbols(a: &SymbolInformation, b: &SymbolInformation) -> O
     a.symbol.as_str().cmp(b.symbol.as_str())
 }
 
-/// The entries of the source, by symbol; the symbols of its declarations have these texts, which are moved.
-pub(crate) fn entries(
+/// Numbers by their texts.
+fn compare_texts(texts: &SymbolTable, a: u32, b: u32) -> Ordering
+    ensures { result ≡ slice_cmp nat_cmp (text_at texts.now a) (text_at texts.now b) }
+{
+    texts.at(a).cmp(texts.at(b))
+}
+
+/// The numbers of the entries of the source, by symbol: the texts begin with those of what the source has itself.
+pub(crate) fn entry_numbers(
     maker: &DocumentMaker<'_, '_, '_, '_>,
-    texts: Vec<OwnedText>,
-) -> Result<Sequence<SymbolInformation>, AllocError>
+    path: &str,
+    texts: &SymbolTable,
+    facts: &FileFacts,
+) -> Result<Vec<u32>, AllocError>
     requires source { IsSource maker.now.linker.now maker.now.source }
+    requires path { HasPathAt maker.now.linker.now path.now maker.now.source }
+    requires known { HasFacts maker.now.linker.now maker.now.source facts.now }
     requires paths { HaveGoodPaths maker.now.linker.now }
     requires choices { HaveChoices maker.now.linker.now maker.now.choices.now }
-    requires texts { (facts : Facts) → HasFacts maker.now.linker.now maker.now.source facts
-        → texts.items ≡ declaration_texts (package_of_file
-        maker.now.linker.now maker.now.package.now maker.now.source) facts }
-    ensures { IfOk result (IsAscendingListOf info_cmp
-        (HasEntry maker.now.linker.now maker.now.choices.now maker.now.package.now maker.now.source)) }
+    requires texts { Grown (own_texts (package_of_file maker.now.linker.now maker.now.package.now maker.now.source)
+        maker.now.package.now.run path.now facts.now) texts.now }
+    ensures { IfOk result (λ numbers. IsAscendingListOf info_cmp
+        (HasEntry maker.now.linker.now maker.now.choices.now maker.now.package.now maker.now.source)
+        (map (entry_of texts.now path.now (package_names facts.now.package_name) facts.now
+        (choices_for maker.now.choices.now maker.now.source)) numbers.items)) }
 {
     symbols_stand_apart(maker.linker, maker.package);
-    let path = maker.linker.path_of(maker.source);
-    let facts = maker.linker.facts_of(maker.source).unwrap();
-    let id = package_of_file(maker.linker, maker.package, maker.source);
-    let mut entries = listed_entries(maker, id, path, texts, facts)?;
-    entries.sort_unstable_by(|a, b| compare_symbols(a, b));
-    Ok(Sequence::from_vec(entries))
+    let mut numbers = first_numbers(maker.alloc, facts)?;
+    push_declarations(&mut numbers, maker, facts)?;
+    numbers.sort_unstable_by(|a, b| compare_texts(texts, *a, *b));
+    Ok(numbers)
 }

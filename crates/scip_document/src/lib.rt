@@ -3,6 +3,7 @@
 
 mod choices;
 mod document_maker;
+mod document_plan;
 mod documentation;
 mod entries;
 mod external_symbols;
@@ -14,13 +15,17 @@ mod occurrence_order;
 mod occurrences;
 mod packages;
 mod pieces;
+mod plan_parts;
+mod planned;
 mod source_document;
+mod symbol_table;
 mod symbol_texts;
 mod targets;
 mod use_occurrences;
 
 pub use choices::Choices;
 pub use document_maker::DocumentMaker;
+pub use document_plan::{DocumentPlan, PlannedDocument};
 pub use external_symbols::externals;
 pub use laws::{
     no_two_occurrences_tie, one_document_a_source, one_index, one_merge_refusal, one_merged_list,
@@ -29,4 +34,4 @@ pub use laws::{
 pub use merge_fault::{MergeFault, Unmerged};
 pub use packages::{FilePackages, RootPackage};
 pub use pieces::merge;
-pub use source_document::{SourceDocument, document, document_and_gaps};
+pub use source_document::{SourceDocument, document, document_and_gaps, plan_document};

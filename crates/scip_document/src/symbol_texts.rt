@@ -9,6 +9,7 @@ ghost use Rattle.scip_symbol.specs.Package.{Package};
 ghost use Rattle.scip_symbol.specs.Path.{IsGoodPath};
 ghost use Rattle.scip_document.specs.Named.{text_of, package_at, declaration_at};
 ghost use Rattle.scip_document.specs.Tables.OwnTexts.{declaration_texts};
+ghost use Rattle.scip_document.specs.Tables.Plans.{package_texts_up_to, own_texts};
 
 use proto_decl::{Declaration, FileFacts};
 use scip_symbol::{PackageId, print_below, print_declaration, print_file, print_package};
@@ -92,18 +93,56 @@ fn push_text_below(
     Ok(())
 }
 
-/// Of each declaration of a file, in order. What they begin with is made once.
-pub(crate) fn declaration_texts(
+/// Adds those of each declaration of a file, in order. What they begin with is made once.
+fn push_declaration_texts(
     alloc: Global,
+    texts: &mut Vec<OwnedText>,
     id: &PackageId,
     facts: &FileFacts,
-) -> Result<Vec<OwnedText>, AllocError>
-    ensures { IfOk result (λ texts. texts.items ≡ declaration_texts id.now facts.now) }
+) -> Result<(), AllocError>
+    ensures { OnOk result (texts.new.items ≡ texts.old.items ++ declaration_texts id.now facts.now) }
 {
     let front = print_package(alloc, id, facts.package_name())?;
-    let mut texts = Vec::with_capacity(alloc, facts.declarations().len())?;
     for declaration in facts.declarations() {
-        push_text_below(alloc, &mut texts, front.as_str(), declaration)?;
+        push_text_below(alloc, texts, front.as_str(), declaration)?;
     }
+    Ok(())
+}
+
+/// Adds those of a file's packages: of the first component, the first two, and so on.
+fn push_package_texts(
+    alloc: Global,
+    texts: &mut Vec<OwnedText>,
+    id: &PackageId,
+    facts: &FileFacts,
+) -> Result<(), AllocError>
+    ensures { OnOk result (texts.new.items ≡ texts.old.items
+        ++ package_texts_up_to id.now facts.now (length facts.now.package_name)) }
+{
+    for index in 0..facts.package_name().len() {
+        let text = package_text(alloc, id, facts, index + 1)?;
+        texts.push(text)?;
+    }
+    Ok(())
+}
+
+/// Those of what a source has itself: the file's, those of its packages, which belong to the run, and those of its
+/// declarations.
+pub(crate) fn own_texts(
+    alloc: Global,
+    id: &PackageId,
+    run: &PackageId,
+    path: &str,
+    facts: &FileFacts,
+) -> Result<Vec<OwnedText>, AllocError>
+    requires { IsGoodPath path.now }
+    ensures { IfOk result (λ texts. texts.items ≡ own_texts id.now run.now path.now facts.now) }
+{
+    let room = 1 + facts.package_name().len() + facts.declarations().len();
+    let mut texts = Vec::with_capacity(alloc, room)?;
+    let first = file_text(alloc, id, path)?;
+    texts.push(first)?;
+    push_package_texts(alloc, &mut texts, run, facts)?;
+    push_declaration_texts(alloc, &mut texts, id, facts)?;
     Ok(texts)
 }

@@ -1,6 +1,6 @@
 //! The occurrences of a document that come of its uses.
 
-ghost use Rattle.std.specs.Prelude.{◌≡◌, ◌<◌, ◌≤◌, ◌++◌, ℕ, Some, List, All, IfOk, OnOk, length, map, take};
+ghost use Rattle.std.specs.Prelude.{◌≡◌, ◌<◌, ◌≤◌, ℕ, Some, List, All, IfOk, OnOk, IfSome, length, map, take};
 ghost use Rattle.std.specs.List.{slice_get};
 ghost use Rattle.std.specs.Option.{option_map};
 ghost use denote.Ref.{Bor};
@@ -12,7 +12,9 @@ ghost use Rattle.proto_decl.specs.declared.declaration.Declaration.{Declaration}
 ghost use Rattle.proto_decl.specs.declared.type_use.Component.{Component};
 ghost use Rattle.proto_decl.specs.declared.type_use.Use.{Use};
 ghost use Rattle.proto_link.specs.declared.target.Target.{Target};
+ghost use Rattle.proto_visibility.specs.Files.{HasFacts};
 ghost use Rattle.proto_visibility.specs.declared.entities.Entity.{Entity};
+ghost use Rattle.proto_visibility.specs.declared.entities.Entity.TheVariants.{Declared};
 ghost use Rattle.scip_symbol.specs.Entities.{OfPackage, IsEntity};
 ghost use Rattle.scip_document.specs.Chosen.{HaveChoices};
 ghost use Rattle.scip_document.specs.Packages.{package_of_file, package_of_part};
@@ -25,16 +27,19 @@ ghost use Rattle.scip_document.specs.Tables.Listing.{
   IsNameable,
   AreNameable,
 };
-ghost use Rattle.scip_document.specs.Tables.Listing.{at_part, at_component, at_target, at_use};
+ghost use Rattle.scip_document.specs.Tables.Listing.{at_entity, at_part, at_component, at_target, at_use};
+ghost use Rattle.scip_document.specs.Tables.Plans.{Grown, HasOwnTexts, IsNumberIn, ArePlanned, AreAdded};
+ghost use Rattle.scip_document.specs.Tables.Plans.{declaration_number};
 
 use crate::document_maker::DocumentMaker;
-use crate::occurrences::occurrence_over;
+use crate::occurrences::planned_over;
 use crate::packages::package_of_file;
+use crate::planned::PlannedOccurrence;
+use crate::symbol_table::{SymbolTable, declaration_number};
 use crate::symbol_texts::declaration_text;
 use proto_decl::{Component, Declaration, FileFacts, Use};
 use proto_lex::Span;
 use proto_link::{Entity, Target};
-use scip_model::Occurrence;
 use scip_symbol::{PackageId, print_package_named};
 use sequences::OwnedText;
 use std::alloc::{AllocError, Global};
@@ -122,6 +127,51 @@ fn entity_text(
     }
 }
 
+/// The number of the declaration that a part is, if it is one of this file.
+fn own_index(part: Entity, file: usize) -> Option<usize>
+    ensures { IfSome result (λ index. part ≡ Declared file index) }
+{
+    match part {
+        Entity::Declared(of, index) => { if of == file { Some(index) } else { None } }
+        Entity::Package(_) => None,
+    }
+}
+
+/// The number of the text of one of the source's own declarations.
+fn own_number(maker: &DocumentMaker<'_, '_, '_, '_>, index: usize) -> Result<u32, AllocError>
+    requires { (facts : Facts) × (declared : Declaration)
+        × HasDeclaration maker.now.linker.now maker.now.source index facts declared }
+    ensures { IfOk result (λ number. (facts : Facts) → HasFacts maker.now.linker.now maker.now.source facts
+        → number ≡ declaration_number facts index) }
+{
+    let facts = maker.linker.facts_of(maker.source).unwrap();
+    let number = declaration_number(facts, index)?;
+    Ok(number)
+}
+
+/// The number of the text of what a part of a full name names. The source's own declarations have one already.
+fn entity_number(
+    maker: &DocumentMaker<'_, '_, '_, '_>,
+    name: &str,
+    part: Entity,
+    texts: &mut SymbolTable,
+) -> Result<u32, AllocError>
+    requires own { HasOwnTexts maker.now.linker.now maker.now.package.now maker.now.source texts.old }
+    requires nameable { IsNameable maker.now.linker.now name.now part }
+    ensures grown { OnOk result (Grown texts.old texts.new) }
+    ensures number { IfOk result (IsNumberIn texts.new
+        (package_of_part maker.now.linker.now maker.now.package.now part)
+        (entity_of maker.now.linker.now name.now part)) }
+{
+    if let Some(index) = own_index(part, maker.source) {
+        let number = own_number(maker, index)?;
+        return Ok(number);
+    }
+    let text = entity_text(maker, name, part)?;
+    let number = texts.number_of(text)?;
+    Ok(number)
+}
+
 /// Whether a part of a full name occurs: a package does, and a declaration where it is kept.
 fn is_shown(maker: &DocumentMaker<'_, '_, '_, '_>, name: &str, part: Entity) -> bool
     requires chosen { HaveChoices maker.now.linker.now maker.now.choices.now }
@@ -134,28 +184,56 @@ fn is_shown(maker: &DocumentMaker<'_, '_, '_, '_>, name: &str, part: Entity) -> 
     }
 }
 
+/// Adds the occurrence of what a part of a full name names over a component.
+fn add_entity(
+    list: &mut Vec<PlannedOccurrence>,
+    maker: &DocumentMaker<'_, '_, '_, '_>,
+    name: &str,
+    span: Span,
+    part: Entity,
+    texts: &mut SymbolTable,
+) -> Result<(), AllocError>
+    requires stands { IsPart maker.now.text.now span }
+    requires own { HasOwnTexts maker.now.linker.now maker.now.package.now maker.now.source texts.old }
+    requires nameable { IsNameable maker.now.linker.now name.now part }
+    ensures grown { OnOk result (Grown texts.old texts.new) }
+    ensures added { OnOk result (AreAdded texts.new list.old.items list.new.items
+        (at_entity (package_of_part maker.now.linker.now maker.now.package.now part) maker.now.encoding
+        maker.now.text.now span (entity_of maker.now.linker.now name.now part))) }
+{
+    let number = entity_number(maker, name, part, texts)?;
+    list.push(planned_over(maker, span, number, NO_ROLE))?;
+    Ok(())
+}
+
 /// Adds the occurrence of a part of a full name over a component, if there is a part and it occurs.
 fn add_part(
-    list: &mut Vec<Occurrence>,
+    list: &mut Vec<PlannedOccurrence>,
     maker: &DocumentMaker<'_, '_, '_, '_>,
     name: &str,
     span: Span,
     part: Option<Entity>,
+    texts: &mut SymbolTable,
 ) -> Result<(), AllocError>
     requires stands { IsPart maker.now.text.now span }
     requires chosen { HaveChoices maker.now.linker.now maker.now.choices.now }
+    requires own { HasOwnTexts maker.now.linker.now maker.now.package.now maker.now.source texts.old }
     requires nameable { (entity : Entity) → part ≡ Some entity → IsNameable maker.now.linker.now name.now entity }
-    ensures { OnOk result (list.new.items ≡ list.old.items
-        ++ at_part maker.now.package.now maker.now.encoding maker.now.text.now
-        maker.now.linker.now maker.now.choices.now name.now span part) }
+    ensures grown { OnOk result (Grown texts.old texts.new) }
+    ensures added { OnOk result (AreAdded texts.new list.old.items list.new.items
+        (at_part maker.now.package.now maker.now.encoding maker.now.text.now
+        maker.now.linker.now maker.now.choices.now name.now span part)) }
 {
-    if let Some(part) = part {
-        if is_shown(maker, name, part) {
-            let symbol = entity_text(maker, name, part)?;
-            list.push(occurrence_over(maker, span, symbol, NO_ROLE))?;
+    match part {
+        Some(part) => {
+            if is_shown(maker, name, part) {
+                add_entity(list, maker, name, span, part, texts)
+            } else {
+                Ok(())
+            }
         }
+        None => Ok(()),
     }
-    Ok(())
 }
 
 /// What a component of a use with this target names.
@@ -167,43 +245,49 @@ fn part_of(target: &Target, index: usize) -> Option<Entity>
 
 /// Adds the occurrences of a use with this target, over its components.
 fn add_target(
-    list: &mut Vec<Occurrence>,
+    list: &mut Vec<PlannedOccurrence>,
     maker: &DocumentMaker<'_, '_, '_, '_>,
     target: &Target,
     type_use: &Use,
+    texts: &mut SymbolTable,
 ) -> Result<(), AllocError>
     requires stand { All (λ (component : Component). IsPart maker.now.text.now component.span) type_use.now.components }
     requires chosen { HaveChoices maker.now.linker.now maker.now.choices.now }
+    requires own { HasOwnTexts maker.now.linker.now maker.now.package.now maker.now.source texts.old }
     requires nameable { AreNameable maker.now.linker.now target.now }
-    ensures { OnOk result (list.new.items ≡ list.old.items ++ each_from
+    ensures grown { OnOk result (Grown texts.old texts.new) }
+    ensures added { OnOk result (AreAdded texts.new list.old.items list.new.items (each_from
         (at_component maker.now.package.now maker.now.encoding maker.now.text.now
         maker.now.linker.now maker.now.choices.now target.now)
-        0 type_use.now.components) }
+        0 type_use.now.components)) }
 {
     for (index, component) in type_use.components.as_slice().iter().enumerate() {
         let part = part_of(target, index);
         let name = target.name.as_str();
-        add_part(list, maker, name, component.span, part)?;
+        add_part(list, maker, name, component.span, part, texts)?;
     }
     Ok(())
 }
 
 /// Adds the occurrences of a use, if it names a type.
 fn add_found(
-    list: &mut Vec<Occurrence>,
+    list: &mut Vec<PlannedOccurrence>,
     maker: &DocumentMaker<'_, '_, '_, '_>,
     found: &Option<Target>,
     type_use: &Use,
+    texts: &mut SymbolTable,
 ) -> Result<(), AllocError>
     requires stand { All (λ (component : Component). IsPart maker.now.text.now component.span) type_use.now.components }
     requires chosen { HaveChoices maker.now.linker.now maker.now.choices.now }
+    requires own { HasOwnTexts maker.now.linker.now maker.now.package.now maker.now.source texts.old }
     requires nameable { (target : Target) → found.now ≡ Some target → AreNameable maker.now.linker.now target }
-    ensures { OnOk result (list.new.items ≡ list.old.items
-        ++ at_target maker.now.package.now maker.now.encoding maker.now.text.now
-        maker.now.linker.now maker.now.choices.now found.now type_use.now) }
+    ensures grown { OnOk result (Grown texts.old texts.new) }
+    ensures added { OnOk result (AreAdded texts.new list.old.items list.new.items
+        (at_target maker.now.package.now maker.now.encoding maker.now.text.now
+        maker.now.linker.now maker.now.choices.now found.now type_use.now)) }
 {
     match found {
-        Some(target) => add_target(list, maker, target, type_use),
+        Some(target) => add_target(list, maker, target, type_use, texts),
         None => Ok(()),
     }
 }
@@ -213,21 +297,24 @@ pub(crate) fn use_occurrences(
     maker: &DocumentMaker<'_, '_, '_, '_>,
     found: &[Option<Target>],
     uses: &[Use],
-) -> Result<Vec<Occurrence>, AllocError>
+    texts: &mut SymbolTable,
+) -> Result<Vec<PlannedOccurrence>, AllocError>
     requires stand { All (λ (used : Use).
         All (λ (component : Component). IsPart maker.now.text.now component.span) used.components) uses.now }
     requires chosen { HaveChoices maker.now.linker.now maker.now.choices.now }
+    requires own { HasOwnTexts maker.now.linker.now maker.now.package.now maker.now.source texts.old }
     requires one_each { length found.now ≡ length uses.now }
     requires nameable { (index : ℕ) (target : Target) → slice_get found.now index ≡ Some (Some target)
         → AreNameable maker.now.linker.now target }
-    ensures { IfOk result (λ list. list.items ≡ each_from
+    ensures grown { OnOk result (Grown texts.old texts.new) }
+    ensures planned { IfOk result (λ list. ArePlanned texts.new list.items (each_from
         (at_use maker.now.package.now maker.now.encoding maker.now.text.now
         maker.now.linker.now maker.now.choices.now found.now)
-        0 uses.now) }
+        0 uses.now)) }
 {
     let mut list = Vec::with_capacity(maker.alloc, uses.len())?;
     for (index, type_use) in uses.iter().enumerate() {
-        add_found(&mut list, maker, &found[index], type_use)?;
+        add_found(&mut list, maker, &found[index], type_use, texts)?;
     }
     Ok(list)
 }

@@ -37,7 +37,3 @@ entry_with symbol declared choice = record {
   documentation = documentation_of choice.doc declared;
   display_name = simple_name declared.path;
 }
-
--- the same, where it is kept
-abbrev pub entries_with : (symbol : List ℕ) → Declaration → Choice → List SymbolInformation
-entries_with symbol declared choice = if choice.keep then entry_with symbol declared choice ∷ [] else []

@@ -1,12 +1,14 @@
-use Rattle.std.proofs.Common.{◌≡◌, ◌++◌, take, drop}
+use Rattle.std.proofs.Common.{◌≡◌, ◌++◌, ℕ, map, take}
+use Rattle.scip_model.specs.declared.records.SymbolInformation.{SymbolInformation}
+use Rattle.scip_symbol.specs.Package.{Package}
 use Rattle.scip_document.specs.Tables.EntryLists.{kept_entries, choices_for}
+use Rattle.scip_document.specs.Tables.EntryNumbers.{AreNumbered}
 use Rattle.scip_document.proofs.entries.push_declarations.Given as goal
 
--- those so far, and the texts of the others
+-- those so far
 abbrev pub invariant-loop-index : goal.invariant-loop-index
-invariant-loop-index l = record {
-  entries : l.entries.items ≡ l.fn.entries.items
-      ++ kept_entries l.id l.facts (take l.index l.facts.declarations)
-      (choices_for l.maker.choices.now l.maker.source);
-  left : l.left.items ≡ drop l.index l.fn.texts.items;
-}
+invariant-loop-index l =
+    (id : Package) (entry : ℕ → SymbolInformation)
+    → AreNumbered id l.facts (choices_for l.maker.choices.now l.maker.source) entry
+    → map entry l.numbers.items ≡ map entry l.fn.numbers.items
+    ++ kept_entries id l.facts (take l.index l.facts.declarations) (choices_for l.maker.choices.now l.maker.source)

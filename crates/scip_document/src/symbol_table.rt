@@ -1,0 +1,107 @@
+//! The texts of a document's symbols, each once, by number.
+
+ghost use Rattle.std.specs.Prelude.{◌≡◌, ◌<◌, ◌^◌, Some, IfOk, OnOk, length, map};
+ghost use Rattle.std.specs.List.{slice_get};
+ghost use Rattle.std.specs.String.{string_bytes};
+ghost use Rattle.scip_document.specs.Tables.Plans.{text_at, Grown, IsNumberOf, declaration_number};
+
+use indexmap::IndexSet;
+use proto_decl::FileFacts;
+use sequences::OwnedText;
+use std::alloc::{AllocError, Global};
+use std::marker::Model;
+
+/// The texts of a document's symbols, each with its number: those of what the source has itself, in order, then those
+/// of what it names elsewhere, each once.
+///
+/// Contracts see the list of the texts.
+#[derive(Debug, Drop)]
+pub(crate) struct SymbolTable {
+    own: Vec<OwnedText>,
+    others: IndexSet<String>,
+}
+
+impl Model for SymbolTable {
+    ghost use Rattle.std.specs.Prelude.{List, ℕ, ◌++◌, map};
+    ghost use Rattle.std.specs.String.{string_bytes};
+
+    ghost Value = { List (List ℕ) };
+
+    ghost view = { λ table. table.own.items ++ map string_bytes table.others.keys };
+}
+
+/// The greatest number.
+const MAX_NUMBER: usize = 4294967295;
+
+/// The number at an index. A text of at most 64 MiB has no more symbols than there are numbers.
+pub(crate) fn number_at(index: usize) -> Result<u32, AllocError>
+    ensures number { IfOk result (λ number. number ≡ index) }
+    ensures within { IfOk result (λ _. index < 2 ^ 32) }
+{
+    if index > MAX_NUMBER {
+        return Err(AllocError);
+    }
+    Ok(index as u32)
+}
+
+/// The number of a declaration's text.
+pub(crate) fn declaration_number(facts: &FileFacts, index: usize) -> Result<u32, AllocError>
+    ensures { IfOk result (λ number. number ≡ declaration_number facts.now index) }
+{
+    let first = 1 + facts.package_name().len();
+    let number = number_at(first.saturating_add(index))?;
+    Ok(number)
+}
+
+/// The place of a text, which is added if it isn't there.
+fn insert_text(others: &mut IndexSet<String>, text: String) -> Result<usize, AllocError>
+    ensures grown { OnOk result (Grown (map string_bytes others.old.keys) (map string_bytes others.new.keys)) }
+    ensures stored { IfOk result (λ index.
+        slice_get (map string_bytes others.new.keys) index ≡ Some (string_bytes text)) }
+{
+    let (index, _) = others.insert_full(text)?;
+    Ok(index)
+}
+
+impl SymbolTable {
+    /// Of these texts. Takes no memory.
+    pub(crate) fn new(alloc: Global, own: Vec<OwnedText>) -> SymbolTable
+        ensures { result ≡ own.items }
+    {
+        SymbolTable {
+            own,
+            others: IndexSet::new(alloc),
+        }
+    }
+
+    /// The number of a text, which is added if what was added so far hasn't got it.
+    pub(crate) fn number_of(&mut self, text: OwnedText) -> Result<u32, AllocError>
+        ensures grown { OnOk result (Grown self.old self.new) }
+        ensures number { IfOk result (IsNumberOf self.new text) }
+    {
+        let index = insert_text(&mut self.others, text.into_string())?;
+        let number = number_at(self.own.len().saturating_add(index))?;
+        Ok(number)
+    }
+
+    /// The text with a number. Where none has it, the empty one.
+    pub(crate) fn at(&self, number: u32) -> &str
+        ensures { result.now ≡ text_at self.now number }
+    {
+        let index = number as usize;
+        match self.own.get(index) {
+            Some(text) => text.as_str(),
+            None => other_at(&self.others, index.saturating_sub(self.own.len())),
+        }
+    }
+}
+
+/// One of the texts of what is named elsewhere, by its place there. Where none has it, the empty one.
+fn other_at(others: &IndexSet<String>, index: usize) -> &str
+    ensures { result.now ≡ text_at (map string_bytes others.now.keys) index }
+{
+    match others.get_index(index) {
+        Some(text) => text.as_str(),
+        None => "",
+    }
+}

@@ -1,7 +1,7 @@
 //! The documents of an index as its bytes have them.
 
 use scip_build::DocumentForm;
-use scip_model::Document;
+use scip_document::DocumentPlan;
 use scip_wire::{DocumentRecord, spell_document};
 use std::alloc::{AllocError, Global};
 
@@ -16,7 +16,11 @@ impl DocumentForm for AsBytes {
 
     ghost is_kept = { IsRecordOf };
 
-    fn keep(&self, alloc: Global, document: Document) -> Result<DocumentRecord, AllocError> {
+    fn keep(
+        &self,
+        alloc: Global,
+        document: DocumentPlan<'_, '_>,
+    ) -> Result<DocumentRecord, AllocError> {
         spell_document(alloc, &document)
     }
 }

@@ -3,7 +3,8 @@
 ghost use Rattle.std.specs.Prelude.{IfOk};
 ghost use Rattle.scip_model.specs.declared.records.Document.{Document};
 
-use scip_model::Document;
+use scip_document::DocumentPlan;
+use scip_model::{Document, records_of};
 use std::alloc::{AllocError, Global};
 
 /// What is kept of the documents of an index. A document is handed over as soon as it is made, on the
@@ -16,8 +17,8 @@ pub trait DocumentForm {
     ghost is_kept: { Document → Self.Kept → Type 0 };
 
     /// What is kept of a document, which isn't needed further.
-    fn keep(&self, alloc: Global, document: Document) -> Result<Self::Kept, AllocError>
-        ensures { IfOk result (is_kept document) };
+    fn keep(&self, alloc: Global, document: DocumentPlan<'_, '_>) -> Result<Self::Kept, AllocError>
+        ensures { IfOk result (is_kept document.entry) };
 }
 
 /// The documents themselves are kept.
@@ -31,7 +32,7 @@ impl DocumentForm for AsRecords {
 
     ghost is_kept = { λ document kept. kept ≡ document };
 
-    fn keep(&self, _alloc: Global, document: Document) -> Result<Document, AllocError> {
-        Ok(document)
+    fn keep(&self, alloc: Global, document: DocumentPlan<'_, '_>) -> Result<Document, AllocError> {
+        records_of(alloc, &document)
     }
 }

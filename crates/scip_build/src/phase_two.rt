@@ -55,11 +55,9 @@ impl<'a, 'b, 'l, 'f, 'r, F: DocumentForm + Sync> Job for PhaseTwo<'a, 'b, 'l, 'f
 
     fn run(&self, ticket: Ticket) -> Result<MadeDocument<F::Kept>, BuildFault> {
         let made = make_document(self.sources, ticket.number())?;
-        let kept = self.form.keep(self.sources.alloc, made.document)?;
-        Ok(MadeDocument {
-            kept,
-            unresolved: made.unresolved,
-        })
+        let (document, unresolved) = made.into_parts();
+        let kept = self.form.keep(self.sources.alloc, document)?;
+        Ok(MadeDocument { kept, unresolved })
     }
 }
 

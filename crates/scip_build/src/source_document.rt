@@ -15,7 +15,7 @@ use crate::linked_sources::LinkedSources;
 use crate::reading::Reading;
 use proto_lex::{Span, Text};
 use proto_link::FilePlace;
-use scip_document::{DocumentMaker, SourceDocument, document_and_gaps};
+use scip_document::{DocumentMaker, PlannedDocument, plan_document};
 
 /// The text of a file that was read.
 fn text_at<'a, 'r>(readings: &'a [Reading<'r>], number: usize) -> &'a Text<'r>
@@ -41,12 +41,12 @@ fn first_refused(faulty: Faulty, unresolved: &[Span]) -> Option<Span>
     }
 }
 
-/// The document of a source that was read, and its uses that name no type; `Unresolved` at the first of them, if such
-/// are refused.
-pub(crate) fn make_document(
-    sources: &LinkedSources<'_, '_, '_, '_>,
+/// The plan of the document of a source that was read, and its uses that name no type; `Unresolved` at the first of
+/// them, if such are refused.
+pub(crate) fn make_document<'a, 'f>(
+    sources: &LinkedSources<'a, '_, 'f, '_>,
     number: usize,
-) -> Result<SourceDocument, BuildFault>
+) -> Result<PlannedDocument<'a, 'f>, BuildFault>
     requires source { IsSource sources.now.linker.now number }
     requires read { IsRead sources.now.readings.now number }
     requires texts { (text : List ℕ) → HasReadText sources.now.readings.now number text
@@ -66,12 +66,12 @@ pub(crate) fn make_document(
         source: number,
         text,
     };
-    let made = match document_and_gaps(&maker) {
+    let made = match plan_document(&maker) {
         Ok(made) => made,
         Err(_) => return Err(BuildFault::Memory),
     };
-    match first_refused(sources.settings.faulty, made.unresolved.as_slice()) {
-        None => Ok(made),
-        Some(span) => Err(BuildFault::Unresolved(FilePlace { file: number, span })),
+    if let Some(span) = first_refused(sources.settings.faulty, made.unresolved()) {
+        return Err(BuildFault::Unresolved(FilePlace { file: number, span }));
     }
+    Ok(made)
 }

@@ -11,5 +11,5 @@ returns-in-Some c =
       is.0,
       refl,
       first_unresolved c.args.sources.now.linker.now c.args.number c.in-Ok.made.unresolved c.in-Some.span
-          c.in-Ok.ensures.gaps (subst First c.as_slice.ensures is.1),
+          c.in-Ok.ensures.gaps (subst First c.unresolved.ensures is.1),
     )

@@ -9,3 +9,5 @@ mod built;
 mod gates;
 #[cfg(test)]
 mod hooks;
+#[cfg(test)]
+mod plans;

@@ -14,6 +14,7 @@ fn facts_once<'t>(alloc: Global, tokens: &Tokens<'_, 't>) -> Option<FileFacts<'t
     }
 }
 
+/// The facts of tokens, of the file with the number 7.
 fn facts_of<'t>(alloc: Global, tokens: &Tokens<'_, 't>) -> Option<FileFacts<'t>> {
     match facts_once(alloc, tokens) {
         Some(facts) => Some(facts),
@@ -21,6 +22,7 @@ fn facts_of<'t>(alloc: Global, tokens: &Tokens<'_, 't>) -> Option<FileFacts<'t>>
     }
 }
 
+/// Whether the facts of tokens are listed as is due.
 fn are_tokens_listed(alloc: Global, tokens: &Tokens<'_, '_>, want: &str) -> bool {
     match facts_of(alloc, tokens) {
         Some(facts) => is_listed(alloc, tokens.text().as_str(), &facts, want),
@@ -28,6 +30,7 @@ fn are_tokens_listed(alloc: Global, tokens: &Tokens<'_, '_>, want: &str) -> bool
     }
 }
 
+/// The same of a text.
 fn is_text_listed(alloc: Global, text: &Text<'_>, want: &str) -> bool {
     match tokens_of(alloc, text) {
         Ok(tokens) => are_tokens_listed(alloc, &tokens, want),

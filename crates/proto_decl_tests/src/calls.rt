@@ -7,6 +7,7 @@ use proto_parse::parse;
 use std::alloc::Global;
 use test_kit::{text_of, tokens_of};
 
+/// The facts of tokens, of the file with the number 7; nothing if they derive no tree, or if memory runs out.
 fn facts_once<'t>(alloc: Global, tokens: &Tokens<'_, 't>) -> Option<FileFacts<'t>> {
     match parse(alloc, tokens) {
         Ok(file) => declare(alloc, 7, tokens, file).ok(),
@@ -14,7 +15,7 @@ fn facts_once<'t>(alloc: Global, tokens: &Tokens<'_, 't>) -> Option<FileFacts<'t
     }
 }
 
-/// The facts of tokens, of the file with the number 7.
+/// The same, tried again if there are none.
 fn facts_of<'t>(alloc: Global, tokens: &Tokens<'_, 't>) -> Option<FileFacts<'t>> {
     match facts_once(alloc, tokens) {
         Some(facts) => Some(facts),

@@ -74,7 +74,7 @@ impl FilterCallback for NoEnums {
     }
 }
 
-/// A source that names what an other one has, in a package of two components, and whose enum is left out.
+/// A source that names what another has, in a package of two components, and whose enum is left out.
 const FILES: &str =
     "a.proto\nsyntax = \"proto3\";\npackage of.things;\nmessage A { message In {} }\n|\
 b.proto\nsyntax = \"proto3\";\npackage of.things;\nimport \"a.proto\";\n// What it is.\nenum E { ZERO = 0; }\n\

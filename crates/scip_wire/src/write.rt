@@ -54,7 +54,7 @@ fn write_spelling<W: Sink>(index: &Index, sink: &mut W) -> Result<(), CutOff>
     out.finish(sink)
 }
 
-/// Writes the spelling of an index, as it comes: some 8 KiB of it on the stack at a time. Takes no memory.
+/// Writes the spelling of an index, as it comes: at most 64 KiB of it on the stack at a time. Takes no memory.
 pub fn write_index<W: Sink>(index: &Index, sink: &mut W) -> Result<(), WriteFault>
     ensures ok { OnOk result (IsWritten W.contents W.failures sink.old sink.new (spelling_of index.now)) }
     ensures too_large { (result ≡ Err WriteFault.TooLarge) ↔ (max_index_len < length (spelling_of index.now)) }

@@ -47,10 +47,10 @@ fn leads(lexed: &Tokens<'_, '_>, comment: Span, from: usize, next: usize) -> boo
         → IsTrue result ↔ ((line_of lexed.now.text next ≤ line_of lexed.now.text comment.end + 1)
         × StandsAlone lexed.now.text lexed.now.tokens comment) }
 {
-    if comment.start < from {
+    if (comment.start as usize) < from {
         return false;
     }
-    is_adjoining(lexed.text(), comment.end, next)
+    is_adjoining(lexed.text(), comment.end as usize, next)
 }
 
 /// The longest list of comments that lead the token at an offset, above which the lines are free of tokens from `from`
@@ -75,7 +75,7 @@ fn leading_comments<'a>(
         if !leads(lexed, comment, from, next) {
             return &comments[start..end];
         }
-        next = comment.start;
+        next = comment.start as usize;
         start -= 1;
     }
     &comments[..end]
@@ -93,7 +93,7 @@ fn push_line(joined: &mut String, text: &str) -> Result<(), AllocError>
 /// No fewer bytes than the joined texts of a comment and others have: those from its start to the end of the last.
 fn room_for(first: Comment, others: &[Comment]) -> usize {
     match others.last() {
-        Some(last) => last.span.end.saturating_sub(first.span.start),
+        Some(last) => last.span.end.saturating_sub(first.span.start) as usize,
         None => 0,
     }
 }
@@ -151,7 +151,7 @@ pub(crate) fn leading_text<'t>(
         Some(from) => texts_of(
             alloc,
             lexed,
-            leading_comments(lexed, begun, from, first.start),
+            leading_comments(lexed, begun, from, first.start as usize),
         ),
         None => Ok(KeptText::lent("")),
     }
@@ -164,10 +164,10 @@ fn follows(lexed: &Tokens<'_, '_>, comment: Span, closing: Span) -> bool
     ensures { IsTrue result ↔ (line_of lexed.now.text comment.start ≡ line_of lexed.now.text closing.end)
         × NoneBetween lexed.now.tokens closing.end comment.start }
 {
-    if is_on_later_line(lexed, closing.end, comment.start) {
+    if is_on_later_line(lexed, closing.end as usize, comment.start as usize) {
         return false;
     }
-    is_none_between(lexed, closing.end, comment.start)
+    is_none_between(lexed, closing.end as usize, comment.start as usize)
 }
 
 /// The comment that trails a declaration with this closing token, looked for from the comment with the index `near` on.
@@ -177,7 +177,7 @@ fn trailing_comment(lexed: &Tokens<'_, '_>, near: usize, closing: Span) -> Optio
     ensures stands { IfSome result (spec.StandsIn lexed.now) }
 {
     let comments = lexed.comments();
-    let begun = comments_begun(lexed, near, closing.end);
+    let begun = comments_begun(lexed, near, closing.end as usize);
     if begun == comments.len() {
         return None;
     }

@@ -86,7 +86,11 @@ fn push_documented<'t>(
         → AllZip (IsDeclaration lexed.now) (before ++ outlines.entry.items) declared.new.declarations.items) }
 {
     for outline in outlines {
-        declared.begun = begun_before(lexed, declared.begun, outline.heading().first.start);
+        declared.begun = begun_before(
+            lexed,
+            declared.begun,
+            outline.heading().first.start as usize,
+        );
         let declaration = documented(alloc, lexed, declared.begun, outline)?;
         declared.declarations.push(declaration)?;
     }
@@ -110,7 +114,7 @@ fn declared_at<'t>(
 {
     let mut uses = Vec::new(alloc);
     let mut declared = Declared {
-        declarations: Vec::new(alloc),
+        declarations: Vec::with_capacity(alloc, items.len())?,
         begun: Begun {
             tokens: 0,
             comments: 0,

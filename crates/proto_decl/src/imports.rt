@@ -14,7 +14,7 @@ use sequences::{OwnedText, Sequence};
 use std::alloc::{AllocError, Global};
 
 /// Where the last of the spans ends.
-pub(crate) fn end_of(spans: &[Span]) -> usize
+pub(crate) fn end_of(spans: &[Span]) -> u32
     ensures { result ≡ spec.end_of spans.now }
 {
     match spans {
@@ -25,7 +25,7 @@ pub(crate) fn end_of(spans: &[Span]) -> usize
 }
 
 /// Where the first of the spans starts.
-pub(crate) fn start_of(spans: &[Span]) -> usize
+pub(crate) fn start_of(spans: &[Span]) -> u32
     ensures { result ≡ spec.start_of spans.now }
 {
     match spans {

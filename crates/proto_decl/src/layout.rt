@@ -33,7 +33,7 @@ fn are_tokens_begun(tokens: &[Token], count: usize, offset: usize) -> bool
     if count > tokens.len() {
         return false;
     }
-    tokens[count - 1].span.start < offset
+    (tokens[count - 1].span.start as usize) < offset
 }
 
 /// How many tokens begin before an offset, if these are `near` or a few more.
@@ -48,7 +48,7 @@ fn tokens_begun_near(tokens: &[Token], near: usize, offset: usize) -> Option<usi
     let limit = near.saturating_add(FEW);
     let mut count = near;
     while count < tokens.len() {
-        if offset <= tokens[count].span.start {
+        if offset <= tokens[count].span.start as usize {
             return Some(count);
         }
         if count == limit {
@@ -68,7 +68,7 @@ fn tokens_begun(lexed: &Tokens<'_, '_>, near: usize, offset: usize) -> usize
     let tokens = lexed.tokens();
     match tokens_begun_near(tokens, near, offset) {
         Some(count) => count,
-        None => tokens.partition_point(|token| token.span.start < offset),
+        None => tokens.partition_point(|token| (token.span.start as usize) < offset),
     }
 }
 
@@ -79,7 +79,7 @@ fn tokens_ended(lexed: &Tokens<'_, '_>, offset: usize) -> usize
 {
     lexed
         .tokens()
-        .partition_point(|token| token.span.end <= offset)
+        .partition_point(|token| token.span.end as usize <= offset)
 }
 
 /// Whether so many comments begin before an offset.
@@ -94,7 +94,7 @@ fn are_comments_begun(comments: &[Comment], count: usize, offset: usize) -> bool
     if count > comments.len() {
         return false;
     }
-    comments[count - 1].span.start < offset
+    (comments[count - 1].span.start as usize) < offset
 }
 
 /// How many comments begin before an offset, if these are `near` or a few more.
@@ -109,7 +109,7 @@ fn comments_begun_near(comments: &[Comment], near: usize, offset: usize) -> Opti
     let limit = near.saturating_add(FEW);
     let mut count = near;
     while count < comments.len() {
-        if offset <= comments[count].span.start {
+        if offset <= comments[count].span.start as usize {
             return Some(count);
         }
         if count == limit {
@@ -129,7 +129,7 @@ pub(crate) fn comments_begun(lexed: &Tokens<'_, '_>, near: usize, offset: usize)
     let comments = lexed.comments();
     match comments_begun_near(comments, near, offset) {
         Some(count) => count,
-        None => comments.partition_point(|comment| comment.span.start < offset),
+        None => comments.partition_point(|comment| (comment.span.start as usize) < offset),
     }
 }
 
@@ -155,7 +155,7 @@ pub(crate) fn comments_above(lexed: &Tokens<'_, '_>, begun: Begun, offset: usize
     let mut above = begun.comments;
     while above > 0 {
         let last = comments[above - 1].span;
-        if is_on_later_line(lexed, last.end, offset) {
+        if is_on_later_line(lexed, last.end as usize, offset) {
             return above;
         }
         above -= 1;
@@ -174,7 +174,7 @@ pub(crate) fn free_from(lexed: &Tokens<'_, '_>, begun: Begun, first: Span) -> Op
         return Some(0);
     }
     let last = lexed.tokens()[begun.tokens - 1].span;
-    next_start(lexed.text(), last.end, first.start)
+    next_start(lexed.text(), last.end as usize, first.start as usize)
 }
 
 /// Whether no token stands between two offsets.
@@ -187,5 +187,5 @@ pub(crate) fn is_none_between(lexed: &Tokens<'_, '_>, from: usize, upto: usize) 
         return true;
     }
     let next = tokens[ended];
-    upto <= next.span.start
+    upto <= next.span.start as usize
 }

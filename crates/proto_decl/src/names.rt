@@ -13,7 +13,7 @@ pub(crate) fn spelling_at<'a>(text: &'a str, span: Span) -> &'a str
     requires { IsPart text.now span }
     ensures { result.now ≡ part_of text.now span }
 {
-    &text[span.start..span.end]
+    &text[span.start as usize..span.end as usize]
 }
 
 /// The full name of a name in the scope with this full name.

@@ -37,7 +37,7 @@ pub(crate) fn components_at<'t>(
 }
 
 /// Where a type's name starts.
-fn name_start(leading_dot: Option<Span>, components: &[Span]) -> usize
+fn name_start(leading_dot: Option<Span>, components: &[Span]) -> u32
     ensures { result ≡ spec.name_start leading_dot components.now }
 {
     match leading_dot {

@@ -83,12 +83,17 @@ fn add(text: &mut String, part: &str) {
 
 /// Appends what stands at a span of a source.
 fn add_part(text: &mut String, source: &str, span: Span) {
-    add(text, source.get(span.start..span.end).unwrap_or("?"));
+    add(
+        text,
+        source
+            .get(span.start as usize..span.end as usize)
+            .unwrap_or("?"),
+    );
 }
 
 /// Appends a name, where it stands so in the source.
 fn add_name(text: &mut String, source: &str, span: Span, name: &str) {
-    if source.get(span.start..span.end) == Some(name) {
+    if source.get(span.start as usize..span.end as usize) == Some(name) {
         add(text, name);
     }
 }

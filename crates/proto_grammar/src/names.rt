@@ -31,7 +31,7 @@ impl<'t> Parser<'t> {
         ensures { Gives Skip (λ x. x) self.new result (name_at self.old) }
     {
         let first = self.token(TokenKind::Identifier)?;
-        let mut components = Sequence::new(alloc);
+        let mut components = Sequence::from_vec(Vec::with_capacity(alloc, 1)?);
         components.push(first)?;
         self.dot_names(components)
     }

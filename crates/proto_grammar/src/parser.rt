@@ -148,7 +148,7 @@ fn offset_at(tokens: &Tokens<'_, '_>, place: usize) -> usize
     ensures { result ≡ option_map_or (λ t. t.span.start) (slice_get tokens.now.tokens place) (length tokens.now.text) }
 {
     match tokens.tokens().get(place) {
-        Some(token) => token.span.start,
+        Some(token) => token.span.start as usize,
         None => tokens.text().len(),
     }
 }

@@ -72,7 +72,11 @@ fn read_pieces(alloc: Global, bytes: &[u8]) -> Result<Pieces, LexFault>
     while !rest.is_empty() {
         let piece = piece_at(rest, at)?;
         let end = at + piece.len;
-        push_piece(&mut found, piece.kind, Span { start: at, end })?;
+        let span = Span {
+            start: at as u32,
+            end: end as u32,
+        };
+        push_piece(&mut found, piece.kind, span)?;
         let behind = tail(rest, piece.len);
         let blanks = blank_len(behind);
         rest = tail(behind, blanks);

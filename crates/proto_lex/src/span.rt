@@ -2,9 +2,9 @@
 
 /// A part of a text: the bytes from `start` up to, and without, `end`.
 ///
-/// Both are byte offsets from the text's start.
+/// Both are byte offsets from the text's start. A text is at most 64 MiB long, so they fit.
 #[derive(Clone, Copy, Debug, PartialEq, Eq)]
 pub struct Span {
-    pub start: usize,
-    pub end: usize,
+    pub start: u32,
+    pub end: u32,
 }

@@ -92,6 +92,6 @@ impl<'a, 't> Tokens<'a, 't> {
         ensures spelled { IfSome (slice_get self.now.tokens index) (λ t. Spells t.kind result.now) }
     {
         let span = self.tokens[index].span;
-        &self.text.as_str()[span.start..span.end]
+        &self.text.as_str()[span.start as usize..span.end as usize]
     }
 }

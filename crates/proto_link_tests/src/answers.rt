@@ -20,9 +20,9 @@ fn add_place(draft: &mut Draft, place: FilePlace) {
     draft.add(" ");
     draft.add_size(place.file);
     draft.add(" ");
-    draft.add_size(place.span.start);
+    draft.add_size(place.span.start as usize);
     draft.add("..");
-    draft.add_size(place.span.end);
+    draft.add_size(place.span.end as usize);
 }
 
 /// Adds a fault; a use that names no type is one.

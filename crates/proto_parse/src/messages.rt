@@ -110,7 +110,7 @@ fn group(
         (group_at (custom_of syntax) (inside_at syntax levels) first label parser.old) }
 {
     if levels == 0 {
-        return Err(SyntaxFault::TooDeep(first.start));
+        return Err(SyntaxFault::TooDeep(first.start as usize));
     }
     let group = parser.group_head(syntax.custom_options(), first, label)?;
     let items = braced(parser, alloc, syntax, levels - 1, Within::Message)?;

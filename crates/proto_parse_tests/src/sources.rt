@@ -110,7 +110,7 @@ fn second_type<'a>(source: &'a str, file: &File) -> Option<&'a str> {
         return None;
     };
     match name.components.as_slice() {
-        [first, last] => source.get(first.start..last.end),
+        [first, last] => source.get(first.start as usize..last.end as usize),
         _ => None,
     }
 }

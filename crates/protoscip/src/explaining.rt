@@ -291,9 +291,9 @@ fn push_at_place(
     requires { HasFile tree.now place.now.file }
     ensures { OnOk result (string_bytes out.new ≡ string_bytes out.old ++ at_place tree.now place.now sentence.now) }
 {
-    let len = place.span.end.saturating_sub(place.span.start);
+    let len = place.span.end.saturating_sub(place.span.start) as usize;
     let file = shown_file(tree, place.file);
-    push_explained(alloc, out, file, place.span.start, len, sentence)
+    push_explained(alloc, out, file, place.span.start as usize, len, sentence)
 }
 
 /// Appends the second of two places with one full name, and then the first.

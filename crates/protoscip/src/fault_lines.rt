@@ -42,10 +42,10 @@ pub(crate) fn line_with(
         Fault::Duplicate(first, second) => duplicate_line(
             alloc,
             path_of(tree, first.file),
-            first.span.start,
+            first.span.start as usize,
             skipped,
             path_of(tree, second.file),
-            second.span.start,
+            second.span.start as usize,
         ),
         Fault::MissingImport(place) => line_at_place(alloc, untargeted, tree, place, name),
         Fault::Unresolved(place) => line_at_place(alloc, untargeted, tree, place, name),
@@ -82,7 +82,7 @@ fn line_at_place(
         alloc,
         words,
         path_of(tree, place.file),
-        place.span.start,
+        place.span.start as usize,
         name,
     )
 }

@@ -111,10 +111,13 @@ fn told_key(fault: &BuildFault) -> ((usize, usize), (usize, bool))
         BuildFault::File(number, _) => ((*number, 0), (0, false)),
         BuildFault::Duplicate(_, second) => ((second.file, 0), (0, false)),
         BuildFault::MissingImport(place) => (
-            (place.file, place.span.start),
-            (place.span.end, false),
+            (place.file, place.span.start as usize),
+            (place.span.end as usize, false),
         ),
-        BuildFault::Unresolved(place) => ((place.file, place.span.start), (place.span.end, true)),
+        BuildFault::Unresolved(place) => (
+            (place.file, place.span.start as usize),
+            (place.span.end as usize, true),
+        ),
     }
 }
 

@@ -48,8 +48,8 @@ fn range_over(text: &Text<'_>, encoding: Encoding, span: Span) -> Range
 {
     text.as_str();
     positions_fit();
-    let start = text.position(span.start, encoding);
-    let end = text.position(span.end, encoding);
+    let start = text.position(span.start as usize, encoding);
+    let end = text.position(span.end as usize, encoding);
     Range::new(start.line, start.column, end.line, end.column).unwrap()
 }
 

@@ -23,6 +23,11 @@ pub overflow_add-end : goal.overflow_add-end
 overflow_add-end c =
     let b = piece_bounds _ _ _ (sym c.piece_at.ensures ∙ c.in_ok-piece.was) in omega (arith, b.1)
 
+pub overflow_cast-span-in-loop-rest : goal.overflow_cast-span-in-loop-rest
+overflow_cast-span-in-loop-rest c =
+    let b = piece_bounds _ _ _ (sym c.piece_at.ensures ∙ c.in_ok-piece.was) in
+    omega (arith, b.1, c.loop-rest.invariant.counted, c.requires)
+
 pub tail-behind-requires : goal.tail-behind-requires
 tail-behind-requires c = (piece_bounds _ _ _ (sym c.piece_at.ensures ∙ c.in_ok-piece.was)).1
 

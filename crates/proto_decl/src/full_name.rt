@@ -103,8 +103,8 @@ impl<'a> FullName<'a> {
         qualified(alloc, self.scope, self.name)
     }
 
-    /// The number that it is hashed by.
-    fn mixed(&self) -> u64
+    /// The number that it is hashed by: one for each full name, however it is parted. Takes no memory.
+    pub fn mixed(&self) -> u64
         ensures { result ≡ spec.mixed self.now }
     {
         mixed_on(self.mixed, self.name)

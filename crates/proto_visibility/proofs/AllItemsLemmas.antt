@@ -149,7 +149,7 @@ module _ (files : List File) (row : List ℕ) where
               (λ e h. all e (Contains-append_right (d ∷ []) ds e h)) other
         ]
 
-    declared_to : (number : ℕ) (d : Declaration) (declarations : List Declaration) → Contains declarations d
+    pub declared_to : (number : ℕ) (d : Declaration) (declarations : List Declaration) → Contains declarations d
         → Contains (map (declared_item number) declarations) (declared_item number d)
     declared_to number d [] there = absurd (omega (arith, there.1))
     declared_to number d (e ∷ es) there = elim (Contains-append_cases (e ∷ []) es d there) [

@@ -15,7 +15,7 @@ use Rattle.proto_visibility.specs.Tables.NameTables.{clash_with, index_in}
 
 -- ---- places
 
-never_both : (a b : FilePlace) → Before a b → Before b a → ⊥
+pub never_both : (a b : FilePlace) → Before a b → Before b a → ⊥
 never_both a b (inl h) (inl k) = omega arith
 never_both a b (inl h) (inr k) = omega (arith, k.0)
 never_both a b (inr h) (inl k) = omega (arith, h.0)

@@ -9,6 +9,7 @@ pub mod AbsentLemmas
 pub mod ClashLemmas
 pub mod ItemLemmas
 pub mod AllItemsLemmas
+pub mod DifferingLemmas
 pub mod FirstLemmas
 pub mod FactLemmas
 pub mod NameOwnerLemmas

@@ -7,6 +7,7 @@ ghost use Rattle.proto_visibility.specs.Tables.FileItems.{ArePrefixes, AreAllPre
 ghost use Rattle.proto_visibility.specs.Tables.NameTables.{AreInPlace};
 
 use crate::clash::Item;
+use crate::differing::room_for;
 use crate::file_row::FileRow;
 use crate::items::{file_items, package_prefixes};
 use crate::link_file::LinkFile;
@@ -52,13 +53,22 @@ pub(crate) fn all_items<'a>(
     ensures order { IfOk result (λ items. AreInPlace items.items) }
     ensures items { IfOk result (λ items. (item : Item) → Contains items.items item ↔ IsItem files.now item) }
 {
-    let mut items = Vec::new(alloc);
+    let mut items = Vec::with_capacity(alloc, room_with_packages(files, prefixes))?;
     for number in counted.as_slice() {
         let file = &files[*number];
         let mut more = items_of_file(alloc, *number, file, prefixes[*number].as_slice())?;
         items.append(&mut more)?;
     }
     Ok(items)
+}
+
+/// How many items the files have.
+fn room_with_packages(files: &[LinkFile], prefixes: &[Sequence<OwnedText>]) -> usize {
+    let mut room = room_for(files);
+    for names in prefixes {
+        room = room.saturating_add(names.as_slice().len());
+    }
+    room
 }
 
 /// What a file gives names to, in order of place.

@@ -55,7 +55,7 @@ pub(crate) fn steps_of(
 pub fn have_own_paths(alloc: Global, files: &[LinkFile]) -> Result<bool, AllocError>
     ensures { IfOk result (λ own. IsTrue own ↔ HaveOwnPaths files.now) }
 {
-    let mut numbers = HashMap::new(alloc);
+    let mut numbers = HashMap::with_capacity(alloc, files.len())?;
     for (number, file) in files.iter().enumerate() {
         let path = file.path;
         let first = first_at(&mut numbers, path, number)?;
@@ -92,7 +92,7 @@ pub(crate) fn numbers_of<'a>(
     requires { HaveOwnPaths files.now }
     ensures { IfOk result (AreNumbered files.now) }
 {
-    let mut numbers = HashMap::new(alloc);
+    let mut numbers = HashMap::with_capacity(alloc, files.len())?;
     for (number, file) in files.iter().enumerate() {
         let path = file.path;
         numbers.insert(path, number)?;

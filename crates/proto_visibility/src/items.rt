@@ -58,21 +58,23 @@ pub(crate) fn file_items<'a>(
 {
     facts_in_order();
     facts.origin();
-    let mut items = declared_items(alloc, number, facts.declarations())?;
+    let mut items = declared_items(alloc, number, facts.declarations(), prefixes.len())?;
     add_package(&mut items, number, facts.package_name(), prefixes)?;
     items.sort_by_key(|item| item.place.span.start)?;
     Ok(items)
 }
 
-/// Those of a file's declarations.
+/// Those of a file's declarations, in a list with room for so many others.
 fn declared_items<'a>(
     alloc: Global,
     number: usize,
     declarations: &'a [Declaration],
+    others: usize,
 ) -> Result<Vec<Item<'a>>, AllocError>
     ensures { IfOk result (λ items. items.items ≡ map (declared_item number) declarations.now) }
 {
-    let mut items = Vec::with_capacity(alloc, declarations.len())?;
+    let room = declarations.len().saturating_add(others);
+    let mut items = Vec::with_capacity(alloc, room)?;
     for declaration in declarations {
         items.push(Item {
             place: FilePlace {

@@ -5,6 +5,7 @@ mod absent;
 mod all_items;
 mod clash;
 mod counting;
+mod differing;
 mod entities;
 mod fault;
 mod file_order;

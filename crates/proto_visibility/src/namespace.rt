@@ -17,6 +17,7 @@ use crate::absent::{all_absent, first_absent, is_numbered};
 use crate::all_items::{all_items, all_prefixes};
 use crate::clash::first_clash;
 use crate::counting::{counted_files, first_unread};
+use crate::differing::numbers_differ;
 use crate::entities::{Entity, entity_in};
 use crate::fault::LinkFault;
 use crate::file_row::FileRow;
@@ -232,6 +233,9 @@ fn clash_among(
     ensures { IfOk result (λ clash. MatchOption clash (NoClash files.now)
         (λ places. Clash files.now places.0 places.1)) }
 {
+    if numbers_differ(alloc, files, prefixes, counted)? {
+        return Ok(None);
+    }
     let items = all_items(alloc, files, prefixes, counted)?;
     let clash = first_clash(alloc, items.as_slice())?;
     Ok(clash)

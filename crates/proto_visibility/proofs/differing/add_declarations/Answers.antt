@@ -1,0 +1,34 @@
+use Rattle.std.proofs.Common.{◌≡◌, ◌<◌, ◌++◌, List, true, length, map, ap, sym, ◌∙◌, subst, arith}
+use Rattle.std.specs.Prelude.{nat_eq}
+use Rattle.std.specs.HashSet.{Updates, contains}
+use Rattle.std.proofs.lemmas.List.{take_all}
+use Rattle.proto_decl.specs.FullNames.{mixed}
+use Rattle.proto_decl.specs.declared.declaration.Declaration.{Declaration}
+use Rattle.proto_visibility.specs.Tables.FileItems.{declared_item}
+use Rattle.proto_visibility.specs.Tables.Numbers.{AreApart}
+use Rattle.proto_visibility.proofs.DifferingLemmas.{none_of_file, apart_with, fails}
+use Rattle.proto_visibility.proofs.differing.add_declarations.Goals as goal
+
+pub loop-declaration-init : goal.loop-declaration-init
+loop-declaration-init c = λ number items apart. none_of_file items c.args.numbers.now apart
+
+pub loop-declaration-preserved : goal.loop-declaration-preserved
+loop-declaration-preserved c =
+    let declarations = c.args.declarations.now in
+    let declaration = c.declaration-item.result in
+    let index = c.loop-declaration.declaration-index in
+    let old = c.loop-declaration.numbers in
+    let new = c.insert.new.self in
+    let within : index < length declarations = omega arith in
+    let key : c.mixed.result ≡ mixed declaration.full_name = c.mixed.ensures ∙ ap mixed c.full_name.ensures in
+    let fresh = ap (contains nat_eq old) (sym key)
+    ∙ fails (contains nat_eq old c.mixed.result) (sym c.in_ok-new.ensures.added ∙ c.if-not-new.false) in
+    let after = subst (λ k. Updates nat_eq old new k true) key c.in_ok-new.ensures.updates in
+    λ number items apart. apart_with number declarations index declaration items old new within c.declaration-item.is
+    fresh after (c.loop-declaration.invariant number items apart)
+
+pub returns : goal.returns
+returns c = λ new number items apart.
+    subst (λ (ds : List Declaration). AreApart (items ++ map (declared_item number) ds) c.loop-declaration.numbers)
+    (take_all c.loop-declaration.declaration-index c.args.declarations.now (omega arith))
+    (c.loop-declaration.invariant number items apart)

@@ -1,0 +1,108 @@
+//! Names that can't clash, since the numbers of them differ.
+
+ghost use Rattle.std.specs.Prelude.{ℕ, ◌≡◌, ◌↔◌, ◌++◌, IsTrue, IfOk, Contains, List, map};
+ghost use Rattle.std.specs.List.{list_any};
+ghost use Rattle.proto_visibility.specs.Sees.{Counts};
+ghost use Rattle.proto_visibility.specs.Items.{Item};
+ghost use Rattle.proto_visibility.specs.Clashes.{NoClash};
+ghost use Rattle.proto_visibility.specs.Tables.FileItems.{AreAllPrefixes, declared_item};
+ghost use Rattle.proto_visibility.specs.Tables.Numbers.{AreApart, declarations_of, has_number};
+
+use crate::file_row::FileRow;
+use crate::link_file::LinkFile;
+use proto_decl::{Declaration, FullName};
+use sequences::{OwnedText, Sequence};
+use std::alloc::{AllocError, Global};
+use std::collections::HashSet;
+
+/// Whether the numbers of all declarations' full names differ, and those of packages from them. If so, no names clash.
+///
+/// A full name has one number. So equal numbers are rare, unless names clash.
+pub(crate) fn numbers_differ(
+    alloc: Global,
+    files: &[LinkFile],
+    prefixes: &[Sequence<OwnedText>],
+    counted: &FileRow,
+) -> Result<bool, AllocError>
+    requires prefixes { AreAllPrefixes files.now prefixes.now }
+    requires counted { (number : ℕ) → Contains counted.now number ↔ Counts files.now number }
+    ensures { IfOk result (λ differ. IsTrue differ → NoClash files.now) }
+{
+    let mut numbers = HashSet::with_capacity(alloc, room_for(files))?;
+    for number in counted.as_slice() {
+        let differ = add_file(&mut numbers, &files[*number])?;
+        if !differ {
+            return Ok(false);
+        }
+    }
+    let shared = has_package(&numbers, prefixes);
+    Ok(!shared)
+}
+
+/// How many declarations the files have: what a list or a set of them is made with room for.
+pub(crate) fn room_for(files: &[LinkFile]) -> usize {
+    let mut room: usize = 0;
+    for file in files {
+        room = room.saturating_add(count_of(file));
+    }
+    room
+}
+
+/// How many of them one file has.
+fn count_of(file: &LinkFile) -> usize {
+    match file.facts {
+        Some(facts) => facts.declarations().len(),
+        None => 0,
+    }
+}
+
+/// Adds the numbers of the full names of a file's declarations, as long as each is new. Whether all are.
+fn add_file(numbers: &mut HashSet<u64>, file: &LinkFile) -> Result<bool, AllocError>
+    ensures { IfOk result (λ new. IsTrue new → (number : ℕ) (items : List Item) → AreApart items numbers.old
+        → AreApart (items ++ map (declared_item number) (declarations_of file.now)) numbers.new) }
+{
+    match file.facts {
+        Some(facts) => add_declarations(numbers, facts.declarations()),
+        None => Ok(true),
+    }
+}
+
+/// Adds the numbers of these declarations' full names, as long as each is new. Whether all are.
+fn add_declarations(
+    numbers: &mut HashSet<u64>,
+    declarations: &[Declaration],
+) -> Result<bool, AllocError>
+    ensures { IfOk result (λ new. IsTrue new → (number : ℕ) (items : List Item) → AreApart items numbers.old
+        → AreApart (items ++ map (declared_item number) declarations.now) numbers.new) }
+{
+    for declaration in declarations {
+        let new = numbers.insert(declaration.full_name().mixed())?;
+        if !new {
+            return Ok(false);
+        }
+    }
+    Ok(true)
+}
+
+/// Whether the number of some package's name is in the set.
+fn has_package(numbers: &HashSet<u64>, prefixes: &[Sequence<OwnedText>]) -> bool
+    ensures { result ≡ list_any (λ names. list_any (λ name. has_number numbers.now name) names) prefixes.now }
+{
+    prefixes
+        .iter()
+        .any(|names| has_one(numbers, names.as_slice()))
+}
+
+/// Whether the number of one of these names is in the set.
+fn has_one(numbers: &HashSet<u64>, names: &[OwnedText]) -> bool
+    ensures { result ≡ list_any (λ name. has_number numbers.now name) names.now }
+{
+    names.iter().any(|name| has_number(numbers, name.as_str()))
+}
+
+/// Whether the number of a full name is in the set.
+fn has_number(numbers: &HashSet<u64>, name: &str) -> bool
+    ensures { result ≡ has_number numbers.now name.now }
+{
+    numbers.contains(&FullName::whole(name).mixed())
+}

@@ -1,10 +1,10 @@
 -- Texts with numbers, and what is planned by them.
-use Rattle.std.proofs.Common.{◌≡◌, ◌∙◌, sym, ap, refl, subst, ℕ, suc, ◌+◌, ◌-◌, ◌<◌, ◌≤◌, Option, Some, None, List, [], ◌∷◌, ◌++◌}
-use Rattle.std.proofs.Common.{length, map, drop, arith, Bool, true, false, not, min, ◌^◌}
+use Rattle.std.proofs.Common.{◌≡◌, ◌∙◌, sym, ap, refl, subst, ℕ, suc, ◌+◌, ◌-◌, ◌<◌, ◌≤◌, Option, Some, None, List, []}
+use Rattle.std.proofs.Common.{◌∷◌, ◌++◌, length, map, drop, arith, Bool, true, false, not, min, ◌^◌}
 use Rattle.std.specs.Prelude.{if◌then◌else◌}
 use Rattle.std.proofs.lemmas.Bool.{false≢true}
 use Rattle.std.specs.Prelude.{ℤ}
-use Rattle.std.specs.List.{slice_get}
+use Rattle.std.specs.List.{slice_get, position}
 use Rattle.std.specs.Option.{option_map}
 use Rattle.std.specs.Str.{bytes_eq}
 use Rattle.std.proofs.lemmas.Slice.Eq.{bytes_eq-Decides}
@@ -14,6 +14,7 @@ use Rattle.std.specs.declared.cmp.Ordering.TheVariants.{Less, Equal, Greater}
 use Rattle.std.proofs.lemmas.List.{append_assoc, append-nil, map-append, drop-map, length-map, length-append}
 use Rattle.std.proofs.lemmas.List.{get_or-append-add, get_or_append_left, get_or-append_right}
 use Rattle.std.proofs.lemmas.List.FromFn.{get_or-map-range_with_len, length-map-range_with_len}
+use Rattle.std.proofs.lemmas.List.Quantifiers.{position-Some}
 use Rattle.std.proofs.lemmas.Option.{get_or_from_slice_get, slice_get_within, slice_get-map}
 use Rattle.proto_lex.specs.declared.span.Span.{Span}
 use Rattle.proto_lex.specs.declared.position.Encoding.{Encoding}
@@ -35,13 +36,17 @@ use Rattle.scip_document.specs.Tables.OwnTexts.{declaration_texts, occurrence_wi
 use Rattle.scip_document.specs.Tables.Plans.{text_at, Grown, IsNumberOf, IsNumberIn, HasOwnTexts, AreAdded}
 use Rattle.scip_document.specs.Tables.Plans.{occurrence_of, package_texts_up_to, own_texts, declaration_number}
 use Rattle.scip_document.specs.declared.planned.PlannedOccurrence.{PlannedOccurrence}
+use Rattle.scip_document.proofs.EntryLemmas.{at-index}
 use Rattle.scip_document.proofs.NamedLemmas.{same_facts, declared_is}
 
-none_is_some : {Y : Type 0} {y : Y} → None ≡ Some y → ⊥
+pub none_is_some : {Y : Type 0} {y : Y} → None ≡ Some y → ⊥
 none_is_some h = cc
 
-same_some : {Y : Type 0} {x y : Y} → Some x ≡ Some y → x ≡ y
+pub same_some : {Y : Type 0} {x y : Y} → Some x ≡ Some y → x ≡ y
 same_some h = cc
+
+pub false_is_true : false ≡ true → ⊥
+false_is_true h = false≢true h
 
 -- ---- texts that grow
 
@@ -231,11 +236,28 @@ module _ {K : Type 0} (text_in : K → List ℕ) where
       slice_get-map text_in keys index
       ∙ (ap (option_map text_in) there ∙ ap Some (sym ((bytes_eq-Decides text (text_in key)).0 is)))
 
+  -- a key that a search finds
+  pub key_found : (keys : List K) (index : ℕ) (text : List ℕ) → index < length keys
+      → position (λ (key : K). bytes_eq text (text_in key)) keys ≡ Some index
+      → slice_get (map text_in keys) index ≡ Some text
+  key_found keys index text within found =
+      let key = at-index keys index within in
+      let at = position-Some (λ (key : K). bytes_eq text (text_in key)) keys index key.0 found in
+      key_stored keys index key.0 text key.1
+      (subst (λ (k : K). bytes_eq text (text_in k) ≡ true) (get_or_from_slice_get keys index key.0 key.0 key.1) at.1)
+
 pub grown_behind : (own old new : List (List ℕ)) → Grown old new → Grown (own ++ old) (own ++ new)
 grown_behind own old new grown = (
   grown.0,
   ap (λ (its : List (List ℕ)). own ++ its) grown.1 ∙ sym (append_assoc own old grown.0),
 )
+
+pub own_number : (own others : List (List ℕ)) (index number : ℕ) (text : List ℕ) → slice_get own index ≡ Some text
+    → number ≡ index → IsNumberOf (own ++ others) text number
+own_number own others index number text there at =
+    let within = slice_get_within own index text there in
+    rw at (number_within (own ++ others) text index (omega (arith, within, length-append own others))
+    (get_or_append_left own others [] index within ∙ get_or_from_slice_get own index text [] there))
 
 pub other_number : (own others : List (List ℕ)) (index number : ℕ) (text : List ℕ)
     → slice_get others index ≡ Some text → number ≡ length own + index → IsNumberOf (own ++ others) text number

@@ -41,6 +41,9 @@ const DEFINITION: i32 = 1;
 /// The role of an import.
 const IMPORT: i32 = 2;
 
+/// The number of the text of the source's own file.
+const FILE: usize = 0;
+
 /// The range from where a span begins to where it ends.
 fn range_over(text: &Text<'_>, encoding: Encoding, span: Span) -> Range
     requires { IsPart text.now span }
@@ -104,7 +107,7 @@ fn has_file(linker: &Linker<'_, '_>, imported: &Imported) -> bool
     linker.has_path(imported.path.as_str())
 }
 
-/// The number of the text of a file's symbol.
+/// The number of the text of a file's symbol. A file that imports itself has its text already.
 fn file_number(
     maker: &DocumentMaker<'_, '_, '_, '_>,
     path: &str,
@@ -116,7 +119,7 @@ fn file_number(
         (text_of (package_of_path maker.now.package.now path.now) (OfFile path.now))) }
 {
     let text = file_text(maker.alloc, maker.package.of_path(path), path)?;
-    let number = texts.number_of(text)?;
+    let number = texts.number_of(maker.alloc, FILE, text.as_str())?;
     Ok(number)
 }
 

@@ -14,7 +14,8 @@ use proto_lex::Encoding;
 use scip_model::{DocumentParts, LentInformation, LentOccurrence, LentTexts};
 use sequences::OwnedText;
 
-/// The path, or the name of a package.
+/// What shows an entry that is no declaration's, by its number: 0 is the file's, shown by its path, and behind it come
+/// its packages', shown by their names. Where none has the number, the empty text.
 fn name_at<'a>(path: &'a str, names: &'a [OwnedText], number: usize) -> &'a str
     ensures { result.now ≡ text_at (path.now ∷ names.now) number }
 {
@@ -38,7 +39,8 @@ fn undocumented<'a>(symbol: &'a str, display_name: &'a str) -> LentInformation<'
     }
 }
 
-/// The entry of a declaration whose symbol has this text.
+/// The entry of the declaration with an index, whose symbol has this text. Where there is none, an entry without
+/// documentation.
 fn documented<'a>(
     symbol: &'a str,
     facts: &'a FileFacts<'_>,

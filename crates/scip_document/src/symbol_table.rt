@@ -1,6 +1,6 @@
 //! The texts of a document's symbols, each once, by number.
 
-ghost use Rattle.std.specs.Prelude.{◌≡◌, ◌<◌, ◌^◌, Some, IfOk, OnOk, length, map};
+ghost use Rattle.std.specs.Prelude.{◌≡◌, ◌<◌, ◌^◌, ◌↔◌, Some, IfOk, OnOk, IsTrue, length, map};
 ghost use Rattle.std.specs.List.{slice_get};
 ghost use Rattle.std.specs.String.{string_bytes};
 ghost use Rattle.scip_document.specs.Tables.Plans.{text_at, Grown, IsNumberOf, declaration_number};
@@ -33,7 +33,8 @@ impl Model for SymbolTable {
 /// The greatest number.
 const MAX_NUMBER: usize = 4294967295;
 
-/// The number at an index. A text of at most 64 MiB has no more symbols than there are numbers.
+/// The number at an index. `AllocError` stands for an index that is greater than each number: a text of at most 64 MiB
+/// has no more symbols than there are numbers.
 pub(crate) fn number_at(index: usize) -> Result<u32, AllocError>
     ensures number { IfOk result (λ number. number ≡ index) }
     ensures within { IfOk result (λ _. index < 2 ^ 32) }
@@ -53,7 +54,7 @@ pub(crate) fn declaration_number(facts: &FileFacts, index: usize) -> Result<u32,
     Ok(number)
 }
 
-/// The place of a text, which is added if it isn't there.
+/// The place of a text that is added, unless it is there.
 fn insert_text(others: &mut IndexSet<String>, text: String) -> Result<usize, AllocError>
     ensures grown { OnOk result (Grown (map string_bytes others.old.keys) (map string_bytes others.new.keys)) }
     ensures stored { IfOk result (λ index.
@@ -61,6 +62,30 @@ fn insert_text(others: &mut IndexSet<String>, text: String) -> Result<usize, All
 {
     let (index, _) = others.insert_full(text)?;
     Ok(index)
+}
+
+/// The place of a text, of which a copy is added if it isn't there.
+fn place_of(alloc: Global, others: &mut IndexSet<String>, text: &str) -> Result<usize, AllocError>
+    ensures grown { OnOk result (Grown (map string_bytes others.old.keys) (map string_bytes others.new.keys)) }
+    ensures stored { IfOk result (λ index.
+        slice_get (map string_bytes others.new.keys) index ≡ Some text.now) }
+{
+    if let Some(index) = others.get_index_of(text) {
+        return Ok(index);
+    }
+    let copy = String::from_str(alloc, text)?;
+    let index = insert_text(others, copy)?;
+    Ok(index)
+}
+
+/// Whether the text with a number is this one.
+fn has_at(texts: &[OwnedText], number: usize, text: &str) -> bool
+    ensures { IsTrue result ↔ (slice_get texts.now number ≡ Some text.now) }
+{
+    match texts.get(number) {
+        Some(its) => its.as_str() == text,
+        None => false,
+    }
 }
 
 impl SymbolTable {
@@ -74,12 +99,22 @@ impl SymbolTable {
         }
     }
 
-    /// The number of a text, which is added if what was added so far hasn't got it.
-    pub(crate) fn number_of(&mut self, text: OwnedText) -> Result<u32, AllocError>
+    /// The number of a text. It is `own` if the source's own text with that number is the same. Or else it is that of
+    /// one of the other texts, to which a copy is added if it isn't there.
+    pub(crate) fn number_of(
+        &mut self,
+        alloc: Global,
+        own: usize,
+        text: &str,
+    ) -> Result<u32, AllocError>
         ensures grown { OnOk result (Grown self.old self.new) }
-        ensures number { IfOk result (IsNumberOf self.new text) }
+        ensures number { IfOk result (IsNumberOf self.new text.now) }
     {
-        let index = insert_text(&mut self.others, text.into_string())?;
+        if has_at(self.own.as_slice(), own, text) {
+            let number = number_at(own)?;
+            return Ok(number);
+        }
+        let index = place_of(alloc, &mut self.others, text)?;
         let number = number_at(self.own.len().saturating_add(index))?;
         Ok(number)
     }

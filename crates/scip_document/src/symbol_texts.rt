@@ -1,5 +1,5 @@
-//! The texts of the symbols of files, packages and declarations. Each is kept as a copy of what was printed, which has
-//! room that it doesn't need.
+//! The texts of the symbols of files, packages and declarations. What is printed has room that it doesn't need, so a
+//! text that is kept for each declaration is a copy.
 
 ghost use Rattle.std.specs.Prelude.{◌≡◌, ◌<◌, ◌≤◌, ◌++◌, ◌∷◌, [], IfOk, OnOk, Contains, length};
 ghost use Rattle.proto_decl.specs.Facts.{Facts};
@@ -23,8 +23,7 @@ pub(crate) fn file_text(alloc: Global, id: &PackageId, path: &str) -> Result<Own
     ensures { IfOk result (λ text. text ≡ text_of id.now (OfFile path.now)) }
 {
     let printed = print_file(alloc, id, path)?;
-    let text = OwnedText::copy_of(alloc, printed.as_str())?;
-    Ok(text)
+    Ok(OwnedText::from_string(printed))
 }
 
 /// Of the package that the first components of a file's package name make, so many.
@@ -41,8 +40,7 @@ pub(crate) fn package_text(
 {
     let (front, _) = facts.package_name().split_at(count);
     let printed = print_package(alloc, id, front)?;
-    let text = OwnedText::copy_of(alloc, printed.as_str())?;
-    Ok(text)
+    Ok(OwnedText::from_string(printed))
 }
 
 /// Of a declaration of a file.
@@ -57,8 +55,7 @@ pub(crate) fn declaration_text(
     ensures { IfOk result (λ text. text ≡ text_of id.now (declaration_at facts.now declaration.now)) }
 {
     let printed = print_declaration(alloc, id, facts.package_name(), declaration.path())?;
-    let text = OwnedText::copy_of(alloc, printed.as_str())?;
-    Ok(text)
+    Ok(OwnedText::from_string(printed))
 }
 
 /// Of a declaration of a file, of which the package with all components of its name has this text.
@@ -77,7 +74,7 @@ fn text_below(
     Ok(text)
 }
 
-/// Adds it.
+/// Adds the text of a declaration's symbol, which begins with the text of its package.
 fn push_text_below(
     alloc: Global,
     texts: &mut Vec<OwnedText>,

@@ -14,7 +14,7 @@ ghost use Rattle.proto_decl.specs.declared.type_use.Use.{Use};
 ghost use Rattle.proto_link.specs.declared.target.Target.{Target};
 ghost use Rattle.proto_visibility.specs.Files.{HasFacts};
 ghost use Rattle.proto_visibility.specs.declared.entities.Entity.{Entity};
-ghost use Rattle.proto_visibility.specs.declared.entities.Entity.TheVariants.{Declared};
+ghost use Rattle.proto_visibility.specs.declared.entities.Entity.TheVariants.{Declared, Package};
 ghost use Rattle.scip_symbol.specs.Entities.{OfPackage, IsEntity};
 ghost use Rattle.scip_document.specs.Chosen.{HaveChoices};
 ghost use Rattle.scip_document.specs.Packages.{package_of_file, package_of_part};
@@ -80,8 +80,7 @@ fn named_package_text(
     let few = at_most(count, parts.as_slice());
     let (front, _) = parts.as_slice().split_at(few);
     let printed = print_package_named(alloc, id, front)?;
-    let text = OwnedText::copy_of(alloc, printed.as_str())?;
-    Ok(text)
+    Ok(OwnedText::from_string(printed))
 }
 
 /// A declaration of a file, by its number.
@@ -149,7 +148,18 @@ fn own_number(maker: &DocumentMaker<'_, '_, '_, '_>, index: usize) -> Result<u32
     Ok(number)
 }
 
-/// The number of the text of what a part of a full name names. The source's own declarations have one already.
+/// The number that the text of a part has, if the source has it itself and it is no declaration: a package's is the
+/// count of its components. No part is the file, whose number is 0.
+fn own_package(part: Entity) -> usize
+    ensures { (count : ℕ) → part ≡ Package count → result ≡ count }
+{
+    match part {
+        Entity::Package(count) => count,
+        Entity::Declared(_, _) => 0,
+    }
+}
+
+/// The number of the text of what a part of a full name names. What the source has itself has one already.
 fn entity_number(
     maker: &DocumentMaker<'_, '_, '_, '_>,
     name: &str,
@@ -168,7 +178,7 @@ fn entity_number(
         return Ok(number);
     }
     let text = entity_text(maker, name, part)?;
-    let number = texts.number_of(text)?;
+    let number = texts.number_of(maker.alloc, own_package(part), text.as_str())?;
     Ok(number)
 }
 

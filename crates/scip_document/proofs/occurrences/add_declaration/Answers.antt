@@ -13,7 +13,8 @@ returns-then-not-choice c = λ id run path.
     let maker = c.args.maker.now in
     none_if (keeps maker.choices.now maker.source c.args.index) (own_texts id run path c.args.facts.now)
     c.args.list.now.items _
-    (kept_by maker.choices.now maker.source c.args.index c.of-choice.result c.of-choice.ensures ∙ is_not c.of-choice.result.keep c.if-not-choice.true)
+    (kept_by maker.choices.now maker.source c.args.index c.of-choice.result c.of-choice.ensures
+    ∙ is_not c.of-choice.result.keep c.if-not-choice.true)
 
 pub returns : goal.returns
 returns c = λ id run path.
@@ -26,9 +27,11 @@ returns c = λ id run path.
     let new = c.push.new.self.items in
     let text = text_of id (declaration_at facts declared) in
     some_if (keeps maker.choices.now maker.source index) texts old new _
-    (kept_by maker.choices.now maker.source index c.of-choice.result c.of-choice.ensures ∙ is_so c.of-choice.result.keep c.if-not-choice.false)
+    (kept_by maker.choices.now maker.source index c.of-choice.result c.of-choice.ensures
+    ∙ is_so c.of-choice.result.keep c.if-not-choice.false)
     (subst (λ (span : Span).
-    AreAdded texts old new (occurrence_with maker.encoding maker.text.now span text definition_role ∷ [])) c.name.ensures
+    AreAdded texts old new (occurrence_with maker.encoding maker.text.now span text definition_role ∷ []))
+    c.name.ensures
     (planned_added maker.encoding maker.text.now c.name.result definition_role texts old new c.planned_over.result text
     c.in_ok-number.number c.in_ok-push.ensures.items c.planned_over.ensures
     (declared_number id run path facts index c.in_ok-number.number declared c.requires.there c.in_ok-number.ensures)))

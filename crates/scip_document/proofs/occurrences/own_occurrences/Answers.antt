@@ -14,7 +14,8 @@ returns c = λ id run path facts later more.
     one_added (own_texts id run path facts) c.in_ok-list.list.items c.push.new.self.items _ _ (own_occurrence id path)
     c.in_ok-push.ensures.items (file_number id run path facts)
     (ap (λ (range : RangeNumbers).
-    record { range = range; symbol = text_of id (OfFile path); symbol_roles = definition_role }) c.start_of_text.ensures)
+    record { range = range; symbol = text_of id (OfFile path); symbol_roles = definition_role })
+    c.start_of_text.ensures)
     later more
     ∙ ap (λ (list : List PlannedOccurrence). map (occurrence_of later) list ++ own_occurrence id path ∷ [])
     c.in_ok-list.ensures.items

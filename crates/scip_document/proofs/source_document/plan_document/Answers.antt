@@ -94,8 +94,9 @@ returns-clause-document c =
     let symbols = ap (λ (names : List (List ℕ)).
     map (entry_of texts c.path_of-path.result.now names facts c.of_file.result.now) c.in_ok-entries.entries.items)
     (c.in_ok-packages.ensures ∙ ap package_names c.package_name.ensures)
-    ∙ ap (λ (choices : List Choice). map (entry_of texts c.path_of-path.result.now (package_names facts.package_name) facts
-    choices) c.in_ok-entries.entries.items) c.of_file.ensures in
+    ∙ ap (λ (choices : List Choice).
+    map (entry_of texts c.path_of-path.result.now (package_names facts.package_name) facts choices)
+    c.in_ok-entries.entries.items) c.of_file.ensures in
     record {
       file = c.requires.source.file;
       numbered = c.requires.source.numbered;

@@ -1,9 +1,9 @@
-use Rattle.std.proofs.Common.{◌≡◌, sym, subst, IfSome, Option, ℕ}
+use Rattle.std.proofs.Common.{◌≡◌, sym, subst, IfSome, List, Option, ℕ}
 use Rattle.proto_visibility.specs.declared.entities.Entity.{Entity}
 use Rattle.proto_visibility.specs.declared.entities.Entity.TheVariants.{Declared}
 use Rattle.scip_document.specs.Packages.{package_of_part}
 use Rattle.scip_document.specs.Tables.Listing.{IsNameable, entity_of}
-use Rattle.scip_document.specs.Tables.Plans.{IsNumberIn}
+use Rattle.scip_document.specs.Tables.Plans.{IsNumberIn, IsNumberOf}
 use Rattle.scip_document.proofs.PlanLemmas.{grown_same, own_is}
 use Rattle.scip_document.proofs.use_occurrences.entity_number.Goals as goal
 
@@ -24,7 +24,8 @@ returns-in-Some-clause-number c =
     let source = c.args.maker.now.source in
     let name = c.args.name.now in
     let is : c.args.part ≡ Declared source c.in-Some.index =
-    subst (λ (o : Option ℕ). IfSome o (λ index. c.args.part ≡ Declared source index)) c.in-Some.is c.own_index.ensures in
+    subst (λ (o : Option ℕ). IfSome o (λ index. c.args.part ≡ Declared source index)) c.in-Some.is
+    c.own_index.ensures in
     let has = subst (λ (part : Entity). IsNameable files name part) is c.requires.nameable in
     subst (λ (part : Entity). IsNumberIn c.args.texts.now (package_of_part files ids part) (entity_of files name part)
     c.in_ok-number.number) (sym is)
@@ -32,4 +33,9 @@ returns-in-Some-clause-number c =
     c.in_ok-number.ensures)
 
 pub returns-clause-number : goal.returns-clause-number
-returns-clause-number c = (c.in_ok-text.text, c.in_ok-text.ensures, c.in_ok-number-2.ensures.number)
+returns-clause-number c = (
+  c.in_ok-text.text,
+  c.in_ok-text.ensures,
+  subst (λ (text : List ℕ). IsNumberOf c.number_of.new.self text c.in_ok-number-2.number) c.as_str.ensures
+      c.in_ok-number-2.ensures.number,
+)

@@ -17,5 +17,5 @@ returns c =
     (λ found e. c.at_most-few.ensures.same found
     (e ∙ ap (λ (names : List (Bor (List ℕ))). length names)
     (c.as_slice-2.ensures.value ∙ sym c.as_slice.ensures.value))) in
-    c.in_ok-text.ensures ∙ (c.as_str.ensures.value ∙ (c.in_ok-printed.ensures
-    ∙ ap (λ (components : List (List ℕ)). symbol_text (symbol_in c.args.id.now (OfPackage components))) names))
+    c.from_string.ensures ∙ (c.in_ok-printed.ensures
+    ∙ ap (λ (components : List (List ℕ)). symbol_text (symbol_in c.args.id.now (OfPackage components))) names)

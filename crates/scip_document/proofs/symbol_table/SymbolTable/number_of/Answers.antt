@@ -1,25 +1,37 @@
-use Rattle.std.proofs.Common.{◌++◌, ◌∙◌, ap, Some, subst, List, ℕ, map, arith}
+use Rattle.std.proofs.Common.{◌≡◌, ◌++◌, ◌∙◌, subst, Some, List, ℕ, map, arith}
+use Rattle.std.specs.List.{slice_get}
 use Rattle.std.specs.String.{string_bytes}
-use Rattle.scip_document.specs.Tables.Plans.{Grown}
-use Rattle.scip_document.proofs.PlanLemmas.{grown_behind, other_number, unsaturated}
+use Rattle.scip_document.specs.Tables.Plans.{Grown, IsNumberOf}
+use Rattle.scip_document.proofs.PlanLemmas.{grown_same, grown_behind, own_number, other_number, unsaturated}
 use Rattle.scip_document.proofs.symbol_table.SymbolTable.number_of.Goals as goal
+
+pub returns-then-has_at-clause-grown : goal.returns-then-has_at-clause-grown
+returns-then-has_at-clause-grown c = grown_same c.args.self.now
+
+pub returns-then-has_at-clause-number : goal.returns-then-has_at-clause-number
+returns-then-has_at-clause-number c =
+    let there = subst (λ (texts : List (List ℕ)). slice_get texts c.args.own ≡ Some c.args.text.now)
+    c.as_slice.ensures.value (c.has_at.ensures.0 c.if-has_at.true) in
+    subst (λ (texts : List (List ℕ)). IsNumberOf texts c.args.text.now c.in_ok-number.number) c.self.view_is
+    (own_number c.self.inside.own.items (map string_bytes c.self.inside.others.keys) c.args.own c.in_ok-number.number
+    c.args.text.now there c.in_ok-number.ensures.number)
 
 pub returns-clause-grown : goal.returns-clause-grown
 returns-clause-grown c =
     let own = c.self.inside.own.items in
     let old = map string_bytes c.self.inside.others.keys in
-    let new = map string_bytes c.insert_text.new.others.keys in
+    let new = map string_bytes c.place_of.new.others.keys in
     subst (λ (texts : List (List ℕ)). Grown texts (own ++ new)) c.self.view_is
     (grown_behind own old new c.in_ok-index.ensures.grown)
 
 pub returns-clause-number : goal.returns-clause-number
 returns-clause-number c =
-    other_number c.self.inside.own.items (map string_bytes c.insert_text.new.others.keys) c.in_ok-index.index
-    c.in_ok-number.number c.args.text (c.in_ok-index.ensures.stored ∙ ap Some c.into_string.ensures)
+    other_number c.self.inside.own.items (map string_bytes c.place_of.new.others.keys) c.in_ok-index.index
+    c.in_ok-number-2.number c.args.text.now c.in_ok-index.ensures.stored
     (omega (
       arith,
-      unsaturated _ c.in_ok-number.number (c.in_ok-number.ensures.number ∙ c.saturating_add.ensures)
-          (omega (arith, c.in_ok-number.ensures.number, c.in_ok-number.ensures.within)),
+      unsaturated _ c.in_ok-number-2.number (c.in_ok-number-2.ensures.number ∙ c.saturating_add.ensures)
+          (omega (arith, c.in_ok-number-2.ensures.number, c.in_ok-number-2.ensures.within)),
       c.len.ensures,
       c.self.inside.own.ok.0,
     ))

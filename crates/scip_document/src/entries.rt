@@ -3,8 +3,6 @@
 ghost use Rattle.std.specs.Prelude.{ℕ, ◌≡◌, ◌+◌, ◌<◌, ◌≤◌, ◌∷◌, [], ◌++◌, IfOk, OnOk, Contains, length, map};
 ghost use Rattle.std.specs.Prelude.{if◌then◌else◌};
 ghost use Rattle.std.specs.List.{range_with_len};
-ghost use Rattle.std.specs.Ordering.{nat_cmp};
-ghost use Rattle.std.specs.Cmp.Lexicographic.{slice_cmp};
 ghost use Rattle.proto_decl.specs.Names.{dotted, package_of};
 ghost use Rattle.proto_decl.specs.Ancestors.{component_names};
 ghost use Rattle.proto_visibility.specs.Files.{HasFacts, HasPathAt, IsSource};
@@ -17,11 +15,12 @@ ghost use Rattle.scip_document.specs.Entries.{declaration_entry, HasEntry};
 ghost use Rattle.scip_document.specs.Tables.EntryLists.{kept_entries, choices_for};
 ghost use Rattle.scip_document.specs.Tables.OwnTexts.{entry_with};
 ghost use Rattle.scip_document.specs.Tables.EntryNumbers.{package_names, AreNumbered};
-ghost use Rattle.scip_document.specs.Tables.Plans.{Grown, own_texts, text_at, entry_of};
+ghost use Rattle.scip_document.specs.Tables.Plans.{Grown, own_texts, entry_of};
 ghost use Rattle.scip_document.specs.Indexes.{info_cmp, IsAscendingListOf};
 
 use crate::document_maker::DocumentMaker;
 use crate::documentation::documentation_of;
+use crate::entry_order::{compare_texts, put_near};
 use crate::known_facts::symbols_stand_apart;
 use crate::symbol_table::{SymbolTable, declaration_number, number_at};
 use crate::symbol_texts::declaration_text;
@@ -170,13 +169,6 @@ pub(crate) fn compare_symbols(a: &SymbolInformation, b: &SymbolInformation) -> O
     a.symbol.as_str().cmp(b.symbol.as_str())
 }
 
-/// Numbers by their texts.
-fn compare_texts(texts: &SymbolTable, a: u32, b: u32) -> Ordering
-    ensures { result ≡ slice_cmp nat_cmp (text_at texts.now a) (text_at texts.now b) }
-{
-    texts.at(a).cmp(texts.at(b))
-}
-
 /// The numbers of the entries of the source, by symbol: the texts begin with those of what the source has itself.
 pub(crate) fn entry_numbers(
     maker: &DocumentMaker<'_, '_, '_, '_>,
@@ -199,6 +191,7 @@ pub(crate) fn entry_numbers(
     symbols_stand_apart(maker.linker, maker.package);
     let mut numbers = first_numbers(maker.alloc, facts)?;
     push_declarations(&mut numbers, maker, facts)?;
+    put_near(maker.alloc, &mut numbers, texts, facts)?;
     numbers.sort_unstable_by(|a, b| compare_texts(texts, *a, *b));
     Ok(numbers)
 }

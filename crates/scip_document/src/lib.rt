@@ -6,6 +6,7 @@ mod document_maker;
 mod document_plan;
 mod documentation;
 mod entries;
+mod entry_order;
 mod external_symbols;
 mod known_facts;
 mod laws;

@@ -2,7 +2,7 @@ use Rattle.std.proofs.Common.{◌≡◌, ◌∙◌, ℕ, List, ap, sym, rules, m
 use Rattle.std.specs.Ordering.{is_lt, nat_cmp}
 use Rattle.std.specs.Cmp.Lexicographic.{slice_cmp}
 use Rattle.std.proofs.lemmas.Fn.{always_returns_same}
-use Rattle.std.proofs.lemmas.List.Sorted.{IsPermutation-map}
+use Rattle.std.proofs.lemmas.List.Sorted.{IsPermutation-map, IsPermutation-trans}
 use Rattle.scip_document.specs.Packages.{package_of_file}
 use Rattle.scip_document.specs.Tables.EntryLists.{source_entries, choices_for}
 use Rattle.scip_document.specs.Tables.EntryNumbers.{package_names}
@@ -39,6 +39,7 @@ returns c =
     let entry = entry_of texts path (package_names facts.package_name) facts choices in
     let first = c.in_ok-numbers.numbers.items in
     let listed = c.push_declarations.new.numbers.items in
+    let near = c.put_near.new.numbers.items in
     let all : map entry listed ≡ source_entries id ids.run path facts choices =
     all_are id ids.run path facts choices texts c.requires.texts first listed (c.in_ok-numbers.ensures entry)
     (c.in_ok-push_declarations.ensures id entry
@@ -55,5 +56,6 @@ returns c =
     id ids.run (file_good files ids source good) good.run source file.0 facts file.1
     counted (c.requires.paths source file.0 file.1) choices) (map entry listed) _
     (all ∙ ap (λ (p : List ℕ). source_entries id ids.run p facts choices) (sym file.2))
-    (IsPermutation-map entry listed _ c.sort_unstable_by.ensures.permutation)
+    (IsPermutation-map entry listed _
+    (IsPermutation-trans listed near _ c.in_ok-put_near.ensures c.sort_unstable_by.ensures.permutation))
     (sorted_entries texts path (package_names facts.package_name) facts choices _ up)

@@ -37,7 +37,7 @@ use sequences::Sequence;
 use std::alloc::{AllocError, Global};
 
 /// What occurs in the source, which has this path, and of which this was found for the uses, in order. What was found
-/// is let go as soon as the uses are listed.
+/// is let go as soon as the uses are listed, before the declarations are.
 fn occurrences(
     maker: &DocumentMaker<'_, '_, '_, '_>,
     path: &str,
@@ -63,10 +63,10 @@ fn occurrences(
     let alloc = maker.alloc;
     let own = own_occurrences(alloc)?;
     let imports = import_occurrences(maker, facts.imports(), texts)?;
-    let packages = package_occurrences(maker, facts)?;
-    let names = declaration_occurrences(maker, facts)?;
     let uses = use_occurrences(maker, found.as_slice(), facts.uses(), texts)?;
     drop(found);
+    let packages = package_occurrences(maker, facts)?;
+    let names = declaration_occurrences(maker, facts)?;
     let with_imports = merged(alloc, texts, own, imports)?;
     let with_packages = merged(alloc, texts, with_imports, packages)?;
     let with_names = merged(alloc, texts, with_packages, names)?;
@@ -100,12 +100,12 @@ pub fn plan_document<'a, 'f>(
     maker.linker.linked();
     let alloc = maker.alloc;
     let facts = maker.linker.facts_of(maker.source).unwrap();
-    let found = find_targets(alloc, maker.linker, maker.source, facts)?;
-    let unresolved = unresolved_uses(alloc, facts.uses(), found.as_slice())?;
     let path = maker.linker.path_of(maker.source);
     let id = package_of_file(maker.linker, maker.package, maker.source);
     let own = own_texts(alloc, id, maker.package.run(), path, facts)?;
     let mut texts = SymbolTable::new(alloc, own);
+    let found = find_targets(alloc, maker.linker, maker.source, facts)?;
+    let unresolved = unresolved_uses(alloc, facts.uses(), found.as_slice())?;
     let occurrences = occurrences(maker, path, facts, found, &mut texts)?;
     let packages = package_names(alloc, facts.package_name())?;
     let entries = entry_numbers(maker, path, &texts, facts)?;

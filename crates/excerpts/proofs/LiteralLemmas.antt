@@ -3,7 +3,7 @@ use Rattle.std.proofs.Common.{◌≡◌, ◌∙◌, ap, refl, List, [], ◌∷�
 use Rattle.std.specs.Prelude.{nat_eq}
 use Rattle.proto_lex.specs.Ascii.{backslash}
 use Rattle.excerpts.specs.Places.{closing_len}
-use Rattle.excerpts.specs.Steps.{closing_from}
+use Rattle.excerpts.specs.Tables.Steps.{closing_from}
 
 either : (t : Bool) (x : ℕ) → cond t x x ≡ x
 either true x = refl

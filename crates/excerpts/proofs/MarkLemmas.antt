@@ -9,7 +9,7 @@ use Rattle.proto_lex.specs.Bytes.{starts}
 use Rattle.excerpts.specs.Characters.{characters, goes_on}
 use Rattle.excerpts.specs.Excerpts.{carets, where_cut}
 use Rattle.excerpts.specs.Shown.{escaped, is_plain, mark, marks, shown, shown_text}
-use Rattle.excerpts.specs.Steps.{four, signs}
+use Rattle.excerpts.specs.Tables.Steps.{four, signs}
 use Rattle.excerpts.proofs.CharacterLemmas.{first_is}
 use Rattle.excerpts.proofs.JoinLemmas.{joined, IsOne, alone, low_begins, high_digit, low_digit, high_is, low_is}
 use Rattle.excerpts.proofs.JoinLemmas.{escape_is, escapes_begin, text_begins}

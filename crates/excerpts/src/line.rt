@@ -7,7 +7,7 @@ ghost use Rattle.proto_lex.specs.Bytes.{is_quote, is_word};
 ghost use Rattle.proto_lex.specs.Position.{is_line_end};
 ghost use Rattle.excerpts.specs.Characters.{characters};
 ghost use Rattle.excerpts.specs.Places.{closing_len, first_len, place_text, sign_len, token_len, without_return};
-ghost use Rattle.excerpts.specs.Steps.{closes, escapes};
+ghost use Rattle.excerpts.specs.Tables.Steps.{closes, escapes};
 
 use crate::characters::{count_characters, first_character};
 use crate::shown::push_text;

@@ -7,7 +7,7 @@ ghost use Rattle.std.specs.String.{string_bytes};
 ghost use Rattle.std.specs.Char.{digit_char, encode_utf8};
 ghost use Rattle.excerpts.specs.Characters.{characters};
 ghost use Rattle.excerpts.specs.Shown.{escaped, is_obeyed, is_plain, is_tab, mark, marks, shown, shown_text, turns};
-ghost use Rattle.excerpts.specs.Steps.{four, signs};
+ghost use Rattle.excerpts.specs.Tables.Steps.{four, signs};
 
 use crate::characters::{count_characters, first_character};
 use std::alloc::AllocError;

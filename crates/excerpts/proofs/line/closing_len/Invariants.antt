@@ -1,6 +1,6 @@
 use Rattle.std.proofs.Common.{◌≡◌, ◌+◌, length}
 use Rattle.excerpts.specs.Places.{closing_len}
-use Rattle.excerpts.specs.Steps.{closing_from}
+use Rattle.excerpts.specs.Tables.Steps.{closing_from}
 use Rattle.excerpts.proofs.line.closing_len.Given as goal
 
 -- those so far and those to come

@@ -1,6 +1,6 @@
 use Rattle.std.specs.String.{string_bytes}
 use Rattle.excerpts.specs.Characters.{characters}
-use Rattle.excerpts.specs.Steps.{signs}
+use Rattle.excerpts.specs.Tables.Steps.{signs}
 use Rattle.excerpts.proofs.CharacterLemmas.{step}
 use Rattle.excerpts.proofs.shown.push_all_signs.Goals as goal
 

@@ -2,7 +2,7 @@ use Rattle.std.proofs.Common.{◌≡◌, ◌++◌, take}
 use Rattle.std.specs.List.{flat_map}
 use Rattle.std.specs.String.{string_bytes}
 use Rattle.excerpts.specs.Characters.{characters}
-use Rattle.excerpts.specs.Steps.{signs}
+use Rattle.excerpts.specs.Tables.Steps.{signs}
 use Rattle.excerpts.proofs.shown.push_all_signs.Given as goal
 
 -- what is to come of the rest completes what there is

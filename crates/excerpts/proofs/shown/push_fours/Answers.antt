@@ -1,5 +1,5 @@
 use Rattle.std.specs.String.{string_bytes}
-use Rattle.excerpts.specs.Steps.{four}
+use Rattle.excerpts.specs.Tables.Steps.{four}
 use Rattle.excerpts.proofs.CharacterLemmas.{one_more_sign}
 use Rattle.excerpts.proofs.shown.push_fours.Goals as goal
 

@@ -1,7 +1,7 @@
 use Rattle.std.proofs.Common.{◌≡◌, ◌++◌, take, ℕ}
 use Rattle.std.specs.List.{flat_map}
 use Rattle.std.specs.String.{string_bytes}
-use Rattle.excerpts.specs.Steps.{four}
+use Rattle.excerpts.specs.Tables.Steps.{four}
 use Rattle.excerpts.proofs.shown.push_fours.Given as goal
 
 -- the signs of the bytes so far

@@ -1,0 +1,2 @@
+-- How the code goes; no public contract names it.
+pub mod Steps

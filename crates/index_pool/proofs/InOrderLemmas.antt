@@ -16,7 +16,7 @@ use Rattle.index_pool.specs.declared.phase.fault.PoolFault.{PoolFault}
 use Rattle.index_pool.specs.declared.phase.fault.PoolFault.TheVariants.{Spawn, Memory, Job}
 use Rattle.index_pool.specs.Once.{HasEachOnceBelow}
 use Rattle.index_pool.specs.Phase.{AnswersEach, MayRefuse, RanOnce, Returned, AnswersRuns, RefusesRuns}
-use Rattle.index_pool.specs.PhaseSteps.{weight, numbers_of, RanEach, IsAmong, IsFilled, IsFull, HasResult}
+use Rattle.index_pool.specs.Tables.PhaseSteps.{weight, numbers_of, RanEach, IsAmong, IsFilled, IsFull, HasResult}
 use Rattle.index_pool.proofs.OnceLemmas.{only_at, only_at_other, one_below}
 use Rattle.index_pool.proofs.ResultsLemmas.{once_weighs}
 

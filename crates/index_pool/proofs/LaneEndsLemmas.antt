@@ -4,7 +4,7 @@ use Rattle.index_pool.specs.declared.lanes.ends.LaneOwner.{LaneOwner}
 use Rattle.index_pool.specs.declared.lanes.ends.LaneThief.{LaneThief}
 use Rattle.index_pool.specs.Lane.{lane_view, lane_numbers, more_popped, more_stolen}
 use Rattle.index_pool.specs.LaneEnds.{owner_view, owner_deque, thief_view, thief_deque, tries_left}
-use Rattle.index_pool.specs.PhaseSteps.{AllBelow, FreshOwner, FreshThief, FreshLane, PoppedMore, StoleMore}
+use Rattle.index_pool.specs.Tables.PhaseSteps.{AllBelow, FreshOwner, FreshThief, FreshLane, PoppedMore, StoleMore}
 use Rattle.std.proofs.lemmas.List.Elements.{All-weaker}
 use Rattle.index_pool.proofs.LaneNumbersLemmas.{lane_below}
 

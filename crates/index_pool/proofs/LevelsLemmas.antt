@@ -17,8 +17,8 @@ use Rattle.std.proofs.lemmas.List.{length_push}
 use Rattle.std.specs.List.{range_with_len}
 use Rattle.index_pool.specs.Lane.{lane_numbers, lane_view}
 use Rattle.index_pool.specs.LaneEnds.{owner_view, owner_deque, thief_view, thief_deque}
-use Rattle.index_pool.specs.PhaseSteps.{AllBelow, FreshPost, FreshLane, AllGiven, weight, Worked, Gathers, Settles}
-use Rattle.index_pool.specs.PhaseSteps.{RanEach, MayStop, MayEnd}
+use Rattle.index_pool.specs.Tables.PhaseSteps.{AllBelow, FreshPost, FreshLane, AllGiven, weight, Worked, Gathers}
+use Rattle.index_pool.specs.Tables.PhaseSteps.{Settles, RanEach, MayStop, MayEnd}
 use Rattle.index_pool.proofs.ResultsLemmas.{weight_append, each_once}
 use Rattle.index_pool.proofs.LaneEndsLemmas.{popped_given, popped_below}
 

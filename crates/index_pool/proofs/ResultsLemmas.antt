@@ -6,7 +6,7 @@ use Rattle.std.proofs.lemmas.List.Elements.{All-same, All-append, All-contains}
 use Rattle.std.specs.List.{range_with_len}
 use Rattle.index_pool.specs.declared.phase.worker.Ran.{Ran}
 use Rattle.index_pool.specs.Once.{HasEachOnceBelow}
-use Rattle.index_pool.specs.PhaseSteps.{AllGiven, weight, numbers_of, IsAmong}
+use Rattle.index_pool.specs.Tables.PhaseSteps.{AllGiven, weight, numbers_of, IsAmong}
 use Rattle.index_pool.proofs.OnceLemmas.{only_at, sum_only_at-range, only_at_own, below_from_one}
 
 module _ {A : Type 0} (rs qs ps : List (Ran A)) (is : ps ≡ rs ++ qs) where

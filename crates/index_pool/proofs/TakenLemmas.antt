@@ -13,7 +13,7 @@ use Rattle.index_pool.specs.declared.lanes.rule.LaneView.{LaneView}
 use Rattle.index_pool.specs.declared.phase.worker.Ran.{Ran}
 use Rattle.index_pool.specs.Lane.{lane_view, more_popped, more_stolen}
 use Rattle.index_pool.specs.LaneEnds.{owner_view, owner_deque, thief_view, thief_deque}
-use Rattle.index_pool.specs.PhaseSteps.{PoppedMore, StoleMore, AllGiven, weight}
+use Rattle.index_pool.specs.Tables.PhaseSteps.{PoppedMore, StoleMore, AllGiven, weight}
 
 pub popped_one : (old mid new : LaneOwner) (k : ℕ) → PoppedMore old mid → owner_deque new ≡ owner_deque mid
     → owner_view new ≡ more_popped (owner_view mid) (k ∷ []) → PoppedMore old new

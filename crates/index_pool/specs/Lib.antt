@@ -9,4 +9,5 @@ pub mod CoreLanes
 pub mod LaneRuns
 pub mod StolenCases
 pub mod Phase
-pub mod PhaseSteps
+-- what no public contract names
+pub mod Tables

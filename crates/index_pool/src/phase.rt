@@ -6,7 +6,7 @@ ghost use Rattle.index_pool.specs.Lane.{lane_numbers};
 ghost use Rattle.index_pool.specs.LaneEnds.{owner_view};
 ghost use Rattle.index_pool.specs.Phase.{AnswersEach, MayRefuse, AnswersRuns, RefusesRuns, IsStartRefused};
 ghost use Rattle.index_pool.specs.declared.phase.fault.PoolFault.TheVariants.{Spawn};
-ghost use Rattle.index_pool.specs.PhaseSteps.{FreshPost, FreshLane, Gathers, RanEach, MayStop, MayEnd};
+ghost use Rattle.index_pool.specs.Tables.PhaseSteps.{FreshPost, FreshLane, Gathers, RanEach, MayStop, MayEnd};
 
 mod fault;
 mod in_order;

@@ -3,7 +3,7 @@
 ghost use Rattle.std.specs.Prelude.{◌≡◌, ◌<◌, ◌≤◌, [], Some, None, length, All, vec_capacity, IfOk, IfErr, slice_set};
 ghost use Rattle.index_pool.specs.Once.{HasEachOnceBelow};
 ghost use Rattle.index_pool.specs.Phase.{AnswersEach, MayRefuse};
-ghost use Rattle.index_pool.specs.PhaseSteps.{numbers_of, IsAmong, IsFilled, IsFull, HasResult};
+ghost use Rattle.index_pool.specs.Tables.PhaseSteps.{numbers_of, IsAmong, IsFilled, IsFull, HasResult};
 
 use super::fault::PoolFault;
 use super::worker::Ran;

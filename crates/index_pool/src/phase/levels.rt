@@ -2,7 +2,7 @@
 
 ghost use Rattle.std.specs.Prelude.{◌≡◌, ℕ, ◌+◌, ◌<◌, ◌≤◌, false, [], All, length, sum_by, IfOk, IfErr, IfSome, OnOk};
 ghost use Rattle.index_pool.specs.LaneEnds.{owner_deque, owner_view, thief_deque, thief_view};
-ghost use Rattle.index_pool.specs.PhaseSteps.{
+ghost use Rattle.index_pool.specs.Tables.PhaseSteps.{
   AllBelow,
   FreshPost,
   FreshLane,
@@ -40,7 +40,7 @@ pub(crate) struct Duty<J> {
 }
 
 impl<J: Job> Promise<Done<Result<J::Out, J::Fault>>> for Duty<J> {
-    ghost use Rattle.index_pool.specs.PhaseSteps.{Worked};
+    ghost use Rattle.index_pool.specs.Tables.PhaseSteps.{Worked};
 
     ghost kept_by = { λ p r. Worked (J.gives p.job.value) p.post.value r };
 }

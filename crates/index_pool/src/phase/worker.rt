@@ -4,7 +4,15 @@ ghost use Rattle.std.specs.Prelude.{◌≡◌, ℕ, ◌+◌, ◌<◌, true, ◌+
 ghost use Rattle.std.specs.List.Sorted.{IsPermutation};
 ghost use Rattle.index_pool.specs.LaneEnds.{owner_view, found_empty, thief_view, tries_left};
 ghost use Rattle.index_pool.specs.Ticket.{number_of};
-ghost use Rattle.index_pool.specs.PhaseSteps.{AllBelow, FreshPost, PoppedMore, StoleMore, AllGiven, weight, Worked};
+ghost use Rattle.index_pool.specs.Tables.PhaseSteps.{
+  AllBelow,
+  FreshPost,
+  PoppedMore,
+  StoleMore,
+  AllGiven,
+  weight,
+  Worked,
+};
 
 use super::task::Task;
 use crate::gate::Gate;

@@ -6,7 +6,7 @@ use Rattle.std.specs.List.{range_with_len}
 use Rattle.index_pool.specs.declared.lanes.ends.LaneOwner.{LaneOwner}
 use Rattle.index_pool.specs.declared.lanes.ends.LaneThief.{LaneThief}
 use Rattle.index_pool.specs.LaneEnds.{owner_view}
-use Rattle.index_pool.specs.PhaseSteps.{FreshLane}
+use Rattle.index_pool.specs.Tables.PhaseSteps.{FreshLane}
 use Rattle.index_pool.proofs.LaneNumbersLemmas.{lanes_weight, lanes_weight_one, lanes_weight_more, lanes_cover}
 use Rattle.index_pool.proofs.LaneEndsLemmas.{fresh_owner, fresh_thief}
 use Rattle.index_pool.proofs.phase.further_lanes.Goals as goal

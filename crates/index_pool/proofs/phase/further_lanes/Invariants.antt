@@ -1,7 +1,7 @@
 use Rattle.std.proofs.Common.{◌≡◌, ℕ, ◌+◌, All, length, sum_by}
 use Rattle.index_pool.specs.Lane.{lane_numbers}
 use Rattle.index_pool.specs.LaneEnds.{owner_view}
-use Rattle.index_pool.specs.PhaseSteps.{FreshLane}
+use Rattle.index_pool.specs.Tables.PhaseSteps.{FreshLane}
 use Rattle.index_pool.proofs.LaneNumbersLemmas.{lanes_weight}
 use Rattle.index_pool.proofs.phase.further_lanes.Given as goal
 

@@ -1,7 +1,7 @@
 use Rattle.std.proofs.Common.{◌≡◌, ◌∷◌, Some, Ok, Err, length, sym, ap, ◌∙◌, subst, arith}
 use Rattle.std.specs.Vec.Iter.{into_iter_items}
 use Rattle.index_pool.specs.Phase.{IsLeastFault}
-use Rattle.index_pool.specs.PhaseSteps.{HasResult}
+use Rattle.index_pool.specs.Tables.PhaseSteps.{HasResult}
 use Rattle.index_pool.proofs.InOrderLemmas.{Answered, next_answer, next_fault, next_none, all_answered}
 use Rattle.index_pool.proofs.phase.in_order.first_fault_or_all.Goals as goal
 

@@ -1,7 +1,7 @@
 use Rattle.std.proofs.Common.{length}
 use Rattle.std.proofs.lemmas.Result.{IfOk-weaker, IfErr-weaker}
 use Rattle.index_pool.specs.Phase.{AnswersEach, MayRefuse}
-use Rattle.index_pool.specs.PhaseSteps.{IsAmong, HasResult}
+use Rattle.index_pool.specs.Tables.PhaseSteps.{IsAmong, HasResult}
 use Rattle.index_pool.proofs.InOrderLemmas.{answers_weaker, refusal_weaker, filled_among, filled_full}
 use Rattle.index_pool.proofs.phase.in_order.in_order.Goals as goal
 

@@ -2,7 +2,7 @@ use Rattle.std.proofs.Common.{◌≡◌, ◌≤◌, ◌<◌, length, subst, arit
 use Rattle.std.proofs.lemmas.Result.{IfOk-weaker, IfErr-weaker}
 use Rattle.index_pool.specs.declared.phase.worker.Post.{Post}
 use Rattle.index_pool.specs.declared.phase.fault.Stop.TheVariants.{Memory}
-use Rattle.index_pool.specs.PhaseSteps.{Worked, Gathers, Settles, MayStop}
+use Rattle.index_pool.specs.Tables.PhaseSteps.{Worked, Gathers, Settles, MayStop}
 use Rattle.index_pool.proofs.LevelsLemmas.{rest_fresh, theirs_fresh, ours_fresh, same_lane, done_below, level_gathers}
 use Rattle.index_pool.proofs.LevelsLemmas.{one_lane_more, memory_stops}
 use Rattle.index_pool.proofs.phase.levels.+level.Goals as goal

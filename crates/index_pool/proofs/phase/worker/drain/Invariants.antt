@@ -1,6 +1,6 @@
 use Rattle.std.proofs.Common.{◌-◌, length}
 use Rattle.index_pool.specs.LaneEnds.{owner_view}
-use Rattle.index_pool.specs.PhaseSteps.{PoppedMore}
+use Rattle.index_pool.specs.Tables.PhaseSteps.{PoppedMore}
 use Rattle.index_pool.proofs.phase.worker.drain.Given as goal
 
 abbrev pub invariant-pops : goal.invariant-pops

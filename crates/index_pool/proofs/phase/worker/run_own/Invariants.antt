@@ -1,6 +1,6 @@
 use Rattle.std.proofs.Common.{◌≡◌, ℕ, ◌+◌, ◌-◌, length, sum_by}
 use Rattle.index_pool.specs.LaneEnds.{owner_view}
-use Rattle.index_pool.specs.PhaseSteps.{PoppedMore, AllGiven, weight}
+use Rattle.index_pool.specs.Tables.PhaseSteps.{PoppedMore, AllGiven, weight}
 use Rattle.index_pool.proofs.phase.worker.run_own.Given as goal
 
 abbrev pub invariant-pops : goal.invariant-pops

@@ -5,7 +5,7 @@ use Rattle.index_pool.specs.declared.lanes.rule.LaneView.{LaneView}
 use Rattle.index_pool.specs.declared.phase.worker.Ran.{Ran}
 use Rattle.index_pool.specs.Lane.{more_stolen}
 use Rattle.index_pool.specs.LaneEnds.{thief_view}
-use Rattle.index_pool.specs.PhaseSteps.{weight}
+use Rattle.index_pool.specs.Tables.PhaseSteps.{weight}
 use Rattle.index_pool.proofs.TakenLemmas.{stole_one, stole_none, given_one, weighs_one}
 use Rattle.index_pool.proofs.phase.worker.run_stolen.Goals as goal
 

@@ -1,6 +1,6 @@
 use Rattle.std.proofs.Common.{◌≡◌, ℕ, ◌+◌, ◌-◌, ◌*◌, length, sum_by}
 use Rattle.index_pool.specs.LaneEnds.{thief_view, tries_left}
-use Rattle.index_pool.specs.PhaseSteps.{StoleMore, AllGiven, weight}
+use Rattle.index_pool.specs.Tables.PhaseSteps.{StoleMore, AllGiven, weight}
 use Rattle.index_pool.proofs.phase.worker.run_stolen.Given as goal
 
 abbrev pub invariant-steals : goal.invariant-steals

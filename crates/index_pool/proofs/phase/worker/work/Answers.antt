@@ -5,7 +5,7 @@ use Rattle.index_pool.specs.declared.lanes.ends.LaneOwner.{LaneOwner}
 use Rattle.index_pool.specs.declared.lanes.rule.LaneView.{LaneView}
 use Rattle.index_pool.specs.declared.phase.worker.Ran.{Ran}
 use Rattle.index_pool.specs.LaneEnds.{owner_view, found_empty}
-use Rattle.index_pool.specs.PhaseSteps.{PoppedMore, weight}
+use Rattle.index_pool.specs.Tables.PhaseSteps.{PoppedMore, weight}
 use Rattle.index_pool.proofs.TakenLemmas.{popped_on, at_ok}
 use Rattle.index_pool.proofs.phase.worker.work.Goals as goal
 use Rattle.index_pool.proofs.phase.worker.work.Goals.{then-starved, else-starved}

@@ -4,10 +4,8 @@ use Rattle.std.proofs.Common.{List, [], ◌∷◌, length, take, drop, ◌++◌,
 use Rattle.std.specs.List.{flat_map, onto_first, prefix_len}
 use Rattle.std.proofs.lemmas.List.{take_all, take_more}
 use Rattle.std.proofs.lemmas.Grind.{flat_map-append}
+use Rattle.std.proofs.Math.Numerals.{one-add}
 use Rattle.excerpts.specs.Characters.{characters, goes_on}
-
-one_more : (n : ℕ) → 1 + n ≡ suc n
-one_more n = omega arith
 
 first_by : (b c : ℕ) (cs : List ℕ) (t : Bool) → goes_on c ≡ t
     → characters (c ∷ cs) ≡ (c ∷ take (prefix_len goes_on cs) cs) ∷ characters (drop (prefix_len goes_on cs) cs)
@@ -18,7 +16,7 @@ first_by b c cs true e h =
     let parts : ℕ → List (List ℕ) = λ n. (b ∷ take n (c ∷ cs)) ∷ characters (drop n (c ∷ cs)) in
     ap (λ t. cond t (onto_first b (characters (c ∷ cs))) ((b ∷ []) ∷ characters (c ∷ cs))) e
     ∙ ap (onto_first b) h
-    ∙ sym (ap parts (ap (λ t. cond t (1 + n) 0) e ∙ one_more n))
+    ∙ sym (ap parts (ap (λ t. cond t (1 + n) 0) e ∙ one-add n))
 first_by b c cs false e h =
     let n = prefix_len goes_on cs in
     let parts : ℕ → List (List ℕ) = λ n. (b ∷ take n (c ∷ cs)) ∷ characters (drop n (c ∷ cs)) in
@@ -38,7 +36,7 @@ first_at [] others n some behind len = absurd (omega arith)
 first_at (b ∷ bs) others n some behind len =
     let count : n ≡ prefix_len goes_on bs = len ∙ ap (prefix_len goes_on) behind in
     let parts : ℕ → List (List ℕ) = λ n. take n (b ∷ bs) ∷ characters (drop n (b ∷ bs)) in
-    first_is b bs ∙ sym (ap parts (ap (λ k. 1 + k) count ∙ one_more (prefix_len goes_on bs)))
+    first_is b bs ∙ sym (ap parts (ap (λ k. 1 + k) count ∙ one-add (prefix_len goes_on bs)))
 
 pub behind_first : (bytes : List ℕ) → take (length bytes - 1) (drop 1 bytes) ≡ drop 1 bytes
 behind_first [] = refl

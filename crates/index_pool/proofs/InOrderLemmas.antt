@@ -6,7 +6,7 @@ use Rattle.std.specs.Prelude.{IfOk, IfErr, MatchResult}
 use lib.ListN.{get_or-map, length-map}
 use Rattle.std.proofs.Math.ListN.{length-set, length-drop}
 use Rattle.std.proofs.Math.Seq.{drop-cons}
-use Rattle.std.proofs.lemmas.List.{length_push, get_or-set_same, get_or-set_other}
+use Rattle.std.proofs.lemmas.List.{length_push, get_or-set_same, get_or-set_other, nil_from_length}
 use Rattle.std.proofs.lemmas.Option.{slice_get_within, get_or_from_slice_get, slice_get-get_or}
 use Rattle.std.proofs.lemmas.List.Elements.{All-get_or, All-map, Contains-append_left, Contains-push}
 use Rattle.std.proofs.lemmas.List.Sums.{sum_by_push}
@@ -166,13 +166,9 @@ module _ {Out Fault : Type 0} (slots rest : List (Option (Result Out Fault))) (o
       let full : length outs ≡ length slots = omega arith in
       (full, so_far.each)
 
-nil_of_length : {X : Type 0} (xs : List X) → length xs ≡ 0 → xs ≡ []
-nil_of_length [] none = refl
-nil_of_length (x ∷ xs) none = absurd (omega arith)
-
 -- where nothing is left, all was taken
 pub none_left : {X : Type 0} (all taken left : List X) → all ≡ taken ++ left → length left ≡ 0 → all ≡ taken
-none_left all taken left e none = e ∙ (ap (λ l. taken ++ l) (nil_of_length left none) ∙ append-nil taken)
+none_left all taken left e none = e ∙ (ap (λ l. taken ++ l) (nil_from_length left none) ∙ append-nil taken)
 
 -- a relation that allows more allows the same answers and refusals, for any workers the refusals of one
 pub answers_weaker : {Out Fault : Type 0} (P Q : ℕ → Result Out Fault → Type 0) (n m : ℕ) → n ≡ m

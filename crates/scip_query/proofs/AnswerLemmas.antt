@@ -11,7 +11,7 @@ use Rattle.scip_query.specs.declared.miss.Miss.{Miss}
 use Rattle.scip_query.specs.Sites.{Site}
 use Rattle.scip_query.specs.OccurrenceAt.{Subject, subject_at}
 use Rattle.scip_query.specs.References.{references_of, definitions_of, references_at, definitions_at, site_places}
-use Rattle.scip_query.specs.Tables.{site_listed}
+use Rattle.scip_query.specs.Tables.Searches.{site_listed}
 use Rattle.scip_query.specs.AnswerText.{site_line, listing, count_line}
 use Rattle.scip_query.specs.Answering.{line_or_none}
 use Rattle.scip_query.proofs.SiteLemmas.{references_stand, definitions_stand, defining_are}

@@ -20,8 +20,9 @@ use Rattle.scip_query.specs.declared.place.EntryPlace.{EntryPlace}
 use Rattle.scip_query.specs.OccurrenceAt.{Subject}
 use Rattle.scip_query.specs.References.{is_local}
 use Rattle.scip_query.specs.Documentation.{entries_for}
-use Rattle.scip_query.specs.Tables.{numbers, entries_or, entries_listed, entry_listed, entry_symbol_or_none}
-use Rattle.scip_query.specs.Tables.{entry_symbol_listed, entry_places_in, entry_places_from}
+use Rattle.scip_query.specs.Tables.{numbers}
+use Rattle.scip_query.specs.Tables.Searches.{entries_or, entries_listed, entry_listed, entry_symbol_or_none}
+use Rattle.scip_query.specs.Tables.Searches.{entry_symbol_listed, entry_places_in, entry_places_from}
 use Rattle.scip_query.proofs.RisingLemmas.{IsRising, rising_from_less, rising_same, rising_filtered}
 use Rattle.scip_query.proofs.RunLemmas.{find_first, filter_swap}
 use Rattle.scip_query.proofs.ZipLemmas.{slice_get_at, numbers_stand, zip_append, zip_renamed, zip_find}

@@ -21,7 +21,8 @@ use Rattle.scip_model.specs.declared.records.Occurrence.{Occurrence}
 use Rattle.scip_query.specs.declared.position.Position.{Position}
 use Rattle.scip_query.specs.Positions.{position_cmp, start_of, end_of}
 use Rattle.scip_query.specs.OccurrenceAt.{stands_at, innermost_cmp, innermost_of}
-use Rattle.scip_query.specs.Tables.{is_behind, starts_behind, stands_or_not, stands_listed, inner_cmp, numbers, IsTable}
+use Rattle.scip_query.specs.Tables.{numbers, IsTable}
+use Rattle.scip_query.specs.Tables.Searches.{is_behind, starts_behind, stands_or_not, stands_listed, inner_cmp}
 use Rattle.scip_query.proofs.RunLemmas.{not_false, all_fail, none_pass, find_first, first_and_others, filter_swap}
 use Rattle.scip_query.proofs.TableLemmas.{positions_total, inner_ranks}
 use Rattle.scip_query.proofs.ZipLemmas.{numbers_stand, zip_filter, zip_all, zip_find}

@@ -11,7 +11,7 @@ use Rattle.scip_query.specs.Commands.{lines_of, max_command_length}
 use Rattle.scip_query.specs.CommandReading.{command_of}
 use Rattle.scip_query.specs.AnswerText.{answer_or_refusal, answer_to}
 use Rattle.scip_query.specs.Conversing.{is_line_end}
-use Rattle.scip_query.specs.ConversingSteps.{kept_line, kept_with}
+use Rattle.scip_query.specs.Tables.ConversingSteps.{kept_line, kept_with}
 
 -- the first byte of a line that no `\n` ends is none, and none is behind it
 inside : (b : ℕ) (line : List ℕ) → count_by is_line_end (b ∷ line) ≡ 0

@@ -14,7 +14,7 @@ use Rattle.std.specs.Cmp.{IsTotalOrder}
 use Rattle.std.proofs.lemmas.List.{get_or-drop, get_or-take, length-drop}
 use Rattle.std.proofs.lemmas.List.Elements.{filter_passes}
 use Rattle.std.proofs.lemmas.List.Sorted.{ranks_by, sorted_far, All-permutation}
-use Rattle.scip_query.specs.Runs.{Rises}
+use Rattle.scip_query.specs.Tables.Runs.{Rises}
 
 pub not_false : (b : Bool) → (b ≡ false → ⊥) → b ≡ true
 not_false true h = refl

@@ -19,7 +19,8 @@ use Rattle.scip_query.specs.Sites.{Site, Numbered, numbered_documents, document_
 use Rattle.scip_query.specs.OccurrenceAt.{Subject}
 use Rattle.scip_query.specs.References.{is_local, is_of, is_definition, references_of, definitions_of}
 use Rattle.scip_query.specs.Tables.{numbers, places_in, places_from, path_or_none, symbol_or_none, path_listed}
-use Rattle.scip_query.specs.Tables.{symbol_listed, occurrence_listed, numbered_listed, site_or_none, site_listed}
+use Rattle.scip_query.specs.Tables.{symbol_listed, occurrence_listed}
+use Rattle.scip_query.specs.Tables.Searches.{numbered_listed, site_or_none, site_listed}
 use Rattle.scip_query.specs.Tables.{defines_listed, definition_or_not}
 use Rattle.scip_query.proofs.RisingLemmas.{IsRising, rising_from_less, rising_same, rising_filtered}
 use Rattle.scip_query.proofs.ZipLemmas.{slice_get_at, zip_append, zip_filter, zip_find}

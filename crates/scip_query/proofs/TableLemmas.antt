@@ -15,8 +15,9 @@ use Rattle.scip_query.specs.declared.position.Position.{Position}
 use Rattle.scip_query.specs.declared.place.Place.{Place}
 use Rattle.scip_query.specs.declared.place.EntryPlace.{EntryPlace}
 use Rattle.scip_query.specs.OccurrenceAt.{innermost_cmp}
-use Rattle.scip_query.specs.Tables.{numbers, path_listed, symbol_listed, entry_symbol_listed, path_cmp, symbol_cmp}
-use Rattle.scip_query.specs.Tables.{entry_symbol_cmp, inner_cmp, IsInnermostFirst}
+use Rattle.scip_query.specs.Tables.{numbers, path_listed, symbol_listed, path_cmp, symbol_cmp}
+use Rattle.scip_query.specs.Tables.Searches.{entry_symbol_listed}
+use Rattle.scip_query.specs.Tables.Searches.{entry_symbol_cmp, inner_cmp, IsInnermostFirst}
 use Rattle.std.specs.List.{slice_get}
 use Rattle.std.specs.Prelude.{Some}
 use Rattle.std.specs.Option.{unwrap_or}

@@ -1,5 +1,6 @@
 pub mod Positions
 pub mod Sites
+pub mod Tables
 pub mod OccurrenceAt
 pub mod References
 pub mod Documentation
@@ -10,9 +11,6 @@ pub mod CommandViews
 pub mod AnswerText
 pub mod Answering
 pub mod Conversing
-pub mod ConversingSteps
-pub mod Runs
-pub mod Tables
 pub mod Outcomes
 pub mod AnswerFaults
 pub mod Views

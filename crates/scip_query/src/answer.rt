@@ -6,7 +6,7 @@ ghost use Rattle.std.specs.Borrow.{Bor};
 ghost use Rattle.std.specs.List.{flat_map, slice_split};
 ghost use Rattle.std.specs.String.{string_bytes};
 ghost use Rattle.scip_model.specs.declared.records.SymbolInformation.{SymbolInformation};
-ghost use Rattle.scip_query.specs.Tables.{site_listed};
+ghost use Rattle.scip_query.specs.Tables.Searches.{site_listed};
 ghost use Rattle.scip_query.specs.AnswerText.{
   count_line,
   line_of,

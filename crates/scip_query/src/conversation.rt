@@ -3,7 +3,7 @@
 ghost use Rattle.std.specs.Prelude.{◌≡◌, ◌++◌, ◌∷◌, [], List, ℕ, OnOk};
 ghost use Rattle.scip_query.specs.AnswerText.{answer_to};
 ghost use Rattle.scip_query.specs.Conversing.{IsConversed, LeavesFeed};
-ghost use Rattle.scip_query.specs.ConversingSteps.{kept_with, Stands, Goes, AnswersNext, Concludes};
+ghost use Rattle.scip_query.specs.Tables.ConversingSteps.{kept_with, Stands, Goes, AnswersNext, Concludes};
 ghost use Rattle.streams.specs.WholeReads.{IsReadBriefly};
 
 use crate::answer_fault::AnswerFault;

@@ -4,7 +4,8 @@ ghost use Rattle.std.specs.Prelude.{◌≡◌, option_copied, filter, length};
 ghost use Rattle.std.specs.List.{find, slice_get};
 ghost use Rattle.std.specs.Option.{option_and_then};
 ghost use Rattle.scip_query.specs.OccurrenceAt.{stands_at, innermost_of};
-ghost use Rattle.scip_query.specs.Tables.{starts_behind, stands_listed, inner_cmp, numbers, IsTable};
+ghost use Rattle.scip_query.specs.Tables.{numbers, IsTable};
+ghost use Rattle.scip_query.specs.Tables.Searches.{starts_behind, stands_listed, inner_cmp};
 
 use crate::position::{Position, compare_start, stands_at};
 use scip_model::Occurrence;

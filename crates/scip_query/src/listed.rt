@@ -1,15 +1,11 @@
 //! What the numbers and places of an index stand for.
 
 ghost use Rattle.std.specs.Prelude.{◌≡◌, option_copied};
-ghost use Rattle.scip_query.specs.Tables.{
-  path_listed,
-  occurrence_listed,
-  symbol_listed,
+ghost use Rattle.scip_query.specs.Tables.{path_listed, occurrence_listed, symbol_listed, path_cmp, symbol_cmp};
+ghost use Rattle.scip_query.specs.Tables.Searches.{
   entries_listed,
   entry_listed,
   entry_symbol_listed,
-  path_cmp,
-  symbol_cmp,
   entry_symbol_cmp,
   inner_cmp,
 };

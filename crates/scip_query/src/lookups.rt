@@ -14,7 +14,8 @@ ghost use Rattle.scip_query.specs.Outcomes.{Gives};
 ghost use Rattle.std.specs.Ordering.{nat_cmp, is_eq};
 ghost use Rattle.std.specs.Cmp.Lexicographic.{slice_cmp};
 ghost use Rattle.scip_query.specs.declared.place.EntryPlace.{EntryPlace};
-ghost use Rattle.scip_query.specs.Tables.{defines_listed, entry_symbol_listed, entry_places_from};
+ghost use Rattle.scip_query.specs.Tables.{defines_listed};
+ghost use Rattle.scip_query.specs.Tables.Searches.{entry_symbol_listed, entry_places_from};
 ghost use Rattle.scip_query.specs.Views.{subject_view};
 
 use crate::listed::occurrence_listed;

@@ -12,15 +12,13 @@ ghost use Rattle.scip_query.specs.declared.miss.Miss.{Miss};
 ghost use Rattle.scip_query.specs.Sites.{Site, document_named};
 ghost use Rattle.scip_query.specs.OccurrenceAt.{occurrence_in, occurrence_at, subject_at};
 ghost use Rattle.scip_query.specs.References.{is_local, references_of};
-ghost use Rattle.scip_query.specs.Tables.{
+ghost use Rattle.scip_query.specs.Tables.{symbol_listed, places_from, IsBySymbol};
+ghost use Rattle.scip_query.specs.Tables.Searches.{
   numbered_listed,
-  symbol_listed,
   entry_listed,
   entry_symbol_listed,
-  places_from,
   entry_places_from,
   IsInnermostFirst,
-  IsBySymbol,
 };
 ghost use Rattle.scip_query.specs.Views.{named_view, subject_view};
 
@@ -50,7 +48,7 @@ pub struct Queries {
 
 impl Model for Queries {
     ghost use Rattle.scip_model.specs.declared.records.Index.{Index};
-    ghost use Rattle.scip_query.specs.Tables.{AreTables};
+    ghost use Rattle.scip_query.specs.Tables.Searches.{AreTables};
 
     ghost Value = { Index };
 

@@ -5,7 +5,7 @@ ghost use Rattle.std.specs.Fn.{ComputesKey};
 ghost use Rattle.std.specs.List.Sorted.{IsPartitionedBy, IsPartitionPoint};
 ghost use Rattle.std.specs.Ordering.{is_lt, is_eq};
 ghost use Rattle.std.specs.declared.cmp.Ordering.{Ordering};
-ghost use Rattle.scip_query.specs.Runs.{Rises};
+ghost use Rattle.scip_query.specs.Tables.Runs.{Rises};
 
 use std::cmp::Ordering;
 

@@ -5,17 +5,8 @@ ghost use Rattle.std.specs.List.{find};
 ghost use Rattle.std.specs.List.Sorted.{IsNonDecreasingBy};
 ghost use Rattle.std.specs.Ordering.{nat_cmp, is_eq};
 ghost use Rattle.std.specs.Cmp.Lexicographic.{slice_cmp};
-ghost use Rattle.scip_query.specs.Tables.{
-  path_listed,
-  symbol_listed,
-  entry_symbol_listed,
-  places_from,
-  entry_places_from,
-  numbers,
-  IsByPath,
-  IsBySymbol,
-  AreEntriesBySymbol,
-};
+ghost use Rattle.scip_query.specs.Tables.{path_listed, symbol_listed, places_from, numbers, IsByPath, IsBySymbol};
+ghost use Rattle.scip_query.specs.Tables.Searches.{entry_symbol_listed, entry_places_from, AreEntriesBySymbol};
 ghost use Rattle.scip_query.specs.declared.place.Place.{Place};
 ghost use Rattle.scip_query.specs.declared.place.EntryPlace.{EntryPlace};
 

@@ -1,15 +1,11 @@
 //! The tables by which an index is searched.
 
 ghost use Rattle.std.specs.Prelude.{◌≡◌, ◌++◌, ◌^◌, ◌<◌, ◌≤◌, ◌+◌, IfOk, OnOk, length};
-ghost use Rattle.scip_query.specs.Tables.{
-  numbers,
-  places_in,
-  places_from,
+ghost use Rattle.scip_query.specs.Tables.{numbers, places_in, places_from, IsByPath, IsBySymbol};
+ghost use Rattle.scip_query.specs.Tables.Searches.{
   entry_places_in,
   entry_places_from,
-  IsByPath,
   IsInnermostFirst,
-  IsBySymbol,
   AreEntriesBySymbol,
   AreTables,
 };

@@ -2,7 +2,7 @@ use Rattle.std.proofs.Common.{◌≡◌, ◌++◌, take}
 use Rattle.std.specs.List.{flat_map}
 use Rattle.std.specs.String.{string_bytes}
 use Rattle.scip_query.specs.declared.place.Place.{Place}
-use Rattle.scip_query.specs.Tables.{site_listed}
+use Rattle.scip_query.specs.Tables.Searches.{site_listed}
 use Rattle.scip_query.specs.Answering.{line_or_none}
 use Rattle.scip_query.proofs.answer.push_sites.Given as goal
 

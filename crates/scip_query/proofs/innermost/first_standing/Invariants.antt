@@ -1,6 +1,6 @@
 use Rattle.std.proofs.Common.{◌≡◌, drop}
 use Rattle.std.specs.List.{find}
-use Rattle.scip_query.specs.Tables.{stands_listed}
+use Rattle.scip_query.specs.Tables.Searches.{stands_listed}
 use Rattle.scip_query.proofs.innermost.first_standing.Given as goal
 
 -- none of those so far stands there

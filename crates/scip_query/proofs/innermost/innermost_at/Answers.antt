@@ -3,7 +3,7 @@ use Rattle.std.specs.List.{slice_get, find}
 use Rattle.std.specs.Option.{option_and_then}
 use Rattle.std.specs.List.Sorted.{IsPartitionPoint}
 use Rattle.std.proofs.lemmas.List.Sorted.{IsPartitionPoint-from_clause}
-use Rattle.scip_query.specs.Tables.{starts_behind, stands_listed}
+use Rattle.scip_query.specs.Tables.Searches.{starts_behind, stands_listed}
 use Rattle.scip_query.proofs.InnermostLemmas.{behind_partitioned, found_in_table}
 use Rattle.scip_query.proofs.innermost.innermost_at.Goals as goal
 

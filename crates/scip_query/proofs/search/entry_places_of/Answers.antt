@@ -3,7 +3,7 @@ use Rattle.std.specs.Ordering.{nat_cmp}
 use Rattle.std.specs.Cmp.Lexicographic.{slice_cmp}
 use Rattle.std.proofs.lemmas.Cmp.{nat_list_cmp_total}
 use Rattle.std.proofs.lemmas.Fn.{always_returns_same}
-use Rattle.scip_query.specs.Tables.{entry_symbol_listed, entry_places_from}
+use Rattle.scip_query.specs.Tables.Searches.{entry_symbol_listed, entry_places_from}
 use Rattle.scip_query.specs.declared.place.EntryPlace.{EntryPlace}
 use Rattle.scip_query.proofs.RunLemmas.{sorted_rises, kept_order}
 use Rattle.scip_query.proofs.search.entry_places_of.Goals as goal

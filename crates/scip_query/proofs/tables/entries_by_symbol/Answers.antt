@@ -1,7 +1,8 @@
 use Rattle.std.proofs.Common.{rules, ◌≡◌, subst}
 use Rattle.std.specs.Ordering.{is_lt}
 use Rattle.std.proofs.lemmas.Fn.{always_returns_same}
-use Rattle.scip_query.specs.Tables.{entry_symbol_cmp, IsTable}
+use Rattle.scip_query.specs.Tables.{IsTable}
+use Rattle.scip_query.specs.Tables.Searches.{entry_symbol_cmp}
 use Rattle.scip_query.specs.declared.place.EntryPlace.{EntryPlace}
 use Rattle.scip_query.proofs.TableLemmas.{entry_symbols_rank}
 use Rattle.scip_query.proofs.tables.entries_by_symbol.Goals as goal

@@ -1,5 +1,5 @@
 use Rattle.std.proofs.Common.{◌≡◌, ◌≤◌, ◌++◌, length, drop}
-use Rattle.scip_query.specs.Tables.{entry_places_from}
+use Rattle.scip_query.specs.Tables.Searches.{entry_places_from}
 use Rattle.scip_query.proofs.tables.entry_places.Given as goal
 
 -- the places so far, with those in the lists that are left

@@ -1,6 +1,6 @@
 use Rattle.std.proofs.Common.{◌≡◌, ◌<◌, ◌∙◌, ap, sym, ◌+◌, ◌++◌, ◌∷◌, [], take, length}
 use Rattle.std.proofs.lemmas.List.{take_more}
-use Rattle.scip_query.specs.Tables.{IsInnermostFirst}
+use Rattle.scip_query.specs.Tables.Searches.{IsInnermostFirst}
 use Rattle.scip_query.proofs.TableLemmas.{zipped_more}
 use Rattle.scip_query.proofs.tables.inner.Goals as goal
 

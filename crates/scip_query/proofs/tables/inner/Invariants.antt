@@ -1,6 +1,6 @@
 use Rattle.std.proofs.Common.{take}
 use Rattle.std.specs.List.{AllZip}
-use Rattle.scip_query.specs.Tables.{IsInnermostFirst}
+use Rattle.scip_query.specs.Tables.Searches.{IsInnermostFirst}
 use Rattle.scip_query.proofs.tables.inner.Given as goal
 
 -- a table for each of the documents so far

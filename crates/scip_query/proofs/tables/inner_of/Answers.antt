@@ -1,7 +1,8 @@
 use Rattle.std.proofs.Common.{rules, ◌≡◌, ◌∙◌, ap, length, ℕ, subst}
 use Rattle.std.specs.Ordering.{is_lt}
 use Rattle.std.proofs.lemmas.Fn.{always_returns_same}
-use Rattle.scip_query.specs.Tables.{numbers, inner_cmp, IsTable}
+use Rattle.scip_query.specs.Tables.{numbers, IsTable}
+use Rattle.scip_query.specs.Tables.Searches.{inner_cmp}
 use Rattle.scip_query.proofs.TableLemmas.{inner_ranks}
 use Rattle.scip_query.proofs.tables.inner_of.Goals as goal
 

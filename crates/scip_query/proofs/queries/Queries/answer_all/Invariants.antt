@@ -1,6 +1,6 @@
 use Rattle.std.proofs.Common.{◌≡◌, ℕ, ◌+◌, ◌<◌, ◌≤◌, ◌++◌, List, Some}
 use Rattle.streams.specs.Streams.{more_by}
-use Rattle.scip_query.specs.ConversingSteps.{Stands}
+use Rattle.scip_query.specs.Tables.ConversingSteps.{Stands}
 use Rattle.scip_query.proofs.queries.Queries.answer_all.Given as goal
 
 -- some bytes were read and taken in, of which the known ones left are behind; and no read failed or met the end

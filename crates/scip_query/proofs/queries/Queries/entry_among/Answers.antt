@@ -2,7 +2,7 @@ use Rattle.std.proofs.Common.{◌∙◌, ap, sym, List}
 use Rattle.std.specs.List.{filter, slice_get}
 use Rattle.std.specs.Option.{option_and_then}
 use Rattle.scip_query.specs.declared.place.EntryPlace.{EntryPlace}
-use Rattle.scip_query.specs.Tables.{entry_listed}
+use Rattle.scip_query.specs.Tables.Searches.{entry_listed}
 use Rattle.scip_query.specs.Views.{subject_view}
 use Rattle.scip_query.proofs.EntryLemmas.{has_symbol, is_in, found_globally, found_locally, passing_rise}
 use Rattle.scip_query.proofs.queries.Queries.entry_among.Goals as goal

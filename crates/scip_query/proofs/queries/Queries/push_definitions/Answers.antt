@@ -4,7 +4,7 @@ use Rattle.std.specs.String.{string_bytes}
 use Rattle.std.proofs.lemmas.Result.{on_ok_weaker}
 use Rattle.scip_model.specs.declared.records.Document.{Document}
 use Rattle.scip_query.specs.declared.place.Place.{Place}
-use Rattle.scip_query.specs.Tables.{site_listed}
+use Rattle.scip_query.specs.Tables.Searches.{site_listed}
 use Rattle.scip_query.specs.AnswerText.{count_line}
 use Rattle.scip_query.specs.Answering.{line_or_none}
 use Rattle.scip_query.proofs.AnswerLemmas.{definitions_listed}

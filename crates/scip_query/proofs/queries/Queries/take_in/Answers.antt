@@ -1,7 +1,7 @@
 use Rattle.std.proofs.Common.{◌≡◌, ◌==◌, false, arith, subst, ℕ, ◌++◌, ◌∷◌, [], sym, refl}
 use Rattle.std.proofs.lemmas.Bool.Decides.{nat_tests}
 use Rattle.std.proofs.lemmas.Result.{err_from_is_err_and}
-use Rattle.scip_query.specs.ConversingSteps.{Goes}
+use Rattle.scip_query.specs.Tables.ConversingSteps.{Goes}
 use Rattle.scip_query.proofs.ConversationLemmas.{byte_kept, byte_refused, line_goes}
 use Rattle.scip_query.proofs.queries.Queries.take_in.Goals as goal
 

@@ -1,6 +1,6 @@
 use Rattle.std.proofs.Common.{ℕ, List, ◌+◌, ◌++◌, take, drop, subst, Err, arith}
 use Rattle.std.proofs.lemmas.Result.{err_from_is_err_and}
-use Rattle.scip_query.specs.ConversingSteps.{Goes}
+use Rattle.scip_query.specs.Tables.ConversingSteps.{Goes}
 use Rattle.scip_query.proofs.ConversationLemmas.{refused_further, taken_all}
 use Rattle.scip_query.proofs.queries.Queries.take_in_all.Goals as goal
 

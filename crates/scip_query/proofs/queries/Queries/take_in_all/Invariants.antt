@@ -1,5 +1,5 @@
 use Rattle.std.proofs.Common.{List, ℕ, ◌++◌, take}
-use Rattle.scip_query.specs.ConversingSteps.{Stands}
+use Rattle.scip_query.specs.Tables.ConversingSteps.{Stands}
 use Rattle.scip_query.proofs.queries.Queries.take_in_all.Given as goal
 
 -- the bytes so far are taken in, behind any that were read before

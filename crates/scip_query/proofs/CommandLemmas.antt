@@ -1,5 +1,5 @@
 -- The command of a line is what the grammar says: `Found` of what is read, `Exact` of what is in the grammar.
-use Rattle.std.proofs.Common.{◌≡◌, ℕ, ◌<◌, ◌≤◌, ◌==◌, Bool, true, false, not, ◌&&◌, List, [], ◌∷◌, ◌++◌, length, cond}
+use Rattle.std.proofs.Common.{◌≡◌, ℕ, ◌≤◌, ◌==◌, Bool, true, false, not, ◌&&◌, List, [], ◌∷◌, ◌++◌, length, cond}
 use Rattle.std.proofs.Common.{refl, ◌∙◌, ap, arith}
 use Rattle.std.specs.Prelude.{Option, None, Some, nat_le, nat_lt}
 use Rattle.std.specs.List.{list_all, AllPass}
@@ -9,6 +9,7 @@ use Rattle.std.proofs.lemmas.List.Sums.{AllPass-from_list_all}
 use borrow.Author.Tests.{eqb-true}
 use Rattle.std.proofs.lemmas.Bool.Decides.{nat_tests}
 use Rattle.std.proofs.lemmas.Str.{IsUtf8-from_is_utf8, is_utf8-from_IsUtf8}
+use Rattle.std.proofs.lemmas.Bool.{and_parts, leb-true}
 use Rattle.scip_query.specs.Commands.{is_digit, value_of, max_digits}
 use Rattle.scip_query.specs.CommandReading.{Parts, with_first, parts_of, is_written, at_most, number_of, path_of}
 
@@ -50,24 +51,14 @@ parts_found (b ∷ line) parts e = by (parts_found line) (b == 32) refl where
 
 -- ---- numbers
 
-pub both : (a b : Bool) → (a && b) ≡ true → (a ≡ true) × (b ≡ true)
-both true b e = (refl, e)
-both false b e = absurd cc
-
-pub less_from : (a b : ℕ) → nat_lt a b ≡ true → a < b
-less_from a b e = grind (arith, nat_tests)
-
-pub at_most_from : (a b : ℕ) → nat_le a b ≡ true → a ≤ b
-at_most_from a b e = grind (arith, nat_tests)
-
 pub not_empty : (n : ℕ) → (n == 0) ≡ false → nat_lt 0 n ≡ true
 not_empty n e = grind (arith, nat_tests)
 
 pub written_digits : (word : List ℕ) → is_written word ≡ true → AllPass is_digit word × (length word ≤ max_digits)
 written_digits word e =
-    let parts = both (list_all is_digit word) (nat_lt 0 (length word) && nat_le (length word) max_digits) e in
-    let lengths = both (nat_lt 0 (length word)) (nat_le (length word) max_digits) parts.1 in
-    (AllPass-from_list_all is_digit word parts.0, at_most_from (length word) max_digits lengths.1)
+    let parts = and_parts (list_all is_digit word) (nat_lt 0 (length word) && nat_le (length word) max_digits) e in
+    let lengths = and_parts (nat_lt 0 (length word)) (nat_le (length word) max_digits) parts.1 in
+    (AllPass-from_list_all is_digit word parts.0, leb-true (length word) max_digits lengths.1)
 
 pub number_written : (word : List ℕ) → is_written word ≡ true → number_of word ≡ at_most (value_of word)
 unfolding number_of

@@ -1,5 +1,5 @@
 -- The grammar of commands: `Found` of what is read, `Exact` of what is in the grammar.
-use Rattle.std.proofs.Common.{◌≡◌, ℕ, ◌<◌, ◌≤◌, ◌==◌, Bool, true, false, not, ◌&&◌, List, [], ◌∷◌, ◌++◌, length, cond}
+use Rattle.std.proofs.Common.{◌≡◌, ℕ, ◌≤◌, ◌==◌, Bool, true, false, not, ◌&&◌, List, [], ◌∷◌, ◌++◌, length, cond}
 use Rattle.std.proofs.Common.{refl, sym, ◌∙◌, ap, subst, append_assoc, arith}
 use Rattle.std.specs.Prelude.{None, Some, nat_le, nat_lt, codes}
 use Rattle.std.specs.List.{list_all}
@@ -9,6 +9,7 @@ use Rattle.std.proofs.lemmas.Bool.Decides.{nat_tests}
 use Rattle.std.proofs.lemmas.List.Sums.{AllPass-from_list_all, list_all-from_AllPass}
 use Rattle.std.proofs.lemmas.Slice.Eq.{bytes_eq-Decides}
 use Rattle.std.proofs.lemmas.Str.{IsUtf8-from_is_utf8, is_utf8-from_IsUtf8}
+use Rattle.std.proofs.lemmas.Bool.{and_parts, ltb-true, leb-true, le-leb, lt-ltb}
 use Rattle.scip_query.specs.declared.position.Position.{Position}
 use Rattle.scip_query.specs.declared.command.Question.{Question}
 use Rattle.scip_query.specs.declared.command.Question.TheVariants.{Definitions, References, Documentation}
@@ -16,17 +17,11 @@ use Rattle.scip_query.specs.Commands.{Command, Ask, Symbols, IsCommand, ask, sym
 use Rattle.scip_query.specs.Commands.{is_digit, value_of, max_digits, max_number}
 use Rattle.scip_query.specs.CommandReading.{Parts, parts_of, is_written, at_most, number_of, path_of, question_of}
 use Rattle.scip_query.specs.CommandReading.{ask_of, command_of}
-use Rattle.scip_query.proofs.CommandLemmas.{both, bind_some, map_some, parts_found, parts_exact, less_from}
-use Rattle.scip_query.proofs.CommandLemmas.{at_most_from, number_written, number_unwritten}
+use Rattle.scip_query.proofs.CommandLemmas.{bind_some, map_some, parts_found, parts_exact}
+use Rattle.scip_query.proofs.CommandLemmas.{number_written, number_unwritten}
 
 same_bytes : (xs ys : List ℕ) → bytes_eq xs ys ≡ true → xs ≡ ys
 same_bytes xs ys e = (bytes_eq-Decides xs ys).0 e
-
-less_test : (a b : ℕ) → a < b → nat_lt a b ≡ true
-less_test a b h = grind (arith, nat_tests)
-
-at_most_test : (a b : ℕ) → a ≤ b → nat_le a b ≡ true
-at_most_test a b h = grind (arith, nat_tests)
 
 no_digit : (b : ℕ) → is_digit b ≡ true → (b == 32) ≡ false
 no_digit b e = grind (arith, nat_tests)
@@ -34,7 +29,7 @@ no_digit b e = grind (arith, nat_tests)
 no_space : (word : List ℕ) → list_all is_digit word ≡ true → list_all (λ b. not (b == 32)) word ≡ true
 no_space [] e = refl
 no_space (b ∷ word) e =
-    let parts = both (is_digit b) (list_all is_digit word) e in
+    let parts = and_parts (is_digit b) (list_all is_digit word) e in
     ap (λ t. not t && list_all (λ x. not (x == 32)) word) (no_digit b parts.0) ∙ no_space word parts.1
 
 -- ---- numbers and paths
@@ -44,15 +39,15 @@ number_found word n e = by (is_written word) refl where
   within : is_written word ≡ true → (t : Bool) → nat_le (value_of word) max_number ≡ t
       → cond t (Some (value_of word)) None ≡ Some n → IsNumber word n
   within written true le f =
-      let parts = both (list_all is_digit word) (nat_lt 0 (length word) && nat_le (length word) max_digits) written in
-      let lengths = both (nat_lt 0 (length word)) (nat_le (length word) max_digits) parts.1 in
+      let parts = and_parts (list_all is_digit word) (nat_lt 0 (length word) && nat_le (length word) max_digits) written in
+      let lengths = and_parts (nat_lt 0 (length word)) (nat_le (length word) max_digits) parts.1 in
       let value : value_of word ≡ n = cc in
       record {
         digits = AllPass-from_list_all is_digit word parts.0;
-        some = less_from 0 (length word) lengths.0;
-        few = at_most_from (length word) max_digits lengths.1;
+        some = ltb-true 0 (length word) lengths.0;
+        few = leb-true (length word) max_digits lengths.1;
         value = value;
-        small = subst (λ k. k ≤ max_number) value (at_most_from (value_of word) max_number le);
+        small = subst (λ k. k ≤ max_number) value (leb-true (value_of word) max_number le);
       }
   within written false le f = absurd cc
 
@@ -65,10 +60,10 @@ number_exact word n is =
     let digits : list_all is_digit word ≡ true = list_all-from_AllPass is_digit word is.digits in
     let written : is_written word ≡ true =
     ap (λ b. b && (nat_lt 0 (length word) && nat_le (length word) max_digits)) digits
-    ∙ ap (λ b. b && nat_le (length word) max_digits) (less_test 0 (length word) is.some)
-    ∙ at_most_test (length word) max_digits is.few in
+    ∙ ap (λ b. b && nat_le (length word) max_digits) (lt-ltb 0 (length word) is.some)
+    ∙ le-leb (length word) max_digits is.few in
     number_written word written ∙ ap at_most is.value
-    ∙ ap (λ b. cond b (Some n) None) (at_most_test n max_number is.small)
+    ∙ ap (λ b. cond b (Some n) None) (le-leb n max_number is.small)
 
 path_found : (bytes path : List ℕ) → path_of bytes ≡ Some path → (bytes ≡ path) × IsPath bytes
 unfolding path_of
@@ -76,14 +71,14 @@ path_found bytes path e = by (nat_lt 0 (length bytes)) refl (is_utf8 bytes) refl
   by : (a : Bool) → nat_lt 0 (length bytes) ≡ a → (b : Bool) → is_utf8 bytes ≡ b
       → cond (a && b) (Some bytes) None ≡ Some path → (bytes ≡ path) × IsPath bytes
   by true some true text f =
-      (cc, record { some = less_from 0 (length bytes) some; text = IsUtf8-from_is_utf8 bytes text })
+      (cc, record { some = ltb-true 0 (length bytes) some; text = IsUtf8-from_is_utf8 bytes text })
   by true some false text f = absurd cc
   by false some b text f = absurd cc
 
 path_exact : (path : List ℕ) → IsPath path → path_of path ≡ Some path
 unfolding path_of
 path_exact path is =
-    ap (λ b. cond (b && is_utf8 path) (Some path) None) (less_test 0 (length path) is.some)
+    ap (λ b. cond (b && is_utf8 path) (Some path) None) (lt-ltb 0 (length path) is.some)
     ∙ ap (λ b. cond b (Some path) None) (is_utf8-from_IsUtf8 path is.text)
 
 -- ---- questions

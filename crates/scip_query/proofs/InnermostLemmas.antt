@@ -5,7 +5,7 @@ use Rattle.std.specs.Prelude.{Option, None, Some}
 use Rattle.std.specs.List.{filter, find, list_all, slice_get, All, AllWithin, AllPairs}
 use Rattle.std.specs.List.Sorted.{IsPermutation, IsSortedBy, IsStableBy, ties}
 use Rattle.std.specs.Cmp.{IsStrictWeakOrder}
-use Rattle.std.proofs.lemmas.List.Elements.{filter_passes, All-filter}
+use Rattle.std.proofs.lemmas.List.Elements.{filter_passes, All-filter, All-cons}
 use Rattle.std.proofs.lemmas.List.Sums.{AllPass-from_list_all, list_all-from_AllPass}
 use Rattle.std.proofs.lemmas.List.Kept.{AllPairs-filter}
 use Rattle.std.proofs.lemmas.List.Sorted.{IsPermutation-sym, All-permutation, sorted_far}
@@ -17,13 +17,14 @@ use Rattle.std.specs.declared.cmp.Ordering.{Ordering}
 use Rattle.std.specs.declared.cmp.Ordering.TheVariants.{Less, Equal, Greater}
 use Rattle.std.specs.Ordering.{is_lt, is_le, is_gt, is_eq, ordering_then, ordering_reverse}
 use Rattle.std.proofs.lemmas.Cmp.{upto}
+use Rattle.std.proofs.lemmas.Bool.{true_from_ne_false}
 use Rattle.scip_model.specs.declared.records.Occurrence.{Occurrence}
 use Rattle.scip_query.specs.declared.position.Position.{Position}
 use Rattle.scip_query.specs.Positions.{position_cmp, start_of, end_of}
 use Rattle.scip_query.specs.OccurrenceAt.{stands_at, innermost_cmp, innermost_of}
 use Rattle.scip_query.specs.Tables.{numbers, IsTable}
 use Rattle.scip_query.specs.Tables.Searches.{is_behind, starts_behind, stands_or_not, stands_listed, inner_cmp}
-use Rattle.scip_query.proofs.RunLemmas.{not_false, all_fail, none_pass, find_first, first_and_others, filter_swap}
+use Rattle.scip_query.proofs.RunLemmas.{all_fail, none_pass, find_first, filter_swap}
 use Rattle.scip_query.proofs.TableLemmas.{positions_total, inner_ranks}
 use Rattle.scip_query.proofs.ZipLemmas.{numbers_stand, zip_filter, zip_all, zip_find}
 
@@ -50,10 +51,10 @@ all_passing p P (x ∷ xs) all = by (all_passing p P xs) (p x) refl where
       → All (λ y. p y ≡ true → P y) (x ∷ xs)
   by rest true passes =
       let kept : All P (x ∷ filter p xs) = rw passes at all in
-      first_and_others (λ y. p y ≡ true → P y) x xs (λ e. kept zero x (omega arith))
+      All-cons (λ y. p y ≡ true → P y) x xs (λ e. kept zero x (omega arith))
       (rest (λ k d h. kept (suc k) d (omega arith)))
   by rest false fails =
-      first_and_others (λ y. p y ≡ true → P y) x xs (λ e. let clash : true ≡ false = sym e ∙ fails in absurd cc)
+      All-cons (λ y. p y ≡ true → P y) x xs (λ e. let clash : true ≡ false = sym e ∙ fails in absurd cc)
       (rest (rw fails at all))
 
 -- and so of those that it keeps of a list with the same elements
@@ -89,7 +90,7 @@ module _ {N : Type 0} (lt : N → N → Bool) (w : IsStrictWeakOrder lt) where
       (AllPairs-filter (λ a b. lt b a ≡ false) t xs
       (λ i j d before inside. sorted_far lt w xs sorted i j d (omega arith) inside)) in
       subst (All (λ y. lt y h ≡ false)) (sym first)
-      (first_and_others (λ y. lt y h ≡ false) h rest (itself h)
+      (All-cons (λ y. lt y h ≡ false) h rest (itself h)
       (λ k d inside. rising zero (suc k) d (omega arith) (omega arith)))
 
   -- among these, of which none is less than one that ties the first, those than which none is less are those that tie
@@ -184,7 +185,7 @@ behind_partitioned occurrences p table sorted i j d before inside behind =
           let later : is_lt (position_cmp sx sy) ≡ false = first_not_less (position_cmp sx sy) _ level in
           let turned : is_gt (position_cmp sy sx) ≡ false =
           ap is_gt (positions_total.antisymm sy sx) ∙ turned_not_more (position_cmp sx sy) later in
-          not_false (is_gt (position_cmp sx p))
+          true_from_ne_false (is_gt (position_cmp sx p))
           (λ within. let clash : true ≡ false = sym e ∙ upto positions_total sy sx p turned within in cc)
 
 -- what a search in the table finds

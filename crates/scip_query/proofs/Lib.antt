@@ -9,5 +9,5 @@ mod OutcomeLemmas
 mod RisingLemmas
 mod RunLemmas
 mod SiteLemmas
-mod TableLemmas
+pub mod TableLemmas
 mod ZipLemmas

@@ -11,14 +11,11 @@ use Rattle.std.specs.Ordering.{nat_cmp, is_lt, is_gt, is_eq, ordering_reverse, o
 use Rattle.std.proofs.lemmas.Cmp.{nat_cmp_total}
 use Rattle.std.proofs.lemmas.Bool.Decides.{nat_tests}
 use Rattle.std.specs.Cmp.{IsTotalOrder}
-use Rattle.std.proofs.lemmas.List.{get_or-drop, get_or-take, length-drop}
-use Rattle.std.proofs.lemmas.List.Elements.{filter_passes}
+use Rattle.std.proofs.lemmas.List.{get_or-drop, get_or-take, length-drop, length-take-le}
+use Rattle.std.proofs.lemmas.List.Elements.{filter_passes, All-cons}
 use Rattle.std.proofs.lemmas.List.Sorted.{ranks_by, sorted_far, All-permutation}
+use Rattle.std.proofs.lemmas.Bool.{true_from_ne_false}
 use Rattle.scip_query.specs.Tables.Runs.{Rises}
-
-pub not_false : (b : Bool) → (b ≡ false → ⊥) → b ≡ true
-not_false true h = refl
-not_false false h = absurd (h refl)
 
 not_below : (a b : ℕ) → b ≤ a → is_lt (nat_cmp a b) ≡ false
 not_below a b h = grind (arith, nat_tests)
@@ -91,10 +88,6 @@ filter_run p (x ∷ xs) zero zero before within behind =
     (filter_run p xs zero zero (λ k d low high. absurd (omega arith)) (λ k d low high. absurd (omega arith))
     (λ k d low high. behind (suc k) d (omega arith) (omega arith)))
 
-pub first_and_others : {X : Type 0} (P : X → Type 0) (x : X) (xs : List X) → P x → All P xs → All P (x ∷ xs)
-first_and_others P x xs first others zero d h = first
-first_and_others P x xs first others (suc k) d h = others k d (omega arith)
-
 -- a filter that keeps nothing
 pub all_fail : {X : Type 0} (p : X → Bool) (xs : List X) → All (λ x. p x ≡ false) xs → filter p xs ≡ []
 all_fail p [] all = refl
@@ -105,7 +98,7 @@ none_pass p [] e = λ k d h. absurd (omega arith)
 none_pass p (x ∷ xs) e = by (none_pass p xs) (p x) refl where
   by : (filter p xs ≡ [] → All (λ y. p y ≡ false) xs) → (b : Bool) → p x ≡ b → All (λ y. p y ≡ false) (x ∷ xs)
   by rest true passes = let kept : x ∷ filter p xs ≡ [] = rw passes at e in absurd cc
-  by rest false fails = first_and_others (λ y. p y ≡ false) x xs fails (rest (rw fails at e))
+  by rest false fails = All-cons (λ y. p y ≡ false) x xs fails (rest (rw fails at e))
 
 -- the first that passes is the first of those that pass
 pub find_first : {X : Type 0} (p : X → Bool) (xs : List X) → find p xs ≡ slice_get (filter p xs) 0
@@ -143,11 +136,6 @@ within_few (suc k) [] j few inside = absurd (omega (arith, inside))
 within_few (suc k) (x ∷ xs) zero few inside = omega arith
 within_few (suc k) (x ∷ xs) (suc j) few inside =
     omega (arith, within_few k xs j (omega (arith, few)) (omega (arith, inside)))
-
-length-take-within : {X : Type 0} (k : ℕ) (xs : List X) → k ≤ length xs → length (take k xs) ≡ k
-length-take-within zero xs inside = refl
-length-take-within (suc k) [] inside = absurd (omega (arith, inside))
-length-take-within (suc k) (x ∷ xs) inside = ap suc (length-take-within k xs (omega (arith, inside)))
 
 few_within : {X : Type 0} (k : ℕ) (xs : List X) (j : ℕ) → j < length (take k xs) → (j < k) × (j < length xs)
 few_within zero xs j inside = absurd (omega (arith, inside))
@@ -232,7 +220,7 @@ module _ {N : Type 0} (to : N → Ordering) (xs : List N) (rises : Rises to xs) 
       → length (drop (length (take k xs) - 1) (take k xs)) ≤ less
       → AllWithin (λ n. is_eq (to n) ≡ false) xs 0 k
   first_less k less inside last all j d low high =
-      let count : length (take k xs) ≡ k = length-take-within k xs inside in
+      let count : length (take k xs) ≡ k = length-take-le k xs inside in
       let one : 0 < length (drop (length (take k xs) - 1) (take k xs)) =
       omega (arith, length-drop (length (take k xs) - 1) (take k xs), count, high) in
       let there : get_or (drop (length (take k xs) - 1) (take k xs)) 0 d ≡ get_or xs (k - 1) d =
@@ -276,7 +264,7 @@ module _ {N K : Type 0} {R : K → K → Ordering} (o : IsTotalOrder R) (key : N
       let b = key (get_or xs j d) in
       let later : is_lt (R b a) ≡ false = sorted_far below (ranks_by o key) xs sorted i j d before inside in
       index_below (R a s) (R b s)
-      (λ less. not_false (is_lt (R a s))
+      (λ less. true_from_ne_false (is_lt (R a s))
       (λ e. let clash : true ≡ false = sym less ∙ (ranks_by o (λ (k : K). k)).chain b a s later e in cc))
       (λ equal. ap is_gt (o.antisymm a s) ∙ gt_reversed (R s a)
       ∙ ap is_lt (sym (o.congr b s a (equal_is (R b s) equal))) ∙ later)

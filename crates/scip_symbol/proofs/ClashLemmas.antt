@@ -1,8 +1,8 @@
 -- The declarations of files in whose facts a full name is that of one declaration are without a clash.
-use Rattle.std.proofs.Common.{◌≡◌, ◌≢◌, ◌⊎◌, inl, inr, ℕ, List, [], ◌∷◌, ◌++◌, map, ap, sym, ◌∙◌, subst}
+use Rattle.std.proofs.Common.{◌≡◌, ◌≢◌, ◌⊎◌, ⊎_elim, ℕ, List, [], ◌∷◌, ◌++◌, map, ap, sym, ◌∙◌, subst}
 use Rattle.std.specs.Prelude.{Contains}
-use Rattle.std.proofs.lemmas.List.Elements.{All-nil, All-contains, Contains-append_left, Contains-append_right}
-use Rattle.std.proofs.lemmas.List.Elements.{Contains-append_cases, Contains-push, Contains-push_cases}
+use Rattle.std.proofs.lemmas.List.Elements.{All-contains, Contains-append_left, Contains-append_right}
+use Rattle.std.proofs.lemmas.List.Elements.{Contains-append_cases, Contains-push}
 use Rattle.proto_decl.specs.Names.{dotted}
 use Rattle.proto_decl.specs.Ancestors.{names_of, component_names, AreHeld}
 use Rattle.proto_decl.specs.Facts.{Facts}
@@ -10,16 +10,7 @@ use Rattle.proto_decl.specs.declared.declaration.DeclarationStep.{DeclarationSte
 use Rattle.proto_decl.specs.declared.declaration.Declaration.{Declaration}
 use Rattle.scip_symbol.specs.Entities.{Entity, OfFile, OfPackage, OfDeclaration}
 use Rattle.scip_symbol.specs.OneEntity.{declaration_at, declarations_of, AreWithoutClash, IsWithoutClash}
-
-none : {A : Type 0} (x : A) → Contains [] x → ⊥
-none x h = All-contains (λ _. ⊥) [] x (All-nil (λ _. ⊥)) h
-
-either : {A B C : Type 0} → (A → C) → (B → C) → A ⊎ B → C
-either f g (inl a) = f a
-either f g (inr b) = g b
-
-itself : {A : Type 0} (y x : A) → Contains (y ∷ []) x → y ≡ x
-itself y x h = either (λ n. absurd (none x n)) (λ e. e) (Contains-push_cases [] y x h)
+use Rattle.source_tree.proofs.OrderLemmas.{in_nothing, only}
 
 module _ {A B : Type 0} (f : A → B) where
   record From (xs : List A) (y : B) : Type 0 where
@@ -28,12 +19,12 @@ module _ {A B : Type 0} (f : A → B) where
     same : f source ≡ y
 
   from-map : (xs : List A) (y : B) → Contains (map f xs) y → From xs y
-  from-map [] y h = absurd (none y h)
-  from-map (x ∷ xs) y h = either
+  from-map [] y h = absurd (in_nothing y h)
+  from-map (x ∷ xs) y h = ⊎_elim
       (λ e. record {
         source = x;
         listed = Contains-append_left (x ∷ []) xs x (Contains-push [] x);
-        same = itself (f x) y e;
+        same = only (f x) y e;
       })
       (λ k. let found = from-map xs y k in
       record {
@@ -44,10 +35,10 @@ module _ {A B : Type 0} (f : A → B) where
       (Contains-append_cases (f x ∷ []) (map f xs) y h)
 
   into-map : (xs : List A) (x : A) → Contains xs x → Contains (map f xs) (f x)
-  into-map [] x h = absurd (none x h)
-  into-map (z ∷ xs) x h = either
+  into-map [] x h = absurd (in_nothing x h)
+  into-map (z ∷ xs) x h = ⊎_elim
       (λ e. Contains-append_left (f z ∷ []) (map f xs) (f x)
-      (subst (λ (t : A). Contains (f z ∷ []) (f t)) (itself z x e) (Contains-push [] (f z))))
+      (subst (λ (t : A). Contains (f z ∷ []) (f t)) (only z x e) (Contains-push [] (f z))))
       (λ k. Contains-append_right (f z ∷ []) (map f xs) (f x) (into-map xs x k))
       (Contains-append_cases (z ∷ []) xs x h)
 
@@ -73,8 +64,8 @@ record Found (files : List Facts) (y : Entity) : Type 0 where
   same : declaration_at facts found ≡ y
 
 find : (files : List Facts) (y : Entity) → Contains (declarations_of files) y → Found files y
-find [] y h = absurd (none y h)
-find (facts ∷ files) y h = either
+find [] y h = absurd (in_nothing y h)
+find (facts ∷ files) y h = ⊎_elim
     (λ k. let of = from-map (declaration_at facts) facts.declarations y k in
     record {
       facts = facts;
@@ -95,12 +86,12 @@ find (facts ∷ files) y h = either
 
 pub put : (files : List Facts) (facts : Facts) (d : Declaration) → Contains files facts → Contains facts.declarations d
     → Contains (declarations_of files) (declaration_at facts d)
-put [] facts d h k = absurd (none facts h)
-put (first ∷ files) facts d h k = either
+put [] facts d h k = absurd (in_nothing facts h)
+put (first ∷ files) facts d h k = ⊎_elim
     (λ e. Contains-append_left (map (declaration_at first) first.declarations) (declarations_of files)
     (declaration_at facts d)
     (subst (λ (x : Facts). Contains (map (declaration_at x) x.declarations) (declaration_at facts d))
-    (sym (itself first facts e)) (into-map (declaration_at facts) facts.declarations d k)))
+    (sym (only first facts e)) (into-map (declaration_at facts) facts.declarations d k)))
     (λ n. Contains-append_right (map (declaration_at first) first.declarations) (declarations_of files)
     (declaration_at facts d) (put files facts d n k))
     (Contains-append_cases (first ∷ []) files facts h)

@@ -11,10 +11,11 @@ use Rattle.std.proofs.lemmas.Str.{IsCharBoundary-start, IsCharBoundary-after_asc
 use Rattle.std.proofs.lemmas.List.Sums.{prefix_len_passes, prefix_len-le-length}
 use Rattle.proto_lex.specs.Bytes.{starts}
 use Rattle.proto_lex.proofs.PrefixLemmas.{prefix_passes, prefix_stops, prefix_exact}
+use Rattle.proto_lex.proofs.ReadLemmas.{both}
 use Rattle.scip_symbol.specs.Names.{is_identifier_character, is_simple_identifier, doubled, backtick}
 use Rattle.scip_symbol.specs.SpellsSymbol.{SpellsName, simple, quoted}
 use Rattle.scip_symbol.specs.Reading.{after, run_len, run_at, some_at, simple_at, name_at, undoubled_at}
-use Rattle.scip_symbol.proofs.ReadLemmas.{bind_ok, chosen, both, same_ok, ne-test}
+use Rattle.scip_symbol.proofs.ReadLemmas.{bind_ok, chosen, same_ok, ne-test}
 use Rattle.scip_symbol.proofs.AfterLemmas.{after-some}
 use Rattle.scip_symbol.proofs.UndoubledLemmas.{undoubled-found, undoubled-exact}
 

@@ -7,6 +7,7 @@ use Rattle.std.proofs.lemmas.List.{append_cancel_left}
 use Rattle.std.proofs.lemmas.List.Elements.{All-head}
 use Rattle.proto_lex.specs.Bytes.{is_letter, is_word}
 use Rattle.proto_lex.specs.Lexes.{identifier, sign}
+use Rattle.proto_lex.proofs.ReadLemmas.{both}
 use Rattle.source_tree.specs.Path.{IsGoodPath}
 use Rattle.scip_symbol.specs.Parts.{IsSymbol}
 use Rattle.scip_symbol.specs.Package.{Package, IsPackage}
@@ -26,7 +27,6 @@ use Rattle.scip_symbol.specs.declared.symbol.Descriptor.{Descriptor}
 use Rattle.scip_symbol.specs.declared.symbol.SymbolParts.{SymbolParts}
 use Rattle.scip_symbol.specs.declared.symbol.SymbolParts.TheVariants.{Local, Global}
 use Rattle.scip_symbol.proofs.ClashLemmas.{path_in}
-use Rattle.scip_symbol.proofs.ReadLemmas.{both}
 use Rattle.scip_symbol.proofs.SpellingLemmas.{printed}
 use Rattle.scip_symbol.proofs.SymbolLemmas.{one-symbol}
 use Rattle.scip_symbol.proofs.EntityLemmas.{entity-has, global-is}

@@ -1,8 +1,8 @@
 -- Just the parts of a symbol have a spelling, and the printed text is one.
-use Rattle.std.proofs.Common.{◌≡◌, ◌≢◌, ℕ, suc, true, false, cond, List, [], ◌∷◌, ◌++◌, codes, refl, sym, subst}
-use Rattle.std.proofs.Common.{arith, append-nil}
+use Rattle.std.proofs.Common.{◌≡◌, ◌≢◌, ℕ, true, false, cond, List, [], ◌∷◌, ◌++◌, codes, refl, sym, subst}
+use Rattle.std.proofs.Common.{append-nil}
 use Rattle.std.specs.Prelude.{All}
-use Rattle.std.proofs.lemmas.List.Elements.{All-cons, All-nil}
+use Rattle.std.proofs.lemmas.List.Elements.{All-cons, All-nil, All-head, All-tail}
 use Rattle.scip_symbol.specs.Names.{is_simple_identifier, doubled, backtick}
 use Rattle.scip_symbol.specs.Parts.{IsScheme, IsPart, IsSuffix, IsDescriptor, IsSymbol}
 use Rattle.scip_symbol.specs.SpellsSymbol.{SpellsScheme, scheme, SpellsPart, empty, part, SpellsName, simple, quoted}
@@ -90,21 +90,15 @@ suffix-spelled suffix.Parameter name word n is = parameter n
 descriptor-spelled : (d : Descriptor) → IsDescriptor d → SpellsDescriptor (descriptor_text d) d
 descriptor-spelled d is = suffix-spelled d.suffix d.name (name_text d.name) (name-spelled d.name is.name) is.suffix
 
-first-of : {A : Type 0} (P : A → Type 0) (x : A) (xs : List A) → All P (x ∷ xs) → P x
-first-of P x xs h = h 0 x (omega arith)
-
-rest-of : {A : Type 0} (P : A → Type 0) (x : A) (xs : List A) → All P (x ∷ xs) → All P xs
-rest-of P x xs h = λ k d below. h (suc k) d (omega arith)
-
 descriptors-spelled : (ds : List Descriptor) → ds ≢ [] → All IsDescriptor ds
     → SpellsDescriptors (descriptors_text ds) ds
 descriptors-spelled [] some h = absurd (some refl)
 descriptors-spelled (d ∷ []) some h =
     subst (λ l. SpellsDescriptors l (d ∷ [])) (sym (append-nil (descriptor_text d)))
-    (last (descriptor-spelled d (first-of IsDescriptor d [] h)))
+    (last (descriptor-spelled d (All-head IsDescriptor d [] h)))
 descriptors-spelled (d ∷ (other ∷ others)) some h =
-    more (descriptor-spelled d (first-of IsDescriptor d (other ∷ others) h))
-    (descriptors-spelled (other ∷ others) (λ e. cc) (rest-of IsDescriptor d (other ∷ others) h))
+    more (descriptor-spelled d (All-head IsDescriptor d (other ∷ others) h))
+    (descriptors-spelled (other ∷ others) (λ e. cc) (All-tail IsDescriptor d (other ∷ others) h))
 
 part-spelled : (p : List ℕ) → IsPart p → SpellsPart (part_text p) p
 part-spelled [] is = empty

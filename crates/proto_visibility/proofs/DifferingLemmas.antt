@@ -191,8 +191,8 @@ module _ {S : Type 0} (files : List File) (prefixes : List (List (List ℕ))) (r
         refl,
         apart.2 at.0 has.file (declared_item number d) (omega (arith, at.1, enough))
             (ap (slice_get files) same ∙ has.numbered)
-            (subst (λ n. Contains (map (declared_item n) (declarations_of has.file)) (declared_item number d)) (sym same)
-            in_file),
+            (subst (λ n. Contains (map (declared_item n) (declarations_of has.file)) (declared_item number d))
+            (sym same) in_file),
       )
   told item (packaged {number = number} {facts = facts} {component = component} index counts has stands) =
       let within = slice_get_within files number has.file has.numbered in

@@ -62,7 +62,7 @@ pub(crate) fn all_items<'a>(
     Ok(items)
 }
 
-/// How many items the files have.
+/// No fewer than the items of the files that count.
 fn room_with_packages(files: &[LinkFile], prefixes: &[Sequence<OwnedText>]) -> usize {
     let mut room = room_for(files);
     for names in prefixes {

@@ -17,7 +17,8 @@ use std::collections::HashSet;
 
 /// Whether the numbers of all declarations' full names differ, and those of packages from them. If so, no names clash.
 ///
-/// A full name has one number. So equal numbers are rare, unless names clash.
+/// Two full names seldom have one number, so equal numbers nearly always mean one name. How often the answer is yes is
+/// promised nowhere: only time depends on it.
 pub(crate) fn numbers_differ(
     alloc: Global,
     files: &[LinkFile],
@@ -39,7 +40,7 @@ pub(crate) fn numbers_differ(
     Ok(!shared)
 }
 
-/// How many declarations the files have: what a list or a set of them is made with room for.
+/// No fewer than the declarations of the files that count: how much room a list or a set of them is made with.
 pub(crate) fn room_for(files: &[LinkFile]) -> usize {
     let mut room: usize = 0;
     for file in files {

@@ -1,9 +1,9 @@
 //! The order of a source's entries, by their texts.
 //!
 //! A comparison of two texts reads memory in two places that are far apart. So the numbers of a source with many
-//! entries are first put near their order: by the topmost declarations that they are in, which have ranks, and by text
-//! only in one of these. The sort by text that follows looks just once at what is in order already. How near the first
-//! order comes is promised nowhere: only time depends on it.
+//! entries are first put near their order: by the file, the packages and the topmost declarations that they are or are
+//! in, which have ranks, and by text only in one of these. If that is their order already, the sort by text that follows
+//! looks at each just once. How near the first order comes is promised nowhere: only time depends on it.
 
 ghost use Rattle.std.specs.Prelude.{◌≡◌, OnOk};
 ghost use Rattle.std.specs.Ordering.{nat_cmp};
@@ -17,7 +17,7 @@ use std::alloc::{AllocError, Global};
 use std::cmp::Ordering;
 
 /// Fewer entries are sorted by text at once.
-const MANY: usize = 64;
+const MANY: usize = 1000;
 
 /// Numbers by their texts.
 pub(crate) fn compare_texts(texts: &SymbolTable, a: u32, b: u32) -> Ordering
@@ -41,13 +41,17 @@ fn push_if_topmost(
     Ok(())
 }
 
-/// The numbers of the declarations that are in no other one, by text.
+/// The numbers of the file, its packages, and the declarations that are in no other one, by text.
 fn topmost(alloc: Global, texts: &SymbolTable, facts: &FileFacts) -> Result<Vec<u32>, AllocError> {
     let mut numbers = Vec::new(alloc);
+    for index in 0..facts.package_name().len().saturating_add(1) {
+        let number = number_at(index)?;
+        numbers.push(number)?;
+    }
     for (index, declaration) in facts.declarations().iter().enumerate() {
         push_if_topmost(&mut numbers, facts, index, declaration)?;
     }
-    numbers.sort_by(|a, b| compare_texts(texts, *a, *b))?;
+    numbers.sort_unstable_by(|a, b| compare_texts(texts, *a, *b));
     Ok(numbers)
 }
 
@@ -80,8 +84,8 @@ fn fill(ranks: &mut Vec<u32>) {
 }
 
 /// For each number of the source's own texts a rank: that of the topmost declaration that is, or has, what has the
-/// number. Declarations are in the order of the source, so those in another one come behind it. What comes before all
-/// of them has rank 0.
+/// number. Declarations are in the order of the source, so those in another one come behind it. The file and its
+/// packages have their own.
 fn ranks_by(alloc: Global, topmost: &[u32], count: usize) -> Result<Vec<u32>, AllocError> {
     let mut ranks = zeros(alloc, count)?;
     for (index, number) in topmost.iter().enumerate() {

@@ -37,7 +37,7 @@ use sequences::Sequence;
 use std::alloc::{AllocError, Global};
 
 /// What occurs in the source, which has this path, and of which this was found for the uses, in order. What was found
-/// is let go as soon as the uses are listed, before the declarations are.
+/// is let go as soon as the uses are listed, before packages and declarations are.
 fn occurrences(
     maker: &DocumentMaker<'_, '_, '_, '_>,
     path: &str,

@@ -15,8 +15,8 @@ use Rattle.streams.proofs.WholeWriteLemmas.{IsWritten-nil, IsWritten-trans, IsCu
 use Rattle.scip_query.specs.Commands.{lines_of}
 use Rattle.scip_query.specs.AnswerText.{answer_to, answer_text}
 use Rattle.scip_query.specs.Conversing.{is_line_end, ended_lines, Replies, IsDue, LeavesFeed, IsConversed}
-use Rattle.scip_query.specs.Tables.ConversingSteps.{kept_line, kept_with, Stands, IsCutShort, IsHalted, Goes, AnswersNext}
-use Rattle.scip_query.specs.Tables.ConversingSteps.{Concludes}
+use Rattle.scip_query.specs.Tables.ConversingSteps.{kept_line, kept_with, Stands, IsCutShort, IsHalted, Goes}
+use Rattle.scip_query.specs.Tables.ConversingSteps.{AnswersNext, Concludes}
 use Rattle.scip_query.specs.declared.answer_fault.AnswerFault.{AnswerFault}
 use Rattle.scip_query.specs.declared.answer_fault.AnswerFault.TheVariants.{Read, Write, Memory}
 use Rattle.scip_query.specs.declared.conversation.Conversation.{Conversation}

@@ -39,7 +39,8 @@ number_found word n e = by (is_written word) refl where
   within : is_written word ≡ true → (t : Bool) → nat_le (value_of word) max_number ≡ t
       → cond t (Some (value_of word)) None ≡ Some n → IsNumber word n
   within written true le f =
-      let parts = and_parts (list_all is_digit word) (nat_lt 0 (length word) && nat_le (length word) max_digits) written in
+      let parts = and_parts (list_all is_digit word) (nat_lt 0 (length word) && nat_le (length word) max_digits)
+      written in
       let lengths = and_parts (nat_lt 0 (length word)) (nat_le (length word) max_digits) parts.1 in
       let value : value_of word ≡ n = cc in
       record {

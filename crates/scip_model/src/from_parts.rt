@@ -4,7 +4,7 @@ ghost use Rattle.std.specs.Prelude.{◌≡◌, ◌<◌, ◌++◌, IfOk, OnOk};
 ghost use Rattle.scip_model.specs.Texts.{unless_empty};
 
 use crate::document_parts::DocumentParts;
-use crate::lent::{LentInformation, LentOccurrence, LentTexts};
+use crate::lent::{LentInformation, LentOccurrence, LentSymbol, LentTexts};
 use crate::records::{Document, Occurrence, SymbolInformation};
 use sequences::{OwnedText, Sequence};
 use std::alloc::{AllocError, Global};
@@ -61,12 +61,25 @@ fn texts_of(alloc: Global, lent: &LentTexts<'_>) -> Result<Sequence<OwnedText>, 
     Ok(Sequence::from_vec(texts))
 }
 
+impl<'a> LentSymbol<'a> {
+    /// A copy of the text.
+    fn to_text(&self, alloc: Global) -> Result<OwnedText, AllocError>
+        ensures { IfOk result (λ made. made ≡ self.now) }
+    {
+        let room = self.front.len().saturating_add(self.rest.len());
+        let mut text = String::with_capacity(alloc, room)?;
+        text.push_str(self.front)?;
+        text.push_str(self.rest)?;
+        Ok(OwnedText::from_string(text))
+    }
+}
+
 impl<'a> LentOccurrence<'a> {
     /// An occurrence with a copy of the symbol.
     pub fn to_record(&self, alloc: Global) -> Result<Occurrence, AllocError>
         ensures { IfOk result (λ made. made ≡ self.now) }
     {
-        let symbol = OwnedText::copy_of(alloc, self.symbol)?;
+        let symbol = self.symbol.to_text(alloc)?;
         Ok(Occurrence {
             range: self.range,
             symbol,
@@ -80,7 +93,7 @@ impl<'a> LentInformation<'a> {
     pub fn to_record(&self, alloc: Global) -> Result<SymbolInformation, AllocError>
         ensures { IfOk result (λ made. made ≡ self.now) }
     {
-        let symbol = OwnedText::copy_of(alloc, self.symbol)?;
+        let symbol = self.symbol.to_text(alloc)?;
         let documentation = texts_of(alloc, &self.documentation)?;
         let display_name = OwnedText::copy_of(alloc, self.display_name)?;
         Ok(SymbolInformation {

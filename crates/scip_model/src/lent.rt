@@ -8,13 +8,42 @@ use crate::records::{Occurrence, SymbolInformation};
 use sequences::OwnedText;
 use std::marker::Model;
 
+/// A symbol that is lent in two parts, so that what many symbols begin with is kept once.
+///
+/// Contracts see the text: the front, and the rest behind it.
+#[derive(Debug, Drop)]
+pub struct LentSymbol<'a> {
+    pub front: &'a str,
+    pub rest: &'a str,
+}
+
+impl<'a> Model for LentSymbol<'a> {
+    ghost use Rattle.std.specs.Prelude.{List, ℕ, ◌++◌};
+
+    ghost Value = { List ℕ };
+
+    ghost view = { λ s. s.front.now ++ s.rest.now };
+}
+
+impl<'a> LentSymbol<'a> {
+    /// A whole text, which has no front.
+    pub fn whole(text: &'a str) -> LentSymbol<'a>
+        ensures { result ≡ text.now }
+    {
+        LentSymbol {
+            front: "",
+            rest: text,
+        }
+    }
+}
+
 /// An occurrence, whose symbol is lent.
 ///
 /// Contracts see the occurrence.
 #[derive(Debug, Drop)]
 pub struct LentOccurrence<'a> {
     pub range: Range,
-    pub symbol: &'a str,
+    pub symbol: LentSymbol<'a>,
     pub symbol_roles: i32,
 }
 
@@ -23,7 +52,7 @@ impl<'a> Model for LentOccurrence<'a> {
 
     ghost Value = { Occurrence };
 
-    ghost view = { λ o. record { range = o.range; symbol = o.symbol.now; symbol_roles = o.symbol_roles } };
+    ghost view = { λ o. record { range = o.range; symbol = o.symbol; symbol_roles = o.symbol_roles } };
 }
 
 impl<'a> LentOccurrence<'a> {
@@ -33,7 +62,7 @@ impl<'a> LentOccurrence<'a> {
     {
         LentOccurrence {
             range: occurrence.range,
-            symbol: occurrence.symbol.as_str(),
+            symbol: LentSymbol::whole(occurrence.symbol.as_str()),
             symbol_roles: occurrence.symbol_roles,
         }
     }
@@ -94,7 +123,7 @@ impl<'a> LentTexts<'a> {
 /// Contracts see the entry.
 #[derive(Debug, Drop)]
 pub struct LentInformation<'a> {
-    pub symbol: &'a str,
+    pub symbol: LentSymbol<'a>,
     pub documentation: LentTexts<'a>,
     pub display_name: &'a str,
 }
@@ -105,7 +134,7 @@ impl<'a> Model for LentInformation<'a> {
     ghost Value = { SymbolInformation };
 
     ghost view = { λ i. record {
-      symbol = i.symbol.now;
+      symbol = i.symbol;
       documentation = i.documentation;
       display_name = i.display_name.now;
     } };
@@ -117,7 +146,7 @@ impl<'a> LentInformation<'a> {
         ensures { result ≡ entry.now }
     {
         LentInformation {
-            symbol: entry.symbol.as_str(),
+            symbol: LentSymbol::whole(entry.symbol.as_str()),
             documentation: LentTexts::of_list(entry.documentation.as_slice()),
             display_name: entry.display_name.as_str(),
         }

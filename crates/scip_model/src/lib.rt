@@ -9,6 +9,6 @@ mod records;
 
 pub use document_parts::DocumentParts;
 pub use from_parts::records_of;
-pub use lent::{LentInformation, LentOccurrence, LentTexts};
+pub use lent::{LentInformation, LentOccurrence, LentSymbol, LentTexts};
 pub use range::{MAX_RANGE_NUMBER, Range};
 pub use records::{Document, Index, Metadata, Occurrence, SymbolInformation, ToolInfo};

@@ -10,6 +10,7 @@ mod pieces;
 mod range;
 mod records;
 mod shortened;
+mod symbols;
 mod varint;
 
 pub(crate) use buffer::Buffer;

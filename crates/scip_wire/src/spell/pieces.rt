@@ -35,13 +35,18 @@ fn before_last_slash(symbol: &str) -> &str {
     }
 }
 
-/// What most symbols of a document begin with: that of its middle entry, before the last `/`.
+/// What most symbols of a document begin with: the front of its middle entry's symbol. Of one without a front, what is
+/// before the last `/`.
 fn common_prefix<D: DocumentParts>(document: &D) -> &str {
     let count = document.entry_count();
     if count == 0 {
         return "";
     }
-    before_last_slash(document.entry(count / 2).symbol)
+    let entry = document.entry(count / 2);
+    if entry.symbol.front.is_empty() {
+        return before_last_slash(entry.symbol.rest);
+    }
+    entry.symbol.front
 }
 
 /// A document's record, as in the spelling of an index, with its tag and length.

@@ -10,6 +10,7 @@ use super::message::{
 };
 use super::output::Output;
 use super::range::{encode_range, range_len};
+use super::symbols::{encode_symbol, symbol_len};
 use scip_model::{
     Document, Index, LentInformation, LentOccurrence, Metadata, Occurrence, SymbolInformation,
     ToolInfo,
@@ -131,7 +132,7 @@ impl<'a> Encode for LentInformation<'a> {
     ghost is_fit = { IsFitInfo };
 
     fn encoded_len(&self) -> u64 {
-        let symbol = lent_len(1, self.symbol);
+        let symbol = symbol_len(1, &self.symbol);
         let documentation = lent_texts_len(3, &self.documentation);
         let display_name = lent_len(6, self.display_name);
         symbol
@@ -140,7 +141,7 @@ impl<'a> Encode for LentInformation<'a> {
     }
 
     fn encode<W, O: Output<W>>(&self, out: &mut O, sink: &mut W) {
-        encode_lent(out, sink, 1, self.symbol);
+        encode_symbol(out, sink, 1, &self.symbol);
         encode_lent_texts(out, sink, 3, &self.documentation);
         encode_lent(out, sink, 6, self.display_name);
     }
@@ -173,14 +174,14 @@ impl<'a> Encode for LentOccurrence<'a> {
 
     fn encoded_len(&self) -> u64 {
         let range = range_len(1, &self.range);
-        let symbol = lent_len(2, self.symbol);
+        let symbol = symbol_len(2, &self.symbol);
         let roles = int_len(3, self.symbol_roles);
         range.saturating_add(symbol).saturating_add(roles)
     }
 
     fn encode<W, O: Output<W>>(&self, out: &mut O, sink: &mut W) {
         encode_range(out, sink, 1, &self.range);
-        encode_lent(out, sink, 2, self.symbol);
+        encode_symbol(out, sink, 2, &self.symbol);
         encode_int(out, sink, 3, self.symbol_roles);
     }
 }

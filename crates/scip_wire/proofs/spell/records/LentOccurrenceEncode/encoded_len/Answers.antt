@@ -11,8 +11,8 @@ returns-clause-value c =
     let o = c.self.inside in
     let same : to_z w32 (of_z w32 o.symbol_roles) ≡ o.symbol_roles = search rules in
     let range = bytes_field 1 (flat_map varint (range_numbers o.range)) ∷ [] in
-    let symbol = text_fields 2 o.symbol.now in
-    let two = added range symbol _ _ _ c.range_len-range.ensures.value c.lent_len-symbol.ensures.value
+    let symbol = text_fields 2 o.symbol in
+    let two = added range symbol _ _ _ c.range_len-range.ensures.value c.symbol_len-symbol.ensures.value
     c.saturating_add.ensures in
     subst (λ (one : Occurrence). c.saturating_add-2.result ≡ saturated (fields_len (occurrence_fields one)))
     c.self.view_is

@@ -2,9 +2,12 @@
 
 ghost use Rattle.std.specs.Prelude.{◌≡◌, ◌<◌, Some, length};
 ghost use Rattle.std.specs.List.{slice_get};
+ghost use Rattle.scip_model.specs.Documents.{without_occurrences};
 
 use crate::lent::{LentInformation, LentOccurrence};
 use crate::records::Document;
+use sequences::Sequence;
+use std::alloc::Global;
 
 /// A document whose parts are lent one at a time, be it made of records or not.
 pub trait DocumentParts {
@@ -42,6 +45,10 @@ pub trait DocumentParts {
     /// What columns count.
     fn position_encoding(&self) -> i32
         ensures { result ≡ (document self.now).position_encoding };
+
+    /// Lets go of the occurrences. Takes no memory.
+    fn let_occurrences_go(&mut self, alloc: Global)
+        ensures { document self.new ≡ without_occurrences (document self.old) };
 }
 
 impl DocumentParts for Document {
@@ -73,5 +80,9 @@ impl DocumentParts for Document {
 
     fn position_encoding(&self) -> i32 {
         self.position_encoding
+    }
+
+    fn let_occurrences_go(&mut self, alloc: Global) {
+        self.occurrences = Sequence::new(alloc);
     }
 }

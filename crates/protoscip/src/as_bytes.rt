@@ -19,8 +19,8 @@ impl DocumentForm for AsBytes {
     fn keep(
         &self,
         alloc: Global,
-        document: DocumentPlan<'_, '_>,
+        mut document: DocumentPlan<'_, '_>,
     ) -> Result<DocumentRecord, AllocError> {
-        spell_document(alloc, &document)
+        spell_document(alloc, &mut document)
     }
 }

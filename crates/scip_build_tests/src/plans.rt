@@ -53,9 +53,9 @@ impl DocumentForm for AreAlike {
 
     ghost is_kept = { λ document alike. ⊤ };
 
-    fn keep(&self, alloc: Global, document: DocumentPlan<'_, '_>) -> Result<bool, AllocError> {
-        let record = spell_document(alloc, &document)?;
+    fn keep(&self, alloc: Global, mut document: DocumentPlan<'_, '_>) -> Result<bool, AllocError> {
         let records = records_of(alloc, &document)?;
+        let record = spell_document(alloc, &mut document)?;
         let index = index_with(alloc, records)?;
         match spell_index(alloc, &index)? {
             Some(bytes) => is_written_as(alloc, record, bytes.as_slice()),

@@ -33,5 +33,7 @@ pub mod PieceLemmas
 pub mod SpelledFieldLemmas
 pub mod SpelledPayloadLemmas
 pub mod SpellingLemmas
--- Lent texts
+-- Lent texts and symbols
 pub mod LentLemmas
+-- A document in two halves
+pub mod HalfLemmas

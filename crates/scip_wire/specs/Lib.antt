@@ -13,6 +13,7 @@ pub mod Reading
 pub mod Blamed
 pub mod Gives
 -- What the writer computes and answers.
+pub mod Halves
 pub mod Saturated
 pub mod Outputs
 pub mod Shortened

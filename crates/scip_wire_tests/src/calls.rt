@@ -1,6 +1,6 @@
 //! Calls of the encoding that are made again after want of memory, where the second answer counts.
 
-use scip_model::{Document, Index};
+use scip_model::{DocumentParts, Index};
 use scip_wire::{DocumentRecord, WireFault, encoded_len, read_index, spell_document, spell_index};
 use std::alloc::{AllocError, Global};
 use std::process::Abort;
@@ -32,7 +32,10 @@ pub fn spelled(alloc: Global, index: &Index) -> Result<Option<Vec<u8>>, AllocErr
 }
 
 /// The record of a document. It is spelled again after want of memory.
-pub fn record(alloc: Global, document: &Document) -> Result<DocumentRecord, AllocError> {
+pub fn record<D: DocumentParts>(
+    alloc: Global,
+    document: &mut D,
+) -> Result<DocumentRecord, AllocError> {
     match spell_document(alloc, document) {
         Err(AllocError) => spell_document(alloc, document),
         answer => answer,

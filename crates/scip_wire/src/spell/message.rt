@@ -40,7 +40,7 @@ pub(super) fn message_len<M: Encode>(number: u64, message: &M) -> u64
 }
 
 /// Puts a message's record. The message has this length.
-pub(super) fn encode_message_of_len<M: Encode, W, O: Output<W>>(
+fn encode_message_of_len<M: Encode, W, O: Output<W>>(
     out: &mut O,
     sink: &mut W,
     number: u64,

@@ -1,18 +1,19 @@
 //! An index in pieces: the record of its metadata, one of each document, and those of its external entries.
 
-ghost use Rattle.std.specs.Prelude.{◌≡◌, ◌≤◌, length, All, IfOk, IfSome};
+ghost use Rattle.std.specs.Prelude.{◌≡◌, ◌≤◌, length, All, IfOk, IfSome, OnErr, OnOk};
 ghost use Rattle.std.specs.List.{concat};
 ghost use Rattle.scip_wire.specs.Outputs.{IsPut};
+ghost use Rattle.scip_model.specs.Documents.{without_occurrences};
 ghost use Rattle.scip_wire.specs.Saturated.{saturated};
+ghost use Rattle.scip_wire.specs.Shortened.{IsBegun};
 ghost use Rattle.scip_wire.specs.Spelling.{document_record, joined_pieces, max_index_len};
 ghost use Rattle.scip_wire.specs.WellFormed.{IsFitDocument, IsFitInfo, IsFitMetadata};
 
-use super::document::DocumentMessage;
+use super::document::{DocumentMessage, encode_and_let_go};
 use super::document_record::DocumentRecord;
 use super::fields::record_len;
 use super::message::{
-    Encode, encode_message_of_len, encode_messages, encode_optional_message, messages_len,
-    optional_message_len,
+    Encode, encode_messages, encode_optional_message, messages_len, optional_message_len,
 };
 use super::output::Output;
 use super::shortened::Shortened;
@@ -49,25 +50,41 @@ fn common_prefix<D: DocumentParts>(document: &D) -> &str {
     entry.symbol.front
 }
 
-/// A document's record, as in the spelling of an index, with its tag and length.
-pub fn spell_document<D: DocumentParts>(
+/// The bytes of a document's record, of which none is put yet, with room for this many.
+fn begun_with<D: DocumentParts>(
     alloc: Global,
     document: &D,
-) -> Result<DocumentRecord, AllocError>
-    ensures bytes { IfOk result (λ bytes. bytes ≡ document_record (D.document document.now)) }
-    ensures known { IsFitDocument (D.document document.now) }
+    room: usize,
+) -> Result<Shortened, AllocError>
+    ensures { IfOk result (IsBegun room) }
 {
-    let message = DocumentMessage { document };
-    let len = message.encoded_len();
-    let room = record_len(2, len) as usize;
     let prefix = common_prefix(document).as_bytes();
     let places = if prefix.is_empty() {
         0
     } else {
         symbol_count(document)
     };
-    let mut bytes = Shortened::with_room(alloc, prefix, room, places)?;
-    encode_message_of_len(&mut bytes, &mut (), 2, &message, len);
+    Shortened::with_room(alloc, prefix, room, places)
+}
+
+/// A document's record, as in the spelling of an index, with its tag and length. The document's occurrences are let go as
+/// soon as they are spelled: before that, of the memory for the record only what they need is touched.
+pub fn spell_document<D: DocumentParts>(
+    alloc: Global,
+    document: &mut D,
+) -> Result<DocumentRecord, AllocError>
+    ensures bytes { IfOk result (λ bytes. bytes ≡ document_record (D.document document.old)) }
+    ensures known { IsFitDocument (D.document document.old) }
+    ensures let_go { OnOk result (D.document document.new ≡ without_occurrences (D.document document.old)) }
+    ensures err { OnErr result (document.new ≡ document.old) }
+{
+    let len = DocumentMessage {
+        document: &*document,
+    }
+    .encoded_len();
+    let room = record_len(2, len) as usize;
+    let mut bytes = begun_with(alloc, &*document, room)?;
+    encode_and_let_go(alloc, document, &mut bytes, &mut (), len);
     Ok(DocumentRecord::new(bytes, room))
 }
 

@@ -1,12 +1,14 @@
-use Rattle.std.proofs.Common.{◌≡◌, ◌∙◌, rules, to_z, of_z, w32}
-use Rattle.scip_wire.proofs.OutputLemmas.{joined, same_int}
+use Rattle.scip_wire.proofs.OutputLemmas.{alike, both}
+use Rattle.scip_wire.proofs.HalfLemmas.{halves_joined, front_short, back_short}
 use Rattle.scip_wire.proofs.spell.document.DocumentMessageEncode.encode.Goals as goal
+
+pub encode_front-requires : goal.encode_front-requires
+encode_front-requires g c = front_short (g.D.DocumentParts.document c.args.self.now.document.now) c.requires
+
+pub encode_back-requires : goal.encode_back-requires
+encode_back-requires g c = back_short (g.D.DocumentParts.document c.args.self.now.document.now) c.requires
 
 pub returns : goal.returns
 returns g c =
-    let number = c.position_encoding.result in
-    let same : to_z w32 (of_z w32 number) ≡ number = search rules in
-    let path = rw c.relative_path.ensures at c.encode_lent.ensures in
-    let language = rw c.language.ensures at c.encode_lent-2.ensures in
-    let three = joined _ _ (joined _ _ path c.encode_occurrences.ensures) c.encode_entries.ensures in
-    joined _ _ (joined _ _ three language) (same_int 6 (same ∙ c.position_encoding.ensures) c.encode_int.ensures)
+    alike (halves_joined (g.D.DocumentParts.document c.args.self.now.document.now))
+    (both c.encode_front.ensures c.encode_back.ensures)

@@ -1,7 +1,7 @@
 -- What the parts of a target name has symbols.
-use Rattle.std.proofs.Common.{Option, Some, ◌≡◌, ◌∙◌, sym, ap, refl, subst, ◌≢◌, ℕ, zero, suc, ◌<◌, ◌==◌, ◌&&◌, Bool}
+use Rattle.std.proofs.Common.{◌≡◌, ◌∙◌, sym, ap, refl, subst, ◌≢◌, ℕ, zero, suc, ◌<◌, ◌==◌, ◌&&◌, Bool}
 use Rattle.std.proofs.Common.{true, false, cond, List, [], ◌∷◌, ◌++◌, length, take, arith, length-append}
-use Rattle.std.specs.List.{All, AllZip, Contains, list_all, slice_get}
+use Rattle.std.specs.List.{All, Contains, list_all}
 use Rattle.std.proofs.lemmas.Bool.Decides.{nat_tests}
 use Rattle.std.proofs.lemmas.List.Elements.{All-nil, All-cons, All-head, All-tail, All-append, All-take, All-contains}
 use Rattle.std.proofs.lemmas.List.Splits.{slice_split_none, slice_split_at, length-slice_split}
@@ -31,7 +31,6 @@ use Rattle.proto_link.specs.Targets.{IsNamed, IsTarget}
 use Rattle.proto_link.specs.Targets.IsNamed.{packaged as named_package, declared as named_declared}
 use Rattle.proto_link.specs.declared.target.Target.{Target}
 use Rattle.proto_visibility.specs.declared.entities.Entity.{Entity}
-use Rattle.scip_document.specs.Gaps.{IsFound}
 use Rattle.scip_document.specs.Tables.Listing.{IsNameable, AreNameable}
 use Rattle.scip_document.proofs.ApartLemmas.{AreIdentifiers}
 
@@ -182,17 +181,3 @@ target_nameable files source origins spelled type_use target is = λ index part 
     let known = resolved_known is.resolves in
     part_nameable files source target.name _ part (known_all origins spelled known.known known.admitted) (omega arith)
     (is.named index part e)
-
-pub found_nameable : (files : List File) (source : ℕ) → HaveOrigins files → AreIdentifiers
-    → (uses : List Use) (found : List (Option Target)) → AllZip (IsFound files source) uses found
-    → (index : ℕ) (target : Target) → slice_get found index ≡ Some (Some target) → AreNameable files target
-found_nameable files source origins spelled uses [] all index target e = absurd (cc)
-found_nameable files source origins spelled [] (f ∷ fs) all index target e = absurd all
-found_nameable files source origins spelled (u ∷ us) (f ∷ fs) all zero target e =
-    let same : f ≡ Some target = some f (Some target) e in
-    target_nameable files source origins spelled u target (subst (IsFound files source u) same all.0)
-  where
-    some : (a b : Option Target) → Some a ≡ Some b → a ≡ b
-    some a b h = cc
-found_nameable files source origins spelled (u ∷ us) (f ∷ fs) all (suc index) target e =
-    found_nameable files source origins spelled us fs all.1 index target e

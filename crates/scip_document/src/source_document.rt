@@ -1,10 +1,10 @@
 //! The document of a source.
 
-ghost use Rattle.std.specs.Prelude.{◌≡◌, IfOk, IfErr, OnOk, map};
-ghost use Rattle.std.specs.List.{AllZip, slice_get};
+ghost use Rattle.std.specs.Prelude.{◌≡◌, [], IfOk, IfErr, OnOk, map};
+ghost use Rattle.std.specs.List.{slice_get};
 ghost use Rattle.proto_visibility.specs.Files.{HasFacts, HasPathAt, IsSource};
 ghost use Rattle.proto_visibility.specs.declared.fault.LinkFault.TheVariants.{Memory};
-ghost use Rattle.scip_document.specs.Gaps.{AreGaps, IsFound};
+ghost use Rattle.scip_document.specs.Gaps.{AreGaps};
 ghost use Rattle.scip_document.specs.Chosen.{HaveChoices};
 ghost use Rattle.scip_document.specs.Conditions.{HaveGoodPaths};
 ghost use Rattle.scip_document.specs.Uses.{UsesResolve};
@@ -27,28 +27,26 @@ use crate::packages::package_of_file;
 use crate::planned::PlannedOccurrence;
 use crate::symbol_table::SymbolTable;
 use crate::symbol_texts::own_texts;
-use crate::targets::{find_targets, unresolved_uses};
 use crate::use_occurrences::use_occurrences;
 use proto_decl::FileFacts;
 use proto_lex::Span;
-use proto_link::{FilePlace, LinkFault, Target};
+use proto_link::{FilePlace, LinkFault};
 use scip_model::{Document, records_of};
 use sequences::Sequence;
-use std::alloc::{AllocError, Global};
 
-/// What occurs in the source, which has this path, and of which this was found for the uses, in order. What was found
-/// is let go as soon as the uses are listed, before packages and declarations are.
+/// What occurs in the source, which has this path. The places of its uses that name no type are added to `gaps`, in
+/// order. `Memory` is the only fault.
 fn occurrences(
     maker: &DocumentMaker<'_, '_, '_, '_>,
     path: &str,
     facts: &FileFacts,
-    found: Vec<Option<Target>>,
+    gaps: &mut Vec<Span>,
     texts: &mut SymbolTable,
-) -> Result<Vec<PlannedOccurrence>, AllocError>
+) -> Result<Vec<PlannedOccurrence>, LinkFault>
     requires source { IsSource maker.now.linker.now maker.now.source }
     requires path { HasPathAt maker.now.linker.now path.now maker.now.source }
     requires known { HasFacts maker.now.linker.now maker.now.source facts.now }
-    requires found { AllZip (IsFound maker.now.linker.now maker.now.source) facts.now.uses found.items }
+    requires empty { gaps.old.items ≡ [] }
     requires text { AreOfText maker.now.text.now facts.now }
     requires paths { HaveGoodPaths maker.now.linker.now }
     requires choices { HaveChoices maker.now.linker.now maker.now.choices.now }
@@ -58,13 +56,14 @@ fn occurrences(
     ensures planned { IfOk result (λ list. IsAscendingListOf occurrence_cmp (Occurs
         maker.now.linker.now maker.now.choices.now maker.now.package.now maker.now.encoding maker.now.source
         maker.now.text.now) (map (occurrence_of texts.new) list.items)) }
+    ensures gaps { OnOk result (AreGaps maker.now.linker.now maker.now.source gaps.new.items) }
+    ensures refused { IfErr result (λ fault. fault ≡ Memory) }
 {
     facts_occur_in_order(maker.linker);
     let alloc = maker.alloc;
     let own = own_occurrences(alloc)?;
     let imports = import_occurrences(maker, facts.imports(), texts)?;
-    let uses = use_occurrences(maker, found.as_slice(), facts.uses(), texts)?;
-    drop(found);
+    let uses = use_occurrences(maker, facts.uses(), gaps, texts)?;
     let packages = package_occurrences(maker, facts)?;
     let names = declaration_occurrences(maker, facts)?;
     let with_imports = merged(alloc, texts, own, imports)?;
@@ -104,9 +103,8 @@ pub fn plan_document<'a, 'f>(
     let id = package_of_file(maker.linker, maker.package, maker.source);
     let own = own_texts(alloc, id, maker.package.run(), path, facts)?;
     let mut texts = SymbolTable::new(alloc, own);
-    let found = find_targets(alloc, maker.linker, maker.source, facts)?;
-    let unresolved = unresolved_uses(alloc, facts.uses(), found.as_slice())?;
-    let occurrences = occurrences(maker, path, facts, found, &mut texts)?;
+    let mut unresolved = Vec::new(alloc);
+    let occurrences = occurrences(maker, path, facts, &mut unresolved, &mut texts)?;
     let packages = package_names(alloc, facts.package_name())?;
     let entries = entry_numbers(maker, path, &texts, facts)?;
     let document = DocumentPlan {

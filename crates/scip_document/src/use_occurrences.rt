@@ -1,7 +1,8 @@
 //! The occurrences of a document that come of its uses.
 
-ghost use Rattle.std.specs.Prelude.{◌≡◌, ◌<◌, ◌≤◌, ℕ, Some, List, All, IfOk, OnOk, IfSome, length, map, take};
-ghost use Rattle.std.specs.List.{slice_get};
+ghost use Rattle.std.specs.Prelude.{◌≡◌, ◌<◌, ◌≤◌, ℕ, Some, Option, List, All, IfOk, IfErr};
+ghost use Rattle.std.specs.Prelude.{OnOk, IfSome, ◌++◌, length, map, take};
+ghost use Rattle.std.specs.List.{AllZip, slice_get};
 ghost use Rattle.std.specs.Option.{option_map};
 ghost use denote.Ref.{Bor};
 ghost use Rattle.proto_lex.specs.Lexed.{IsPart};
@@ -16,6 +17,8 @@ ghost use Rattle.proto_visibility.specs.Files.{HasFacts};
 ghost use Rattle.proto_visibility.specs.declared.entities.Entity.{Entity};
 ghost use Rattle.proto_visibility.specs.declared.entities.Entity.TheVariants.{Declared, Package};
 ghost use Rattle.scip_symbol.specs.Entities.{OfPackage, IsEntity};
+ghost use Rattle.proto_visibility.specs.declared.fault.LinkFault.TheVariants.{Memory};
+ghost use Rattle.scip_document.specs.Gaps.{IsFound};
 ghost use Rattle.scip_document.specs.Chosen.{HaveChoices};
 ghost use Rattle.scip_document.specs.Packages.{package_of_file, package_of_part};
 ghost use Rattle.scip_document.specs.Named.{HasDeclaration, text_of};
@@ -26,6 +29,8 @@ ghost use Rattle.scip_document.specs.Tables.Listing.{
   is_shown,
   IsNameable,
   AreNameable,
+  unless_found,
+  gap_at,
 };
 ghost use Rattle.scip_document.specs.Tables.Listing.{at_entity, at_part, at_component, at_target, at_use};
 ghost use Rattle.scip_document.specs.Tables.Plans.{Grown, HasOwnTexts, IsNumberIn, ArePlanned, AreAdded};
@@ -37,9 +42,10 @@ use crate::packages::package_of_file;
 use crate::planned::PlannedOccurrence;
 use crate::symbol_table::{SymbolTable, declaration_number};
 use crate::symbol_texts::declaration_text;
+use crate::targets::{add_gap, target_of};
 use proto_decl::{Component, Declaration, FileFacts, Use};
 use proto_lex::Span;
-use proto_link::{Entity, Target};
+use proto_link::{Entity, LinkFault, Target};
 use scip_symbol::{PackageId, print_package_named};
 use sequences::OwnedText;
 use std::alloc::{AllocError, Global};
@@ -302,29 +308,65 @@ fn add_found(
     }
 }
 
-/// Each component of a use that names a package, or a declaration that is kept; this was found for the uses.
+/// Adds the occurrences of a use of the source, or its place if it names no type. What it names is let go at once.
+/// `Memory` is the only fault.
+fn add_use(
+    list: &mut Vec<PlannedOccurrence>,
+    gaps: &mut Vec<Span>,
+    maker: &DocumentMaker<'_, '_, '_, '_>,
+    type_use: &Use,
+    texts: &mut SymbolTable,
+) -> Result<(), LinkFault>
+    requires source { maker.now.source < length maker.now.linker.now }
+    requires stand { All (λ (component : Component). IsPart maker.now.text.now component.span) type_use.now.components }
+    requires chosen { HaveChoices maker.now.linker.now maker.now.choices.now }
+    requires own { HasOwnTexts maker.now.linker.now maker.now.package.now maker.now.source texts.old }
+    requires nameable { (found : Option Target) (target : Target)
+        → IsFound maker.now.linker.now maker.now.source type_use.now found → found ≡ Some target
+        → AreNameable maker.now.linker.now target }
+    ensures grown { OnOk result (Grown texts.old texts.new) }
+    ensures added { OnOk result ((found : Option Target)
+        × IsFound maker.now.linker.now maker.now.source type_use.now found
+        × AreAdded texts.new list.old.items list.new.items
+        (at_target maker.now.package.now maker.now.encoding maker.now.text.now
+        maker.now.linker.now maker.now.choices.now found type_use.now)
+        × (gaps.new.items ≡ gaps.old.items ++ unless_found found type_use.now.span)) }
+    ensures refused { IfErr result (λ fault. fault ≡ Memory) }
+{
+    let found = target_of(maker.alloc, maker.linker, maker.source, type_use)?;
+    add_gap(gaps, &found, type_use.span)?;
+    add_found(list, maker, &found, type_use, texts)?;
+    Ok(())
+}
+
+/// Each component of a use that names a package, or a declaration that is kept. The places of uses that name no type
+/// are added to `gaps`, in order. `Memory` is the only fault.
 pub(crate) fn use_occurrences(
     maker: &DocumentMaker<'_, '_, '_, '_>,
-    found: &[Option<Target>],
     uses: &[Use],
+    gaps: &mut Vec<Span>,
     texts: &mut SymbolTable,
-) -> Result<Vec<PlannedOccurrence>, AllocError>
+) -> Result<Vec<PlannedOccurrence>, LinkFault>
+    requires source { maker.now.source < length maker.now.linker.now }
     requires stand { All (λ (used : Use).
         All (λ (component : Component). IsPart maker.now.text.now component.span) used.components) uses.now }
     requires chosen { HaveChoices maker.now.linker.now maker.now.choices.now }
     requires own { HasOwnTexts maker.now.linker.now maker.now.package.now maker.now.source texts.old }
-    requires one_each { length found.now ≡ length uses.now }
-    requires nameable { (index : ℕ) (target : Target) → slice_get found.now index ≡ Some (Some target)
+    requires nameable { (used : Use) (found : Option Target) (target : Target)
+        → IsFound maker.now.linker.now maker.now.source used found → found ≡ Some target
         → AreNameable maker.now.linker.now target }
     ensures grown { OnOk result (Grown texts.old texts.new) }
-    ensures planned { IfOk result (λ list. ArePlanned texts.new list.items (each_from
+    ensures planned { IfOk result (λ list. (found : List (Option Target))
+        × AllZip (IsFound maker.now.linker.now maker.now.source) uses.now found
+        × ArePlanned texts.new list.items (each_from
         (at_use maker.now.package.now maker.now.encoding maker.now.text.now
-        maker.now.linker.now maker.now.choices.now found.now)
-        0 uses.now)) }
+        maker.now.linker.now maker.now.choices.now found) 0 uses.now)
+        × (gaps.new.items ≡ gaps.old.items ++ each_from (gap_at found) 0 uses.now)) }
+    ensures refused { IfErr result (λ fault. fault ≡ Memory) }
 {
     let mut list = Vec::with_capacity(maker.alloc, uses.len())?;
-    for (index, type_use) in uses.iter().enumerate() {
-        add_found(&mut list, maker, &found[index], type_use, texts)?;
+    for type_use in uses {
+        add_use(&mut list, gaps, maker, type_use, texts)?;
     }
     Ok(list)
 }

@@ -1,14 +1,15 @@
-use Rattle.std.proofs.Common.{◌≡◌, ◌∙◌, ap, sym, subst, refl, Option, List, ℕ, [], ◌∷◌, length, map}
+use Rattle.std.proofs.Common.{◌≡◌, ◌∙◌, ap, sym, subst, refl, List, ℕ, [], ◌∷◌, ◌++◌, map}
 use Rattle.std.specs.List.{All, AllZip}
 use Rattle.proto_lex.specs.Lexed.{IsPart}
 use Rattle.proto_decl.specs.declared.imported.Imported.{Imported}
 use Rattle.proto_decl.specs.declared.declaration.Declaration.{Declaration}
 use Rattle.proto_decl.specs.declared.type_use.Component.{Component}
 use Rattle.proto_decl.specs.declared.type_use.Use.{Use}
-use Rattle.proto_link.specs.declared.target.Target.{Target}
-use Rattle.scip_document.specs.Tables.Listing.{own_occurrence, each_from, at_import, at_use}
-use Rattle.scip_document.proofs.TargetLemmas.{zip_length}
-use Rattle.scip_document.proofs.NameableLemmas.{found_nameable}
+use Rattle.scip_document.specs.Tables.Listing.{own_occurrence, each_from, at_import, at_use, gap_at}
+use Rattle.std.proofs.lemmas.Option.{slice_get_within}
+use Rattle.proto_lex.specs.declared.span.Span.{Span}
+use Rattle.scip_document.proofs.NameableLemmas.{target_nameable}
+use Rattle.scip_document.proofs.GapLemmas.{gaps_of}
 use Rattle.scip_document.proofs.ConditionLemmas.{all_of_map, uses_stand_there, stand_there, choices_there, merged_of}
 use Rattle.scip_document.proofs.DocumentLemmas.{merged_lists}
 use Rattle.scip_document.proofs.NamedLemmas.{same_facts}
@@ -21,7 +22,7 @@ use Rattle.scip_document.specs.Tables.Plans.{own_texts, occurrence_of}
 use Rattle.scip_document.proofs.PlanLemmas.{grown_same, grown_then}
 use Rattle.scip_model.specs.declared.records.Occurrence.{Occurrence}
 use Rattle.std.specs.declared.cmp.Ordering.TheVariants.{Equal}
-use Rattle.scip_document.specs.Gaps.{IsFound}
+use Rattle.scip_document.specs.Gaps.{IsFound, AreGaps}
 use Rattle.scip_document.proofs.source_document.occurrences.Goals as goal
 
 pub import_occurrences-requires-clause-parts : goal.import_occurrences-requires-clause-parts
@@ -77,23 +78,31 @@ use_occurrences-requires-clause-stand c =
     (uses_stand_there text facts.uses
     (stand_there text facts c.requires.text c.facts_occur_in_order.ensures.placed).uses)
 
-pub use_occurrences-requires-clause-one_each : goal.use_occurrences-requires-clause-one_each
-use_occurrences-requires-clause-one_each c =
-    ap (λ (found : List (Option Target)). length found) c.as_slice.ensures.value
-    ∙ zip_length (IsFound c.args.maker.now.linker.now c.args.maker.now.source) c.uses.result.now c.args.found.items
-    (subst (λ (uses : List Use). AllZip
-    (IsFound c.args.maker.now.linker.now c.args.maker.now.source) uses c.args.found.items)
-    (sym c.uses.ensures) c.requires.found)
+pub use_occurrences-requires-clause-source : goal.use_occurrences-requires-clause-source
+use_occurrences-requires-clause-source c =
+    slice_get_within c.args.maker.now.linker.now c.args.maker.now.source c.requires.source.file
+    c.requires.source.numbered
 
 pub use_occurrences-requires-clause-nameable : goal.use_occurrences-requires-clause-nameable
-use_occurrences-requires-clause-nameable c =
+use_occurrences-requires-clause-nameable c = λ used found target is e.
     let files = c.args.maker.now.linker.now in
     let source = c.args.maker.now.source in
-    let uses = c.args.facts.now.uses in
-    found_nameable files source c.facts_occur_in_order.ensures.origins c.facts_occur_in_order.ensures.spelled uses
-    c.as_slice.result.now
-    (subst (λ (found : List (Option Target)). AllZip (IsFound files source) uses found) (sym c.as_slice.ensures.value)
-    c.requires.found)
+    target_nameable files source c.facts_occur_in_order.ensures.origins c.facts_occur_in_order.ensures.spelled used
+    target (subst (IsFound files source used) e is)
+
+pub returns-clause-gaps : goal.returns-clause-gaps
+returns-clause-gaps c =
+    let files = c.args.maker.now.linker.now in
+    let source = c.args.maker.now.source in
+    let facts = c.args.facts.now in
+    let made = c.in_ok-uses.ensures.planned in
+    let all : AllZip (IsFound files source) facts.uses made.0 =
+    subst (λ (uses : List Use). AllZip (IsFound files source) uses made.0) c.uses.ensures made.1 in
+    let list = made.3
+    ∙ (ap (λ (spans : List Span). spans ++ each_from (gap_at made.0) 0 c.uses.result.now) c.requires.empty
+    ∙ ap (λ (uses : List Use). each_from (gap_at made.0) 0 uses) c.uses.ensures) in
+    subst (λ (spans : List Span). AreGaps files source spans) (sym list)
+    (gaps_of files source facts made.0 c.requires.known all)
 
 pub returns-clause-planned : goal.returns-clause-planned
 returns-clause-planned c =
@@ -105,7 +114,10 @@ returns-clause-planned c =
     let encoding = c.args.maker.now.encoding in
     let text = c.args.maker.now.text.now in
     let facts = c.args.facts.now in
-    let found = c.args.found.items in
+    let made = c.in_ok-uses.ensures.planned in
+    let found = made.0 in
+    let all : AllZip (IsFound files source) facts.uses found =
+    subst (λ (uses : List Use). AllZip (IsFound files source) uses found) c.uses.ensures made.1 in
     let path = c.requires.path in
     let origin = c.requires.text.origin in
     let texts = c.use_occurrences.new.texts in
@@ -124,17 +136,15 @@ returns-clause-planned c =
     λ x y first second e. c.facts_occur_in_order.ensures.untied files chosen ids encoding source text
     (λ other known. subst (AreOfText text) (same_facts files source facts other c.requires.known known) c.requires.text)
     x y first second (tied x y e).0 (tied x y e).1 in
-    let uses = c.in_ok-uses.ensures.planned texts (grown_same texts)
-    ∙ (ap (λ (its : List (Option Target)). each_from (at_use ids encoding text files chosen its) 0 c.uses.result.now)
-    c.as_slice.ensures.value
-    ∙ ap (λ (xs : List Use). each_from (at_use ids encoding text files chosen found) 0 xs) c.uses.ensures) in
+    let uses = made.2 texts (grown_same texts)
+    ∙ ap (λ (xs : List Use). each_from (at_use ids encoding text files chosen found) 0 xs) c.uses.ensures in
     merged_lists ids encoding text c.facts_occur_in_order.ensures.characters files chosen source path.0 path.1 facts
     c.requires.known
     (stand_there text facts c.requires.text c.facts_occur_in_order.ensures.placed)
     (c.facts_occur_in_order.ensures.order.names facts origin)
     (c.facts_occur_in_order.ensures.order.uses facts origin)
     (c.facts_occur_in_order.ensures.order.imports facts origin)
-    (c.facts_occur_in_order.ensures.order.package_name facts origin) found c.requires.found
+    (c.facts_occur_in_order.ensures.order.package_name facts origin) found all
     (c.facts_occur_in_order.ensures.targets files c.facts_occur_in_order.ensures.origins
     c.facts_occur_in_order.ensures.clear.clear source c.requires.source) untied
     (map f c.in_ok-with_imports.with_imports.items) (map f c.in_ok-with_packages.with_packages.items)

@@ -1,12 +1,4 @@
-use Rattle.std.proofs.Common.{◌≡◌, ◌∙◌, ap, sym, refl, subst, List, ℕ, Option, Some, length, map}
-use Rattle.std.specs.List.{AllZip}
-use Rattle.proto_lex.specs.declared.span.Span.{Span}
-use Rattle.proto_decl.specs.declared.type_use.Use.{Use}
-use Rattle.proto_link.specs.declared.target.Target.{Target}
-use Rattle.scip_document.specs.Gaps.{IsFound, AreGaps}
-use Rattle.scip_document.specs.Tables.Listing.{each_from, gap_at}
-use Rattle.scip_document.proofs.GapLemmas.{gaps_of}
-use Rattle.scip_document.proofs.TargetLemmas.{zip_length}
+use Rattle.std.proofs.Common.{◌≡◌, ◌∙◌, ap, sym, refl, subst, List, ℕ, Some, map}
 use Rattle.scip_document.proofs.LinkedLemmas.{source-facts}
 use Rattle.scip_document.proofs.NamedLemmas.{some_facts, given_facts}
 use Rattle.std.proofs.lemmas.Option.{slice_get_within}
@@ -59,28 +51,8 @@ occurrences-requires-clause-texts c =
     c.args.maker.now.source) its path facts) c.run.ensures.value)) in
     subst (λ (texts : List (List ℕ)). Grown texts c.new-texts.result) own (grown_same c.new-texts.result)
 
-pub unresolved_uses-requires : goal.unresolved_uses-requires
-unresolved_uses-requires c =
-    let files = c.args.maker.now.linker.now in
-    let source = c.args.maker.now.source in
-    let all = subst (λ (uses : List Use). AllZip (IsFound files source) uses c.in_ok-found.found.items)
-    (sym c.uses.ensures) c.in_ok-found.ensures.found in
-    ap (λ (found : List (Option Target)). length found) c.as_slice.ensures.value
-    ∙ zip_length (IsFound files source) c.uses.result.now c.in_ok-found.found.items all
-
 pub returns-clause-gaps : goal.returns-clause-gaps
-returns-clause-gaps c =
-    let files = c.args.maker.now.linker.now in
-    let source = c.args.maker.now.source in
-    let facts = c.unwrap-facts.result.now in
-    let found = c.in_ok-found.found.items in
-    let known = given_facts files source c.facts_of.result c.unwrap-facts.result c.unwrap-facts.ensures
-    c.facts_of.ensures in
-    let list = c.in_ok-unresolved.ensures
-    ∙ (ap (λ (its : List (Option Target)). each_from (gap_at its) 0 c.uses.result.now) c.as_slice.ensures.value
-    ∙ ap (λ (uses : List Use). each_from (gap_at found) 0 uses) c.uses.ensures) in
-    rw c.from_vec.ensures (subst (λ (spans : List Span). AreGaps files source spans) (sym list)
-    (gaps_of files source facts found known c.in_ok-found.ensures.found))
+returns-clause-gaps c = rw c.from_vec.ensures c.in_ok-occurrences.ensures.gaps
 
 pub returns-clause-document : goal.returns-clause-document
 returns-clause-document c =

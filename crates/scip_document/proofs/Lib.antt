@@ -17,6 +17,9 @@ pub mod MeetLemmas
 pub mod EntityLemmas
 -- Texts of own declarations
 pub mod OwnTextLemmas
+-- Texts that are parts of one, and the order of texts in two parts
+pub mod JoinedLemmas
+pub mod PartOrderLemmas
 -- Texts with numbers
 pub mod PlanLemmas
 -- Lists of entries

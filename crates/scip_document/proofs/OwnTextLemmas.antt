@@ -1,16 +1,17 @@
 -- The texts of the symbols of a file's own declarations.
-use Rattle.std.proofs.Common.{◌≡◌, ◌∙◌, ap, sym, refl, ℕ, zero, suc, Some, List, [], ◌∷◌, drop, length}
+use Rattle.std.proofs.Common.{◌≡◌, ◌∙◌, ap, sym, refl, ℕ, zero, suc, Some, List, [], ◌∷◌, ◌++◌, map, drop, length}
 use Rattle.std.specs.List.{slice_get}
 use Rattle.std.specs.Option.{option_map}
-use Rattle.std.proofs.lemmas.List.{length-map}
+use Rattle.std.proofs.lemmas.List.{length-map, append_assoc}
+use Rattle.std.proofs.lemmas.Grind.{flat_map-append}
 use Rattle.std.proofs.lemmas.Option.{slice_get-map}
 use Rattle.proto_decl.specs.Facts.{Facts}
-use Rattle.proto_decl.specs.Ancestors.{component_names}
 use Rattle.proto_decl.specs.declared.declaration.Declaration.{Declaration}
-use Rattle.proto_decl.specs.declared.type_use.Component.{Component}
+use Rattle.proto_decl.specs.declared.declaration.DeclarationStep.{DeclarationStep}
 use Rattle.scip_symbol.specs.Package.{Package}
-use Rattle.scip_symbol.specs.SymbolText.{symbol_text}
-use Rattle.scip_symbol.specs.Entities.{OfPackage, symbol_in}
+use Rattle.scip_symbol.specs.SymbolText.{descriptor_text}
+use Rattle.scip_symbol.specs.Entities.{OfPackage, OfDeclaration, namespace_of, step_descriptor}
+use Rattle.scip_symbol.specs.EntityTexts.{front_in, namespaces_text, steps_text}
 use Rattle.scip_document.specs.Named.{text_of, declaration_at}
 use Rattle.scip_document.specs.Tables.OwnTexts.{declaration_texts}
 
@@ -24,13 +25,14 @@ first_behind [] (suc i) = refl
 first_behind (x ∷ xs) zero = refl
 first_behind (x ∷ xs) (suc i) = first_behind xs i
 
--- a package with all components
-pub front_text : (id : Package) (facts : Facts) (parts : List Component) (front : List ℕ) → parts ≡ facts.package_name
-    → front ≡ symbol_text (symbol_in id (OfPackage (component_names parts)))
-    → front ≡ text_of id (OfPackage (component_names facts.package_name))
+-- what the text of a declaration has behind that of its package
+pub text_behind : (id : Package) (components : List (List ℕ)) (path : List DeclarationStep)
+    → text_of id (OfDeclaration components path) ≡ text_of id (OfPackage components) ++ steps_text path
 unfolding text_of
-front_text id facts parts front same is =
-    is ∙ ap (λ (cs : List Component). symbol_text (symbol_in id (OfPackage (component_names cs)))) same
+text_behind id components path =
+    sym (append_assoc (front_in id) (namespaces_text components) (steps_text path)
+    ∙ ap (λ (its : List ℕ). front_in id ++ its)
+    (sym (flat_map-append descriptor_text (map namespace_of components) (map step_descriptor path))))
 
 -- one text for each declaration
 pub texts_count : (id : Package) (facts : Facts) (texts : List (List ℕ)) → texts ≡ declaration_texts id facts

@@ -7,8 +7,9 @@ pub mod Merges
 -- the lists by which entries are found
 pub mod EntryLists
 pub mod ExternalLists
--- the texts of own declarations
+-- the texts of own declarations, and texts that are parts of one
 pub mod OwnTexts
+pub mod JoinedTexts
 -- numbers for texts
 pub mod Plans
 pub mod EntryNumbers

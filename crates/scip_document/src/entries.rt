@@ -26,7 +26,7 @@ use crate::symbol_table::{SymbolTable, declaration_number, number_at};
 use crate::symbol_texts::declaration_text;
 use index_hooks::Choice;
 use proto_decl::{Component, Declaration, FileFacts};
-use scip_model::{LentInformation, SymbolInformation};
+use scip_model::{LentInformation, LentSymbol, SymbolInformation};
 use scip_symbol::PackageId;
 use sequences::OwnedText;
 use std::alloc::{AllocError, Global};
@@ -88,11 +88,11 @@ pub(crate) fn package_names(
 
 /// The entry of a declaration whose symbol has this text.
 pub(crate) fn lent_entry<'a>(
-    symbol: &'a str,
+    symbol: LentSymbol<'a>,
     declaration: &'a Declaration,
     choice: Choice,
 ) -> LentInformation<'a>
-    ensures { result ≡ entry_with symbol.now declaration.now choice }
+    ensures { result ≡ entry_with symbol.entry declaration.now choice }
 {
     LentInformation {
         symbol,
@@ -113,7 +113,7 @@ pub(crate) fn declaration_entry(
     ensures { IfOk result (λ entry. entry ≡ declaration_entry id.now facts.now declaration.now choice) }
 {
     let symbol = declaration_text(alloc, id, facts, declaration)?;
-    let entry = lent_entry(symbol.as_str(), declaration, choice);
+    let entry = lent_entry(LentSymbol::whole(symbol.as_str()), declaration, choice);
     entry.to_record(alloc)
 }
 

@@ -23,7 +23,7 @@ const MANY: usize = 1000;
 pub(crate) fn compare_texts(texts: &SymbolTable, a: u32, b: u32) -> Ordering
     ensures { result ≡ slice_cmp nat_cmp (text_at texts.now a) (text_at texts.now b) }
 {
-    texts.at(a).cmp(texts.at(b))
+    texts.compare(a, b)
 }
 
 /// Adds the number of a declaration, if it is in no other one.

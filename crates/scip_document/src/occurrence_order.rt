@@ -21,7 +21,7 @@ pub(crate) fn compare_occurrences(
     let end = a.range.end_line().cmp(&b.range.end_line());
     let end = end.then(a.range.end_column().cmp(&b.range.end_column()));
     match start.then(end) {
-        Ordering::Equal => texts.at(a.symbol).cmp(texts.at(b.symbol)),
+        Ordering::Equal => texts.compare(a.symbol, b.symbol),
         apart => apart,
     }
 }

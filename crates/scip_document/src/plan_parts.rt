@@ -11,7 +11,7 @@ use crate::symbol_table::SymbolTable;
 use index_hooks::Choice;
 use proto_decl::FileFacts;
 use proto_lex::Encoding;
-use scip_model::{DocumentParts, LentInformation, LentOccurrence, LentTexts};
+use scip_model::{DocumentParts, LentInformation, LentOccurrence, LentSymbol, LentTexts};
 use sequences::OwnedText;
 
 /// What shows an entry that is no declaration's, by its number: 0 is the file's, shown by its path, and behind it come
@@ -29,8 +29,8 @@ fn name_at<'a>(path: &'a str, names: &'a [OwnedText], number: usize) -> &'a str
 }
 
 /// An entry without documentation.
-fn undocumented<'a>(symbol: &'a str, display_name: &'a str) -> LentInformation<'a>
-    ensures { result ≡ record { symbol = symbol.now; documentation = []; display_name = display_name.now } }
+fn undocumented<'a>(symbol: LentSymbol<'a>, display_name: &'a str) -> LentInformation<'a>
+    ensures { result ≡ record { symbol = symbol.entry; documentation = []; display_name = display_name.now } }
 {
     LentInformation {
         symbol,
@@ -42,12 +42,12 @@ fn undocumented<'a>(symbol: &'a str, display_name: &'a str) -> LentInformation<'
 /// The entry of the declaration with an index, whose symbol has this text. Where there is none, an entry without
 /// documentation.
 fn documented<'a>(
-    symbol: &'a str,
+    symbol: LentSymbol<'a>,
     facts: &'a FileFacts<'_>,
     choices: &'a [Choice],
     index: usize,
 ) -> LentInformation<'a>
-    ensures { result ≡ shown_as symbol.now (slice_get facts.now.declarations index) (slice_get choices.now index) }
+    ensures { result ≡ shown_as symbol.entry (slice_get facts.now.declarations index) (slice_get choices.now index) }
 {
     let Some(declaration) = facts.declarations().get(index) else {
         return undocumented(symbol, "");

@@ -1,14 +1,19 @@
 //! The texts of a document's symbols, each once, by number.
 
-ghost use Rattle.std.specs.Prelude.{◌≡◌, ◌<◌, ◌^◌, ◌↔◌, Some, IfOk, OnOk, IsTrue, length, map};
+ghost use Rattle.std.specs.Prelude.{◌≡◌, ◌<◌, ◌^◌, Some, IfOk, OnOk, length, map};
 ghost use Rattle.std.specs.List.{slice_get};
+ghost use Rattle.std.specs.Ordering.{nat_cmp};
+ghost use Rattle.std.specs.Cmp.Lexicographic.{slice_cmp};
 ghost use Rattle.std.specs.String.{string_bytes};
 ghost use Rattle.scip_document.specs.Tables.Plans.{text_at, Grown, IsNumberOf, declaration_number};
 
+use crate::own_symbols::OwnSymbols;
+use crate::symbol_order::compare_symbols;
 use indexmap::IndexSet;
 use proto_decl::FileFacts;
-use sequences::OwnedText;
+use scip_model::LentSymbol;
 use std::alloc::{AllocError, Global};
+use std::cmp::Ordering;
 use std::marker::Model;
 
 /// The texts of a document's symbols, each with its number: those of what the source has itself, in order, then those
@@ -17,7 +22,7 @@ use std::marker::Model;
 /// Contracts see the list of the texts.
 #[derive(Debug, Drop)]
 pub(crate) struct SymbolTable {
-    own: Vec<OwnedText>,
+    own: OwnSymbols,
     others: IndexSet<String>,
 }
 
@@ -27,7 +32,7 @@ impl Model for SymbolTable {
 
     ghost Value = { List (List ℕ) };
 
-    ghost view = { λ table. table.own.items ++ map string_bytes table.others.keys };
+    ghost view = { λ table. table.own ++ map string_bytes table.others.keys };
 }
 
 /// The greatest number.
@@ -78,20 +83,10 @@ fn place_of(alloc: Global, others: &mut IndexSet<String>, text: &str) -> Result<
     Ok(index)
 }
 
-/// Whether the text with a number is this one.
-fn has_at(texts: &[OwnedText], number: usize, text: &str) -> bool
-    ensures { IsTrue result ↔ (slice_get texts.now number ≡ Some text.now) }
-{
-    match texts.get(number) {
-        Some(its) => its.as_str() == text,
-        None => false,
-    }
-}
-
 impl SymbolTable {
     /// Of these texts. Takes no memory.
-    pub(crate) fn new(alloc: Global, own: Vec<OwnedText>) -> SymbolTable
-        ensures { result ≡ own.items }
+    pub(crate) fn new(alloc: Global, own: OwnSymbols) -> SymbolTable
+        ensures { result ≡ own }
     {
         SymbolTable {
             own,
@@ -110,7 +105,7 @@ impl SymbolTable {
         ensures grown { OnOk result (Grown self.old self.new) }
         ensures number { IfOk result (IsNumberOf self.new text.now) }
     {
-        if has_at(self.own.as_slice(), own, text) {
+        if self.own.has(own, text) {
             let number = number_at(own)?;
             return Ok(number);
         }
@@ -120,23 +115,33 @@ impl SymbolTable {
     }
 
     /// The text with a number. Where none has it, the empty one.
-    pub(crate) fn at(&self, number: u32) -> &str
-        ensures { result.now ≡ text_at self.now number }
+    pub(crate) fn at(&self, number: u32) -> LentSymbol<'_>
+        ensures { result ≡ text_at self.now number }
     {
         let index = number as usize;
         match self.own.get(index) {
-            Some(text) => text.as_str(),
-            None => other_at(&self.others, index.saturating_sub(self.own.len())),
+            Some(symbol) => symbol,
+            None => other_symbol(&self.others, index.saturating_sub(self.own.len())),
+        }
+    }
+
+    /// How the texts with two numbers compare. Of two own texts that begin alike, only what is behind that is compared.
+    pub(crate) fn compare(&self, a: u32, b: u32) -> Ordering
+        ensures { result ≡ slice_cmp nat_cmp (text_at self.now a) (text_at self.now b) }
+    {
+        match self.own.compare_rests(a as usize, b as usize) {
+            Some(order) => order,
+            None => compare_symbols(&self.at(a), &self.at(b)),
         }
     }
 }
 
 /// One of the texts of what is named elsewhere, by its place there. Where none has it, the empty one.
-fn other_at(others: &IndexSet<String>, index: usize) -> &str
-    ensures { result.now ≡ text_at (map string_bytes others.now.keys) index }
+fn other_symbol(others: &IndexSet<String>, index: usize) -> LentSymbol<'_>
+    ensures { result ≡ text_at (map string_bytes others.now.keys) index }
 {
     match others.get_index(index) {
-        Some(text) => text.as_str(),
-        None => "",
+        Some(text) => LentSymbol::whole(text.as_str()),
+        None => LentSymbol::whole(""),
     }
 }

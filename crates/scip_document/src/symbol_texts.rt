@@ -1,5 +1,4 @@
-//! The texts of the symbols of files, packages and declarations. What is printed has room that it doesn't need, so a
-//! text that is kept for each declaration is a copy.
+//! The texts of the symbols of files, packages and declarations.
 
 ghost use Rattle.std.specs.Prelude.{◌≡◌, ◌<◌, ◌≤◌, ◌++◌, ◌∷◌, [], IfOk, OnOk, Contains, length};
 ghost use Rattle.proto_decl.specs.Facts.{Facts};
@@ -8,9 +7,12 @@ ghost use Rattle.scip_symbol.specs.Entities.{OfFile, OfPackage};
 ghost use Rattle.scip_symbol.specs.Package.{Package};
 ghost use Rattle.scip_symbol.specs.Path.{IsGoodPath};
 ghost use Rattle.scip_document.specs.Named.{text_of, package_at, declaration_at};
+ghost use Rattle.scip_document.specs.Tables.JoinedTexts.{behind};
 ghost use Rattle.scip_document.specs.Tables.OwnTexts.{declaration_texts};
 ghost use Rattle.scip_document.specs.Tables.Plans.{package_texts_up_to, own_texts};
 
+use crate::joined_texts::JoinedTexts;
+use crate::own_symbols::OwnSymbols;
 use proto_decl::{Declaration, FileFacts};
 use scip_symbol::{PackageId, print_below, print_declaration, print_file, print_package};
 use sequences::OwnedText;
@@ -58,50 +60,46 @@ pub(crate) fn declaration_text(
     Ok(OwnedText::from_string(printed))
 }
 
-/// Of a declaration of a file, of which the package with all components of its name has this text.
+/// Of the package with all components of a file's package name, with which the texts of the file's declarations begin.
 #[tactic(auto, unfolding(crate::specs::Named::text_of))]
-fn text_below(
-    alloc: Global,
-    front: &str,
-    declaration: &Declaration,
-) -> Result<OwnedText, AllocError>
-    ensures { IfOk result (λ text. (id : Package) (facts : Facts)
-        → front.now ≡ text_of id (OfPackage (component_names facts.package_name))
-        → text ≡ text_of id (declaration_at facts declaration.now)) }
+fn front_text(alloc: Global, id: &PackageId, facts: &FileFacts) -> Result<OwnedText, AllocError>
+    ensures { IfOk result (λ text. text ≡ text_of id.now (OfPackage (component_names facts.now.package_name))) }
 {
-    let printed = print_below(alloc, front, declaration.path())?;
-    let text = OwnedText::copy_of(alloc, printed.as_str())?;
-    Ok(text)
+    let printed = print_package(alloc, id, facts.package_name())?;
+    Ok(OwnedText::from_string(printed))
 }
 
-/// Adds the text of a declaration's symbol, which begins with the text of its package.
-fn push_text_below(
+/// Adds what the text of a declaration's symbol has behind the front, which is the text of its package.
+fn push_rest(
     alloc: Global,
-    texts: &mut Vec<OwnedText>,
+    rests: &mut JoinedTexts,
     front: &str,
     declaration: &Declaration,
 ) -> Result<(), AllocError>
     ensures { OnOk result ((id : Package) (facts : Facts)
         → front.now ≡ text_of id (OfPackage (component_names facts.package_name))
-        → texts.new.items ≡ texts.old.items ++ text_of id (declaration_at facts declaration.now) ∷ []) }
+        → behind front.now rests.new ≡ behind front.now rests.old ++ text_of id (declaration_at facts declaration.now) ∷ []) }
 {
-    let text = text_below(alloc, front, declaration)?;
-    texts.push(text)?;
-    Ok(())
+    let text = print_below(alloc, front, declaration.path())?;
+    match text.as_str().strip_prefix(front) {
+        Some(rest) => rests.push(rest),
+        None => Ok(()),
+    }
 }
 
-/// Adds those of each declaration of a file, in order. What they begin with is made once.
-fn push_declaration_texts(
+/// Adds those of each declaration of a file, in order.
+fn push_rests(
     alloc: Global,
-    texts: &mut Vec<OwnedText>,
-    id: &PackageId,
+    rests: &mut JoinedTexts,
+    front: &str,
     facts: &FileFacts,
 ) -> Result<(), AllocError>
-    ensures { OnOk result (texts.new.items ≡ texts.old.items ++ declaration_texts id.now facts.now) }
+    ensures { OnOk result ((id : Package)
+        → front.now ≡ text_of id (OfPackage (component_names facts.now.package_name))
+        → behind front.now rests.new ≡ behind front.now rests.old ++ declaration_texts id facts.now) }
 {
-    let front = print_package(alloc, id, facts.package_name())?;
     for declaration in facts.declarations() {
-        push_text_below(alloc, texts, front.as_str(), declaration)?;
+        push_rest(alloc, rests, front, declaration)?;
     }
     Ok(())
 }
@@ -124,22 +122,23 @@ fn push_package_texts(
 }
 
 /// Those of what a source has itself: the file's, those of its packages, which belong to the run, and those of its
-/// declarations.
+/// declarations. What the latter begin with is kept once.
 pub(crate) fn own_texts(
     alloc: Global,
     id: &PackageId,
     run: &PackageId,
     path: &str,
     facts: &FileFacts,
-) -> Result<Vec<OwnedText>, AllocError>
+) -> Result<OwnSymbols, AllocError>
     requires { IsGoodPath path.now }
-    ensures { IfOk result (λ texts. texts.items ≡ own_texts id.now run.now path.now facts.now) }
+    ensures { IfOk result (λ texts. texts ≡ own_texts id.now run.now path.now facts.now) }
 {
-    let room = 1 + facts.package_name().len() + facts.declarations().len();
-    let mut texts = Vec::with_capacity(alloc, room)?;
+    let mut texts = Vec::with_capacity(alloc, 1 + facts.package_name().len())?;
     let first = file_text(alloc, id, path)?;
     texts.push(first)?;
     push_package_texts(alloc, &mut texts, run, facts)?;
-    push_declaration_texts(alloc, &mut texts, id, facts)?;
-    Ok(texts)
+    let front = front_text(alloc, id, facts)?;
+    let mut rests = JoinedTexts::with_capacity(alloc, facts.declarations().len())?;
+    push_rests(alloc, &mut rests, front.as_str(), facts)?;
+    Ok(OwnSymbols::new(texts, front, rests))
 }

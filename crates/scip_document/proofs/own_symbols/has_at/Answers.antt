@@ -3,7 +3,7 @@ use Rattle.std.specs.List.{slice_get}
 use Rattle.std.proofs.lemmas.Slice.Eq.{bytes_eq-Decides}
 use Rattle.std.proofs.lemmas.Option.{slice_get_read, slice_get_past}
 use Rattle.scip_document.proofs.PlanLemmas.{none_is_some, same_some, false_is_true}
-use Rattle.scip_document.proofs.symbol_table.has_at.Goals as goal
+use Rattle.scip_document.proofs.own_symbols.has_at.Goals as goal
 
 pub returns-in-Some : goal.returns-in-Some
 returns-in-Some c =

@@ -114,9 +114,9 @@ HaveDeclared files row count items = (k : ℕ) (file : File) (item : Item) → k
 abbrev pub AreApartUpTo : {S : Type 0} → List File → (row : List ℕ) → (count : ℕ) → HashSet ℕ S → Type 0
 AreApartUpTo files row count numbers = (items : List Item) × AreApart items numbers × HaveDeclared files row count items
 
-pub none_up_to : {S : Type 0} (files : List File) (row : List ℕ) (numbers : HashSet ℕ S)
-    → AreApartUpTo files row 0 numbers
-none_up_to files row numbers = ([], none_apart numbers, λ k file item less at there. absurd (omega (arith, less)))
+pub none_up_to : {S : Type 0} (files : List File) (counted : List ℕ) (numbers : HashSet ℕ S)
+    → AreApartUpTo files counted 0 numbers
+none_up_to files counted numbers = ([], none_apart numbers, λ k file item less at there. absurd (omega (arith, less)))
 
 one_File : (a b : File) → Some a ≡ Some b → a ≡ b
 one_File a b e = cc

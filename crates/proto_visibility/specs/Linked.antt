@@ -32,6 +32,14 @@ MayRefuse files (MissingImport place) = absences.NoneBroken files × NoClash fil
 MayRefuse files (Unresolved place) = ⊥
 MayRefuse files Memory = ⊤
 
+-- what is kept of files that were checked
+pub record AreChecked {S : Type 0} (files : List File) (numbers : HashMap (Bor (List ℕ)) ℕ S) (rows : List (List ℕ))
+    : Type 0 where
+  pub clear_names : HaveClearNames files
+  pub origins : HaveOrigins files
+  pub numbers_are : AreNumbered files numbers
+  pub rows_are : AreRowsBy (Imports files) (length files) rows
+
 -- what a namespace keeps of its files
 pub record IsLinked {S : Type 0} (files : List File) (numbers : HashMap (Bor (List ℕ)) ℕ S) (rows : List (List ℕ))
     (names : Names) : Type 0 where

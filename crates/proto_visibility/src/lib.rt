@@ -3,6 +3,7 @@
 
 mod absent;
 mod all_items;
+mod checked;
 mod clash;
 mod counting;
 mod differing;
@@ -14,6 +15,7 @@ mod import_table;
 mod items;
 mod laws;
 mod link_file;
+mod listed_names;
 mod name_owners;
 mod names;
 mod namespace;
@@ -26,11 +28,13 @@ mod search;
 mod seeing;
 mod seen_row;
 
+pub use checked::CheckedFiles;
 pub use entities::Entity;
 pub use fault::LinkFault;
 pub use import_table::have_own_paths;
 pub use laws::{kept_files_are_clear, nothing_is_left_out_of_good_files, one_kept};
 pub use link_file::LinkFile;
+pub use listed_names::ListedNames;
 pub use namespace::Namespace;
 pub use omissions::left_out;
 pub use place::FilePlace;

@@ -1,28 +1,25 @@
 //! Files whose names are one namespace.
 
-ghost use Rattle.std.specs.Prelude.{ℕ, ◌≡◌, ◌<◌, ◌↔◌, IsTrue, IfOk, IfErr, MatchOption, Contains, length};
+ghost use Rattle.std.specs.Prelude.{◌≡◌, ◌<◌, ◌↔◌, IsTrue, IfOk, IfErr, MatchOption, length};
 ghost use Rattle.proto_decl.specs.Facts.{Facts};
 ghost use Rattle.proto_decl.specs.Laws.{IsEntity};
 ghost use Rattle.proto_visibility.specs.Entities.{IsEntityOf};
 ghost use Rattle.proto_visibility.specs.Files.{HaveOwnPaths, HaveOrigins, HasFacts, HasPath, HasPathAt, IsIncludedAt};
-ghost use Rattle.proto_visibility.specs.Sees.{Sees, Counts};
+ghost use Rattle.proto_visibility.specs.Sees.{Sees};
 ghost use Rattle.proto_visibility.specs.Absences.{AreMissing};
-ghost use Rattle.proto_visibility.specs.Clashes.{Clash, NoClash};
-ghost use Rattle.proto_visibility.specs.Tables.FileItems.{AreAllPrefixes};
 ghost use Rattle.proto_visibility.specs.Linked.{HaveClearNames, CanBeLinked, MayRefuse};
 ghost use Rattle.proto_visibility.specs.Knows.{KnowsAs};
 ghost use Rattle.proto_visibility.specs.FileNames.{admits, SeesGiving};
 
-use crate::absent::{all_absent, first_absent, is_numbered};
-use crate::all_items::{all_items, all_prefixes};
-use crate::clash::first_clash;
-use crate::counting::{counted_files, first_unread};
-use crate::differing::numbers_differ;
+use crate::absent::{all_absent, is_numbered};
+use crate::all_items::all_prefixes;
+use crate::checked::CheckedFiles;
+use crate::counting::counted_files;
 use crate::entities::{Entity, entity_in};
 use crate::fault::LinkFault;
-use crate::file_row::FileRow;
 use crate::import_table::{numbers_of, steps_of};
 use crate::link_file::LinkFile;
+use crate::listed_names::ListedNames;
 use crate::name_owners::first_giving;
 use crate::names::Names;
 use crate::origins::have_origins;
@@ -30,7 +27,6 @@ use crate::place::FilePlace;
 use crate::role::Role;
 use crate::seeing::{SeenFiles, seen_files};
 use proto_decl::FileFacts;
-use sequences::{OwnedText, Sequence};
 use std::alloc::{AllocError, Global};
 use std::collections::HashMap;
 use std::marker::Model;
@@ -71,29 +67,29 @@ impl<'a, 't> Namespace<'a, 't> {
         ensures can_be { IfOk result (λ _. CanBeLinked files.now) }
         ensures refused { IfErr result (MayRefuse files.now) }
     {
-        let numbers = numbers_of(alloc, files)?;
-        let table = steps_of(alloc, files, &numbers)?;
-        let counted = counted_files(alloc, files, table.as_slice())?;
-        if let Some(number) = first_unread(files, &counted) {
-            return Err(LinkFault::Broken(number));
-        }
         let prefixes = all_prefixes(alloc, files)?;
-        let clash = clash_among(alloc, files, prefixes.as_slice(), &counted)?;
-        if let Some((first, second)) = clash {
-            return Err(LinkFault::Duplicate(first, second));
-        }
-        if let Some(place) = first_absent(files, &numbers, &counted) {
-            return Err(LinkFault::MissingImport(place));
-        }
-        have_origins(files);
-        let seen = seen_files(alloc, files, table.as_slice())?;
-        let names = Names::of(alloc, files, prefixes.as_slice())?;
-        Ok(Namespace {
+        let checked = CheckedFiles::by_prefixes(alloc, files, prefixes.as_slice())?;
+        let listed = ListedNames::by_prefixes(alloc, files, prefixes.as_slice())?;
+        Ok(Namespace::joined(checked, listed))
+    }
+
+    /// Links files that are checked and whose names are listed. Takes no memory.
+    pub fn joined(checked: CheckedFiles<'a, 't>, listed: ListedNames<'a, 't>) -> Namespace<'a, 't>
+        requires { listed ≡ checked }
+        ensures { result ≡ checked.entry }
+    {
+        let names = listed.into_names();
+        let CheckedFiles {
+            files,
+            numbers,
+            seen,
+        } = checked;
+        Namespace {
             files,
             numbers,
             seen,
             names,
-        })
+        }
     }
 
     /// The namespace of the files that are kept of a tree with faults: an import may name none of them.
@@ -219,24 +215,4 @@ impl<'a, 't> Namespace<'a, 't> {
     {
         self.first_giving(file, name, role).is_some()
     }
-}
-
-/// The first clash of names among the items of the files that count.
-fn clash_among(
-    alloc: Global,
-    files: &[LinkFile],
-    prefixes: &[Sequence<OwnedText>],
-    counted: &FileRow,
-) -> Result<Option<(FilePlace, FilePlace)>, AllocError>
-    requires prefixes { AreAllPrefixes files.now prefixes.now }
-    requires counted { (number : ℕ) → Contains counted.now number ↔ Counts files.now number }
-    ensures { IfOk result (λ clash. MatchOption clash (NoClash files.now)
-        (λ places. Clash files.now places.0 places.1)) }
-{
-    if numbers_differ(alloc, files, prefixes, counted)? {
-        return Ok(None);
-    }
-    let items = all_items(alloc, files, prefixes, counted)?;
-    let clash = first_clash(alloc, items.as_slice())?;
-    Ok(clash)
 }

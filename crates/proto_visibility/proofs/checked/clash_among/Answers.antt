@@ -3,7 +3,7 @@ use Rattle.std.specs.List.{Contains}
 use Rattle.proto_visibility.specs.Items.{Item, IsItem}
 use Rattle.proto_visibility.specs.Clashes.{ClashBy, NoClashBy}
 use Rattle.proto_visibility.proofs.ClashLemmas.{clash_of_items}
-use Rattle.proto_visibility.proofs.namespace.clash_among.Goals as goal
+use Rattle.proto_visibility.proofs.checked.clash_among.Goals as goal
 
 pub returns : goal.returns
 returns c =

@@ -1,0 +1,118 @@
+//! Files that can be linked, but for the tables of their names.
+
+ghost use Rattle.std.specs.Prelude.{ℕ, ◌≡◌, ◌↔◌, IfOk, IfErr, MatchOption, Contains};
+ghost use Rattle.proto_visibility.specs.Files.{HaveOwnPaths};
+ghost use Rattle.proto_visibility.specs.Sees.{Counts};
+ghost use Rattle.proto_visibility.specs.Clashes.{Clash, NoClash};
+ghost use Rattle.proto_visibility.specs.Tables.FileItems.{AreAllPrefixes};
+ghost use Rattle.proto_visibility.specs.Linked.{CanBeLinked, MayRefuse};
+
+use crate::absent::first_absent;
+use crate::all_items::{all_items, all_prefixes};
+use crate::clash::first_clash;
+use crate::counting::{counted_files, first_unread};
+use crate::differing::numbers_differ;
+use crate::fault::LinkFault;
+use crate::file_row::FileRow;
+use crate::import_table::{numbers_of, steps_of};
+use crate::link_file::LinkFile;
+use crate::origins::have_origins;
+use crate::place::FilePlace;
+use crate::seeing::{SeenFiles, seen_files};
+use sequences::{OwnedText, Sequence};
+use std::alloc::{AllocError, Global};
+use std::collections::HashMap;
+use std::marker::Model;
+
+/// Files that can be linked, and what each of them sees: a namespace that lacks the tables of names.
+///
+/// It can be made while another thread makes `ListedNames` of the same files. Contracts see the list of the files.
+#[derive(Drop)]
+pub struct CheckedFiles<'a, 't> {
+    pub(crate) files: &'a [LinkFile<'a, 't>],
+    pub(crate) numbers: HashMap<&'a str, usize>,
+    pub(crate) seen: SeenFiles,
+}
+
+impl<'a, 't> Model for CheckedFiles<'a, 't> {
+    ghost use Rattle.std.specs.Prelude.{List};
+    ghost use Rattle.proto_visibility.specs.Files.{File};
+    ghost use Rattle.proto_visibility.specs.Linked.{AreChecked};
+
+    ghost Value = { List File };
+
+    ghost view = { λ checked. checked.files.now };
+
+    ghost invariant = { λ checked. AreChecked checked.files.now checked.numbers checked.seen };
+}
+
+impl<'a, 't> CheckedFiles<'a, 't> {
+    /// Checks files, no two of which have one path, as `Namespace::new` does: it refuses them alike.
+    pub fn of(
+        alloc: Global,
+        files: &'a [LinkFile<'a, 't>],
+    ) -> Result<CheckedFiles<'a, 't>, LinkFault>
+        requires { HaveOwnPaths files.now }
+        ensures checked { IfOk result (λ checked. checked ≡ files.now) }
+        ensures can_be { IfOk result (λ _. CanBeLinked files.now) }
+        ensures refused { IfErr result (MayRefuse files.now) }
+    {
+        let prefixes = all_prefixes(alloc, files)?;
+        let checked = CheckedFiles::by_prefixes(alloc, files, prefixes.as_slice())?;
+        Ok(checked)
+    }
+
+    /// The same, by the names of their packages' prefixes.
+    pub(crate) fn by_prefixes(
+        alloc: Global,
+        files: &'a [LinkFile<'a, 't>],
+        prefixes: &[Sequence<OwnedText>],
+    ) -> Result<CheckedFiles<'a, 't>, LinkFault>
+        requires own { HaveOwnPaths files.now }
+        requires prefixes { AreAllPrefixes files.now prefixes.now }
+        ensures checked { IfOk result (λ checked. checked ≡ files.now) }
+        ensures can_be { IfOk result (λ _. CanBeLinked files.now) }
+        ensures refused { IfErr result (MayRefuse files.now) }
+    {
+        let numbers = numbers_of(alloc, files)?;
+        let table = steps_of(alloc, files, &numbers)?;
+        let counted = counted_files(alloc, files, table.as_slice())?;
+        if let Some(number) = first_unread(files, &counted) {
+            return Err(LinkFault::Broken(number));
+        }
+        let clash = clash_among(alloc, files, prefixes, &counted)?;
+        if let Some((first, second)) = clash {
+            return Err(LinkFault::Duplicate(first, second));
+        }
+        if let Some(place) = first_absent(files, &numbers, &counted) {
+            return Err(LinkFault::MissingImport(place));
+        }
+        have_origins(files);
+        let seen = seen_files(alloc, files, table.as_slice())?;
+        Ok(CheckedFiles {
+            files,
+            numbers,
+            seen,
+        })
+    }
+}
+
+/// The first clash of names among the items of the files that count.
+fn clash_among(
+    alloc: Global,
+    files: &[LinkFile],
+    prefixes: &[Sequence<OwnedText>],
+    counted: &FileRow,
+) -> Result<Option<(FilePlace, FilePlace)>, AllocError>
+    requires prefixes { AreAllPrefixes files.now prefixes.now }
+    requires counted { (number : ℕ) → Contains counted.now number ↔ Counts files.now number }
+    ensures { IfOk result (λ clash. MatchOption clash (NoClash files.now)
+        (λ places. Clash files.now places.0 places.1)) }
+{
+    if numbers_differ(alloc, files, prefixes, counted)? {
+        return Ok(None);
+    }
+    let items = all_items(alloc, files, prefixes, counted)?;
+    let clash = first_clash(alloc, items.as_slice())?;
+    Ok(clash)
+}

@@ -11,7 +11,7 @@ ghost use Rattle.proto_link.specs.Targets.{IsTarget, MayRefuseUse};
 use crate::resolve::target_of;
 use crate::target::Target;
 use proto_decl::{FileFacts, Use};
-use proto_visibility::{FilePlace, LinkFault, LinkFile, Namespace};
+use proto_visibility::{CheckedFiles, FilePlace, LinkFault, LinkFile, ListedNames, Namespace};
 use std::alloc::{AllocError, Global};
 use std::marker::Model;
 
@@ -46,6 +46,16 @@ impl<'a, 't> Linker<'a, 't> {
     {
         let namespace = Namespace::new(alloc, files)?;
         Ok(Linker { namespace })
+    }
+
+    /// Links files that are checked and whose names are listed. `new` is the same as to make both parts, one after
+    /// the other, and to join them; two threads can make them at once. Takes no memory.
+    pub fn joined(checked: CheckedFiles<'a, 't>, listed: ListedNames<'a, 't>) -> Linker<'a, 't>
+        requires { listed ≡ checked }
+        ensures { result ≡ checked.entry }
+    {
+        let namespace = Namespace::joined(checked, listed);
+        Linker { namespace }
     }
 
     /// Links the files that are kept of a tree with faults, by their numbers in the list: an import may

@@ -1,12 +1,10 @@
 -- What is listed below a root is one list, if each folder has one listing.
 use Rattle.std.proofs.Common.{◌≡◌, ◌∙◌, ℕ, suc, ◌+◌, ◌<◌, Bool, false, cond, List, [], ◌∷◌, ◌++◌}
 use Rattle.std.proofs.Common.{get_or, Option, Some, None, inl, inr, refl, sym, ap, ap₂, subst, sum_by, bytes_eq, arith}
-use Rattle.std.specs.declared.cmp.Ordering.{Ordering}
-use Rattle.std.specs.declared.cmp.Ordering.TheVariants.{Less, Equal, Greater}
 use Rattle.std.specs.Cmp.Lexicographic.{slice_cmp}
 use Rattle.std.specs.List.{All, Contains}
 use Rattle.std.specs.List.Sorted.{IsPermutation, IsSorted}
-use Rattle.std.specs.Ordering.{is_lt, nat_cmp, ordering_reverse}
+use Rattle.std.specs.Ordering.{is_lt, nat_cmp}
 use Rattle.std.proofs.lemmas.Bool.{cases_Bool, true≢false}
 use Rattle.std.proofs.lemmas.Cmp.{nat_list_cmp_total}
 use Rattle.std.proofs.lemmas.List.Elements.{All-nil, All-cons, All-contains, All-head}
@@ -20,16 +18,9 @@ use Rattle.source_files.specs.Entries.{Entry, Give, nothing, a_source, a_folder,
 use Rattle.source_files.specs.Walks.{Has, AreFound, nowhere, below_next, IsUnlisted, itself, within}
 use Rattle.source_files.specs.WalkLaws.{OneListing}
 use Rattle.source_files.proofs.WalkLemmas.{next_of}
+use Rattle.source_tree.proofs.OrderLemmas.{neither_less}
 
 -- ---- sorted texts
-
-neither_less : (left right : Ordering) → left ≡ ordering_reverse right → is_lt left ≡ false → is_lt right ≡ false
-    → left ≡ Equal
-neither_less Less right is low high = absurd (true≢false low)
-neither_less Equal right is low high = refl
-neither_less Greater Less is low high = absurd (true≢false high)
-neither_less Greater Equal is low high = absurd cc
-neither_less Greater Greater is low high = absurd cc
 
 -- one for the text itself
 abbrev count : List ℕ → List ℕ → ℕ

@@ -65,13 +65,10 @@ pictures_nul_alone (byte ∷ text) all =
 abbrev pub IsNoMark : ℕ → Type 0
 IsNoMark b = (b ≢ 60) × (b ≢ 62) × (b ≢ 34) × (b ≢ 39) × (b ≢ 13) × (b ≢ 0)
 
-other_than : (a b : ℕ) → (a == b) ≡ false → a ≢ b
-other_than a b miss e = eqb-false a b miss e
-
 no_mark : (b : ℕ) → (b == 60) ≡ false → (b == 62) ≡ false → (b == 34) ≡ false → (b == 39) ≡ false → (b == 13) ≡ false
     → (b == 0) ≡ false → IsNoMark b
 no_mark b c d e f g h =
-    (other_than b 60 c, other_than b 62 d, other_than b 34 e, other_than b 39 f, other_than b 13 g, other_than b 0 h)
+    (eqb-false b 60 c, eqb-false b 62 d, eqb-false b 34 e, eqb-false b 39 f, eqb-false b 13 g, eqb-false b 0 h)
 
 all_append : (P : ℕ → Type 0) (xs ys : List ℕ) → AllByRecursion P xs → AllByRecursion P ys → AllByRecursion P (xs ++ ys)
 all_append P [] ys a b = b
@@ -152,7 +149,7 @@ passes (x ∷ xs) rest none more = by (x == 38) refl none (λ others. passes xs 
     by : (b : Bool) → (x == 38) ≡ b → (b || list_any (λ y. y == 38) xs) ≡ false
         → (list_any (λ y. y == 38) xs ≡ false → OnlyReferences (xs ++ rest)) → OnlyReferences ((x ∷ xs) ++ rest)
     by true is none more = absurd cc
-    by false is none more = (λ e. absurd (other_than x 38 is e), more none)
+    by false is none more = (λ e. absurd (eqb-false x 38 is e), more none)
 
 byte_refers : (rest : List ℕ) → OnlyReferences rest → (byte : ℕ) → OnlyReferences (escape_byte byte ++ rest)
 byte_refers rest more = by_byte (λ byte. OnlyReferences (escape_byte byte ++ rest))
@@ -163,7 +160,7 @@ byte_refers rest more = by_byte (λ byte. OnlyReferences (escape_byte byte ++ re
     (λ e. refl, passes (113 ∷ 117 ∷ 111 ∷ 116 ∷ 59 ∷ []) rest refl more)
     (λ e. refl, passes (35 ∷ 51 ∷ 57 ∷ 59 ∷ []) rest refl more)
     (λ e. refl, passes (35 ∷ 49 ∷ 51 ∷ 59 ∷ []) rest refl more)
-    (λ byte z a b same c d e f g h. rw same (λ is. absurd (other_than byte 38 a is), more))
+    (λ byte z a b same c d e f g h. rw same (λ is. absurd (eqb-false byte 38 a is), more))
 
 refers : (text : List ℕ) → OnlyReferences (escape text)
 refers [] = tt

@@ -4,7 +4,7 @@ use Rattle.std.proofs.Common.{nat_eq, append_assoc, append-nil}
 use Rattle.std.specs.Prelude.{codes, not, ◌&&◌}
 use Rattle.std.specs.List.{list_any, onto_first, starts_with, join_with_byte, AllByRecursion}
 use Rattle.std.specs.Str.{bytes_eq}
-use Rattle.std.proofs.lemmas.Bool.{eqb-false, ne_eqb}
+use Rattle.std.proofs.lemmas.Bool.{eqb-false, ne_eqb, or_parts}
 use Rattle.std.proofs.lemmas.List.{append_cancel_left}
 use Rattle.std.proofs.lemmas.List.Splits.{join_with_byte-slice_split}
 use Rattle.std.proofs.lemmas.Slice.Eq.{bytes_eq-Decides}
@@ -13,10 +13,6 @@ use Rattle.scip_pages.specs.PathLaws.{StaysBelow, HasItsOwnPlace, IsName, NamesL
 
 abbrev none_is : List ℕ → List (List ℕ) → Type 0
 none_is name names = list_any (λ (other : List ℕ). bytes_eq other name) names ≡ false
-
-none_of : (a b : Bool) → (a || b) ≡ false → (a ≡ false) × (b ≡ false)
-none_of true b e = absurd cc
-none_of false b e = (refl, e)
 
 enters : (folder : List (List ℕ)) (name : List ℕ) → bytes_eq name (codes "") ≡ false → bytes_eq name (codes ".") ≡ false
     → bytes_eq name (codes "..") ≡ false
@@ -27,9 +23,10 @@ enters_all : (folder names : List (List ℕ)) → none_is (codes "") names → n
     → none_is (codes "..") names → entered_all folder names ≡ folder ++ names
 enters_all folder [] a b c = sym (append-nil folder)
 enters_all folder (name ∷ names) a b c =
-    let d = none_of (bytes_eq name (codes "")) (list_any (λ (other : List ℕ). bytes_eq other (codes "")) names) a in
-    let e = none_of (bytes_eq name (codes ".")) (list_any (λ (other : List ℕ). bytes_eq other (codes ".")) names) b in
-    let f = none_of (bytes_eq name (codes "..")) (list_any (λ (other : List ℕ). bytes_eq other (codes "..")) names) c in
+    let d = or_parts (bytes_eq name (codes "")) (list_any (λ (other : List ℕ). bytes_eq other (codes "")) names) a in
+    let e = or_parts (bytes_eq name (codes ".")) (list_any (λ (other : List ℕ). bytes_eq other (codes ".")) names) b in
+    let f = or_parts (bytes_eq name (codes ".."))
+    (list_any (λ (other : List ℕ). bytes_eq other (codes "..")) names) c in
     ap (λ (g : List (List ℕ)). entered_all g names) (enters folder name d.0 e.0 f.0)
     ∙ enters_all (folder ++ name ∷ []) names d.1 e.1 f.1
     ∙ append_assoc folder (name ∷ []) names

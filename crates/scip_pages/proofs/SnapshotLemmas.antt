@@ -4,9 +4,9 @@ use Rattle.std.proofs.Common.{List, [], ◌∷◌, ◌++◌, length, take, drop,
 use Rattle.std.proofs.Common.{slice_set, arith, All}
 use Rattle.std.specs.Prelude.{Option, None, Some, Vec, Result}
 use Rattle.std.specs.Borrow.{Bor}
-use Rattle.std.proofs.lemmas.Bool.Decides.{nat_tests}
 use Rattle.std.specs.List.{flat_map, position, position_from, enumerate_from}
 use Rattle.std.proofs.lemmas.Iterator.Adapters.{position_from-zero}
+use Rattle.std.proofs.lemmas.Bool.{eqb-true, eqb-false}
 use Rattle.scip_model.specs.declared.records.Occurrence.{Occurrence}
 use Rattle.scip_pages.specs.declared.columns.ColumnUnit.{ColumnUnit}
 use Rattle.scip_pages.specs.Listed.{listed_on}
@@ -67,12 +67,6 @@ elsewhere (x ∷ table) zero put (suc number) other = refl
 elsewhere (x ∷ table) (suc line) put zero other = refl
 elsewhere (x ∷ table) (suc line) put (suc number) other = elsewhere table line put number (λ e. other (ap suc e))
 
-same_number : (a b : ℕ) → (a == b) ≡ true → a ≡ b
-same_number a b e = grind (arith, nat_tests)
-
-other_number : (a b : ℕ) → (a == b) ≡ false → a ≡ b → ⊥
-other_number a b e same = grind (arith, nat_tests)
-
 pub added : {A : Type 0} (table : List (Vec (Bor Occurrence) A)) (line : ℕ) (put d : Vec (Bor Occurrence) A)
     (o : Bor Occurrence)
     → line < length table → put.items ≡ (get_or table line d).items ++ o ∷ [] → (number : ℕ)
@@ -83,11 +77,11 @@ added table line put d o inside more number = by (line == number) refl
         → listed_on (slice_set table line put) number ≡ listed_on table number ++ cond b (o.now ∷ []) []
     by true e =
         let P : ℕ → Type 0 = λ n. listed_on (slice_set table line put) n ≡ listed_on table n ++ o.now ∷ [] in
-        subst P (same_number line number e) (there table line put d o inside more)
-    by false e = elsewhere table line put number (other_number line number e)
+        subst P (eqb-true line number e) (there table line put d o inside more)
+    by false e = elsewhere table line put number (eqb-false line number e)
         ∙ sym (append-nil (listed_on table number))
 
-up : (n : ℕ) → suc n + 1 ≡ suc (n + 1)
+pub up : (n : ℕ) → suc n + 1 ≡ suc (n + 1)
 up n = omega arith
 
 -- the text of a line, and of those behind it

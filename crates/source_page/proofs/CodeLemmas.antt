@@ -4,8 +4,8 @@ use Rattle.std.proofs.Common.{List, [], ◌∷◌, ◌++◌, map, append-nil, su
 use Rattle.std.proofs.Common.{length}
 use Rattle.std.specs.Prelude.{Vec}
 use Rattle.std.specs.List.{flat_map, range_with_len}
-use Rattle.std.proofs.lemmas.Bool.Decides.{nat_tests}
 use Rattle.std.proofs.lemmas.List.FromFn.{map-range_with_len_more}
+use Rattle.std.proofs.lemmas.Bool.{eqb-true, eqb-false}
 use Rattle.scip_model.specs.declared.records.Occurrence.{Occurrence}
 use Rattle.scip_pages.specs.declared.columns.ColumnUnit.{ColumnUnit}
 use Rattle.scip_pages.specs.declared.code.Link.{Link}
@@ -42,12 +42,6 @@ elsewhere (x ∷ table) zero put (suc at) other = refl
 elsewhere (x ∷ table) (suc line) put zero other = refl
 elsewhere (x ∷ table) (suc line) put (suc at) other = elsewhere table line put at (λ e. other (ap suc e))
 
-pub same_number : (a b : ℕ) → (a == b) ≡ true → a ≡ b
-same_number a b e = grind (arith, nat_tests)
-
-pub other_number : (a b : ℕ) → (a == b) ≡ false → a ≡ b → ⊥
-other_number a b e same = grind (arith, nat_tests)
-
 pub added : {A : Type 0} (table : List (Vec ℕ A)) (line : ℕ) (put d : Vec ℕ A) (number : ℕ)
     → line < length table → put.items ≡ (get_or table line d).items ++ number ∷ [] → (at : ℕ)
     → listed_on (slice_set table line put) at ≡ listed_on table at ++ cond (line == at) (number ∷ []) []
@@ -57,8 +51,8 @@ added table line put d number inside more at = by (line == at) refl
         → listed_on (slice_set table line put) at ≡ listed_on table at ++ cond b (number ∷ []) []
     by true e =
         let P : ℕ → Type 0 = λ n. listed_on (slice_set table line put) n ≡ listed_on table n ++ number ∷ [] in
-        subst P (same_number line at e) (there table line put d number inside more)
-    by false e = elsewhere table line put at (other_number line at e) ∙ sym (append-nil (listed_on table at))
+        subst P (eqb-true line at e) (there table line put d number inside more)
+    by false e = elsewhere table line put at (eqb-false line at e) ∙ sym (append-nil (listed_on table at))
 
 -- texts of numbers, of each of which they are the same
 same_flat : (f g : ℕ → List ℕ) (a n : ℕ) → ((k : ℕ) → a ≤ k → k < a + n → f k ≡ g k)

@@ -1,5 +1,5 @@
 -- Elements of lists.
-use Rattle.std.proofs.Common.{◌≡◌, ◌∙◌, sym, refl, ap, subst, ℕ, zero, suc, ◌+◌, ◌<◌, ◌≤◌, Bool, true, false, cond}
+use Rattle.std.proofs.Common.{◌≡◌, ◌∙◌, sym, refl, ap, subst, ℕ, zero, suc, ◌+◌, ◌<◌, Bool, true, false, cond}
 use Rattle.std.proofs.Common.{List, [], ◌∷◌, ◌++◌, map, length, arith, ◌⊎◌, inl, inr}
 use Rattle.std.specs.Prelude.{Option, None, Some, slice_index_or}
 use Rattle.std.specs.List.{Contains, enumerate_from, filter, flat_map, position_from, range_with_len, slice_get}
@@ -90,21 +90,11 @@ in_range a (suc n) (suc i) inside =
     let same : a + 1 + i ≡ a + suc i = omega arith in
     inr (subst (λ (k : ℕ). In k (range_with_len (a + 1) n)) same (in_range (a + 1) n i (omega (arith, inside))))
 
--- elements by their number
-pub get_inside : {X : Type 0} (xs : List X) (i : ℕ) (x : X) → slice_get xs i ≡ Some x → i < length xs
-get_inside [] i x e = absurd cc
-get_inside (y ∷ ys) zero x e = omega arith
-get_inside (y ∷ ys) (suc i) x e = omega (arith, get_inside ys i x e)
-
+-- an element by its number
 pub get_some : {X : Type 0} (xs : List X) (i : ℕ) → i < length xs → (x : X) × (slice_get xs i ≡ Some x)
 get_some [] i inside = absurd (omega (arith, inside))
 get_some (y ∷ ys) zero inside = (y, refl)
 get_some (y ∷ ys) (suc i) inside = get_some ys i (omega (arith, inside))
-
-pub get_past : {X : Type 0} (xs : List X) (i : ℕ) → length xs ≤ i → slice_get xs i ≡ None
-get_past [] i past = refl
-get_past (y ∷ ys) zero past = absurd (omega (arith, past))
-get_past (y ∷ ys) (suc i) past = get_past ys i (omega (arith, past))
 
 pub in_at : {X : Type 0} (xs : List X) (i : ℕ) (x : X) → slice_get xs i ≡ Some x → In x xs
 in_at [] i x e = absurd cc

@@ -1,12 +1,12 @@
 -- Facts that serve for a symbol.
-use Rattle.std.proofs.Common.{◌≡◌, ◌∙◌, sym, refl, ap, ℕ, zero, suc, ◌<◌, ◌==◌, Bool, true, false, not, ◌&&◌, ◌||◌}
-use Rattle.std.proofs.Common.{cond, List, [], ◌∷◌, ◌++◌, map, length, arith}
+use Rattle.std.proofs.Common.{◌≡◌, ◌∙◌, sym, refl, ap, ℕ, ◌==◌, Bool, true, false, not, ◌&&◌, ◌||◌}
+use Rattle.std.proofs.Common.{cond, List, [], ◌++◌, map, length}
 use Rattle.std.specs.Prelude.{Option, Some, nat_lt}
 use Rattle.std.specs.List.{find, flat_map, slice_get, filter}
 use Rattle.std.specs.Option.{option_map, unwrap_or}
 use Rattle.std.specs.Str.{bytes_eq}
-use Rattle.std.proofs.lemmas.Bool.Decides.{nat_tests}
 use Rattle.std.proofs.lemmas.Slice.Eq.{bytes_eq-Decides}
+use Rattle.std.proofs.lemmas.Bool.{and_parts, ltb-true, eqb-true}
 use Rattle.scip_model.specs.declared.records.Index.{Index}
 use Rattle.scip_model.specs.declared.records.Document.{Document}
 use Rattle.scip_model.specs.declared.records.SymbolInformation.{SymbolInformation}
@@ -20,19 +20,7 @@ use Rattle.source_page.specs.declared.facts.Fact.{Fact}
 use Rattle.source_page.specs.Site.{Sources}
 use Rattle.source_page.specs.Targets.{is_shown_definition}
 use Rattle.source_page.specs.Facts.{Tells, IsFact, is_asked_alike, serves}
-use Rattle.source_page.proofs.CodeLemmas.{same_number}
-
-pub both_true : (a b : Bool) → (a && b) ≡ true → (a ≡ true) × (b ≡ true)
-both_true true b e = (refl, e)
-both_true false b e = absurd cc
-
-below_count : (a count : ℕ) → nat_lt a count ≡ true → a < count
-below_count a count e = grind (arith, nat_tests)
-
-listed_there : {X : Type 0} (xs : List X) (i : ℕ) → i < length xs → (x : X) × (slice_get xs i ≡ Some x)
-listed_there [] i inside = absurd (omega (arith, inside))
-listed_there (x ∷ xs) zero inside = (x, refl)
-listed_there (x ∷ xs) (suc i) inside = listed_there xs i (omega (arith, inside))
+use Rattle.source_page.proofs.ElementLemmas.{get_some}
 
 -- a symbol that is asked for in a document
 abbrev asked_in : ℕ → List ℕ → Document → Subject
@@ -83,12 +71,12 @@ alike {Y = Y} index symbol asked answer anywhere a b e = by (a == b) (is_local s
         → cond same true (cond local false (nat_lt a (length index.documents) && nat_lt b (length index.documents)))
         ≡ true
         → asked a ≡ asked b
-    by true local s l e = ap asked (same_number a b s)
+    by true local s l e = ap asked (eqb-true a b s)
     by false true s l e = absurd cc
     by false false s l e =
-        let two = both_true (nat_lt a (length index.documents)) (nat_lt b (length index.documents)) e in
-        let here = listed_there index.documents a (below_count a (length index.documents) two.0) in
-        let there = listed_there index.documents b (below_count b (length index.documents) two.1) in
+        let two = and_parts (nat_lt a (length index.documents)) (nat_lt b (length index.documents)) e in
+        let here = get_some index.documents a (ltb-true a (length index.documents) two.0) in
+        let there = get_some index.documents b (ltb-true b (length index.documents) two.1) in
         anywhere a here.0 l here.1 ∙ sym (anywhere b there.0 l there.1)
 
 -- ---- facts
@@ -98,7 +86,7 @@ pub served_tells : (index : Index) (sources : Sources) (fact : Fact) (document :
     → IsFact index sources fact → serves fact (length index.documents) document symbol ≡ true
     → Tells index sources document symbol fact
 served_tells index sources fact document symbol fine e =
-    let two = both_true (bytes_eq fact.symbol.now symbol)
+    let two = and_parts (bytes_eq fact.symbol.now symbol)
     (is_asked_alike (length index.documents) symbol fact.document document) e in
     let is : fact.symbol.now ≡ symbol = (bytes_eq-Decides fact.symbol.now symbol).0 two.0 in
     let places : references_in index fact.document fact.symbol.now ≡ references_in index document symbol =

@@ -6,6 +6,8 @@ use Rattle.std.specs.List.{flat_map, slice_get, range_with_len}
 use Rattle.std.specs.Option.{is_some, option_map, option_map_or, unwrap_or}
 use Rattle.std.specs.Fmt.{decimal}
 use Rattle.std.proofs.lemmas.Iterator.Adapters.{position_from-zero}
+use Rattle.std.proofs.lemmas.Bool.{not-false}
+use Rattle.std.proofs.lemmas.Option.{slice_get_within}
 use Rattle.scip_model.specs.Range.{RangeNumbers}
 use Rattle.scip_model.specs.declared.records.Index.{Index}
 use Rattle.scip_model.specs.declared.records.Document.{Document}
@@ -27,7 +29,7 @@ use Rattle.source_page.specs.Uses.{all_defined}
 use Rattle.source_page.specs.Page.{links_of, firsts_of, start_text, main_text, page_of}
 use Rattle.source_page.specs.Ids.{HasId, IsPage, AllFit, IsShown, Leads, within, across, unit_in}
 use Rattle.source_page.specs.Laws.{LeadsToDefinition, LinksLead, UsesLead, DefinitionsLead}
-use Rattle.source_page.proofs.ElementLemmas.{In, in_map, in_filter, in_range, get_inside, none_passes, some_first}
+use Rattle.source_page.proofs.ElementLemmas.{In, in_map, in_filter, in_range, none_passes, some_first}
 use Rattle.source_page.specs.Tags.{bare, tag_with}
 use Rattle.source_page.proofs.LawLemmas.{leads_to_a_page}
 use Rattle.source_page.proofs.TagLemmas.{EndsInText, Fine, end_a, ends_both, escaped_reads, fine_each, has_among}
@@ -195,15 +197,11 @@ module _ (index : Index) (sources : Sources) (number : ℕ) (d : Document) (unit
 
 -- ---- ranges that fit
 
-not_true : (b : Bool) → not b ≡ false → b ≡ true
-not_true true e = refl
-not_true false e = absurd cc
-
 fit_at : (unit : ColumnUnit) (lines : List (List ℕ)) (occurrences : List Occurrence) (i : ℕ) (o : Occurrence)
     → misfit unit lines occurrences ≡ None → slice_get occurrences i ≡ Some o → fits unit lines o ≡ true
 fit_at unit lines occurrences i o none is =
     let test : Occurrence → Bool = λ x. not (fits unit lines x) in
-    not_true (fits unit lines o)
+    not-false (fits unit lines o)
     (none_passes test 0 occurrences i o (sym (position_from-zero test occurrences) ∙ none) is)
 
 started : (range : RangeNumbers) (from to : Option ℕ) → is_ordered range from to ≡ true → (at : ℕ) × (from ≡ Some at)
@@ -217,7 +215,7 @@ line_inside unit lines o e =
     (offset_at unit lines o.range.end_line o.range.end_column) e in
     let line = some_first (λ (l : List ℕ). offset_of unit l o.range.start_column) (slice_get lines o.range.start_line)
     from.0 from.1 in
-    get_inside lines o.range.start_line line.0 line.1
+    slice_get_within lines o.range.start_line line.0 line.1
 
 -- ---- places that are shown
 
@@ -276,7 +274,7 @@ uses_there index sources place shown is_one =
     let is_page : IsPage index sources place.document page =
     record { document = d.0; source = s.0; listed = d.1; has_source = s.1; is = refl } in
     within is_page (page_has_uses index sources place.document d.0 unit lines place.occurrence
-    (get_inside d.0.occurrences place.occurrence o.0 d.2) is_one)
+    (slice_get_within d.0.occurrences place.occurrence o.0 d.2) is_one)
 
 -- ---- the laws
 

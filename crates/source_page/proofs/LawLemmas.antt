@@ -4,7 +4,7 @@ use Rattle.std.proofs.Common.{List, [], ◌∷◌, ◌++◌, map, append-nil, le
 use Rattle.std.specs.Prelude.{None, Some}
 use Rattle.std.specs.List.{flat_map, find, range_with_len, join_with_byte}
 use Rattle.std.specs.Option.{unwrap_or}
-use Rattle.std.proofs.lemmas.Bool.{ne_eqb}
+use Rattle.std.proofs.lemmas.Bool.{ne_eqb, and_parts}
 use Rattle.std.proofs.lemmas.List.{length-map}
 use Rattle.std.proofs.lemmas.List.FromFn.{length-range_with_len}
 use Rattle.scip_model.specs.declared.records.Occurrence.{Occurrence}
@@ -24,7 +24,6 @@ use Rattle.source_page.specs.Targets.{is_shown_definition}
 use Rattle.source_page.specs.CodeText.{beginning, spans_of, pieces_with, line_at, lead}
 use Rattle.source_page.specs.Laws.{HasTheSource, LeadsToAPage, LeadsIfDefined}
 use Rattle.source_page.proofs.ElementLemmas.{In, from_contained}
-use Rattle.source_page.proofs.FactLemmas.{both_true}
 use Rattle.source_page.proofs.ReferenceLemmas.{references_are_listed}
 
 -- ---- lines below one another
@@ -135,7 +134,7 @@ none_found test (y ∷ ys) x e is = by (test y) refl e is (λ f there. none_foun
 pub leads_to_a_page : LeadsToAPage
 leads_to_a_page index sources document symbol place e =
     let places : List Place = references_in index document symbol in
-    let shown = both_true (has_page sources place.document) (defines_listed index.documents place)
+    let shown = and_parts (has_page sources place.document) (defines_listed index.documents place)
     (found_is (is_shown_definition index sources) places place e) in
     let its = references_are_listed index document symbol place
     (found_in (is_shown_definition index sources) places place e) in

@@ -4,6 +4,7 @@ use Rattle.std.proofs.Common.{List, [], ◌∷◌, ◌++◌, take, drop, length,
 use Rattle.std.specs.Prelude.{codes, Option, None, Some}
 use Rattle.std.specs.List.{flat_map, range_with_len, slice_get}
 use Rattle.std.specs.Fmt.{decimal}
+use Rattle.std.proofs.lemmas.Bool.{and_parts}
 use Rattle.scip_model.specs.declared.records.Index.{Index}
 use Rattle.scip_model.specs.declared.records.Occurrence.{Occurrence}
 use Rattle.scip_query.specs.BySymbol.{references_in}
@@ -30,7 +31,6 @@ use Rattle.source_page.specs.Tags.{Tag, Data, bare, tag_with}
 use Rattle.source_page.proofs.CleanLemmas.{IsClean, clean_file_url, clean_folder_url, clean_line_id, clean_line_place}
 use Rattle.source_page.proofs.CleanLemmas.{clean_place_url, clean_uses_id}
 use Rattle.source_page.proofs.ElementLemmas.{In, in_at}
-use Rattle.source_page.proofs.FactLemmas.{both_true}
 use Rattle.source_page.proofs.TagLemmas.{Fine, Reads, both, chain, end_a, escaped_reads, fine_const, fine_each}
 use Rattle.source_page.proofs.TagLemmas.{fine_escape, fine_link, no_urls, quoted_clean, quoted_reads, tag_a}
 
@@ -202,7 +202,7 @@ module _ (P : List ℕ → Type 0) where
               fine_use (place_url index definition.document place)
               (use_name (path_listed index.documents place.document) (line_listed index.documents place))
               (clean_place_url index definition.document place) (leads place is
-              (both_true (has_page sources place.document) (not (same_place definition place)) e).0)
+              (and_parts (has_page sources place.document) (not (same_place definition place)) e).0)
           by false e = fine_const P [] refl refl
 
       pub fine_uses : Fine P (uses_text index sources definition)

@@ -6,6 +6,7 @@ use Rattle.std.specs.List.{enumerate_from, slice_get}
 use Rattle.std.specs.Option.{is_some, option_and_then, option_map, unwrap_or}
 use Rattle.std.specs.Str.{bytes_eq}
 use Rattle.std.proofs.lemmas.Slice.Eq.{bytes_eq-Decides}
+use Rattle.std.proofs.lemmas.Bool.{and_parts, eqb-true}
 use Rattle.scip_model.specs.declared.records.Index.{Index}
 use Rattle.scip_model.specs.declared.records.Document.{Document}
 use Rattle.scip_model.specs.declared.records.Occurrence.{Occurrence}
@@ -15,9 +16,7 @@ use Rattle.scip_query.specs.OccurrenceAt.{Subject}
 use Rattle.scip_query.specs.References.{is_local, is_of, references_of}
 use Rattle.scip_query.specs.BySymbol.{references_in}
 use Rattle.scip_query.specs.Tables.{occurrence_listed, symbol_listed, symbol_or_none}
-use Rattle.source_page.proofs.CodeLemmas.{same_number}
 use Rattle.source_page.proofs.ElementLemmas.{In, from_map, from_flat_map, from_filter, from_numbered}
-use Rattle.source_page.proofs.FactLemmas.{both_true}
 
 -- a site is the occurrence at its place
 listed_site : (index : Index) (site : Site) → In site (sites_of index)
@@ -72,7 +71,7 @@ references_are_listed index document symbol place is = by (slice_get index.docum
         let subject : Subject = record { asked = record { number = document; document = d }; symbol = symbol } in
         let site = from_map (λ (s : Site). s.place) place (references_of index subject) there in
         let one = from_filter (is_of subject) site.0 (sites_of index) site.1 in
-        let passed = both_true (bytes_eq site.0.occurrence.symbol symbol)
+        let passed = and_parts (bytes_eq site.0.occurrence.symbol symbol)
         (not (is_local symbol) || (site.0.place.document == document)) one.1 in
         let occurrence : occurrence_listed index.documents place ≡ Some site.0.occurrence =
         ap (occurrence_listed index.documents) site.2 ∙ listed_site index site.0 one.0 in
@@ -80,6 +79,6 @@ references_are_listed index document symbol place is = by (slice_get index.docum
           listed = ap is_some occurrence;
           symbol_is = ap symbol_or_none occurrence ∙ (bytes_eq-Decides site.0.occurrence.symbol symbol).0 passed.0;
           within = λ local. ap (λ (p : Place). p.document) site.2
-              ∙ same_number site.0.place.document document
+              ∙ eqb-true site.0.place.document document
               (own_if_local (is_local symbol) (site.0.place.document == document) passed.1 local);
         }

@@ -1,8 +1,8 @@
 use Rattle.std.proofs.Common.{◌∙◌, ◌++◌, ap, sym, append-nil}
 use Rattle.std.specs.Prelude.{Option}
+use Rattle.std.proofs.lemmas.Option.{slice_get_past}
 use Rattle.scip_model.specs.declared.records.Occurrence.{Occurrence}
 use Rattle.source_page.specs.CodeText.{spans_or_none}
-use Rattle.source_page.proofs.ElementLemmas.{get_past}
 use Rattle.source_page.proofs.code.push_span.Goals as goal
 
 pub returns-in-None : goal.returns-in-None
@@ -10,4 +10,4 @@ returns-in-None c =
     let spans = c.args.spans.now.items in
     sym (append-nil spans)
     ∙ ap (λ (o : Option Occurrence). spans ++ spans_or_none c.args.unit c.args.line.now c.args.number o)
-    (sym (get_past c.args.occurrences.now c.args.number c.in-None.ensures.lookup.3))
+    (sym (slice_get_past c.args.occurrences.now c.args.number c.in-None.ensures.lookup.3))

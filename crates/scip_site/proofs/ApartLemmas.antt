@@ -7,10 +7,11 @@ use Rattle.source_files.specs.Made.{MadeFile}
 use Rattle.scip_model.specs.declared.records.Index.{Index}
 use Rattle.scip_query.specs.Tables.{numbers, path_listed}
 use Rattle.source_page.specs.Site.{Sources, page_path}
+use Rattle.source_page.proofs.TagLemmas.{all_append}
 use Rattle.scip_site.specs.FolderLaws.{FilesAreNoFolders, IsNoFolder}
 use Rattle.scip_site.specs.Making.{page_at, page_file, page_file_at, pages, paths_in, script_text, shared, site_files}
 use Rattle.scip_site.specs.Tree.{first_page}
-use Rattle.scip_site.proofs.GoodLemmas.{all_append, each_of}
+use Rattle.scip_site.proofs.GoodLemmas.{each_of}
 use Rattle.scip_site.proofs.MarkLemmas.{no_folder_of_pages}
 
 -- the path of a page; or one without a slash, whose second letter is another

@@ -5,6 +5,7 @@ use Rattle.std.specs.Prelude.{codes, Option, None, Some}
 use Rattle.std.specs.List.{AllByRecursion, Contains, flat_map, slice_get}
 use Rattle.std.specs.Option.{is_some, option_map_or, unwrap_or}
 use Rattle.std.specs.Fmt.{decimal}
+use Rattle.std.proofs.lemmas.Option.{slice_get_within}
 use Rattle.std.proofs.lemmas.List.Sorted.{Contains-permutation, IsPermutation-sym}
 use Rattle.scip_model.specs.declared.records.Index.{Index}
 use Rattle.scip_model.specs.declared.records.Document.{Document}
@@ -20,7 +21,7 @@ use Rattle.source_page.specs.Site.{Sources, has_page, line_listed, page_path}
 use Rattle.source_page.specs.Tags.{urls_of}
 use Rattle.source_page.specs.Targets.{is_first}
 use Rattle.source_page.proofs.ElementLemmas.{In, contained, from_contained, from_filter, from_flat_map, from_range}
-use Rattle.source_page.proofs.ElementLemmas.{get_inside, get_some, in_range}
+use Rattle.source_page.proofs.ElementLemmas.{get_some, in_range}
 use Rattle.source_page.proofs.IdLemmas.{HasLine, sourced, there}
 use Rattle.source_page.proofs.PageUrlLemmas.{each_url_leads, its}
 use Rattle.source_page.proofs.TagLemmas.{fine_page}
@@ -72,7 +73,7 @@ module _ (index : Index) (sources : Sources) (order : List ℕ) where
       ap (λ (o : Option Document). page_or_none index sources number o (source_at sources number)) stands
       ∙ ap (λ (s : Option (Option (List ℕ))). page_or_none index sources number (Some d) (unwrap_or s None)) has in
       let its_file : page_file_at index sources number ≡ one ∷ [] = ap (page_file path) its_page in
-      let inside : number < length index.documents = get_inside index.documents number d stands in
+      let inside : number < length index.documents = slice_get_within index.documents number d stands in
       let same : 0 + number ≡ number = omega arith in
       let listed : In number (numbers (length index.documents)) =
       subst (λ (k : ℕ). In k (numbers (length index.documents))) same
@@ -103,7 +104,7 @@ module _ (index : Index) (sources : Sources) (order : List ℕ) where
         let same : 0 + number ≡ number = omega arith in
         let listed : In number all =
         subst (λ (k : ℕ). In k all) same
-        (in_range 0 (length index.documents) number (get_inside index.documents number d stands)) in
+        (in_range 0 (length index.documents) number (slice_get_within index.documents number d stands)) in
         from_contained order number
         (Contains-permutation all order number by_path.permutation (contained all number listed))
 

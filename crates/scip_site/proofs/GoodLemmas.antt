@@ -23,6 +23,7 @@ use Rattle.scip_site.specs.declared.no_page.NoPage.TheVariants.{NotText}
 use Rattle.source_page.specs.Ids.{unit_in, AllFit}
 use Rattle.scip_site.specs.Repeats.{has_path, is_repeated}
 use Rattle.source_page.specs.Site.{Sources, page_path}
+use Rattle.source_page.proofs.TagLemmas.{all_append}
 use Rattle.scip_site.specs.Reading.{Outcome, fit_or_misfit, in_unit, of_source, IsRead, is_below, Read, AreRead, none}
 use Rattle.scip_site.specs.Reading.{next, source_or_none, sources_of}
 use Rattle.scip_site.specs.Making.{page_or_none, page_at, source_at, page_file, page_file_at, pages, shared, site_files}
@@ -128,11 +129,6 @@ good_sources_fit index sources good number d source stands has = (good number d 
 
 abbrev StaysIn : MadeFile → Type 0
 StaysIn made = is_path_below made.path ≡ true
-
-pub all_append : {X : Type 0} (P : X → Type 0) (xs ys : List X) → AllByRecursion P xs → AllByRecursion P ys
-    → AllByRecursion P (xs ++ ys)
-all_append P [] ys a b = b
-all_append P (x ∷ xs) ys a b = (a.0, all_append P xs ys a.1 b)
 
 pub each_of : {X : Type 0} (P : X → Type 0) (f : ℕ → List X) (ns : List ℕ) → ((n : ℕ) → AllByRecursion P (f n))
     → AllByRecursion P (flat_map f ns)

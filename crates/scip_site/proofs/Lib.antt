@@ -3,7 +3,6 @@ mod PagePathLemmas
 mod RepeatLemmas
 mod TreeLemmas
 mod NestLemmas
-mod OrderLemmas
 mod ReadLemmas
 mod MakeLemmas
 mod ScriptLemmas

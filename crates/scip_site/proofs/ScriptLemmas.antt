@@ -49,11 +49,8 @@ show_the_text (b ∷ text) small =
 abbrev EndsNothing : ℕ → Type 0
 EndsNothing b = (b ≢ 34) × (b ≢ 60) × (b ≢ 10) × (b ≢ 13)
 
-other_than : (a b : ℕ) → (a == b) ≡ false → a ≢ b
-other_than a b miss e = eqb-false a b miss e
-
 far : (b : ℕ) → (b == 34) ≡ false → (b == 60) ≡ false → (b == 10) ≡ false → (b == 13) ≡ false → EndsNothing b
-far b c d e f = (other_than b 34 c, other_than b 60 d, other_than b 10 e, other_than b 13 f)
+far b c d e f = (eqb-false b 34 c, eqb-false b 60 d, eqb-false b 10 e, eqb-false b 13 f)
 
 digit_far : (n : ℕ) → EndsNothing (digit n)
 digit_far n = by (nat_lt n 10) refl

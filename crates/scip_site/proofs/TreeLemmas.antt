@@ -8,8 +8,10 @@ use Rattle.std.specs.Str.{bytes_eq}
 use Rattle.std.proofs.lemmas.Grind.{flat_map-append}
 use Rattle.std.proofs.lemmas.List.{take-map, length-map, drop_all}
 use Rattle.std.proofs.lemmas.Slice.Eq.{bytes_eq-Decides}
+use Rattle.std.proofs.Math.Numerals.{add-one}
 use Rattle.scip_site.specs.Tree.{common, is_name, same_or_not, same_at, closes, opens, but_last, leaf_with, step_with}
 use Rattle.source_page.proofs.CodeLemmas.{range_more}
+use Rattle.scip_pages.proofs.SnapshotLemmas.{up}
 
 -- ---- names that are the same
 
@@ -25,9 +27,6 @@ behind_one : (name : Option (List ℕ)) (b : List ℕ) (names : List (List ℕ))
     → same_or_not name names at ≡ same_or_not name (b ∷ names) (suc at)
 behind_one None b names at = refl
 behind_one (Some name) b names at = refl
-
-up : (n : ℕ) → suc n + 1 ≡ suc (n + 1)
-up n = omega arith
 
 pub one_same : (open_ names : List (List ℕ)) (at : ℕ) → same_at open_ names at ≡ true
     → common (drop at open_) (drop at names) ≡ common (drop (at + 1) open_) (drop (at + 1) names) + 1
@@ -106,9 +105,6 @@ between page closed opened open_ folders names path kept count f k c e1 e2 =
 
 -- ---- folders that two ways have
 
-more : (n : ℕ) → n + 1 ≡ suc n
-more n = omega arith
-
 pub same_front : (open_ names : List (List ℕ)) → take (common open_ names) names ≡ take (common open_ names) open_
 same_front [] [] = refl
 same_front [] (b ∷ names) = refl
@@ -118,7 +114,7 @@ same_front (a ∷ open_) (b ∷ names) = by (bytes_eq a b) refl (same_front open
     by : (c : Bool) → bytes_eq a b ≡ c → take (common open_ names) names ≡ take (common open_ names) open_
         → take (cond c (common open_ names + 1) 0) (b ∷ names) ≡ take (cond c (common open_ names + 1) 0) (a ∷ open_)
     by true e others =
-        rw (more (common open_ names))
+        rw (add-one (common open_ names))
         (ap (λ (n : List ℕ). n ∷ take (common open_ names) names) (sym ((bytes_eq-Decides a b).0 e))
         ∙ ap (λ (ns : List (List ℕ)). a ∷ ns) others)
     by false e others = refl

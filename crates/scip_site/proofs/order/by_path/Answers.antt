@@ -2,7 +2,7 @@ use Rattle.std.proofs.Common.{rules, ◌≡◌, ℕ, subst}
 use Rattle.std.specs.Ordering.{is_lt}
 use Rattle.std.proofs.lemmas.Fn.{always_returns_same}
 use Rattle.scip_query.specs.Tables.{path_cmp, IsTable}
-use Rattle.scip_site.proofs.OrderLemmas.{paths_rank}
+use Rattle.scip_query.proofs.TableLemmas.{paths_rank}
 use Rattle.scip_site.proofs.order.by_path.Goals as goal
 
 pub returns : goal.returns

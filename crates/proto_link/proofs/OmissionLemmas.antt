@@ -2,6 +2,7 @@
 use Rattle.std.proofs.Common.{◌≡◌, ◌↔◌, ◌⊎◌, inl, inr, ℕ, ◌<◌, zero, suc, List, [], ◌∷◌, length, Option, Some, None}
 use Rattle.std.proofs.Common.{refl, ap, sym, ◌∙◌, arith}
 use Rattle.std.specs.List.{slice_get}
+use Rattle.std.proofs.lemmas.Option.{same_Some}
 use Rattle.proto_decl.specs.Facts.{Facts, AreOfSomeFile, NamesInOrder, PackageInOrder}
 use Rattle.proto_visibility.specs.declared.place.FilePlace.{FilePlace}
 use Rattle.proto_visibility.specs.declared.fault.LinkFault.{LinkFault}
@@ -16,9 +17,6 @@ use Rattle.proto_visibility.specs.Kept.{Omissions, IsKept, IsMet, IsOmission, Ar
 use Rattle.proto_visibility.proofs.ClashLemmas.{clash_by}
 use Rattle.proto_visibility.proofs.KeptLemmas.{one_kept, met}
 use Rattle.proto_link.proofs.OneTargetLemmas.{one_clash_of}
-
-some : {X : Type 0} (a b : X) → Some a ≡ Some b → a ≡ b
-some a b e = cc
 
 one_list : {X : Type 0} (xs ys : List X) → length xs ≡ length ys
     → ((k : ℕ) (x y : X) → slice_get xs k ≡ Some x → slice_get ys k ≡ Some y → x ≡ y) → xs ≡ ys
@@ -41,7 +39,7 @@ no_item files number item unread is same = by (facts_of item is)
     by : (its : (facts : Facts) × HasFacts files item.place.file facts) → ⊥
     by its =
         let file : its.1.file ≡ unread.file =
-        some its.1.file unread.file (sym its.1.numbered ∙ (ap (slice_get files) same ∙ unread.numbered)) in
+        same_Some its.1.file unread.file (sym its.1.numbered ∙ (ap (slice_get files) same ∙ unread.numbered)) in
         let wrong : Some its.0 ≡ None = sym its.1.known ∙ (ap (λ (f : File). f.facts) file ∙ unread.unread) in
         absurd (cc)
 
@@ -81,12 +79,12 @@ module _ (files : List File) (origins : HaveOrigins files)
       → slice_get a number ≡ Some o → slice_get b number ≡ Some p
       → IsOmission files a number o → IsOmission files b number p → o ≡ p
   one_omission a b are too number None p at there x y =
-      sym (some p None (sym there ∙ (one_kept files a b are too number).0 at))
+      sym (same_Some p None (sym there ∙ (one_kept files a b are too number).0 at))
   one_omission a b are too number (Some (MissingImport place)) p at there x y = absurd x
   one_omission a b are too number (Some (Unresolved place)) p at there x y = absurd x
   one_omission a b are too number (Some Memory) p at there x y = absurd x
   one_omission a b are too number (Some (Broken m)) None at there x y =
-      some (Some (Broken m)) None (sym at ∙ (one_kept files a b are too number).1 there)
+      same_Some (Some (Broken m)) None (sym at ∙ (one_kept files a b are too number).1 there)
   one_omission a b are too number (Some (Broken m)) (Some (Broken n)) at there x y =
       ap (λ k. Some (Broken k)) (x.0 ∙ sym y.0)
   one_omission a b are too number (Some (Broken m)) (Some (Duplicate first second)) at there x y =
@@ -95,7 +93,7 @@ module _ (files : List File) (origins : HaveOrigins files)
   one_omission a b are too number (Some (Broken m)) (Some (Unresolved place)) at there x y = absurd y
   one_omission a b are too number (Some (Broken m)) (Some Memory) at there x y = absurd y
   one_omission a b are too number (Some (Duplicate first second)) None at there x y =
-      some (Some (Duplicate first second)) None (sym at ∙ (one_kept files a b are too number).1 there)
+      same_Some (Some (Duplicate first second)) None (sym at ∙ (one_kept files a b are too number).1 there)
   one_omission a b are too number (Some (Duplicate first second)) (Some (Broken n)) at there x y =
       absurd (unread_or_clash a are number first second y.1 x)
   one_omission a b are too number (Some (Duplicate first second)) (Some (Duplicate other its)) at there x y =

@@ -1,12 +1,13 @@
 -- Where items and imports stand there is one, and in files without a clash a full name has one declaration.
-use Rattle.std.proofs.Common.{◌≡◌, inl, inr, ℕ, ◌+◌, ◌-◌, ◌<◌, ◌≤◌, ◌||◌, Bool, true, false, zero, suc, List, [], ◌∷◌}
+use Rattle.std.proofs.Common.{◌≡◌, inl, inr, ℕ, ◌+◌, ◌-◌, ◌<◌, ◌≤◌, ◌||◌, true, false, zero, suc, List, [], ◌∷◌}
 use Rattle.std.proofs.Common.{◌++◌, map, Some, refl, ap, sym, ◌∙◌, subst, arith}
 use Rattle.std.specs.List.{Contains, slice_get}
-use Rattle.std.proofs.lemmas.Bool.{cases_order, false≢true}
+use Rattle.std.proofs.lemmas.Bool.{cases_order, or_left}
 use Rattle.std.specs.Option.{option_map}
 use Rattle.std.proofs.lemmas.Option.{slice_get_within, slice_get_cases, slice_get-map}
 use Rattle.std.proofs.lemmas.List.Elements.{Contains-push, Contains-append_left, Contains-append_right}
 use Rattle.std.proofs.lemmas.List.Elements.{Contains-append_cases}
+use Rattle.std.proofs.Math.Bool.{or-true}
 use Rattle.proto_lex.specs.declared.span.Span.{Span}
 use Rattle.proto_lex.specs.Lexed.{AreInOrder}
 use Rattle.proto_decl.specs.Names.{package_of}
@@ -172,14 +173,6 @@ neither a b not nor = elim (cases_order a.file b.file) [
   | inr unequal ↦ elim unequal [ inl less ↦ absurd (not (inl less)) | inr more ↦ absurd (nor (inl more)) ]
 ]
 
-or_true : (b : Bool) → (b || true) ≡ true
-or_true true = refl
-or_true false = refl
-
-true_or : (a b : Bool) → a ≡ true → (a || b) ≡ true
-true_or true b e = refl
-true_or false b e = absurd (false≢true e)
-
 -- ---- the files
 
 module _ (files : List File) (origins : HaveOrigins files)
@@ -236,14 +229,14 @@ module _ (files : List File) (origins : HaveOrigins files)
         second_is = also;
         ordered = before;
         one_name = named;
-        declares = true_or a.is_declaration b.is_declaration declares;
+        declares = or_left a.is_declaration b.is_declaration declares;
       }))
       (λ before. clear b a (record {
         first_is = also;
         second_is = is;
         ordered = before;
         one_name = sym named;
-        declares = ap (λ d. b.is_declaration || d) declares ∙ or_true b.is_declaration;
+        declares = ap (λ d. b.is_declaration || d) declares ∙ or-true b.is_declaration;
       }))
 
   item_of : (number index : ℕ) (d : Declaration) (at : IsDeclaredAt files number index d)

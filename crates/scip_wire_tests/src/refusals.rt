@@ -3,7 +3,7 @@
 
 use crate::calls::{decoded, see, see_all};
 use crate::indexes::{MESSAGE, UNPACKED};
-use scip_wire::{WireFault, WriteFault};
+use scip_wire::{TooLarge, WireFault, WriteFault};
 use std::alloc::Global;
 use std::test::Fail;
 
@@ -148,5 +148,9 @@ fn faults_are_printed_by_their_names(rt: HostRuntime) -> Result<(), Fail> {
     let (large, cut) = (WriteFault::TooLarge, WriteFault::Write(9));
     let text = format!(in rt.alloc(); "{large} {cut}")?;
     see(&rt, text.as_str() == "TooLarge Write(9)", "writing");
+    let (length, unread) = (TooLarge, WireFault::Memory);
+    let text = format!(in rt.alloc(); "{length} {unread}")?;
+    let is_printed = text.as_str() == "TooLarge Memory";
+    see(&rt, is_printed, "a length and want of memory");
     Ok(())
 }

@@ -6,8 +6,8 @@ use proto_lex::Text;
 use std::alloc::Global;
 use test_kit::{text_of, tokens_of};
 
-/// Sources, and how many of their beginnings are files. Of the first one these are eight: behind each of its statements,
-/// and behind each of their line ends.
+/// Sources, and how many of their beginnings are files. Of the first one these are eight: behind each of its
+/// statements, and behind each of their line ends.
 const SOURCES: [(&str, usize); 4] = [
     (
         "syntax = \"proto3\";\npackage p;\nmessage Foo {}\nmessage M { string Foo = 1; Foo x = 2; }\n",

@@ -2,7 +2,7 @@
 
 use crate::calls::{PAST, PROTO3, SYNTAX, fault_of, first_other, joined, offset_of, see, tree_of};
 use proto_lex::{Text, Tokens};
-use proto_parse::{Dialect, FieldType, File, FileItem, Item, Leaf};
+use proto_parse::{Dialect, FieldType, File, FileItem, Item, Leaf, SyntaxFault};
 use std::alloc::{AllocError, Global};
 use std::test::Fail;
 use test_kit::{text_of, tokens_of};
@@ -41,6 +41,14 @@ fn sources_that_are_refused(rt: HostRuntime) {
     see(&rt, first_other(alloc, "", &OF_ALL, Dialect::All));
 }
 
+#[test]
+fn want_of_memory_is_printed_by_its_name(rt: HostRuntime) -> Result<(), Fail> {
+    let text = format!(in rt.alloc(); "{}", SyntaxFault::Memory)?;
+    let is_printed = text.as_str() == "Memory";
+    see(&rt, if is_printed { None } else { Some(0) });
+    Ok(())
+}
+
 /// A source with every production, where custom options are refused.
 const PLAIN: &str = "syntax = 'pro' \"to3\"; import public 'a' \"b\"; import weak 'c'; package p.q;
 option o.p = q.r; option a = -inf; option b = +1.5; option c = 'x' 'y'; ;
@@ -75,7 +83,8 @@ enum group { required = 0; extensions = 1; } map<string, group> p = 6; }
 service extensions { rpc group(required) returns (group); } enum required { group = 0; } option group = required;
 message extensions { extension f = 1; }";
 
-/// Sources that are files. The first row reads: this one is a file where only proto3 without custom options is accepted.
+/// Sources that are files. The first row reads: this one is a file where only proto3 without custom options is
+/// accepted.
 static FILES: [(&str, Dialect); 5] = [
     (PLAIN, PROTO3),
     (CUSTOM_OPTIONS, PAST),

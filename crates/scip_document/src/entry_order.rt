@@ -2,8 +2,8 @@
 //!
 //! A comparison of two texts reads memory in two places that are far apart. So the numbers of a source with many
 //! entries are first put near their order: by the file, the packages and the topmost declarations that they are or are
-//! in, which have ranks, and by text only in one of these. If that is their order already, the sort by text that follows
-//! looks at each just once. How near the first order comes is promised nowhere: only time depends on it.
+//! in, which have ranks, and by text only in one of these. If that is their order already, the sort by text that
+//! follows looks at each just once. How near the first order comes is promised nowhere: only time depends on it.
 
 ghost use Rattle.std.specs.Prelude.{◌≡◌, OnOk};
 ghost use Rattle.std.specs.Ordering.{nat_cmp};

@@ -67,7 +67,8 @@ impl JoinedTexts {
 
     /// The text with an index.
     pub(crate) fn get(&self, index: usize) -> Option<&str>
-        ensures { MatchOption result (slice_get self.now index ≡ None) (λ text. slice_get self.now index ≡ Some text.now) }
+        ensures { MatchOption result (slice_get self.now index ≡ None)
+            (λ text. slice_get self.now index ≡ Some text.now) }
     {
         if index >= self.ends.len() {
             return None;

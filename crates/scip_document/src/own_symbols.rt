@@ -87,7 +87,8 @@ impl OwnSymbols {
 
     /// The text with a number.
     pub(crate) fn get(&self, number: usize) -> Option<LentSymbol<'_>>
-        ensures { MatchOption result (slice_get self.now number ≡ None) (λ text. slice_get self.now number ≡ Some text) }
+        ensures { MatchOption result (slice_get self.now number ≡ None)
+            (λ text. slice_get self.now number ≡ Some text) }
     {
         match rest_at(self.first.as_slice(), &self.rests, number) {
             Some(rest) => Some(LentSymbol {

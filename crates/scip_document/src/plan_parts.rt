@@ -13,6 +13,7 @@ use proto_decl::FileFacts;
 use proto_lex::Encoding;
 use scip_model::{DocumentParts, LentInformation, LentOccurrence, LentSymbol, LentTexts};
 use sequences::OwnedText;
+use std::alloc::Global;
 
 /// What shows an entry that is no declaration's, by its number: 0 is the file's, shown by its path, and behind it come
 /// its packages', shown by their names. Where none has the number, the empty text.
@@ -131,5 +132,9 @@ impl<'a, 't> DocumentParts for DocumentPlan<'a, 't> {
 
     fn position_encoding(&self) -> i32 {
         encoding_number(self.encoding)
+    }
+
+    fn let_occurrences_go(&mut self, alloc: Global) {
+        self.occurrences = Vec::new(alloc);
     }
 }

@@ -69,7 +69,8 @@ fn front_text(alloc: Global, id: &PackageId, facts: &FileFacts) -> Result<OwnedT
     Ok(OwnedText::from_string(printed))
 }
 
-/// Adds what the text of a declaration's symbol has behind the front, which is the text of its package.
+/// Adds what the text of a declaration's symbol has behind the front, which is the text of its package: each begins
+/// with that.
 fn push_rest(
     alloc: Global,
     rests: &mut JoinedTexts,
@@ -78,7 +79,8 @@ fn push_rest(
 ) -> Result<(), AllocError>
     ensures { OnOk result ((id : Package) (facts : Facts)
         → front.now ≡ text_of id (OfPackage (component_names facts.package_name))
-        → behind front.now rests.new ≡ behind front.now rests.old ++ text_of id (declaration_at facts declaration.now) ∷ []) }
+        → behind front.now rests.new
+        ≡ behind front.now rests.old ++ text_of id (declaration_at facts declaration.now) ∷ []) }
 {
     let text = print_below(alloc, front, declaration.path())?;
     match text.as_str().strip_prefix(front) {

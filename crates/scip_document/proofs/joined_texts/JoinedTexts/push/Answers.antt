@@ -13,7 +13,8 @@ invariant_of-self-2 c =
     let listed : c.push.new.self.items ≡ ends ++ length (text ++ more) ∷ [] =
     c.in_ok-push.ensures.items
     ∙ (ap (λ (its : List ℕ). its ++ c.len.result ∷ []) c.reserve.ensures.items
-    ∙ ap (λ (n : ℕ). ends ++ n ∷ []) (c.len.ensures ∙ (c.push_str.new.self.bytes.ok.0 ∙ ap (λ (its : List ℕ). length its) joined))) in
+    ∙ ap (λ (n : ℕ). ends ++ n ∷ []) (c.len.ensures
+    ∙ (c.push_str.new.self.bytes.ok.0 ∙ ap (λ (its : List ℕ). length its) joined))) in
     subst (λ (its : List ℕ). AreEnds its 0 c.push.new.self.items) (sym joined)
     (subst (λ (its : List ℕ). AreEnds (text ++ more) 0 its) (sym listed)
     (ends_more text more 0 ends c.utf8.text c.self.invariant))
@@ -27,7 +28,8 @@ returns c =
     let listed : c.push.new.self.items ≡ ends ++ length (text ++ more) ∷ [] =
     c.in_ok-push.ensures.items
     ∙ (ap (λ (its : List ℕ). its ++ c.len.result ∷ []) c.reserve.ensures.items
-    ∙ ap (λ (n : ℕ). ends ++ n ∷ []) (c.len.ensures ∙ (c.push_str.new.self.bytes.ok.0 ∙ ap (λ (its : List ℕ). length its) joined))) in
+    ∙ ap (λ (n : ℕ). ends ++ n ∷ []) (c.len.ensures
+    ∙ (c.push_str.new.self.bytes.ok.0 ∙ ap (λ (its : List ℕ). length its) joined))) in
     ap (λ (its : List ℕ). parts_from its 0 c.push.new.self.items) joined
     ∙ (ap (λ (its : List ℕ). parts_from (text ++ more) 0 its) listed
     ∙ (parts_more text more 0 ends c.self.invariant

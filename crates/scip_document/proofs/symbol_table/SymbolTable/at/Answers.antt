@@ -16,6 +16,7 @@ returns-in-None c =
     let own = c.self.inside.own in
     let others = map string_bytes c.self.inside.others.keys in
     c.other_symbol.ensures
-    ∙ (ap (λ (place : ℕ). text_at others place) (c.saturating_sub.ensures ∙ ap (λ (n : ℕ). c.args.number - n) c.len.ensures)
+    ∙ (ap (λ (place : ℕ). text_at others place)
+    (c.saturating_sub.ensures ∙ ap (λ (n : ℕ). c.args.number - n) c.len.ensures)
     ∙ (text_of_other own others c.args.number (none_past own c.args.number c.in-None.ensures)
     ∙ ap (λ (texts : List (List ℕ)). text_at texts c.args.number) c.self.view_is))

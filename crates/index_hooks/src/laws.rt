@@ -3,7 +3,8 @@
 
 ghost use Rattle.index_hooks.specs.OneChoice.{OneChoice};
 
-use crate::registry::{Chooses, Promises, Registry};
+use crate::registry::{Promises, Registry};
+use crate::turns::Chooses;
 
 /// If the promise of each filter and of each rule allows at most one answer for what is seen of a declaration, the
 /// registry has one choice for it.

@@ -73,6 +73,6 @@ pub use kinds::{KindIn, Kinds};
 pub use laws::one_choice;
 pub use names::NamePrefix;
 pub use promise::{DocPromise, FilterPromise};
-pub use registry::{Chooses, MAX_HOOKS, Promises, Registry};
+pub use registry::{MAX_HOOKS, Promises, Registry};
 pub use rule::DocRule;
-pub use turns::{Ticket, Turns};
+pub use turns::{Chooses, Ticket, Turns};

@@ -8,7 +8,7 @@ ghost use Rattle.index_hooks.specs.Turns.{IsTurnOf, taken, place_of};
 use crate::choice::{Choice, DocChoice};
 use crate::fault::HookFault;
 use crate::hook::{BoxedFilter, BoxedRule, DocHook, FilterHook};
-use crate::turns::{Ticket, Turns};
+use crate::turns::{Chooses, Ticket, Turns};
 use proto_decl::DeclView;
 use sequences::Sequence;
 use std::alloc::Global;
@@ -23,19 +23,6 @@ pub struct Registry {
     rules: Sequence<BoxedRule>,
     ghost few_filters: { length filters ≤ most_hooks },
     ghost few_rules: { length rules ≤ most_hooks },
-}
-
-/// What chooses for a declaration.
-pub trait Chooses {
-    ghost use Rattle.proto_decl.specs.Seen.{Seen};
-    ghost use Rattle.index_hooks.specs.declared.choice.Choice.{Choice};
-
-    // The choices that may come.
-    ghost allows: { Self → Seen → Choice → Type 0 };
-
-    /// The choice for a declaration.
-    fn choose(&self, view: &DeclView<'_>) -> Choice
-        ensures { allows self.now view.now result };
 }
 
 /// What has promises about the answers of its filters and rules, and nothing else is known of these.
@@ -170,9 +157,8 @@ impl Chooses for Registry {
 
     /// Asks the filters in the order in which they were added, up to the first that answers `false`,
     /// and then the rules, up to the first that doesn't pass, also for what isn't kept.
-    fn choose(&self, view: &DeclView<'_>) -> Choice {
+    fn choose_by(&self, mut turns: Turns, view: &DeclView<'_>) -> Choice {
         let filters = self.filters.as_slice();
-        let mut turns = Turns::new();
         let keep = keeps(filters, &mut turns, view);
         turns.leave_out(filters.len());
         let doc = documents(filters.len(), self.rules.as_slice(), &mut turns, view);

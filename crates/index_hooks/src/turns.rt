@@ -1,7 +1,10 @@
-//! The turns of a choice.
+//! What chooses, and the turns of a choice.
 
 ghost use Rattle.std.specs.Prelude.{◌≡◌, ◌+◌, ◌<◌, ◌≤◌};
 ghost use Rattle.index_hooks.specs.Turns.{most_turns, taken};
+
+use crate::choice::Choice;
+use proto_decl::DeclView;
 
 /// The right to ask one filter or one rule, once. Only `Turns` make tickets. A ticket can't be copied, and `ask`
 /// takes it by value.
@@ -11,7 +14,7 @@ pub struct Ticket {
 }
 
 /// The turns of one choice: those of the filters in their order, and then those of the rules in theirs. Each is given
-/// out once.
+/// out once. Only `choose` makes turns, those of one choice for each call.
 #[derive(Debug, Drop)]
 pub struct Turns {
     taken: usize,
@@ -22,7 +25,7 @@ impl Turns {
     ghost use Rattle.index_hooks.specs.Turns.{most_turns, taken, place_of};
 
     /// The turns of a choice for which nobody has been asked yet.
-    pub fn new() -> Turns
+    fn new() -> Turns
         ensures { taken result ≡ 0 }
     {
         Turns { taken: 0 }
@@ -45,5 +48,26 @@ impl Turns {
         ensures { taken self.new ≡ place }
     {
         self.taken = place;
+    }
+}
+
+/// What chooses for a declaration.
+pub trait Chooses {
+    ghost use Rattle.proto_decl.specs.Seen.{Seen};
+    ghost use Rattle.index_hooks.specs.declared.choice.Choice.{Choice};
+
+    // The choices that may come.
+    ghost allows: { Self → Seen → Choice → Type 0 };
+
+    /// The choice for a declaration, by these turns, of which none has been given out.
+    fn choose_by(&self, turns: Turns, view: &DeclView<'_>) -> Choice
+        requires { taken turns ≡ 0 }
+        ensures { allows self.now view.now result };
+
+    /// The choice for a declaration.
+    final fn choose(&self, view: &DeclView<'_>) -> Choice
+        ensures { allows self.now view.now result }
+    {
+        self.choose_by(Turns::new(), view)
     }
 }

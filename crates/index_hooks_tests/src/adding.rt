@@ -1,8 +1,9 @@
 //! Filters and rules that are added: the room of a registry, and what comes back.
 
-use crate::shared::{chooses, message, no_calls, noting_filter, see, see_added, ticket};
+use crate::shared::{Alone, chooses, message, no_calls, noting_filter, see, see_added};
 use index_hooks::{
-    BoxedFilter, DocAlways, DocChoice, FilterHook, HookFault, MAX_HOOKS, Registry, one_choice,
+    BoxedFilter, BoxedRule, Chooses, DocAlways, DocChoice, HookFault, MAX_HOOKS, Registry,
+    one_choice,
 };
 use std::test::Fail;
 
@@ -14,9 +15,9 @@ fn a_new_registry_keeps_all_with_the_leading_text(rt: HostRuntime) {
 }
 
 /// Whether a filter came back that keeps nothing, since the registry is full.
-fn is_dropping_filter(answer: Result<(), (BoxedFilter, HookFault)>) -> bool {
+fn is_dropping_filter(answer: Result<(), (BoxedFilter, HookFault)>, rule: &BoxedRule) -> bool {
     match answer {
-        Err((filter, HookFault::Full)) => !filter.ask(ticket(), &message()),
+        Err((filter, HookFault::Full)) => !Alone(&filter, rule).choose(&message()).keep,
         _ => false,
     }
 }
@@ -25,7 +26,7 @@ fn is_dropping_filter(answer: Result<(), (BoxedFilter, HookFault)>) -> bool {
 fn seventeenth_filter_comes_back(rt: HostRuntime) -> Result<(), Fail> {
     let alloc = rt.alloc();
     let calls = no_calls(alloc)?;
-    let rule = Box::new(alloc, DocAlways(DocChoice::Both).rule())?;
+    let rule: BoxedRule = Box::new(alloc, DocAlways(DocChoice::Both).rule())?;
     let dropping = noting_filter(alloc, false, 0, &calls)?;
     let mut registry = Registry::new(alloc);
     for _ in 0..MAX_HOOKS {
@@ -34,7 +35,7 @@ fn seventeenth_filter_comes_back(rt: HostRuntime) -> Result<(), Fail> {
             see_added(&rt, registry.add_filter(filter));
         }
     }
-    let is_back = is_dropping_filter(registry.add_filter(dropping));
+    let is_back = is_dropping_filter(registry.add_filter(dropping), &rule);
     see(&rt, is_back && MAX_HOOKS == 16, "the filter that came back");
     if let Err((rule, _)) = registry.add_doc(rule) {
         see_added(&rt, registry.add_doc(rule));

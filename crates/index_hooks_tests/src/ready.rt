@@ -1,9 +1,9 @@
 //! The ready promises and callbacks, once each.
 
-use crate::shared::{message, see, ticket};
+use crate::shared::{Alone, message, see};
 use index_hooks::{
-    AnyAnswer, DocAlways, DocChoice, DocHook, DocOneOf, DocPromise, FilterHook, FilterPromise,
-    KindIn, Kinds, NamePrefix,
+    AnyAnswer, BoxedFilter, BoxedRule, Choice, Chooses, DocAlways, DocChoice, DocOneOf, DocPromise,
+    FilterPromise, KindIn, Kinds, NamePrefix,
 };
 use proto_decl::{DeclView, DeclarationKind};
 use std::alloc::{AllocError, Global};
@@ -19,14 +19,21 @@ fn any_and_kinds(view: &DeclView<'_>) -> bool {
         && KindIn(kinds).allows(view, false)
 }
 
-/// Whether what is under the name `a` is kept.
+/// Whether a promise allows to keep what is under the name `a`.
 fn under_a(alloc: Global, view: &DeclView<'_>) -> Result<bool, AllocError> {
     let promise = NamePrefix(String::from_str(alloc, "a")?);
-    let filter = NamePrefix::filter(alloc, "a")?;
-    Ok(promise.allows(view, true) && filter.ask(ticket(), view))
+    Ok(promise.allows(view, true))
 }
 
-/// Whether a rule answers `Both`, and a promise of that answer allows it, and no other.
+/// Whether a filter keeps what is under the name `a`, and a rule answers `Both`.
+fn are_asked(alloc: Global, view: &DeclView<'_>) -> Result<bool, AllocError> {
+    let filter: BoxedFilter = Box::new(alloc, NamePrefix::filter(alloc, "a")?)?;
+    let rule: BoxedRule = Box::new(alloc, DocAlways(DocChoice::Both).rule())?;
+    let (keep, doc) = (true, DocChoice::Both);
+    Ok(Alone(&filter, &rule).choose(view) == Choice { keep, doc })
+}
+
+/// Whether a promise of the answer `Both` allows it, and no other.
 fn both_alone(alloc: Global, view: &DeclView<'_>) -> Result<bool, AllocError> {
     let listed = DocOneOf(Vec::from_slice(alloc, &[DocChoice::Both])?);
     let always = DocAlways(DocChoice::Both);
@@ -34,8 +41,7 @@ fn both_alone(alloc: Global, view: &DeclView<'_>) -> Result<bool, AllocError> {
         listed.allows(view, DocChoice::Both)
             && !listed.allows(view, DocChoice::Pass)
             && always.allows(view, DocChoice::Both)
-            && !always.allows(view, DocChoice::Pass)
-            && always.rule().ask(ticket(), view) == DocChoice::Both,
+            && !always.allows(view, DocChoice::Pass),
     )
 }
 
@@ -45,5 +51,6 @@ fn ready_promises_and_callbacks(rt: HostRuntime) -> Result<(), Fail> {
     see(&rt, any_and_kinds(&view), "any answer, and kinds");
     see(&rt, under_a(rt.alloc(), &view)?, "names");
     see(&rt, both_alone(rt.alloc(), &view)?, "rules");
+    see(&rt, are_asked(rt.alloc(), &view)?, "hooks");
     Ok(())
 }

@@ -1,8 +1,8 @@
 //! What several tests share.
 
 use index_hooks::{
-    AnyAnswer, Choice, Chooses, DocCallback, DocChoice, DocRule, Filter, FilterCallback, HookFault,
-    Registry, Ticket, Turns,
+    AnyAnswer, BoxedFilter, BoxedRule, Choice, Chooses, DocCallback, DocChoice, DocHook, DocRule,
+    Filter, FilterCallback, FilterHook, HookFault, Registry, Turns,
 };
 use proto_decl::{DeclView, DeclarationKind};
 use std::alloc::{AllocError, Global};
@@ -25,10 +25,19 @@ pub(crate) fn message() -> DeclView<'static> {
     DeclView::new(DeclarationKind::Message, "M", "a.M", "before", "behind")
 }
 
-/// The ticket for a filter or a rule that is asked by itself.
-pub(crate) fn ticket() -> Ticket {
-    let mut turns = Turns::new();
-    turns.next()
+/// Asks this filter and this rule alone.
+#[derive(Drop)]
+pub(crate) struct Alone<'a>(pub &'a BoxedFilter, pub &'a BoxedRule);
+
+impl<'a> Chooses for Alone<'a> {
+    ghost allows = { λ _ _ _. Unit {0} };
+
+    fn choose_by(&self, mut turns: Turns, view: &DeclView<'_>) -> Choice {
+        Choice {
+            keep: self.0.ask(turns.next(), view),
+            doc: self.1.ask(turns.next(), view),
+        }
+    }
 }
 
 /// The calls of callbacks in order, a hexadecimal digit each: each callback has one of its own.

@@ -3,6 +3,7 @@
 ghost use Rattle.std.specs.Prelude.{◌≡◌, IfOk};
 ghost use Rattle.std.specs.Option.{option_map};
 ghost use Rattle.std.specs.String.{string_bytes};
+ghost use Rattle.index_hooks.specs.Turns.{place_of};
 ghost use Rattle.programs.specs.Choices.{IsKeptBy, choice_of_word, documented_by};
 
 use command_line::DocWord;
@@ -74,8 +75,9 @@ impl OptionChoices {
         })
     }
 
-    /// Whether a declaration is kept.
+    /// Whether a declaration is kept. The filter has the first turn.
     fn keeps(&self, ticket: Ticket, view: &DeclView<'_>) -> bool
+        requires { place_of ticket ≡ 0 }
         ensures { IsKeptBy (option_map (λ f. string_bytes f.0) self.now.filter) view.now result }
     {
         match &self.filter {
@@ -84,8 +86,9 @@ impl OptionChoices {
         }
     }
 
-    /// Which texts document a declaration.
+    /// Which texts document a declaration. The rule has the second turn.
     fn documents(&self, ticket: Ticket, view: &DeclView<'_>) -> DocChoice
+        requires { place_of ticket ≡ 1 }
         ensures { result ≡ documented_by (option_map (λ r. r.0) self.now.rule) }
     {
         match &self.rule {
@@ -106,8 +109,7 @@ impl Chooses for OptionChoices {
     ghost allows = { λ choices seen choice. IsChosenBy (option_map (λ f. string_bytes f.0) choices.filter)
         (option_map (λ r. r.0) choices.rule) seen choice };
 
-    fn choose(&self, view: &DeclView<'_>) -> Choice {
-        let mut turns = Turns::new();
+    fn choose_by(&self, mut turns: Turns, view: &DeclView<'_>) -> Choice {
         Choice {
             keep: self.keeps(turns.next(), view),
             doc: self.documents(turns.next(), view),

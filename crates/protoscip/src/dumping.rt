@@ -21,7 +21,7 @@ use crate::fault::Fault;
 use crate::listing::dump_text;
 use crate::output::write_text;
 use crate::reading_back::read_back;
-use index_hooks::{Choice, Chooses, DocChoice};
+use index_hooks::{Choice, Chooses, DocChoice, Turns};
 use index_pool::{NoGate, Workers};
 use proto_decl::DeclView;
 use proto_lex::Encoding;
@@ -49,7 +49,7 @@ impl Chooses for DefaultChoices {
 
     ghost allows = { λ _ _ choice. IsDefaultChoice choice };
 
-    fn choose(&self, _view: &DeclView<'_>) -> Choice {
+    fn choose_by(&self, _turns: Turns, _view: &DeclView<'_>) -> Choice {
         Choice {
             keep: true,
             doc: DocChoice::Leading,

@@ -1,6 +1,6 @@
 //! A chooser that counts how often it is asked.
 
-use index_hooks::{Choice, Chooses, Registry};
+use index_hooks::{Choice, Chooses, Registry, Turns};
 use proto_decl::DeclView;
 use std::sync::atomic::{AtomicU64, Ordering};
 
@@ -29,8 +29,8 @@ impl<'a> Asking<'a> {
 impl<'a> Chooses for Asking<'a> {
     ghost allows = { λ _ _ _. Unit {0} };
 
-    fn choose(&self, view: &DeclView<'_>) -> Choice {
+    fn choose_by(&self, turns: Turns, view: &DeclView<'_>) -> Choice {
         self.asked.fetch_add(1, Ordering::SeqCst);
-        self.registry.choose(view)
+        self.registry.choose_by(turns, view)
     }
 }

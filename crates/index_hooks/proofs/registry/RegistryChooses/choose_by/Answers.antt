@@ -1,5 +1,5 @@
 -- Filters and rules are asked apart.
-use Rattle.index_hooks.proofs.registry.RegistryChooses.choose.Goals as goal
+use Rattle.index_hooks.proofs.registry.RegistryChooses.choose_by.Goals as goal
 
 pub returns : goal.returns
 returns g c = record {

@@ -1,6 +1,6 @@
 -- What the facts of a source give to the functions that list its occurrences.
 use Rattle.std.proofs.Common.{◌≡◌, ◌↔◌, sym, refl, subst, ℕ, zero, suc, ◌<◌, Bool, true, false, IsTrue, Some, List, []}
-use Rattle.std.proofs.Common.{◌∷◌, ◌++◌, length, map}
+use Rattle.std.proofs.Common.{◌∷◌, ◌++◌, length, map, ⊎_elim}
 use Rattle.std.specs.List.{All, slice_get}
 use Rattle.std.proofs.lemmas.Bool.{false_from_ne_true, false≢true}
 use Rattle.std.proofs.lemmas.Cmp.{nat_list_eq_equiv}
@@ -21,7 +21,7 @@ use Rattle.scip_model.specs.declared.records.Occurrence.{Occurrence}
 use Rattle.scip_document.specs.OccurrenceOrder.{occurrence_cmp}
 use Rattle.scip_document.specs.Tables.Listing.{has_path}
 use Rattle.scip_document.specs.Tables.Merges.{IsMerged, AreUntied}
-use Rattle.scip_document.proofs.MergeLemmas.{either, head_or_tail, not_in_none}
+use Rattle.scip_document.proofs.MergeLemmas.{head_or_tail, not_in_none}
 use Rattle.scip_document.proofs.EntryLemmas.{at-index}
 
 pub all_of_map : {X Y : Type 0} (P : Y → Type 0) (f : X → Y) (xs : List X) → All P (map f xs) → All (λ x. P (f x)) xs
@@ -87,7 +87,7 @@ record IsAtPath (files : List File) (p : List ℕ) : Type 0 where
 
 at_path : (files : List File) (p : List ℕ) → HasPath files p → IsAtPath files p
 at_path [] p h = absurd (not_in_none p h)
-at_path (f ∷ fs) p h = either (λ same. record { number = zero; file = f; numbered = refl; path = same })
+at_path (f ∷ fs) p h = ⊎_elim (λ same. record { number = zero; file = f; numbered = refl; path = same })
     (λ others. next (at_path fs p others)) (head_or_tail p f.path (map (λ (file : File). file.path) fs) h)
   where
     next : IsAtPath fs p → IsAtPath (f ∷ fs) p

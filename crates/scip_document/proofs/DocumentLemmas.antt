@@ -1,6 +1,6 @@
 -- Of a source's facts: its lists of occurrences ascend, and merged they are the list of what occurs.
 use Rattle.std.proofs.Common.{◌≡◌, ap, refl, subst, inl, inr, ℕ, ◌≤◌, Bool, true, false, Option, Some, None, List, []}
-use Rattle.std.proofs.Common.{◌∷◌, ◌++◌, map, arith}
+use Rattle.std.proofs.Common.{◌∷◌, ◌++◌, map, arith, ⊎_elim}
 use Rattle.std.specs.Prelude.{if◌then◌else◌}
 use Rattle.std.specs.List.{AllZip, Contains, slice_get, flat_map}
 use Rattle.std.specs.declared.cmp.Ordering.TheVariants.{Equal}
@@ -33,7 +33,6 @@ use Rattle.scip_document.specs.Tables.Merges.{IsMerged, AreUntied}
 use Rattle.scip_document.specs.Tables.Listing.{own_occurrence, each_from, has_path, found_at, keeps, is_shown}
 use Rattle.scip_document.specs.Tables.Listing.{entity_of, at_import, at_package, at_declaration, at_entity, at_part}
 use Rattle.scip_document.specs.Tables.Listing.{at_component, at_target, at_use}
-use Rattle.scip_document.proofs.MergeLemmas.{either}
 use Rattle.scip_document.proofs.ListingLemmas.{StandAt, each_stand, ascends}
 use Rattle.scip_document.proofs.ListingLemmas.StandAt.{none as stands_none, skip as stands_skip, here as stands_here}
 use Rattle.scip_document.proofs.OccursLemmas.{InLists, lists_occur, occurs_listed}
@@ -178,7 +177,7 @@ module _ (ids : Packages) (encoding : Encoding) (text : List ℕ) where
       both : (first second whole : List Occurrence) → IsMerged occurrence_cmp first second whole
           → ((x : Occurrence) → Contains first x → Wanted x) → ((x : Occurrence) → Contains second x → Wanted x)
           → (x : Occurrence) → Contains whole x → Wanted x
-      both first second whole m from_first from_second x h = either (from_first x) (from_second x) ((m.all x).0 h)
+      both first second whole m from_first from_second x h = ⊎_elim (from_first x) (from_second x) ((m.all x).0 h)
 
       pub merged_lists : (a b c d : List Occurrence) → Merges own_list import_list a → Merges a package_list b
           → Merges b name_list c → Merges c use_list d
@@ -202,8 +201,8 @@ module _ (ids : Packages) (encoding : Encoding) (text : List ℕ) where
             exact = λ x. (
               both c use_list d fourth of_c of_uses x,
               λ wanted. (fourth.all x).1
-                  (either (λ l. inl ((third.all x).1
-                  (either (λ k. inl ((second.all x).1 (either (λ j. inl ((first.all x).1 j)) inr k))) inr l))) inr
+                  (⊎_elim (λ l. inl ((third.all x).1
+                  (⊎_elim (λ k. inl ((second.all x).1 (⊎_elim (λ j. inl ((first.all x).1 j)) inr k))) inr l))) inr
                   (occurs_listed files chosen ids encoding source text file at facts known found are_found one_target x
                   wanted)),
             );

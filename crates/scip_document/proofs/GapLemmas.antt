@@ -3,6 +3,7 @@ use Rattle.std.proofs.Common.{◌≡◌, sym, ap, refl, subst, ℕ, zero, suc, �
 use Rattle.std.proofs.Common.{arith}
 use Rattle.std.specs.List.{All, AllZip, Contains, slice_get}
 use Rattle.std.proofs.lemmas.List.Elements.{All-nil, All-cons, All-contains}
+use Rattle.std.proofs.lemmas.Option.{same_Some, none-some}
 use Rattle.proto_lex.specs.declared.span.Span.{Span}
 use Rattle.proto_decl.specs.Facts.{Facts}
 use Rattle.proto_decl.specs.declared.type_use.Use.{Use}
@@ -16,15 +17,6 @@ use Rattle.scip_document.specs.Gaps.AreLacking.{at_end, has, lacks}
 use Rattle.scip_document.specs.Tables.Listing.{each_from, found_at, unless_found, gap_at}
 use Rattle.scip_document.proofs.NamedLemmas.{same_facts}
 use Rattle.scip_document.proofs.OccursLemmas.{zip_at}
-
-none_is_some : {Y : Type 0} {y : Y} → None ≡ Some y → ⊥
-none_is_some h = cc
-
-some_is_none : {Y : Type 0} {y : Y} → Some y ≡ None → ⊥
-some_is_none h = cc
-
-some : {X : Type 0} (a b : X) → Some a ≡ Some b → a ≡ b
-some a b e = cc
 
 -- the first of a list that lacks something
 pub record IsFirstLacking {X : Type 0} (Has Lacks : X → Type 0) (span_of : X → Span) (xs : List X)
@@ -42,12 +34,12 @@ module _ {X : Type 0} (Has Lacks : X → Type 0) (span_of : X → Span) where
       → slice_get spans 0 ≡ None → All Has xs
   none_lacking _ _ at_end e = All-nil Has
   none_lacking _ _ (has {x = x} {xs = xs} {spans = spans} h more) e = All-cons Has x xs h (none_lacking xs spans more e)
-  none_lacking _ _ (lacks h more) e = absurd (some_is_none e)
+  none_lacking _ _ (lacks h more) e = absurd (none-some _ (sym e))
 
   pub first_lacking : (xs : List X) (spans : List Span) (span : Span) → AreLacking Has Lacks span_of xs spans
       → slice_get spans 0 ≡ Some span
       → IsFirstLacking Has Lacks span_of xs span
-  first_lacking _ _ span at_end e = absurd (none_is_some e)
+  first_lacking _ _ span at_end e = absurd (none-some _ e)
   first_lacking _ _ span (has {x = x} {xs = xs} {spans = spans} h more) e =
       let rest = first_lacking xs spans span more e in
       record {
@@ -66,7 +58,7 @@ module _ {X : Type 0} (Has Lacks : X → Type 0) (span_of : X → Span) where
     split = refl;
     others = All-nil Has;
     lacking = h;
-    place = some (span_of x) span e;
+    place = same_Some (span_of x) span e;
   }
 
 module _ (files : List File) (source : ℕ) where

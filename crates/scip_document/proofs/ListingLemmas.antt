@@ -1,6 +1,6 @@
 -- The lists that make up a document's occurrences have what they give, and ascend.
-use Rattle.std.proofs.Common.{◌≡◌, ◌∙◌, sym, ap, refl, subst, inl, inr, ℕ, zero, suc, ◌+◌, ◌<◌, ◌≤◌, Some, None, List}
-use Rattle.std.proofs.Common.{[], ◌∷◌, ◌++◌, length, arith, drop}
+use Rattle.std.proofs.Common.{◌≡◌, ◌∙◌, sym, ap, refl, subst, inl, inr, ℕ, zero, suc, ◌+◌, ◌<◌, ◌≤◌, Some, List}
+use Rattle.std.proofs.Common.{[], ◌∷◌, ◌++◌, length, arith, drop, ⊎_elim}
 use Rattle.std.specs.List.{All, AllByRecursion, Contains, slice_get, flat_map}
 use Rattle.std.specs.declared.cmp.Ordering.{Ordering}
 use Rattle.std.specs.declared.cmp.Ordering.TheVariants.{Less}
@@ -22,10 +22,8 @@ use Rattle.scip_document.specs.Tables.Listing.{each_from}
 use Rattle.std.proofs.lemmas.List.{append_assoc, append-nil, length-drop, nil_from_length}
 use Rattle.std.proofs.lemmas.Bool.{cases_order}
 use Rattle.std.proofs.lemmas.Bool.Decides.{nat_tests}
-use Rattle.scip_document.proofs.MergeLemmas.{not_in_none, either}
-
-none_is_some : {Y : Type 0} {y : Y} → None ≡ Some y → ⊥
-none_is_some f = cc
+use Rattle.std.proofs.lemmas.Option.{none-some}
+use Rattle.scip_document.proofs.MergeLemmas.{not_in_none}
 
 -- what a list gives, item by item
 
@@ -47,7 +45,7 @@ module _ {A B : Type 0} (gives : ℕ → A → List B) where
   pub given_by : (index : ℕ) (xs : List A) (o : B) → Contains (each_from gives index xs) o → IsGiven gives index xs o
   given_by index [] o h = absurd (not_in_none o h)
   given_by index (x ∷ xs) o h =
-      either (λ first. record {
+      ⊎_elim (λ first. record {
         at = zero;
         item = x;
         item_is = refl;
@@ -59,7 +57,7 @@ module _ {A B : Type 0} (gives : ℕ → A → List B) where
 
   pub gives_it : (index : ℕ) (xs : List A) (o : B) (at : ℕ) (item : A) → slice_get xs at ≡ Some item
       → Contains (gives (index + at) item) o → Contains (each_from gives index xs) o
-  gives_it index [] o at item e h = absurd (none_is_some e)
+  gives_it index [] o at item e h = absurd (none-some _ e)
   gives_it index (x ∷ xs) o zero item e h =
       let same : x ≡ item = cc in
       let first : index + 0 ≡ index = omega arith in
@@ -75,7 +73,7 @@ module _ {A B : Type 0} (gives : ℕ → A → List B) where
 module _ {A B : Type 0} (gives : ℕ → A → List B) where
   each_more : (from : ℕ) (xs : List A) (k : ℕ) (x : A) → slice_get xs k ≡ Some x
       → each_from gives from (drop k xs) ≡ gives from x ++ each_from gives (from + 1) (drop (k + 1) xs)
-  each_more from [] k x e = absurd (none_is_some e)
+  each_more from [] k x e = absurd (none-some _ e)
   each_more from (y ∷ ys) zero x e = let same : y ≡ x = cc in
       ap (λ z. gives from z ++ each_from gives (from + 1) ys) same
   each_more from (y ∷ ys) (suc k) x e = let next : suc k + 1 ≡ suc (k + 1) = omega arith in

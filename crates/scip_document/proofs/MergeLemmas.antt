@@ -1,6 +1,6 @@
 -- Merging two ascending lists.
 use Rattle.std.proofs.Common.{◌≡◌, ◌∙◌, sym, ap, refl, subst, ◌⊎◌, ◌↔◌, inl, inr, ◌+◌, ◌<◌, Option, Some, None, List}
-use Rattle.std.proofs.Common.{[], ◌∷◌, ◌++◌, length, arith}
+use Rattle.std.proofs.Common.{[], ◌∷◌, ◌++◌, length, arith, ⊎_elim}
 use Rattle.std.specs.List.{AllByRecursion, Contains}
 use Rattle.std.specs.declared.cmp.Ordering.{Ordering}
 use Rattle.std.specs.declared.cmp.Ordering.TheVariants.{Less, Equal, Greater}
@@ -11,23 +11,14 @@ use Rattle.std.proofs.lemmas.List.{append_assoc, append-nil}
 use Rattle.std.proofs.lemmas.List.Elements.{Contains-append_left, Contains-append_right, Contains-append_cases}
 use Rattle.std.proofs.lemmas.List.Elements.{Contains-push, Contains-push_cases}
 use Rattle.std.proofs.lemmas.Map.Keys.{sorted_head}
+use Rattle.std.proofs.lemmas.Option.{none-some, same_Some}
 use Rattle.scip_document.specs.Tables.Merges.{IsMerged, AreUntied, fronts_cmp, TakesLeast}
-
-none_is_some : {Y : Type 0} {y : Y} → None ≡ Some y → ⊥
-none_is_some h = cc
-
-same_some : {Y : Type 0} {x y : Y} → Some x ≡ Some y → x ≡ y
-same_some h = cc
-
-pub either : {A B C : Type 0} → (A → C) → (B → C) → A ⊎ B → C
-either f g (inl a) = f a
-either f g (inr b) = g b
 
 -- both lists become shorter
 pub takes_one : {X : Type 0} (cmp : X → X → Ordering) (a b a_left b_left : List X) (next : Option X) (z : X)
     → TakesLeast (fronts_cmp cmp a b) a b next a_left b_left → next ≡ Some z
     → length a_left + length b_left < length a + length b
-takes_one cmp [] [] a_left b_left next z t e = absurd (none_is_some (sym t.0 ∙ e))
+takes_one cmp [] [] a_left b_left next z t e = absurd (none-some _ (sym t.0 ∙ e))
 takes_one cmp [] (y ∷ ys) a_left b_left next z t e = omega (arith, ap length t.1, ap length t.2)
 takes_one cmp (x ∷ xs) [] a_left b_left next z t e = omega (arith, ap length t.1, ap length t.2)
 takes_one cmp (x ∷ xs) (y ∷ ys) a_left b_left next z t e = by (cmp x y) t
@@ -53,8 +44,8 @@ module _ {X : Type 0} where
   not_in_none x h = omega (arith, h.1)
 
   pub head_or_tail : (x z : X) (zs : List X) → Contains (z ∷ zs) x → (z ≡ x) ⊎ Contains zs x
-  head_or_tail x z zs h = either
-      (λ one. either (λ none. absurd (not_in_none x none)) inl (Contains-push_cases [] z x one)) inr
+  head_or_tail x z zs h = ⊎_elim
+      (λ one. ⊎_elim (λ none. absurd (not_in_none x none)) inl (Contains-push_cases [] z x one)) inr
       (Contains-append_cases (z ∷ []) zs x h)
 
   swap3 : (x : X) (t a b : List X) → In3 x t a b → In3 x t b a
@@ -65,12 +56,12 @@ module _ {X : Type 0} where
   give3 : (x z : X) (t a b : List X) → In3 x t (z ∷ a) b → In3 x (t ++ z ∷ []) a b
   give3 x z t a b (inl h) = inl (Contains-append_left t (z ∷ []) x h)
   give3 x z t a b (inr (inl h)) =
-      either (λ e. inl (Contains-append_right t (z ∷ []) x (at_head x z [] e))) (λ tail. inr (inl tail))
+      ⊎_elim (λ e. inl (Contains-append_right t (z ∷ []) x (at_head x z [] e))) (λ tail. inr (inl tail))
       (head_or_tail x z a h)
   give3 x z t a b (inr (inr h)) = inr (inr h)
 
   back3 : (x z : X) (t a b : List X) → In3 x (t ++ z ∷ []) a b → In3 x t (z ∷ a) b
-  back3 x z t a b (inl h) = either inl (λ e. inr (inl (at_head x z a e))) (Contains-push_cases t z x h)
+  back3 x z t a b (inl h) = ⊎_elim inl (λ e. inr (inl (at_head x z a e))) (Contains-push_cases t z x h)
   back3 x z t a b (inr (inl h)) = inr (inl (in_tail x z a h))
   back3 x z t a b (inr (inr h)) = inr (inr h)
 
@@ -78,7 +69,7 @@ module _ {X : Type 0} where
   drop3 x z y t a b same (inl h) = inl h
   drop3 x z y t a b same (inr (inl h)) = inr (inl h)
   drop3 x z y t a b same (inr (inr h)) =
-      either (λ e. inl (Contains-append_right t (z ∷ []) x (at_head x z [] (same ∙ e)))) (λ tail. inr (inr tail))
+      ⊎_elim (λ e. inl (Contains-append_right t (z ∷ []) x (at_head x z [] (same ∙ e)))) (λ tail. inr (inr tail))
       (head_or_tail x y b h)
 
   keep3 : (x y : X) (t a b : List X) → In3 x t a b → In3 x t a (y ∷ b)
@@ -119,7 +110,7 @@ module _ {X : Type 0} (cmp : X → X → Ordering) where
 
   pub begins : (first second : List X) → IsMerging first second [] first second
   begins first second = record {
-    all = λ x. (either (λ none. absurd (not_in_none x none)) (λ h. h), λ h. inr h);
+    all = λ x. (⊎_elim (λ none. absurd (not_in_none x none)) (λ h. h), λ h. inr h);
     ascends = λ p q. (p, q);
     of_first = λ x h. h;
     of_second = λ x h. h;
@@ -181,28 +172,28 @@ module _ {X : Type 0} (cmp : X → X → Ordering) where
     pub step : (f s t a b a_left b_left : List X) (next : Option X) (z : X)
         → TakesLeast (fronts_cmp cmp a b) a b next a_left b_left → next ≡ Some z
         → AreUntied cmp f s → IsMerging f s t a b → IsMerging f s (t ++ z ∷ []) a_left b_left
-    step f s t [] [] a_left b_left next z k e untied m = absurd (none_is_some (sym k.0 ∙ e))
+    step f s t [] [] a_left b_left next z k e untied m = absurd (none-some _ (sym k.0 ∙ e))
     step f s t [] (y ∷ ys) a_left b_left next z k e untied m =
-        rw (same_some (sym e ∙ k.0), k.1, k.2) (step_second f s t y [] ys m (λ _. tt))
+        rw (same_Some _ _ (sym e ∙ k.0), k.1, k.2) (step_second f s t y [] ys m (λ _. tt))
     step f s t (x ∷ xs) [] a_left b_left next z k e untied m =
-        rw (same_some (sym e ∙ k.0), k.1, k.2) (step_first f s t x xs [] m (λ _. tt))
+        rw (same_Some _ _ (sym e ∙ k.0), k.1, k.2) (step_first f s t x xs [] m (λ _. tt))
     step f s t (x ∷ xs) (y ∷ ys) a_left b_left next z k e untied m = by (cmp x y) refl k
       where
         by : (o : Ordering) → cmp x y ≡ o → TakesLeast o (x ∷ xs) (y ∷ ys) next a_left b_left
             → IsMerging f s (t ++ z ∷ []) a_left b_left
-        by Less h u = rw (same_some (sym e ∙ u.0), u.1, u.2) (step_first f s t x xs (y ∷ ys) m (below_all x y ys h))
-        by Equal h u = rw (same_some (sym e ∙ u.0), u.1, u.2)
+        by Less h u = rw (same_Some _ _ (sym e ∙ u.0), u.1, u.2) (step_first f s t x xs (y ∷ ys) m (below_all x y ys h))
+        by Equal h u = rw (same_Some _ _ (sym e ∙ u.0), u.1, u.2)
             (step_both f s t x y xs ys m
             (untied x y (m.of_first x (at_head x x xs refl)) (m.of_second y (at_head y y ys refl)) h))
-        by Greater h u = rw (same_some (sym e ∙ u.0), u.1, u.2)
+        by Greater h u = rw (same_Some _ _ (sym e ∙ u.0), u.1, u.2)
             (step_second f s t y (x ∷ xs) ys m (below_all y x xs (order.antisymm y x ∙ ap ordering_reverse h)))
 
   all_taken : (f s t : List X) → IsMerging f s t [] [] → IsMerged cmp f s t
   all_taken f s t m = record {
     all = λ x. (
       λ h. (m.all x).0 (inl h),
-      λ h. either (λ taken. taken)
-          (either (λ none. absurd (not_in_none x none)) (λ none. absurd (not_in_none x none))) ((m.all x).1 h),
+      λ h. ⊎_elim (λ taken. taken)
+          (⊎_elim (λ none. absurd (not_in_none x none)) (λ none. absurd (not_in_none x none))) ((m.all x).1 h),
     );
     ascends = λ p q. subst Sorted (append-nil t) (m.ascends p q).0;
   }
@@ -210,11 +201,11 @@ module _ {X : Type 0} (cmp : X → X → Ordering) where
   pub ends : (f s t a b a_left b_left : List X) (next : Option X)
       → TakesLeast (fronts_cmp cmp a b) a b next a_left b_left → next ≡ None → IsMerging f s t a b → IsMerged cmp f s t
   ends f s t [] [] a_left b_left next k e m = all_taken f s t m
-  ends f s t [] (y ∷ ys) a_left b_left next k e m = absurd (none_is_some (sym e ∙ k.0))
-  ends f s t (x ∷ xs) [] a_left b_left next k e m = absurd (none_is_some (sym e ∙ k.0))
+  ends f s t [] (y ∷ ys) a_left b_left next k e m = absurd (none-some _ (sym e ∙ k.0))
+  ends f s t (x ∷ xs) [] a_left b_left next k e m = absurd (none-some _ (sym e ∙ k.0))
   ends f s t (x ∷ xs) (y ∷ ys) a_left b_left next k e m = by (cmp x y) k
     where
       by : (o : Ordering) → TakesLeast o (x ∷ xs) (y ∷ ys) next a_left b_left → IsMerged cmp f s t
-      by Less u = absurd (none_is_some (sym e ∙ u.0))
-      by Equal u = absurd (none_is_some (sym e ∙ u.0))
-      by Greater u = absurd (none_is_some (sym e ∙ u.0))
+      by Less u = absurd (none-some _ (sym e ∙ u.0))
+      by Equal u = absurd (none-some _ (sym e ∙ u.0))
+      by Greater u = absurd (none-some _ (sym e ∙ u.0))

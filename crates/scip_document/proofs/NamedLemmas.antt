@@ -1,22 +1,16 @@
 -- What parts of a full name name.
 use Rattle.std.proofs.Common.{◌≡◌, ◌∙◌, sym, ap, refl, subst, ℕ, ◌<◌, Option, Some, None, List, length, map, take}
 use Rattle.std.proofs.Common.{MatchOption, Result, Ok, Err, IfOk}
-use Rattle.std.specs.List.{slice_get, Contains}
+use Rattle.std.specs.List.{slice_get}
 use Rattle.std.specs.Option.{IsSome, option_map}
 use Rattle.std.proofs.lemmas.List.{take-map, length-map}
-use Rattle.std.proofs.lemmas.Option.{slice_get_within, get_or_from_slice_get}
+use Rattle.std.proofs.lemmas.Option.{slice_get_within, same_Some}
 use denote.Ref.{Bor}
 use Rattle.proto_decl.specs.Facts.{Facts}
 use Rattle.proto_decl.specs.declared.declaration.Declaration.{Declaration}
 use Rattle.proto_visibility.specs.Files.{File, HasFacts}
 use Rattle.scip_document.specs.Named.{HasDeclaration, declaration_at}
 use Rattle.scip_document.specs.Tables.Listing.{declared_by}
-
-none_is_some : {Y : Type 0} {y : Y} → None ≡ Some y → ⊥
-none_is_some h = cc
-
-same_some : {Y : Type 0} {x y : Y} → Some x ≡ Some y → x ≡ y
-same_some h = cc
 
 -- the names of a list's front
 pub front_names : (parts front : List (Bor (List ℕ))) (texts : List (List ℕ)) (few count : ℕ)
@@ -45,8 +39,8 @@ given_facts files number r f e says =
 pub same_facts : (files : List File) (number : ℕ) (a b : Facts) → HasFacts files number a → HasFacts files number b
     → a ≡ b
 same_facts files number a b first second =
-    let file = same_some (sym first.numbered ∙ second.numbered) in
-    same_some (sym first.known ∙ (ap (λ (f : File). f.facts) file ∙ second.known))
+    let file = same_Some _ _ (sym first.numbered ∙ second.numbered) in
+    same_Some _ _ (sym first.known ∙ (ap (λ (f : File). f.facts) file ∙ second.known))
 
 -- a declaration that is there
 pub is_within : (files : List File) (number index : ℕ) (facts known : Facts) (declared : Declaration)
@@ -56,9 +50,6 @@ is_within files number index facts known declared has there =
     let same = same_facts files number facts known has there.has_facts in
     slice_get_within facts.declarations index declared
     (ap (λ (f : Facts). slice_get f.declarations index) same ∙ there.numbered)
-
-pub is_listed : {X : Type 0} (xs : List X) (k : ℕ) (x : X) → slice_get xs k ≡ Some x → Contains xs x
-is_listed xs k x e = (k, slice_get_within xs k x e, get_or_from_slice_get xs k x x e)
 
 pub declared_is : (files : List File) (number index : ℕ) (facts : Facts) (declared : Declaration)
     → HasFacts files number facts → slice_get facts.declarations index ≡ Some declared

@@ -1,10 +1,10 @@
 -- The lists that a document's occurrences are made of have just what occurs.
-use Rattle.std.proofs.Common.{◌≡◌, ◌∙◌, sym, ap, refl, subst, ◌⊎◌, inl, inr, ℕ, zero, suc, ◌+◌, Bool, true, false, cond}
-use Rattle.std.proofs.Common.{Option, Some, None, List, [], ◌∷◌, arith}
+use Rattle.std.proofs.Common.{◌≡◌, ◌∙◌, sym, ap, refl, subst, ◌⊎◌, inl, inr, ℕ, zero, suc, ◌+◌, Bool, true, false}
+use Rattle.std.proofs.Common.{Option, Some, None, List, [], ◌∷◌, arith, ⊎_elim}
 use Rattle.std.specs.Prelude.{if◌then◌else◌}
 use Rattle.std.specs.List.{AllZip, Contains, slice_get}
 use Rattle.std.specs.Option.{option_and_then, option_map}
-use Rattle.std.proofs.lemmas.Option.{slice_get-get_or}
+use Rattle.std.proofs.lemmas.Option.{none-some, same_Some}
 use Rattle.proto_lex.specs.declared.position.Encoding.{Encoding}
 use Rattle.scip_model.specs.declared.records.Occurrence.{Occurrence}
 use Rattle.index_hooks.specs.declared.choice.Choice.{Choice}
@@ -12,6 +12,7 @@ use Rattle.proto_decl.specs.Facts.{Facts}
 use Rattle.proto_decl.specs.declared.declaration.Declaration.{Declaration}
 use Rattle.proto_decl.specs.declared.type_use.Component.{Component}
 use Rattle.proto_decl.specs.declared.type_use.Use.{Use}
+use Rattle.proto_decl.proofs.BoolLemmas.{never}
 use Rattle.scip_symbol.specs.Entities.{OfFile}
 use Rattle.scip_symbol.specs.Entities as symbols
 use Rattle.scip_symbol.specs.Package.{Package}
@@ -20,6 +21,7 @@ use Rattle.proto_link.specs.Targets.{IsTarget}
 use Rattle.proto_link.specs.declared.target.Target.{Target}
 use Rattle.proto_visibility.specs.declared.entities.Entity.{Entity}
 use Rattle.proto_visibility.specs.declared.entities.Entity.TheVariants as link
+use Rattle.proto_visibility.proofs.FirstLemmas.{contained}
 use Rattle.scip_document.specs.Packages.{Packages, package_of_path, package_of_file, package_of_part}
 use Rattle.scip_document.specs.Chosen.{Chosen, IsKept}
 use Rattle.scip_document.specs.Gaps.{IsFound}
@@ -29,25 +31,12 @@ use Rattle.scip_document.specs.Occurs.Occurs.{of_file, of_import, of_package, of
 use Rattle.scip_document.specs.Tables.Listing.{own_occurrence, each_from, has_path, found_at, keeps_by, keeps, is_shown}
 use Rattle.scip_document.specs.Tables.Listing.{declared_in, entity_of, at_import, at_package, at_declaration, at_entity}
 use Rattle.scip_document.specs.Tables.Listing.{at_part, at_component, at_target, at_use}
-use Rattle.scip_document.proofs.MergeLemmas.{head_or_tail, at_head, not_in_none, either}
+use Rattle.scip_document.proofs.MergeLemmas.{at_head, not_in_none}
 use Rattle.scip_document.proofs.ListingLemmas.{given_by, gives_it}
 use Rattle.scip_document.proofs.ConditionLemmas.{path_from, path_to}
-use Rattle.scip_document.proofs.NamedLemmas.{same_facts, is_listed, declared_is}
-
-never : {A : Type 0} → false ≡ true → A
-never e = absurd (subst (λ b. cond b ⊥ (Unit {0})) e tt)
-
-none_is_some : {Y : Type 0} {y : Y} → None ≡ Some y → ⊥
-none_is_some f = cc
-
-same_some : {Y : Type 0} {x y : Y} → Some x ≡ Some y → x ≡ y
-same_some h = cc
-
-only : {X : Type 0} (x o : X) → Contains (x ∷ []) o → x ≡ o
-only x o h = either (λ e. e) (λ none. absurd (not_in_none o none)) (head_or_tail o x [] h)
-
-contains_at : {X : Type 0} (xs : List X) (x : X) → Contains xs x → (k : ℕ) × (slice_get xs k ≡ Some x)
-contains_at xs x h = (h.0, slice_get-get_or xs h.0 x h.1 ∙ ap Some h.2)
+use Rattle.scip_document.proofs.NamedLemmas.{same_facts, declared_is}
+use Rattle.scip_document.proofs.EntryLemmas.{alone-in}
+use Rattle.scip_document.proofs.ApartLemmas.{find}
 
 -- what a list gives, from its start
 record IsGivenAt {A B : Type 0} (gives : ℕ → A → List B) (xs : List A) (o : B) : Type 0 where
@@ -76,9 +65,9 @@ gives_at gives xs o at item e h =
 
 pub zip_at : {X Y : Type 0} (R : X → Y → Type 0) (xs : List X) (ys : List Y) → AllZip R xs ys → (k : ℕ) (x : X)
     → slice_get xs k ≡ Some x → (y : Y) × (slice_get ys k ≡ Some y) × R x y
-zip_at R [] ys all k x e = absurd (none_is_some e)
+zip_at R [] ys all k x e = absurd (none-some _ e)
 zip_at R (a ∷ xs) [] all k x e = absurd all
-zip_at R (a ∷ xs) (b ∷ ys) all zero x e = let same : a ≡ x = same_some e in
+zip_at R (a ∷ xs) (b ∷ ys) all zero x e = let same : a ≡ x = same_Some _ _ e in
     (b, refl, subst (λ (z : _). R z b) same all.0)
 zip_at R (a ∷ xs) (b ∷ ys) all (suc k) x e = zip_at R xs ys all.1 k x e
 
@@ -124,21 +113,21 @@ declared_by_is : (files : List File) (file index : ℕ) (f : File) → slice_get
     → f.facts ≡ Some facts → (d : Option Declaration) → slice_get facts.declarations index ≡ d
     → (entity : symbols.Entity) → option_map (declaration_at facts) d ≡ Some entity
     → IsDeclaredAs files file index entity
-declared_by_is files file index f at facts known None e entity h = absurd (none_is_some h)
+declared_by_is files file index f at facts known None e entity h = absurd (none-some _ h)
 declared_by_is files file index f at facts known (Some d) e entity h =
     record {
       facts = facts;
       declaration = d;
       has = record { has_facts = record { file = f; numbered = at; known = known }; numbered = e };
       is =
-          sym (same_some h);
+          sym (same_Some _ _ h);
     }
 
 declared_in_file : (files : List File) (file index : ℕ) (f : File) → slice_get files file ≡ Some f → (o : Option Facts)
     → f.facts ≡ o → (entity : symbols.Entity)
     → option_and_then (λ (facts : Facts). declared_in facts index) o ≡ Some entity
     → IsDeclaredAs files file index entity
-declared_in_file files file index f at None e entity h = absurd (none_is_some h)
+declared_in_file files file index f at None e entity h = absurd (none-some _ h)
 declared_in_file files file index f at (Some facts) e entity h =
     declared_by_is files file index f at facts e (slice_get facts.declarations index) refl entity h
 
@@ -146,12 +135,12 @@ declared_in_files : (files : List File) (file index : ℕ) (o : Option File) →
     → (entity : symbols.Entity)
     → option_and_then (λ (f : File). option_and_then (λ (facts : Facts). declared_in facts index) f.facts) o
     ≡ Some entity → IsDeclaredAs files file index entity
-declared_in_files files file index None e entity h = absurd (none_is_some h)
+declared_in_files files file index None e entity h = absurd (none-some _ h)
 declared_in_files files file index (Some f) e entity h = declared_in_file files file index f e f.facts refl entity h
 
 named_from : (files : List File) (name : List ℕ) (part : Entity) (entity : symbols.Entity)
     → entity_of files name part ≡ Some entity → IsNamedAs files name part entity
-named_from files name (link.Package count) entity e = sym (same_some e)
+named_from files name (link.Package count) entity e = sym (same_Some _ _ e)
 named_from files name (link.Declared file index) entity e =
     declared_in_files files file index (slice_get files file) refl entity e
 
@@ -175,7 +164,7 @@ module _ (files : List File) (chosen : Chosen) (ids : Packages) (encoding : Enco
       (one_target : (type_use : Use) (a b : Target) → IsTarget files source type_use a
       → IsTarget files source type_use b → a ≡ b) where
     own_occurs : (o : Occurrence) → Contains (own_occurrence id file.path ∷ []) o → Wanted o
-    own_occurs o h = subst Wanted (only (own_occurrence id file.path) o h) (of_file at)
+    own_occurs o h = subst Wanted (alone-in (own_occurrence id file.path) o h) (of_file at)
 
     imports_occur : (o : Occurrence) → Contains (each_from (at_import ids encoding text files) 0 facts.imports) o
         → Wanted o
@@ -184,15 +173,15 @@ module _ (files : List File) (chosen : Chosen) (ids : Packages) (encoding : Enco
         let there = if_so (has_path files g.item.path)
         (occurrence_over encoding text (package_of_path ids g.item.path) g.item.span (OfFile g.item.path)
         import_role ∷ []) o g.given in
-        subst Wanted (only _ o there.1)
-        (of_import {imported = g.item} known (is_listed facts.imports g.at g.item g.item_is)
+        subst Wanted (alone-in _ o there.1)
+        (of_import {imported = g.item} known (contained facts.imports g.at g.item g.item_is)
         (path_from files g.item.path there.0))
 
     packages_occur : (o : Occurrence)
         → Contains (each_from (at_package ids.run encoding text facts) 0 facts.package_name) o → Wanted o
     packages_occur o h =
         let g = given_at (at_package ids.run encoding text facts) facts.package_name o h in
-        subst Wanted (only _ o g.given) (of_package g.at {component = g.item} known g.item_is)
+        subst Wanted (alone-in _ o g.given) (of_package g.at {component = g.item} known g.item_is)
 
     declared_occur : (o : Occurrence)
         → Contains (each_from (at_declaration id encoding text chosen source facts) 0 facts.declarations) o → Wanted o
@@ -201,7 +190,7 @@ module _ (files : List File) (chosen : Chosen) (ids : Packages) (encoding : Enco
         let kept = if_so (keeps chosen source g.at)
         (occurrence_over encoding text id g.item.name (declaration_at facts g.item) definition_role ∷ []) o g.given
         in
-        subst Wanted (only _ o kept.1)
+        subst Wanted (alone-in _ o kept.1)
         (of_declaration g.at {declared = g.item} (record { has_facts = known; numbered = g.item_is })
         (kept_from chosen source g.at kept.0))
 
@@ -213,7 +202,7 @@ module _ (files : List File) (chosen : Chosen) (ids : Packages) (encoding : Enco
         → Contains (at_entity (package_of_part files ids part) encoding text component.span e) o → Wanted o
     entity_occurs o type_use target index component part listed is c p shown None e h = absurd (not_in_none o h)
     entity_occurs o type_use target index component part listed is c p shown (Some entity) e h =
-        subst Wanted (only _ o h) (of_component {component = component} {part = part} {entity = entity}
+        subst Wanted (alone-in _ o h) (of_component {component = component} {part = part} {entity = entity}
         (record {
           facts = facts;
           type_use = type_use;
@@ -255,7 +244,7 @@ module _ (files : List File) (chosen : Chosen) (ids : Packages) (encoding : Enco
         let t = zip_at (IsFound files source) facts.uses found are_found g.at g.item g.item_is in
         let within = subst (λ (its : Option (Option Target)). Contains
         (at_target ids encoding text files chosen (found_at its) g.item) o) t.1 g.given in
-        found_occurs o g.item (is_listed facts.uses g.at g.item g.item_is) t.0 t.2 within
+        found_occurs o g.item (contained facts.uses g.at g.item g.item_is) t.0 t.2 within
 
     -- in one of the lists
     abbrev pub InLists : Occurrence → Type 0
@@ -267,8 +256,8 @@ module _ (files : List File) (chosen : Chosen) (ids : Packages) (encoding : Enco
         ⊎ Contains (each_from (at_use ids encoding text files chosen found) 0 facts.uses) o
 
     pub lists_occur : (o : Occurrence) → InLists o → Wanted o
-    lists_occur o h = either
-        (either (either (either (own_occurs o) (imports_occur o)) (packages_occur o)) (declared_occur o))
+    lists_occur o h = ⊎_elim
+        (⊎_elim (⊎_elim (⊎_elim (own_occurs o) (imports_occur o)) (packages_occur o)) (declared_occur o))
         (uses_occur o) h
 
     here : (x : Occurrence) → Contains (x ∷ []) x
@@ -287,7 +276,7 @@ module _ (files : List File) (chosen : Chosen) (ids : Packages) (encoding : Enco
         let o = occurrence_over encoding text (package_of_part files ids part) component.span entity no_role in
         let used = subst (λ (f : Facts). Contains f.uses names.type_use)
         (same_facts files source names.facts facts names.has_facts known) names.listed in
-        let k = contains_at facts.uses names.type_use used in
+        let k = find facts.uses names.type_use used in
         let t = zip_at (IsFound files source) facts.uses found are_found k.0 names.type_use k.1 in
         let there = ap found_at t.1 ∙ is_found names.type_use names.target names.is_target t.0 t.2 in
         let entity_there : Contains
@@ -306,11 +295,11 @@ module _ (files : List File) (chosen : Chosen) (ids : Packages) (encoding : Enco
 
     pub occurs_listed : (o : Occurrence) → Wanted o → InLists o
     occurs_listed _ (of_file {file = other} there) =
-        let same = same_some (sym at ∙ there) in
+        let same = same_Some _ _ (sym at ∙ there) in
         inl (inl (inl (inl (at_head (own_occurrence id other.path) (own_occurrence id file.path) []
         (ap (λ (f : File). own_occurrence id f.path) same)))))
     occurs_listed _ (of_import {facts = other} {imported = imported} has listed there) =
-        let k = contains_at facts.imports imported
+        let k = find facts.imports imported
         (subst (λ (f : Facts). Contains f.imports imported) (same_facts files source other facts has known) listed)
         in
         inl (inl (inl (inr (gives_at (at_import ids encoding text files) facts.imports _ k.0 imported k.1

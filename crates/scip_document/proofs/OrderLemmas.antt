@@ -17,7 +17,7 @@ occurrence_total =
     (then_total (on_total (λ (o : Occurrence). o.range.end_column) nat_cmp_total)
     (on_total (λ (o : Occurrence). o.symbol) nat_list_cmp_total))))
 
-both_equal : (a b : Ordering) → ordering_then a b ≡ Equal → (a ≡ Equal) × (b ≡ Equal)
+pub both_equal : (a b : Ordering) → ordering_then a b ≡ Equal → (a ≡ Equal) × (b ≡ Equal)
 both_equal Less b e = absurd cc
 both_equal Equal b e = (cc, e)
 both_equal Greater b e = absurd cc

@@ -7,6 +7,7 @@ use Rattle.std.specs.Cmp.{IsTotalOrder, IsEquivalence, unsigned_ties, Equal-is}
 use Rattle.std.proofs.lemmas.Cmp.{on_total, then_total, nat_cmp_total, eq_by_cmp_equiv}
 use Rattle.std.proofs.lemmas.Map.Lookups.{exact_unsigned}
 use Rattle.scip_document.specs.Tables.ExternalLists.{Pair, pair_cmp}
+use Rattle.scip_document.proofs.OrderLemmas.{both_equal}
 
 pub pairs_total : IsTotalOrder pair_cmp
 pairs_total = then_total (on_total (λ (x : Pair). x.0) nat_cmp_total) (on_total (λ (x : Pair). x.1) nat_cmp_total)
@@ -34,14 +35,9 @@ equivalence =
       congr = λ x y z h. ties x z ∙ (e.congr x y z (sym (ties x y) ∙ h) ∙ sym (ties y z));
     }
 
-both-equal : (r s : Ordering) → ordering_then r s ≡ Equal → (r ≡ Equal) × (s ≡ Equal)
-both-equal Less s e = cc
-both-equal Equal s e = (refl, e)
-both-equal Greater s e = cc
-
 pub exact : (x y : Pair) → same x y ≡ true → x ≡ y
 exact x y h =
-    let both = both-equal (nat_cmp x.0 y.0) (nat_cmp x.1 y.1) ((Equal-is (pair_cmp x y)).0 (sym (ties x y) ∙ h)) in
+    let both = both_equal (nat_cmp x.0 y.0) (nat_cmp x.1 y.1) ((Equal-is (pair_cmp x y)).0 (sym (ties x y) ∙ h)) in
     let first = exact_unsigned x.0 y.0 both.0 in
     let second = exact_unsigned x.1 y.1 both.1 in
     one x.0 y.0 x.1 y.1 first second

@@ -13,7 +13,7 @@ use Rattle.std.specs.Option.{option_map}
 use Rattle.std.specs.Result.{result_ok}
 use denote.Ref.{Bor}
 use Rattle.std.proofs.Math.ListN.{get_or-map}
-use Rattle.std.proofs.lemmas.Bool.{cases_Bool, cases_lt, cases_order, false≢true}
+use Rattle.std.proofs.lemmas.Bool.{cases_Bool, cases_lt, cases_order, false≢true, not-false}
 use Rattle.std.proofs.lemmas.Cmp.{on_total, nat_list_cmp_total}
 use Rattle.std.proofs.lemmas.List.{length-map, length-set, get_or-set_same, get_or-set_other, map_more, take_all}
 use Rattle.std.proofs.lemmas.List.Elements.{Contains-push, Contains-push_cases, Contains-append_left}
@@ -154,10 +154,6 @@ documents_total = on_total (λ (d : Document). d.relative_path) nat_list_cmp_tot
 pub documents_rank : IsStrictWeakOrder (λ x y. is_lt (document_cmp x y))
 documents_rank = ranks_by documents_total (λ d. d)
 
-off-on : (b : Bool) → not b ≡ false → b ≡ true
-off-on true e = refl
-off-on false e = absurd (false≢true (sym e))
-
 module _ (paths : List (List ℕ)) (rising : IsRising paths) (pieces : List Document) where
   pub fine : (count : ℕ) (marks : List Bool) → AreMarked paths pieces count marks → AreFine paths pieces count
   fine count marks are piece within = (
@@ -270,7 +266,7 @@ module _ (paths : List (List ℕ)) (rising : IsRising paths) (pieces : List Docu
             };
             least = λ other less missing.
                 let off = clear.2 other less in
-                let on : get_or marks other false ≡ true = off-on (get_or marks other false) off in
+                let on : get_or marks other false ≡ true = not-false (get_or marks other false) off in
                 missing.missing (subst (λ (l : List (List ℕ)). Contains l missing.path) whole
                 ((are.marked other missing.path missing.numbered).0 on));
           },
@@ -281,7 +277,7 @@ module _ (paths : List (List ℕ)) (rising : IsRising paths) (pieces : List Docu
       all-in path there =
           let at : slice_get paths there.0 ≡ Some path =
           slice_get-get_or paths there.0 path there.1 ∙ ap (λ (p : List ℕ). Some p) there.2 in
-          let on = off-on (get_or marks there.0 false)
+          let on = not-false (get_or marks there.0 false)
           (position-none (λ mark. not mark) marks all there.0 false (omega (arith, there.1, are.size))) in
           subst (λ (l : List (List ℕ)). Contains l path) whole ((are.marked there.0 path at).0 on)
 

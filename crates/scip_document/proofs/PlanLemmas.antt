@@ -1,6 +1,6 @@
 -- Texts with numbers, and what is planned by them.
 use Rattle.std.proofs.Common.{◌≡◌, ◌∙◌, sym, ap, refl, subst, ℕ, suc, ◌+◌, ◌-◌, ◌<◌, ◌≤◌, Option, Some, None, List, []}
-use Rattle.std.proofs.Common.{◌∷◌, ◌++◌, length, map, drop, arith, Bool, true, false, not, min, ◌^◌}
+use Rattle.std.proofs.Common.{◌∷◌, ◌++◌, length, map, drop, arith, Bool, true, false, min, ◌^◌}
 use Rattle.std.specs.Prelude.{if◌then◌else◌}
 use Rattle.std.proofs.lemmas.Bool.{false≢true}
 use Rattle.std.specs.Prelude.{ℤ}
@@ -15,7 +15,7 @@ use Rattle.std.proofs.lemmas.List.{append_assoc, append-nil, map-append, drop-ma
 use Rattle.std.proofs.lemmas.List.{get_or-append-add, get_or_append_left, get_or-append_right}
 use Rattle.std.proofs.lemmas.List.FromFn.{get_or-map-range_with_len, length-map-range_with_len}
 use Rattle.std.proofs.lemmas.List.Quantifiers.{position-Some}
-use Rattle.std.proofs.lemmas.Option.{get_or_from_slice_get, slice_get_within, slice_get-map}
+use Rattle.std.proofs.lemmas.Option.{get_or_from_slice_get, slice_get_within, slice_get-map, none-some, same_Some}
 use Rattle.proto_lex.specs.declared.span.Span.{Span}
 use Rattle.proto_lex.specs.declared.position.Encoding.{Encoding}
 use Rattle.proto_decl.specs.Facts.{Facts}
@@ -187,10 +187,10 @@ pub entity_added : (encoding : Encoding) (bytes : List ℕ) (id : Package) (span
     → planned ≡ record { range = range_over encoding bytes span; symbol = number; symbol_roles = no_role }
     → IsNumberIn texts id entity number → AreAdded texts old new (at_entity id encoding bytes span entity)
 entity_added encoding bytes id span None texts old new planned number added is numbered =
-    absurd (none_is_some numbered.1)
+    absurd (none-some _ numbered.1)
 entity_added encoding bytes id span (Some entity) texts old new planned number added is numbered =
     planned_added encoding bytes span no_role texts old new planned (text_of id entity) number added is
-    (subst (λ (its : List ℕ). IsNumberOf texts its number) (sym (same_some numbered.1)) numbered.2)
+    (subst (λ (its : List ℕ). IsNumberOf texts its number) (sym (same_Some _ _ numbered.1)) numbered.2)
 
 -- what is added where a test says so
 pub none_if : (b : Bool) (texts : List (List ℕ)) (list : List PlannedOccurrence) (occurrences : List Occurrence)
@@ -202,14 +202,6 @@ pub some_if : (b : Bool) (texts : List (List ℕ)) (old new : List PlannedOccurr
     → b ≡ true → AreAdded texts old new occurrences → AreAdded texts old new (if b then occurrences else [])
 some_if true texts old new occurrences e added = added
 some_if false texts old new occurrences e added = absurd (false≢true e)
-
-pub is_not : (b : Bool) → not b ≡ true → b ≡ false
-is_not false e = refl
-is_not true e = absurd (false≢true e)
-
-pub is_so : (b : Bool) → not b ≡ false → b ≡ true
-is_so true e = refl
-is_so false e = absurd (false≢true (sym e))
 
 -- what the choice for a declaration says
 pub kept_by : (chosen : Chosen) (file index : ℕ) (choice : Choice) → IsChosen chosen file index choice

@@ -1,5 +1,5 @@
 -- Of what occurs in a document no two tie: over one range there is one role.
-use Rattle.std.proofs.Common.{◌≡◌, ◌∙◌, sym, ap, refl, subst, ◌⊎◌, inl, inr, ℕ, ◌<◌, List, [], ◌∷◌, map, arith}
+use Rattle.std.proofs.Common.{◌≡◌, ◌∙◌, sym, ap, refl, subst, ◌⊎◌, inl, inr, ℕ, ◌<◌, List, [], ◌∷◌, map, arith, ⊎_elim}
 use Rattle.std.specs.Prelude.{◌≢◌}
 use Rattle.std.specs.List.{Contains, slice_get, flat_map}
 use Rattle.std.proofs.lemmas.Bool.{cases_order}
@@ -19,25 +19,22 @@ use Rattle.proto_decl.specs.declared.declaration.Declaration.{Declaration}
 use Rattle.proto_decl.specs.declared.type_use.Component.{Component}
 use Rattle.proto_decl.specs.declared.type_use.Use.{Use}
 use Rattle.proto_visibility.specs.Files.{File, HasFacts}
+use Rattle.proto_visibility.proofs.FirstLemmas.{contained}
 use Rattle.scip_document.specs.Packages.{Packages}
 use Rattle.scip_document.specs.Chosen.{Chosen}
 use Rattle.scip_document.specs.Occurs.{Occurs, range_over, start_of_text, no_role, definition_role, import_role}
 use Rattle.scip_document.specs.Occurs.Occurs.{of_file, of_import, of_package, of_declaration, of_component}
-use Rattle.scip_document.proofs.MergeLemmas.{either, head_or_tail, at_head, in_tail, not_in_none}
-use Rattle.scip_document.proofs.NamedLemmas.{same_facts, is_listed}
+use Rattle.scip_document.proofs.MergeLemmas.{head_or_tail, not_in_none}
+use Rattle.scip_document.proofs.NamedLemmas.{same_facts}
+use Rattle.proto_link.proofs.OneItemLemmas.{contains_map}
 
 -- elements
-
-mapped : {X Y : Type 0} (f : X → Y) (xs : List X) (x : X) → Contains xs x → Contains (map f xs) (f x)
-mapped f [] x h = absurd (not_in_none x h)
-mapped f (z ∷ xs) x h = either (λ same. at_head (f x) (f z) (map f xs) (ap f same))
-    (λ later. in_tail (f x) (f z) (map f xs) (mapped f xs x later)) (head_or_tail x z xs h)
 
 all_mapped : {X Y : Type 0} (f : X → List Y) (xs : List X) (x : X) (y : Y) → Contains xs x → Contains (f x) y
     → Contains (flat_map f xs) y
 all_mapped f [] x y h k = absurd (not_in_none x h)
 all_mapped f (z ∷ xs) x y h k =
-    either (λ same. Contains-append_left (f z) (flat_map f xs) y (subst (λ w. Contains (f w) y) (sym same) k))
+    ⊎_elim (λ same. Contains-append_left (f z) (flat_map f xs) y (subst (λ w. Contains (f w) y) (sym same) k))
     (λ later. Contains-append_right (f z) (flat_map f xs) y (all_mapped f xs x y later k))
     (head_or_tail x z xs h)
 
@@ -98,11 +95,11 @@ module _ (rise : CharactersRise) (encoding : Encoding) (text : List ℕ) where
     import_part : (imported : Imported) → Contains facts.imports imported → IsPart text imported.span
     import_part imported h =
         All-contains (IsPart text) (map (λ (i : Imported). i.span) facts.imports) imported.span parts.imports
-        (mapped (λ (i : Imported). i.span) facts.imports imported h)
+        (contains_map (λ (i : Imported). i.span) facts.imports imported h)
 
     name_part : (span : Span) → Contains (named_spans facts) span → IsPart text span
     name_part span h =
-        either (All-contains (IsPart text) (name_spans facts.declarations) span parts.names)
+        ⊎_elim (All-contains (IsPart text) (name_spans facts.declarations) span parts.names)
         (All-contains (IsPart text) (component_spans facts.package_name) span parts.package_name)
         (Contains-append_cases (name_spans facts.declarations) (component_spans facts.package_name) span h)
 
@@ -163,22 +160,22 @@ module _ (rise : CharactersRise) (encoding : Encoding) (text : List ℕ) where
           (sym (same_facts files source other facts has known)) ∙ e in
           at_name component.span
           (Contains-append_right (name_spans facts.declarations) (component_spans facts.package_name) component.span
-          (mapped (λ (c : Component). c.span) facts.package_name component
-          (is_listed facts.package_name index component there))) refl refl
+          (contains_map (λ (c : Component). c.span) facts.package_name component
+          (contained facts.package_name index component there))) refl refl
       stands _ (of_declaration {facts = other} index {declared = declared} has kept) =
           let there = ap (λ (f : Facts). slice_get f.declarations index)
           (sym (same_facts files source other facts has.has_facts known)) ∙ has.numbered in
           at_name declared.name
           (Contains-append_left (name_spans facts.declarations) (component_spans facts.package_name) declared.name
-          (mapped (λ (d : Declaration). d.name) facts.declarations declared
-          (is_listed facts.declarations index declared there))) refl refl
+          (contains_map (λ (d : Declaration). d.name) facts.declarations declared
+          (contained facts.declarations index declared there))) refl refl
       stands _ (of_component {component = component} names shown) =
           let used = subst (λ (f : Facts). Contains f.uses names.type_use)
           (same_facts files source names.facts facts names.has_facts known) names.listed in
           at_use component.span
           (all_mapped (λ (u : Use). component_spans u.components) facts.uses names.type_use component.span used
-          (mapped (λ (c : Component). c.span) names.type_use.components component
-          (is_listed names.type_use.components names.index component names.component_is))) refl refl
+          (contains_map (λ (c : Component). c.span) names.type_use.components component
+          (contained names.type_use.components names.index component names.component_is))) refl refl
 
       pub roles_by_range : (o p : Occurrence) → Occurs files chosen ids encoding source text o
           → Occurs files chosen ids encoding source text p → o.range ≡ p.range → o.symbol_roles ≡ p.symbol_roles
@@ -206,6 +203,6 @@ module _ (files : List File) (chosen : Chosen) (ids : Packages) (encoding : Enco
       let at = places known.0 known.1 in
       roles_by_range rise encoding text known.0 at.0 at.1 files chosen ids source known.1 o p first second ranges in
       let roles : o.symbol_roles ≡ p.symbol_roles =
-      either (λ own. either (λ other. own ∙ sym other) by_facts (own_or_known p second)) by_facts
+      ⊎_elim (λ own. ⊎_elim (λ other. own ∙ sym other) by_facts (own_or_known p second)) by_facts
       (own_or_known o first) in
       λ i. record { range = ranges i; symbol = symbols i; symbol_roles = roles i }

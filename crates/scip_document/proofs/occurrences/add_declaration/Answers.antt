@@ -1,11 +1,12 @@
 use Rattle.std.proofs.Common.{◌∙◌, subst, [], ◌∷◌}
+use Rattle.std.proofs.lemmas.Bool.{not-true, not-false}
 use Rattle.scip_document.specs.Named.{text_of, declaration_at}
 use Rattle.scip_document.specs.Occurs.{definition_role}
 use Rattle.scip_document.specs.Tables.Listing.{keeps}
 use Rattle.proto_lex.specs.declared.span.Span.{Span}
 use Rattle.scip_document.specs.Tables.OwnTexts.{occurrence_with}
 use Rattle.scip_document.specs.Tables.Plans.{own_texts, AreAdded}
-use Rattle.scip_document.proofs.PlanLemmas.{none_if, some_if, planned_added, declared_number, kept_by, is_not, is_so}
+use Rattle.scip_document.proofs.PlanLemmas.{none_if, some_if, planned_added, declared_number, kept_by}
 use Rattle.scip_document.proofs.occurrences.add_declaration.Goals as goal
 
 pub returns-then-not-choice : goal.returns-then-not-choice
@@ -14,7 +15,7 @@ returns-then-not-choice c = λ id run path.
     none_if (keeps maker.choices.now maker.source c.args.index) (own_texts id run path c.args.facts.now)
     c.args.list.now.items _
     (kept_by maker.choices.now maker.source c.args.index c.of-choice.result c.of-choice.ensures
-    ∙ is_not c.of-choice.result.keep c.if-not-choice.true)
+    ∙ not-true c.of-choice.result.keep c.if-not-choice.true)
 
 pub returns : goal.returns
 returns c = λ id run path.
@@ -28,7 +29,7 @@ returns c = λ id run path.
     let text = text_of id (declaration_at facts declared) in
     some_if (keeps maker.choices.now maker.source index) texts old new _
     (kept_by maker.choices.now maker.source index c.of-choice.result c.of-choice.ensures
-    ∙ is_so c.of-choice.result.keep c.if-not-choice.false)
+    ∙ not-false c.of-choice.result.keep c.if-not-choice.false)
     (subst (λ (span : Span).
     AreAdded texts old new (occurrence_with maker.encoding maker.text.now span text definition_role ∷ []))
     c.name.ensures

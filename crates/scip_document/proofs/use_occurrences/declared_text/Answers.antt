@@ -4,8 +4,9 @@ use Rattle.std.proofs.lemmas.Option.{slice_get_within}
 use Rattle.scip_symbol.specs.Package.{Package}
 use Rattle.scip_document.specs.Named.{text_of, declaration_at}
 use Rattle.scip_document.specs.Tables.Listing.{declared_by}
-use Rattle.scip_document.proofs.NamedLemmas.{some_facts, given_facts, is_within, is_listed, declared_is, if_named}
+use Rattle.scip_document.proofs.NamedLemmas.{some_facts, given_facts, is_within, declared_is, if_named}
 use Rattle.scip_document.proofs.use_occurrences.declared_text.Goals as goal
+use Rattle.proto_visibility.proofs.FirstLemmas.{contained}
 
 pub unwrap-facts-requires : goal.unwrap-facts-requires
 unwrap-facts-requires c =
@@ -25,7 +26,7 @@ package_of_file-id-requires c =
 
 pub declaration_text-requires : goal.declaration_text-requires
 declaration_text-requires c =
-    is_listed c.unwrap-facts.result.now.declarations c.args.index c.declaration_of-declaration.result.now
+    contained c.unwrap-facts.result.now.declarations c.args.index c.declaration_of-declaration.result.now
     c.declaration_of-declaration.ensures
 
 pub returns : goal.returns

@@ -140,7 +140,7 @@ fn make_whole<R: Threads + Wait, G: Gate, F: DocumentForm + Sync>(
         (MayRefuseMaking readings.now run.now.workers) }
 {
     let files = linked_files(run.alloc, readings)?;
-    let linker = link(run.alloc, readings, files.as_slice())?;
+    let linker = link(run, readings, files.as_slice())?;
     make_linked(run, &linker, readings, settings, form)
 }
 

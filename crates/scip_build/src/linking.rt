@@ -1,15 +1,18 @@
 //! From files that were read to a linker.
 
-ghost use Rattle.std.specs.Prelude.{◌≡◌, IfOk, MatchResult};
+ghost use Rattle.std.specs.Prelude.{◌≡◌, IfOk, IfErr, MatchResult};
 ghost use Rattle.proto_visibility.specs.Files.{HaveOwnPaths};
 ghost use Rattle.proto_visibility.specs.Absences.{IsUnread};
-ghost use Rattle.proto_visibility.specs.Linked.{MayRefuse};
+ghost use Rattle.proto_visibility.specs.Linked.{CanBeLinked, MayRefuse};
 ghost use Rattle.scip_build.specs.Linking.{linked_file, linked_files, HasFault, MayRefuseReadings, AreLinked};
 
 use crate::fault::{BuildFault, FileFault};
 use crate::reading::Reading;
-use proto_link::{LinkFault, LinkFile, Linker};
+use crate::run::Run;
+use index_pool::Workers;
+use proto_link::{CheckedFiles, LinkFault, LinkFile, Linker, ListedNames};
 use std::alloc::{AllocError, Global};
+use std::thread::{Threads, join};
 
 /// A file as it is linked.
 fn linked_file<'a, 'r>(reading: &'a Reading<'r>) -> LinkFile<'a, 'r>
@@ -66,12 +69,59 @@ fn refusal(readings: &[Reading<'_>], fault: LinkFault) -> BuildFault
     }
 }
 
-/// Links files that were read, given as they are linked.
+/// The linker of files, of which two parts are made at once. Another thread checks them, since listing names takes more
+/// memory, which the calling thread gets in larger steps; if none can be started, the calling thread does both.
+fn linker_in_parts<'a, 'r, R: Threads>(
+    rt: &R,
+    alloc: Global,
+    files: &'a [LinkFile<'a, 'r>],
+) -> Result<Linker<'a, 'r>, LinkFault>
+    requires { HaveOwnPaths files.now }
+    ensures linked { IfOk result (λ linker. linker ≡ files.now) }
+    ensures can_be { IfOk result (λ _. CanBeLinked files.now) }
+    ensures refused { IfErr result (MayRefuse files.now) }
+{
+    let check = move || -> Result<CheckedFiles<'_, '_>, LinkFault>
+        requires { HaveOwnPaths files.now }
+        ensures checked { IfOk result (λ checked. checked ≡ files.entry.now) }
+        ensures can_be { IfOk result (λ _. CanBeLinked files.entry.now) }
+        ensures refused { IfErr result (MayRefuse files.entry.now) }
+    { CheckedFiles::of(alloc, files) };
+    let list = move || -> Result<ListedNames<'_, '_>, AllocError>
+        ensures { IfOk result (λ listed. listed ≡ files.entry.now) }
+    { ListedNames::of(alloc, files) };
+    let (checked, listed) = join(rt, check, list);
+    let checked = checked?;
+    let listed = listed?;
+    Ok(Linker::joined(checked, listed))
+}
+
+/// The linker of files, on this many workers, of whom no more than two have work.
+fn linker_of<'a, 'r, R: Threads>(
+    rt: &R,
+    alloc: Global,
+    workers: Workers,
+    files: &'a [LinkFile<'a, 'r>],
+) -> Result<Linker<'a, 'r>, LinkFault>
+    requires { HaveOwnPaths files.now }
+    ensures linked { IfOk result (λ linker. linker ≡ files.now) }
+    ensures can_be { IfOk result (λ _. CanBeLinked files.now) }
+    ensures refused { IfErr result (MayRefuse files.now) }
+{
+    if workers.count() > 1 {
+        linker_in_parts(rt, alloc, files)
+    } else {
+        Linker::new(alloc, files)
+    }
+}
+
+/// Links files that were read, given as they are linked. If there is more than one worker, two threads link.
 ///
 /// Of the refusals `File` comes first: the least included file that some source sees and that
-/// couldn't be read. Then `Duplicate`, then `MissingImport`. `Memory` comes at any growth.
-pub fn link<'a, 'r>(
-    alloc: Global,
+/// couldn't be read. Then `Duplicate`, then `MissingImport`. `Memory` comes at any growth. `Spawn` never comes: what
+/// no thread can be started for is done by the calling one.
+pub fn link<'a, 'r, R: Threads, G>(
+    run: &Run<'_, R, G>,
     readings: &[Reading<'_>],
     files: &'a [LinkFile<'a, 'r>],
 ) -> Result<Linker<'a, 'r>, BuildFault>
@@ -79,7 +129,7 @@ pub fn link<'a, 'r>(
     requires own { HaveOwnPaths files.now }
     ensures { MatchResult result (AreLinked readings.now) (MayRefuseReadings readings.now) }
 {
-    match Linker::new(alloc, files) {
+    match linker_of(run.rt, run.alloc, run.workers, files) {
         Ok(linker) => Ok(linker),
         Err(fault) => Err(refusal(readings, fault)),
     }

@@ -11,7 +11,9 @@ ghost use Rattle.std.specs.Prelude.{◌<◌, length};
 ghost use Rattle.proto_visibility.specs.Files.{HaveOwnPaths};
 
 use proto_decl::{FileFacts, Use};
-use proto_link::{Entity, FilePlace, LinkFault, LinkFile, Linker, Target};
+use proto_link::{
+    CheckedFiles, Entity, FilePlace, LinkFault, LinkFile, Linker, ListedNames, Target,
+};
 use std::alloc::{AllocError, Global};
 use test_kit::{Draft, Made};
 
@@ -161,6 +163,18 @@ pub(crate) fn answer_of<'a>(alloc: Global, files: &'a [LinkFile<'a, '_>]) -> Mad
 {
     match Linker::new(alloc, files) {
         Ok(linker) => listing_with_paths(alloc, &linker),
+        Err(LinkFault::Memory) => Err(AllocError),
+        Err(fault) => line_of(alloc, fault),
+    }
+}
+
+/// What linking answers to the same files in two parts, of which the names are listed first.
+pub(crate) fn answer_in_parts<'a>(alloc: Global, files: &'a [LinkFile<'a, '_>]) -> Made<String>
+    requires { HaveOwnPaths files.now }
+{
+    let listed = ListedNames::of(alloc, files)?;
+    match CheckedFiles::of(alloc, files) {
+        Ok(checked) => listing_with_paths(alloc, &Linker::joined(checked, listed)),
         Err(LinkFault::Memory) => Err(AllocError),
         Err(fault) => line_of(alloc, fault),
     }

@@ -1,6 +1,6 @@
 //! Trees of sources as texts, in the form of `test_kit`, and the files that are linked.
 
-use crate::answers::answer_of;
+use crate::answers::{answer_in_parts, answer_of};
 use crate::facts::facts_of;
 use crate::kept::are_kept_as_scanned;
 use crate::meanings::scan_of;
@@ -77,7 +77,7 @@ fn is_as_scanned(alloc: Global, files: &[LinkFile], answer: &str, due: Option<&s
     Ok(scan.as_str() == answer && (due.is_none() || due == Some(answer)))
 }
 
-/// Whether linking answers to files what is due.
+/// Whether linking answers to files what is due, be it in one or in two parts.
 fn are_files_answered<'a>(
     alloc: Global,
     files: &'a [LinkFile<'a, '_>],
@@ -87,7 +87,12 @@ fn are_files_answered<'a>(
         return Ok(due == Some("a path twice\n"));
     }
     let answer = answer_of(alloc, files)?;
-    Ok(is_as_scanned(alloc, files, answer.as_str(), due)? && are_kept_as_scanned(alloc, files)?)
+    let in_parts = answer_in_parts(alloc, files)?;
+    Ok(
+        in_parts.as_str() == answer.as_str()
+            && is_as_scanned(alloc, files, answer.as_str(), due)?
+            && are_kept_as_scanned(alloc, files)?,
+    )
 }
 
 /// The same of sources and their facts.

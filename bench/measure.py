@@ -37,7 +37,8 @@ def measured(command, source, folder, made=None):
     """Runs a command in a folder on a source as standard input, its output thrown away.
 
     Gives seconds of wall time and the peak memory in MiB. A command that fails ends the bench, with what it said.
-    A file that the command makes is taken away first: to empty one that was written a moment ago waits for the disk.
+    The file `made`, which the command makes, is taken away first: to empty one that was written a moment ago waits for
+    the disk.
     """
     if made is not None and os.path.exists(made):
         os.remove(made)

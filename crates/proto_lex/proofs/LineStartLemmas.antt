@@ -3,6 +3,7 @@ use Rattle.std.proofs.Common.{◌≡◌, ◌∙◌, sym, ap, refl, subst, ℕ, z
 use Rattle.std.proofs.Common.{length, get_or, take, drop, Bool, true, false, not, cond, leb, leb-true, arith}
 use Rattle.std.specs.List.{after_last, suffix_len, count_by, sum_by}
 use Rattle.std.specs.List.Sorted.{IsPartitionPoint, IsNonDecreasingBy}
+use Rattle.std.proofs.lemmas.Bool.{leb-false}
 use Rattle.std.proofs.lemmas.Bool.Decides.{nat_tests}
 use Rattle.std.proofs.lemmas.List.{length-take, take-take, get_or-take, get_or_default, drop-take}
 use Rattle.std.proofs.lemmas.List.Sums.{sum_by-cons, sum_by-take-le, count_by-le-length, count_by_more_yes}
@@ -239,9 +240,6 @@ line-fits text offset line h =
 first_is_not_after : (offset : ℕ) → leb 0 offset ≡ false → ⊥
 first_is_not_after offset e = grind (arith, nat_tests)
 
-after : (start offset : ℕ) → leb start offset ≡ false → offset < start
-after start offset e = grind (arith, nat_tests)
-
 some_before : (text : List ℕ) (offset count : ℕ)
     → IsPartitionPoint (λ start. leb start offset ≡ true) (λ start. leb start offset ≡ false) (line_starts text) count
     → 1 ≤ count
@@ -261,7 +259,7 @@ line_at_point text starts offset count e h p =
         within = omega arith;
         parted = (
           λ k d low high. leb-true _ _ (q.0 k d low (omega arith)),
-          λ k d low high. after _ _ (q.1 k d (omega arith) high),
+          λ k d low high. leb-false _ _ (q.1 k d (omega arith) high),
         );
       },
     )

@@ -2,7 +2,7 @@
 
 /// A part of a text: the bytes from `start` up to, and without, `end`.
 ///
-/// Both are byte offsets from the text's start. A text is at most 64 MiB long, so they fit.
+/// Both are byte offsets from the text's start. A text is at most 64 MiB long, so 32 bits are enough.
 #[derive(Clone, Copy, Debug, PartialEq, Eq)]
 pub struct Span {
     pub start: u32,

@@ -1,5 +1,5 @@
 -- Steps that may meet a fault, taken apart.
-use Rattle.std.proofs.Common.{◌≡◌, Bool, true, false, cond, ◌&&◌, ◌||◌, Result, Ok, Err, refl}
+use Rattle.std.proofs.Common.{◌≡◌, Bool, true, false, cond, ◌||◌, Result, Ok, Err, refl}
 use Rattle.proto_grammar.specs.declared.fault.SyntaxFault.{SyntaxFault}
 use Rattle.proto_grammar.specs.Reading.Repetition.{and_then}
 
@@ -38,16 +38,7 @@ pub kept_ok : {A : Type 0} (b : Bool) (o : Result A SyntaxFault) (fault : Syntax
 kept_ok true o fault y e = cc
 kept_ok false o fault y e = (refl, e)
 
--- a choice, by its two sides
-pub chosen : {A P : Type 0} (b : Bool) (x y z : A) → cond b x y ≡ z → (b ≡ true → x ≡ z → P) → (b ≡ false → y ≡ z → P)
-    → P
-chosen true x y z e left right = left refl e
-chosen false x y z e left right = right refl e
-
-pub both_true : (a b : Bool) → (a && b) ≡ true → (a ≡ true) × (b ≡ true)
-both_true true b e = (refl, e)
-both_true false b e = cc
-
+-- one of two tests, by the two
 pub either_true : {P : Type 0} (a b : Bool) → (a || b) ≡ true → (a ≡ true → P) → (b ≡ true → P) → P
 either_true true b e left right = left refl
 either_true false b e left right = right e

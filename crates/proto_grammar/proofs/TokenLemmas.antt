@@ -1,8 +1,9 @@
 -- Single tokens: what is read of them, and what tests of them exclude.
-use Rattle.std.proofs.Common.{◌≡◌, ℕ, ◌<◌, Bool, true, false, not, Ok, Err, List, [], ◌∷◌, length, refl, sym}
+use Rattle.std.proofs.Common.{◌≡◌, ℕ, ◌<◌, Bool, true, false, Ok, Err, List, [], ◌∷◌, length, refl, sym}
 use Rattle.std.proofs.Common.{subst}
 use Rattle.std.proofs.Common.{arith, bytes_eq}
 use Rattle.std.proofs.lemmas.Slice.Eq.{bytes_eq-Decides}
+use Rattle.std.proofs.lemmas.Bool.{not-false, and_parts}
 use denote.Enum.Bare.{same_true}
 use Rattle.proto_lex.specs.contracts.token.TokenKind.{the_type}
 use Rattle.proto_lex.specs.declared.span.Span.{Span}
@@ -15,7 +16,8 @@ use Rattle.proto_grammar.specs.Terminal.{not_next}
 use Rattle.proto_grammar.specs.Grammar.Repetition.{One}
 use Rattle.proto_grammar.specs.Grammar.Repetition.One.{one}
 use Rattle.proto_grammar.specs.Reading.Repetition.{token_that, plain_literal_at}
-use Rattle.proto_grammar.proofs.Steps.{read_as, same_ok, guard_ok, chosen, both_true}
+use Rattle.proto_grammar.proofs.Steps.{read_as, same_ok, guard_ok}
+use Rattle.proto_lex.proofs.ReadLemmas.{chosen}
 
 token_found_by : {test : Lexeme → Bool} (left : List Lexeme) (end : ℕ) (x : Span × Place)
     → token_that test (place_of end left) ≡ Ok x → One test left x.0 x.1.left
@@ -66,13 +68,13 @@ kind_no_word kind word t differs is = rw (other_kind kind Identifier t differs i
 
 -- a word is a token of no other kind
 pub word_kind : (word : List ℕ) (t : Lexeme) → is_word word t ≡ true → of_kind Identifier t ≡ true
-word_kind word t is = (both_true (is_kind Identifier t.kind) (bytes_eq t.spelling word) is).0
+word_kind word t is = (and_parts (is_kind Identifier t.kind) (bytes_eq t.spelling word) is).0
 
 -- a word is no other word
 pub other_word : (word other : List ℕ) (t : Lexeme) → bytes_eq word other ≡ false → is_word word t ≡ true
     → is_word other t ≡ false
 other_word word other t differs is =
-    let both = both_true (is_kind Identifier t.kind) (bytes_eq t.spelling word) is in
+    let both = and_parts (is_kind Identifier t.kind) (bytes_eq t.spelling word) is in
     let same : t.spelling ≡ word = (bytes_eq-Decides t.spelling word).0 both.1 in
     let other_differs : bytes_eq t.spelling other ≡ false = rw same differs in
     rw (both.0, other_differs) refl
@@ -98,13 +100,8 @@ pub next_other_word : (word other : List ℕ) (a : List Lexeme) → bytes_eq wor
 next_other_word word other [] differs is = refl
 next_other_word word other (t ∷ rest) differs is = other_word word other t differs is
 
--- where the next token is not of another kind
-not_false : (b : Bool) → not b ≡ false → b ≡ true
-not_false true e = refl
-not_false false e = cc
-
 pub next_of : (kind : TokenKind) (a : List Lexeme) → not_next kind a ≡ false → first_is (of_kind kind) a ≡ true
-next_of kind a e = not_false (first_is (of_kind kind) a) e
+next_of kind a e = not-false (first_is (of_kind kind) a) e
 
 -- a literal without a `\\`
 plain_found_by : (left : List Lexeme) (end : ℕ) (x : Span × Place) → plain_literal_at (place_of end left) ≡ Ok x
@@ -112,9 +109,9 @@ plain_found_by : (left : List Lexeme) (end : ℕ) (x : Span × Place) → plain_
 unfolding plain_literal_at
 plain_found_by [] end x e = cc
 plain_found_by (t ∷ rest) end x e =
-    chosen (is_plain_literal t) _ _ (Ok x) e
+    chosen (is_plain_literal t) {z = Ok x} e
     (λ is read. subst (λ (y : Span × Place). One is_plain_literal (t ∷ rest) y.0 y.1.left) (same_ok _ x read) (one is))
-    (λ not_plain read. chosen (of_kind StringLiteral t) _ _ (Ok x) read
+    (λ not_plain read. chosen (of_kind StringLiteral t) {z = Ok x} read
     (λ string escaped. absurd (let no : Err (ImportEscape t.span.start) ≡ read_as x = escaped in cc))
     (λ no_string other. absurd (let no : Err (Grammar t.span.start) ≡ read_as x = other in cc)))
 

@@ -14,7 +14,8 @@ use Rattle.proto_grammar.specs.Grammar.Repetition.Until.{done, more}
 use Rattle.proto_grammar.specs.Grammar.Repetition.Adds.{adds}
 use Rattle.proto_grammar.specs.Grammar.Repetition.Passes.{passes}
 use Rattle.proto_grammar.specs.Reading.Repetition.{◌>>=◌, Read, until_by, until_at, adding, passing, passed}
-use Rattle.proto_grammar.proofs.Steps.{bind_ok, same_ok, chosen}
+use Rattle.proto_grammar.proofs.Steps.{bind_ok, same_ok}
+use Rattle.proto_lex.proofs.ReadLemmas.{chosen}
 
 -- a fault of a part is one of the whole
 pub Fails-of : {Y Z : Type 0} (custom : CustomOptions) (fault : SyntaxFault) (part : Result Y SyntaxFault)
@@ -116,12 +117,12 @@ module _ {S : Type 0} (ends : List Lexeme → Bool) (step : S → Read S)
     until_by-found : (n : ℕ) (s : S) (tokens : Place) (x : S × Place) → until_by ends step n s tokens ≡ Ok x
         → Until ends Step s tokens.left x.0 x.1.left
     until_by-found zero s tokens x e =
-        chosen (ends tokens.left) _ _ (Ok x) e
+        chosen (ends tokens.left) {z = Ok x} e
         (λ at_end read. subst (λ (y : S × Place). Until ends Step s tokens.left y.0 y.1.left) (same_ok _ x read)
         (done at_end))
         (λ further read. let t = bind_ok (step s tokens) _ x read in absurd (let no : Err Memory ≡ Ok x = t.2 in cc))
     until_by-found (suc n) s tokens x e =
-        chosen (ends tokens.left) _ _ (Ok x) e
+        chosen (ends tokens.left) {z = Ok x} e
         (λ at_end read. subst (λ (y : S × Place). Until ends Step s tokens.left y.0 y.1.left) (same_ok _ x read)
         (done at_end))
         (λ further read.
@@ -216,7 +217,7 @@ module _ {A : Type 0} (ends : List Lexeme → Bool) (item : Read (Option A))
       → until_by ends (passing (passed item)) n s tokens ≡ Ok x
       → (all : List A) × Until ends (Adds Item) items tokens.left all x.1.left
   passed_by-found zero s items tokens x e =
-      chosen (ends tokens.left) _ _ (Ok x) e
+      chosen (ends tokens.left) {z = Ok x} e
       (λ at_end read. (
         items,
         subst (λ (y : Unit {0} × Place). Until ends (Adds Item) items tokens.left items y.1.left)
@@ -225,7 +226,7 @@ module _ {A : Type 0} (ends : List Lexeme → Bool) (item : Read (Option A))
       (λ further read.
       let t = bind_ok (passed item tokens) _ x read in absurd (let no : Err Memory ≡ Ok x = t.2 in cc))
   passed_by-found (suc n) s items tokens x e =
-      chosen (ends tokens.left) _ _ (Ok x) e
+      chosen (ends tokens.left) {z = Ok x} e
       (λ at_end read. (
         items,
         subst (λ (y : Unit {0} × Place). Until ends (Adds Item) items tokens.left items y.1.left)

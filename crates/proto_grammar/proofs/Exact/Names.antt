@@ -18,11 +18,11 @@ use Rattle.proto_grammar.specs.Reading.Repetition.{adding}
 use Rattle.proto_grammar.specs.Reading.Names.{dot_name_at, dot_names_at, name_at, pass_dot_name_at, pass_dot_names_at}
 use Rattle.proto_grammar.specs.Reading.Names.{pass_name_at, leading_dot_at, type_name_at, pass_type_name_at}
 use Rattle.proto_grammar.specs.Reading.Names.{named_type_at, type_at}
-use Rattle.proto_grammar.proofs.Steps.{both_true}
 use Rattle.proto_grammar.proofs.TokenLemmas.{token_exact, one_next, next_other_kind}
 use Rattle.proto_grammar.proofs.UntilLemmas.{until_at-exact, adding-exact, passed-exact}
 use Rattle.proto_grammar.proofs.StepsFall.{dot_names_fall, pass_dot_names_fall}
 use Rattle.std.proofs.Common.{Ok, ℕ}
+use Rattle.std.proofs.lemmas.Bool.{and_parts}
 use Rattle.proto_grammar.specs.Lexeme.{place_of}
 
 module _ (end : ℕ) where
@@ -75,8 +75,8 @@ module _ (end : ℕ) where
   scalar_name : {a b : List Lexeme} {word : Span} → begins_scalar a ≡ true → One is_scalar a word b
       → IsTypeName a (record { leading_dot = None; components = word ∷ [] }) b
   scalar_name is (one {t} {rest} s) =
-      let both = both_true (first_is is_scalar (t ∷ rest)) (not_next Dot rest) is in
-      plain (name (one (both_true (is_kind Identifier t.kind) _ s).0) (done both.1))
+      let both = and_parts (first_is is_scalar (t ∷ rest)) (not_next Dot rest) is in
+      plain (name (one (and_parts (is_kind Identifier t.kind) _ s).0) (done both.1))
 
   pub pass_type_exact : {a b : List Lexeme} {x : FieldType} → IsType a x b
       → pass_type_name_at (place_of end a) ≡ Ok (tt, place_of end b)

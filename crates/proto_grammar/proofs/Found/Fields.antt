@@ -48,12 +48,14 @@ use Rattle.proto_grammar.specs.Reading.Fields.{numbered_at, typed_at, required_a
 use Rattle.proto_grammar.specs.Reading.Fields.{group_head_at, map_field_at}
 use Rattle.proto_grammar.specs.Reading.Reserved.{plain_integer_at, integer_at, range_end_at, range_at, reserved_item_at}
 use Rattle.proto_grammar.specs.Reading.Reserved.{comma_item_at, comma_items_at, reserved_at, extensions_at}
-use Rattle.proto_grammar.proofs.Steps.{same_ok, bind_ok, chosen, both_true}
+use Rattle.proto_grammar.proofs.Steps.{same_ok, bind_ok}
+use Rattle.proto_lex.proofs.ReadLemmas.{chosen}
 use Rattle.proto_grammar.proofs.TokenLemmas.{token_found, next_found, other_kind}
 use Rattle.proto_grammar.proofs.UntilLemmas.{until_at-found, passing-found}
 use Rattle.proto_grammar.proofs.Found.Names.{type_found, pass_type_name_found}
 use Rattle.proto_grammar.proofs.Found.Options.{left_of, options_found, strings_found}
 use Rattle.std.proofs.Common.{Ok, ℕ}
+use Rattle.std.proofs.lemmas.Bool.{and_parts}
 use Rattle.proto_grammar.specs.Lexeme.{Place, place_of}
 
 pub numbered_found : (custom : CustomOptions) (first : Span) (tokens : Place) (x : Heading × Place)
@@ -91,10 +93,10 @@ pub label_found : (syntax : Syntax) (tokens : Place) (x : Option Label × Place)
     → label_at syntax tokens ≡ Ok x → IsLabel syntax tokens.left x.0 x.1.left
 unfolding label_at
 label_found syntax tokens x e =
-    chosen (first_is (is_word (codes "repeated")) tokens.left) _ _ (Ok x) e
+    chosen (first_is (is_word (codes "repeated")) tokens.left) {z = Ok x} e
     (λ is read. subst (λ (y : Option Label × Place). IsLabel syntax tokens.left y.0 y.1.left) (same_ok _ x read)
     (repeated (next_found tokens.left is).1))
-    (λ no_repeated read. chosen (first_is (is_word (codes "optional")) tokens.left) _ _ (Ok x) read
+    (λ no_repeated read. chosen (first_is (is_word (codes "optional")) tokens.left) {z = Ok x} read
     (λ is read. subst (λ (y : Option Label × Place). IsLabel syntax tokens.left y.0 y.1.left) (same_ok _ x read)
     (optional (next_found tokens.left is).1))
     (λ no_optional read. by_syntax syntax no_repeated no_optional read))
@@ -132,14 +134,14 @@ type_of_name : (tokens after : List Lexeme) (type : TypeName) → IsTypeName tok
 type_of_name tokens after type found false not = (Named type, named not found)
 type_of_name [] after type found true is = absurd (let none : false ≡ true = is in cc)
 type_of_name (t ∷ rest) after type (rooted (one is_dot) behind) true is =
-    let word = both_true (first_is is_scalar (t ∷ rest)) (not_next Dot rest) is in
-    let identifier : of_kind Identifier t ≡ true = (both_true (is_kind Identifier t.kind) _ word.0).0 in
+    let word = and_parts (first_is is_scalar (t ∷ rest)) (not_next Dot rest) is in
+    let identifier : of_kind Identifier t ≡ true = (and_parts (is_kind Identifier t.kind) _ word.0).0 in
     let no_dot : of_kind Dot t ≡ false = other_kind Identifier Dot t refl identifier in
     cc
 type_of_name (t ∷ rest) after type (a_plain (name (one i) (done at_end))) true is =
-    (Scalar t.span, scalar is (one (both_true (first_is is_scalar (t ∷ rest)) (not_next Dot rest) is).0))
+    (Scalar t.span, scalar is (one (and_parts (first_is is_scalar (t ∷ rest)) (not_next Dot rest) is).0))
 type_of_name (t ∷ rest) after type (a_plain (name (one i) (more further first behind))) true is =
-    let past = (both_true (first_is is_scalar (t ∷ rest)) (not_next Dot rest) is).1 in
+    let past = (and_parts (first_is is_scalar (t ∷ rest)) (not_next Dot rest) is).1 in
     cc
 
 pass_field_by_found : (custom : CustomOptions) (left : List Lexeme) (end : ℕ) (x : Unit {0} × Place)
@@ -189,7 +191,7 @@ pub integer_found : (negative : Bool) (tokens : Place) (x : Unit {0} × Place)
 unfolding integer_at
 integer_found false tokens x e = plain (plain_integer_found _ _ e).1
 integer_found true tokens x e =
-    chosen (first_is (of_kind Minus) tokens.left) _ _ (Ok x) e
+    chosen (first_is (of_kind Minus) tokens.left) {z = Ok x} e
     (λ is read. minus (next_found tokens.left is).1 (plain_integer_found _ _ read).1)
     (λ _ read. plain (plain_integer_found _ _ read).1)
 
@@ -197,7 +199,7 @@ range_end_found : (negative : Bool) (tokens : Place) (x : Unit {0} × Place)
     → range_end_at negative tokens ≡ Ok x → IsRangeEnd negative tokens.left x.1.left
 unfolding range_end_at
 range_end_found negative tokens x e =
-    chosen (first_is (is_word (codes "max")) tokens.left) _ _ (Ok x) e
+    chosen (first_is (is_word (codes "max")) tokens.left) {z = Ok x} e
     (λ is read. subst (λ (y : Place). IsRangeEnd negative tokens.left y.left) (left_of x read)
     (max (next_found tokens.left is).1))
     (λ _ read. number (integer_found negative _ _ read))
@@ -207,7 +209,7 @@ range_found : (negative : Bool) (tokens : Place) (x : Unit {0} × Place) → ran
 unfolding range_at
 range_found negative tokens x e =
     let i = bind_ok (integer_at negative tokens) _ x e in
-    chosen (first_is (is_word (codes "to")) i.0.1.left) _ _ (Ok x) i.2
+    chosen (first_is (is_word (codes "to")) i.0.1.left) {z = Ok x} i.2
     (λ is read. range (integer_found negative _ _ i.1) (next_found i.0.1.left is).1 (range_end_found negative _ _ read))
     (λ not read.
     subst (λ (y : Place). IsRange negative tokens.left y.left) (left_of x read)

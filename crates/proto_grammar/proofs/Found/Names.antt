@@ -16,7 +16,8 @@ use Rattle.proto_grammar.specs.Reading.Repetition.{token_that, adding}
 use Rattle.proto_grammar.specs.Reading.Names.{dot_name_at, dot_names_at, name_at, pass_dot_name_at, pass_dot_names_at}
 use Rattle.proto_grammar.specs.Reading.Names.{pass_name_at, leading_dot_at, type_name_at, pass_type_name_at}
 use Rattle.proto_grammar.specs.Reading.Names.{named_type_at, type_at}
-use Rattle.proto_grammar.proofs.Steps.{same_ok, bind_ok, kept_ok, chosen}
+use Rattle.proto_grammar.proofs.Steps.{same_ok, bind_ok, kept_ok}
+use Rattle.proto_lex.proofs.ReadLemmas.{chosen}
 use Rattle.proto_grammar.proofs.TokenLemmas.{token_found}
 use Rattle.proto_grammar.proofs.UntilLemmas.{until_at-found, adding-found, passed-found}
 
@@ -50,7 +51,7 @@ leading_dot_found : (tokens : Place) (x : Option Span × Place) → leading_dot_
     → IsTypeName tokens.left (record { leading_dot = x.0; components = components }) after
 unfolding leading_dot_at
 leading_dot_found tokens x e components after behind =
-    chosen (first_is (of_kind Dot) tokens.left) _ _ (Ok x) e
+    chosen (first_is (of_kind Dot) tokens.left) {z = Ok x} e
     (λ _ read.
     let d = bind_ok (token_that (of_kind Dot) tokens) _ x read in
     let here = same_ok _ x d.2 in
@@ -92,7 +93,7 @@ named_type_found tokens x e =
 pub type_found : (tokens : Place) (x : FieldType × Place) → type_at tokens ≡ Ok x → IsType tokens.left x.0 x.1.left
 unfolding type_at
 type_found tokens x e =
-    chosen (begins_scalar tokens.left) _ _ (Ok x) e
+    chosen (begins_scalar tokens.left) {z = Ok x} e
     (λ is read.
     let w = bind_ok (token_that is_scalar tokens) _ x read in
     subst (λ (y : FieldType × Place). IsType tokens.left y.0 y.1.left) (same_ok _ x w.2)

@@ -32,7 +32,8 @@ use Rattle.proto_grammar.specs.Reading.Options.{literal_at, literals_at, strings
 use Rattle.proto_grammar.specs.Reading.Options.{aggregate_at, signed_at, constant_at, setting_at, comma_setting_at}
 use Rattle.proto_grammar.specs.Reading.Options.{comma_settings_at, option_at, bracketed_at, options_at}
 use Rattle.std.proofs.Common.{ap}
-use Rattle.proto_grammar.proofs.Steps.{read_as, same_ok, bind_ok, chosen}
+use Rattle.proto_grammar.proofs.Steps.{read_as, same_ok, bind_ok}
+use Rattle.proto_lex.proofs.ReadLemmas.{chosen}
 use Rattle.proto_grammar.proofs.TokenLemmas.{token_found}
 use Rattle.proto_grammar.proofs.UntilLemmas.{until_at-found, passing-found}
 use Rattle.proto_grammar.proofs.Found.Names.{pass_name_found, pass_type_name_found}
@@ -50,13 +51,13 @@ pub part_found : (custom : CustomOptions) (tokens : Place) (x : Unit {0} × Plac
     → part_at custom tokens ≡ Ok x → IsOptionPart custom tokens.left x.1.left
 unfolding part_at extension_at
 part_found Refuse tokens x e =
-    chosen (first_is (of_kind OpenParenthesis) tokens.left) _ _ (Ok x) e
+    chosen (first_is (of_kind OpenParenthesis) tokens.left) {z = Ok x} e
     (λ _ read. absurd (let no : Err (CustomOption (offset_at tokens)) ≡ Ok x = read in cc))
     (λ _ read.
     let n = bind_ok (token_that (of_kind Identifier) tokens) _ x read in
     subst (λ (y : Place). IsOptionPart Refuse tokens.left y.left) (left_of x n.2) (plain (token_found _ _ n.1)))
 part_found Skip tokens x e =
-    chosen (first_is (of_kind OpenParenthesis) tokens.left) _ _ (Ok x) e
+    chosen (first_is (of_kind OpenParenthesis) tokens.left) {z = Ok x} e
     (λ _ read.
     let o = bind_ok (token_that (of_kind OpenParenthesis) tokens) _ x read in
     let n = bind_ok (pass_type_name_at o.0.1) _ x o.2 in
@@ -109,11 +110,11 @@ closed_by_found zero (t ∷ rest) end x e = subst (λ (y : Place). IsClosed zero
 closed_by_found (suc depth) [] end x e = absurd (let none : Err (Grammar end) ≡ Ok x = rw (not_zero depth) at e in cc)
 closed_by_found (suc depth) (t ∷ rest) end x e' =
     let e : closed_by (depth_behind t (suc depth)) rest end ≡ Ok x = rw (not_zero depth) at e' in
-    chosen (of_kind OpenBrace t) _ _ (depth_behind t (suc depth)) refl
+    chosen (of_kind OpenBrace t) {z = depth_behind t (suc depth)} refl
     (λ opens deeper.
     let d : depth_behind t (suc depth) ≡ suc (suc depth) = sym deeper ∙ omega arith in
     open_brace (one opens) (closed_by_found (suc (suc depth)) rest end x (rw d at e)))
-    (λ no_open behind. chosen (of_kind CloseBrace t) _ _ (depth_behind t (suc depth)) behind
+    (λ no_open behind. chosen (of_kind CloseBrace t) {z = depth_behind t (suc depth)} behind
     (λ closes less.
     let d : depth_behind t (suc depth) ≡ depth = sym less ∙ omega arith in
     close_brace (one closes) (closed_by_found depth rest end x (rw d at e)))
@@ -137,17 +138,17 @@ pub constant_found : (custom : CustomOptions) (tokens : Place) (x : Unit {0} × 
     → constant_at custom tokens ≡ Ok x → IsConstant custom tokens.left x.1.left
 unfolding constant_at signed_at
 constant_found custom tokens x e =
-    chosen (first_is (of_kind Identifier) tokens.left) _ _ (Ok x) e
+    chosen (first_is (of_kind Identifier) tokens.left) {z = Ok x} e
     (λ _ read. a_name (pass_name_found _ _ read).1)
-    (λ _ read. chosen (first_is is_sign tokens.left) _ _ (Ok x) read
+    (λ _ read. chosen (first_is is_sign tokens.left) {z = Ok x} read
     (λ _ read.
     let s = bind_ok (token_that is_sign tokens) _ x read in
     let n = bind_ok (token_that is_number s.0.1) _ x s.2 in
     subst (λ (y : Place). IsConstant custom tokens.left y.left) (left_of x n.2)
     (signed (token_found _ _ s.1) (token_found _ _ n.1)))
-    (λ _ read. chosen (first_is (of_kind StringLiteral) tokens.left) _ _ (Ok x) read
+    (λ _ read. chosen (first_is (of_kind StringLiteral) tokens.left) {z = Ok x} read
     (λ _ read. some_strings (strings_found _ _ read))
-    (λ _ read. chosen (first_is (of_kind OpenBrace) tokens.left) _ _ (Ok x) read
+    (λ _ read. chosen (first_is (of_kind OpenBrace) tokens.left) {z = Ok x} read
     (λ _ read. aggregate_found custom tokens x read)
     (λ _ read.
     let n = bind_ok (token_that is_numeral tokens) _ x read in
@@ -182,7 +183,7 @@ pub options_found : (custom : CustomOptions) (tokens : Place) (x : Unit {0} × P
     → options_at custom tokens ≡ Ok x → IsOptions custom tokens.left x.1.left
 unfolding options_at bracketed_at comma_settings_at
 options_found custom tokens x e =
-    chosen (first_is (of_kind OpenBracket) tokens.left) _ _ (Ok x) e
+    chosen (first_is (of_kind OpenBracket) tokens.left) {z = Ok x} e
     (λ _ read.
     let o = bind_ok (token_that (of_kind OpenBracket) tokens) _ x read in
     let v = bind_ok (setting_at custom o.0.1) _ x o.2 in

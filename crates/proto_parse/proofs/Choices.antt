@@ -17,6 +17,7 @@ use Rattle.proto_grammar.specs.declared.tree.Item.{Item}
 use Rattle.proto_parse.specs.declared.statement.MessageStatement.{MessageStatement}
 use Rattle.proto_parse.specs.declared.statement.MessageStatement.TheVariants as choice
 use Rattle.std.proofs.Common.{Option}
+use Rattle.std.proofs.lemmas.Bool.{and_parts}
 use Rattle.proto_grammar.specs.Lexeme.{Lexeme}
 use Rattle.proto_grammar.specs.Terminal.{is_kind, first_is, others, of_kind, is_word}
 use Rattle.proto_grammar.specs.Tree.{BlockTree}
@@ -28,7 +29,7 @@ use Rattle.proto_grammar.specs.Grammar.Fields.IsMapField.{map_field}
 use Rattle.proto_grammar.specs.Grammar.Reserved.{IsReserved, IsExtensions}
 use Rattle.proto_grammar.specs.Grammar.Reserved.IsReserved.{reserved}
 use Rattle.proto_grammar.specs.Grammar.Reserved.IsExtensions.{extensions}
-use Rattle.proto_grammar.proofs.Steps.{both_true, both_false}
+use Rattle.proto_grammar.proofs.Steps.{both_false}
 use Rattle.proto_grammar.proofs.TokenLemmas.{same_kind, one_next, one_others}
 use Rattle.proto_parse.specs.Choice.{statement_words, begins_map, begins_other}
 use Rattle.proto_parse.specs.Reading.Choice.{file_statement_of, message_statement_of}
@@ -55,7 +56,7 @@ named word = record { kind = Identifier; spelling = word; span = record { start 
 
 word_parts : (word : List ℕ) (t : Lexeme) → is_word word t ≡ true → (t.kind ≡ Identifier) × (t.spelling ≡ word)
 word_parts word t is =
-    let both = both_true (is_kind Identifier t.kind) (bytes_eq t.spelling word) is in
+    let both = and_parts (is_kind Identifier t.kind) (bytes_eq t.spelling word) is in
     (same_kind Identifier t.kind both.0, (bytes_eq-Decides t.spelling word).0 both.1)
 
 pub file_word : (word : List ℕ) (a : List Lexeme) → first_is (is_word word) a ≡ true

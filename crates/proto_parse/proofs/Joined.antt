@@ -1,11 +1,12 @@
 -- The literals of a syntax statement, joined.
-use Rattle.std.proofs.Common.{◌≡◌, ℕ, Bool, true, false, not, Option, Some, None, List, [], ◌∷◌, ◌++◌, length, drop}
+use Rattle.std.proofs.Common.{◌≡◌, ℕ, Bool, true, false, Option, Some, None, List, [], ◌∷◌, ◌++◌, length, drop}
 use Rattle.std.proofs.Common.{refl, sym}
 use Rattle.std.proofs.Common.{◌∙◌, ap, bytes_eq, nat_eq}
 use Rattle.std.specs.List.{starts_with}
 use Rattle.std.proofs.lemmas.Slice.Eq.{starts_is, bytes_eq-Decides}
 use Rattle.std.proofs.Math.Seq.{drop-append_seam}
 use Rattle.std.proofs.lemmas.Bool.Decides.{Decides-eqb}
+use Rattle.std.proofs.lemmas.Bool.{not-true}
 use Rattle.proto_lex.specs.declared.token.TokenKind.TheVariants.{StringLiteral}
 use Rattle.proto_grammar.specs.Lexeme.{Lexeme, Place, place_of}
 use Rattle.proto_grammar.specs.Terminal.{first, others, first_is, of_kind}
@@ -13,10 +14,6 @@ use Rattle.proto_parse.specs.Grammar.Files.{SpellsJoined}
 use Rattle.proto_parse.specs.Grammar.Files.SpellsJoined.{none, some}
 use Rattle.proto_parse.specs.Reading.Syntax.{stripped_of, is_left, content_of, joined_of, behind_literals}
 use Rattle.proto_parse.specs.Reading.Syntax.{past_literals}
-
-pub not_true : (b : Bool) → not b ≡ true → b ≡ false
-not_true true e = cc
-not_true false e = refl
 
 -- what is joined is spelled
 pub joined_found : (tokens : List Lexeme) → SpellsJoined tokens (joined_of tokens) (behind_literals tokens)
@@ -34,7 +31,7 @@ pub joined_exact : {a b : List Lexeme} {text : List ℕ} → SpellsJoined a text
     → (joined_of a ≡ text) × (behind_literals a ≡ b)
 joined_exact (none {a = []} past) = (refl, refl)
 joined_exact (none {a = t ∷ rest} past) =
-    let is : of_kind StringLiteral t ≡ false = not_true (of_kind StringLiteral t) past in (rw is refl, rw is refl)
+    let is : of_kind StringLiteral t ≡ false = not-true (of_kind StringLiteral t) past in (rw is refl, rw is refl)
 joined_exact (some {t = t} {rest = rest} is behind) =
     let later = joined_exact behind in (rw (is, later.0) refl, rw (is, later.1) refl)
 

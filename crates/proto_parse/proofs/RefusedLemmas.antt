@@ -29,11 +29,11 @@ use Rattle.proto_parse.proofs.Joined.{joined_exact}
 
 -- ---- what goes on
 
-same_head : {A : Type 0} (x y : A) (xs ys : List A) → x ∷ xs ≡ y ∷ ys → x ≡ y
-same_head x y xs ys e = cc
+pub heads : {A : Type 0} {x y : A} {xs ys : List A} → x ∷ xs ≡ y ∷ ys → x ≡ y
+heads e = cc
 
-same_tail : {A : Type 0} (x y : A) (xs ys : List A) → x ∷ xs ≡ y ∷ ys → xs ≡ ys
-same_tail x y xs ys e = cc
+pub tails : {A : Type 0} {x y : A} {xs ys : List A} → x ∷ xs ≡ y ∷ ys → xs ≡ ys
+tails e = cc
 
 no_dot_further : (m rest more : List Lexeme) → (not_next Dot rest ≡ true → not_next Dot more ≡ true)
     → not_next Dot (m ++ rest) ≡ true → not_next Dot (m ++ more) ≡ true
@@ -60,14 +60,14 @@ ordered : {P : Type 0} (f : List Lexeme) (t : Lexeme) (b g : List Lexeme) (u : L
     → ((m : List Lexeme) → g ≡ f ++ t ∷ m → b ≡ m ++ u ∷ c → P)
     → ((m : List Lexeme) → f ≡ g ++ u ∷ m → c ≡ m ++ t ∷ b → P)
     → P
-ordered [] t b [] u c e same before after = same refl (same_head t u b c e) (same_tail t u b c e)
+ordered [] t b [] u c e same before after = same refl (heads e) (tails e)
 ordered [] t b (x ∷ g) u c e same before after =
-    before g (ap (λ y. y ∷ g) (sym (same_head t x b (g ++ u ∷ c) e))) (same_tail t x b (g ++ u ∷ c) e)
+    before g (ap (λ y. y ∷ g) (sym (heads e))) (tails e)
 ordered (x ∷ f) t b [] u c e same before after =
-    after f (ap (λ y. y ∷ f) (same_head x u (f ++ t ∷ b) c e)) (sym (same_tail x u (f ++ t ∷ b) c e))
+    after f (ap (λ y. y ∷ f) (heads e)) (sym (tails e))
 ordered (x ∷ f) t b (y ∷ g) u c e same before after =
-    let head = same_head x y (f ++ t ∷ b) (g ++ u ∷ c) e in
-    ordered f t b g u c (same_tail x y (f ++ t ∷ b) (g ++ u ∷ c) e)
+    let head = heads e in
+    ordered f t b g u c (tails e)
     (λ p q r. same (ap (λ z. z ∷ f) head ∙ ap (λ l. y ∷ l) p) q r)
     (λ m p r. before m (ap (λ z. z ∷ g) (sym head) ∙ ap (λ l. x ∷ l) p) r)
     (λ m p r. after m (ap (λ z. z ∷ f) head ∙ ap (λ l. y ∷ l) p) r)
@@ -107,7 +107,7 @@ version_once (no_statement p) (no_statement q) e = e
 version_once (edition p) (edition q) e = e
 version_once (other_version {keyword = k} {equals = q} {a = a} p r l s x y)
     (other_version {keyword = k'} {equals = q'} {a = b} p' r' l' s' x' y') e =
-    same_tail q q' a b (same_tail k k' (q ∷ a) (q' ∷ b) e)
+    tails (tails e)
 version_once (no_statement p) (other_version is r l s x y) e =
     absurd (let no : true ≡ false = sym is ∙ first_of (codes "syntax") false _ _ e p in cc)
 version_once (other_version is r l s x y) (no_statement p) e =

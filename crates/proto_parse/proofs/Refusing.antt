@@ -17,7 +17,7 @@ use Rattle.proto_grammar.specs.Lexeme.{Lexeme, Place, place_of, lexemes_of, star
 use Rattle.proto_grammar.specs.Syntax.{custom_in, proto3_in, is_all}
 use Rattle.proto_grammar.specs.Terminal.{first_is, of_kind, is_word, not_next, is_end, offset_at}
 use Rattle.proto_grammar.specs.Reading.Repetition.{and_then, token_that, until_at}
-use Rattle.proto_grammar.proofs.Steps.{same_ok, both_true, stopped}
+use Rattle.proto_grammar.proofs.Steps.{same_ok, stopped}
 use Rattle.proto_grammar.proofs.TokenLemmas.{other_kind}
 use Rattle.proto_parse.specs.Reading.Choice.{version_of}
 use Rattle.proto_parse.specs.Faults.{is_of_custom_options}
@@ -33,6 +33,7 @@ use Rattle.proto_parse.specs.Refused.IsRefused.{not_proto3}
 use Rattle.proto_parse.proofs.Exact.Files.{syntax_exact, file_exact}
 use Rattle.proto_parse.proofs.Found.Files.{syntax_found, version_text, proto2_accepted, file_found}
 use Rattle.std.proofs.lemmas.List.{append-nil}
+use Rattle.std.proofs.lemmas.Bool.{and_parts, false≢true}
 use Rattle.proto_grammar.specs.Grammar.Repetition.One.{one}
 use Rattle.proto_parse.specs.Grammar.Files.IsSyntax.{proto3, proto2}
 use Rattle.proto_parse.proofs.Joined.{joined_exact, joined_found}
@@ -81,7 +82,7 @@ module _ (dialect : Dialect) (end : ℕ) (k : Lexeme) (ke : is_word (codes "synt
       t l end
       (word_stops k ke) (word_stops_at k ke t differs)
       (λ u is plain c. word_stops_at k ke u
-      (other_kind StringLiteral Equals u refl (both_true (of_kind StringLiteral u) _ plain).0) c)
+      (other_kind StringLiteral Equals u refl (and_parts (of_kind StringLiteral u) _ plain).0) c)
       (only_other k ke dialect (t ∷ l) (λ q a b text e is literal spelled x y.
       let head : t ≡ q = same_head e in
       let never : true ≡ false = sym is ∙ ap (of_kind Equals) (sym head) ∙ differs in
@@ -404,15 +405,12 @@ met_fault dialect p x e only =
     let m : Met dialect p.left p.end x = file_refused dialect p.left p.end x e in
     subst (λ y. IsRefused dialect p.left p.end y) (m.2 only) m.1
 
-no_option : {P : Type 0} → false ≡ true → P
-no_option e = absurd cc
-
 pub file_of_refused : (dialect : Dialect) (p rest : Place) (result : Result File SyntaxFault)
     → Gives (custom_in dialect) (λ x. x) rest result (file_at max_message_depth dialect p)
     → IfErr result (λ fault. (fault ≡ variant.Memory) ⊎ IsRefused dialect p.left p.end fault)
 file_of_refused dialect p rest (Ok f) e = tt
 file_of_refused dialect p rest (Err (variant.NotProto3 offset)) e =
-    inr (met_fault dialect p _ e (λ is. no_option is))
+    inr (met_fault dialect p _ e (λ is. absurd (false≢true is)))
 file_of_refused dialect p rest (Err (variant.CustomOption offset)) e =
     inr (met_fault dialect p _ e.1 (λ is. refuses dialect e.0))
 file_of_refused dialect p rest (Err (variant.Aggregate offset)) e =
@@ -420,11 +418,11 @@ file_of_refused dialect p rest (Err (variant.Aggregate offset)) e =
 file_of_refused dialect p rest (Err (variant.Extend offset)) e =
     inr (met_fault dialect p _ e.1 (λ is. refuses dialect e.0))
 file_of_refused dialect p rest (Err (variant.TwoPackages offset)) e =
-    inr (met_fault dialect p _ e (λ is. no_option is))
+    inr (met_fault dialect p _ e (λ is. absurd (false≢true is)))
 file_of_refused dialect p rest (Err (variant.ImportEscape offset)) e =
-    inr (met_fault dialect p _ e (λ is. no_option is))
+    inr (met_fault dialect p _ e (λ is. absurd (false≢true is)))
 file_of_refused dialect p rest (Err (variant.TooDeep offset)) e =
-    inr (met_fault dialect p _ e (λ is. no_option is))
+    inr (met_fault dialect p _ e (λ is. absurd (false≢true is)))
 file_of_refused dialect p rest (Err (variant.Grammar offset)) e =
-    inr (met_fault dialect p _ e (λ is. no_option is))
+    inr (met_fault dialect p _ e (λ is. absurd (false≢true is)))
 file_of_refused dialect p rest (Err variant.Memory) e = inl refl

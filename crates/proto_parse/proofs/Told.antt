@@ -3,6 +3,7 @@ use Rattle.std.proofs.Common.{◌≡◌, ◌⊎◌, inl, inr, ℕ, suc, true, fa
 use Rattle.std.proofs.Common.{None, List, [], ◌∷◌, ◌++◌, refl, sym, ◌∙◌, ap, subst, codes}
 use Rattle.std.proofs.Common.{append_assoc}
 use Rattle.std.proofs.lemmas.List.{append-nil, append_cancel_right}
+use Rattle.std.proofs.lemmas.Bool.{and_parts}
 use Rattle.proto_lex.specs.declared.token.TokenKind.TheVariants.{Identifier, StringLiteral, Dot, OpenBrace}
 use Rattle.proto_lex.specs.declared.token.TokenKind.TheVariants.{OpenParenthesis}
 use Rattle.proto_grammar.specs.declared.fault.SyntaxFault.{SyntaxFault}
@@ -15,7 +16,6 @@ use Rattle.proto_grammar.specs.declared.tree.Syntax.TheVariants as grammar
 use Rattle.proto_grammar.specs.declared.tree.File.{File}
 use Rattle.proto_grammar.specs.Lexeme.{Lexeme, place_of}
 use Rattle.proto_grammar.specs.Terminal.{of_kind, is_word, is_plain_literal, offset_at}
-use Rattle.proto_grammar.proofs.Steps.{both_true}
 use Rattle.proto_grammar.proofs.TokenLemmas.{word_kind, other_kind, kind_no_word}
 use Rattle.proto_parse.specs.Limits.{max_message_depth}
 use Rattle.proto_parse.specs.Faults.{is_of_custom_options}
@@ -163,14 +163,14 @@ module _ (dialect : Dialect) (syntax : Syntax) (start l left : List Lexeme) (end
   literal_dot : (t u : Lexeme) → of_kind StringLiteral t ≡ true → is_plain_literal u ≡ true
       → of_kind Dot u ≡ of_kind Dot t
   literal_dot t u is plain =
-      other_kind StringLiteral Dot u refl (both_true (of_kind StringLiteral u) _ plain).0
+      other_kind StringLiteral Dot u refl (and_parts (of_kind StringLiteral u) _ plain).0
       ∙ sym (other_kind StringLiteral Dot t refl is)
 
   literal_allowed : (u : Lexeme) → is_plain_literal u ≡ true → (c : List Lexeme) → Allows start (s.front ++ u ∷ c)
   literal_allowed u plain c = by_front start s.front allowed_now
     where
       is_literal : of_kind StringLiteral u ≡ true
-      is_literal = (both_true (of_kind StringLiteral u) _ plain).0
+      is_literal = (and_parts (of_kind StringLiteral u) _ plain).0
 
       by_front : (start front : List Lexeme) → ((c : List Lexeme) → Allows start (front ++ s.token ∷ c))
           → Allows start (front ++ u ∷ c)

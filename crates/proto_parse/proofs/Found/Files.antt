@@ -52,17 +52,19 @@ use Rattle.proto_parse.specs.Reading.Syntax.{joined_of, behind_literals, syntax_
 use Rattle.proto_parse.specs.Reading.Syntax.{syntax_at}
 use Rattle.proto_parse.specs.Reading.Files.{import_kind_at, path_literal_at, path_literals_at, import_at, package_at}
 use Rattle.proto_parse.specs.Reading.Files.{only_package_at, statement_by, statement_at, statements_at, file_at}
-use Rattle.proto_grammar.proofs.Steps.{same_ok, bind_ok, guard_ok, kept_ok, chosen}
+use Rattle.proto_grammar.proofs.Steps.{same_ok, bind_ok, guard_ok, kept_ok}
+use Rattle.proto_lex.proofs.ReadLemmas.{chosen}
 use Rattle.proto_grammar.proofs.TokenLemmas.{token_found, next_found}
 use Rattle.proto_grammar.proofs.UntilLemmas.{until_at-found, adding-found}
 use Rattle.proto_grammar.proofs.Found.Names.{name_found}
 use Rattle.proto_grammar.proofs.Found.Options.{option_found}
 use Rattle.proto_parse.proofs.Found.Messages.{enum_found, extend_statement_found, inside_found, message_found}
 use Rattle.proto_parse.proofs.Found.Messages.{service_found}
-use Rattle.proto_parse.proofs.Joined.{joined_found, not_true}
+use Rattle.proto_parse.proofs.Joined.{joined_found}
 use Rattle.std.proofs.lemmas.Option.{same_Some}
 use Rattle.proto_parse.specs.Reading.Syntax.{past_literals}
 use Rattle.std.specs.Option.{option_map_or}
+use Rattle.std.proofs.lemmas.Bool.{not-true}
 use Rattle.proto_grammar.proofs.TokenLemmas.{plain_found}
 use Rattle.proto_grammar.proofs.Steps.{read_as}
 use Rattle.proto_grammar.specs.Reading.Repetition.{plain_literal_at}
@@ -73,9 +75,9 @@ use Rattle.proto_grammar.specs.Lexeme.{Place}
 pub version_text : {P : Type 0} (text : List ℕ) → (text ≡ codes "proto3" → version_of text ≡ version.Proto3 → P)
     → (text ≡ codes "proto2" → version_of text ≡ version.Proto2 → P) → (version_of text ≡ version.Other → P) → P
 version_text text three two other =
-    chosen (bytes_eq text (codes "proto3")) _ _ (version_of text) refl
+    chosen (bytes_eq text (codes "proto3")) {z = version_of text} refl
     (λ is named. three ((bytes_eq-Decides text (codes "proto3")).0 is) (sym named))
-    (λ no_proto3 named. chosen (bytes_eq text (codes "proto2")) _ _ (version_of text) named
+    (λ no_proto3 named. chosen (bytes_eq text (codes "proto2")) {z = version_of text} named
     (λ is named. two ((bytes_eq-Decides text (codes "proto2")).0 is) (sym named))
     (λ no_proto2 named. other (sym named)))
 
@@ -99,7 +101,7 @@ version_found : (dialect : Dialect) (tokens : Place) (x : Syntax × Place)
     → version_at dialect tokens ≡ Ok x → IsVersion dialect tokens.left x.0 x.1.left
 unfolding version_at
 version_found dialect tokens x e =
-    chosen (first_is (of_kind StringLiteral) tokens.left) _ _ (Ok x) e
+    chosen (first_is (of_kind StringLiteral) tokens.left) {z = Ok x} e
     (λ _ read.
     let v = accepted_some (syntax_by (version_of (joined_of tokens.left)) dialect) tokens x read in
     subst (λ (y : Syntax × Place). IsVersion dialect tokens.left y.0 y.1.left) (same_ok _ x v.2)
@@ -147,7 +149,7 @@ pub syntax_found : (dialect : Dialect) (tokens : Place) (x : Syntax × Place) �
     → IsSyntax dialect tokens.left x.0 x.1.left
 unfolding syntax_at
 syntax_found dialect tokens x e =
-    chosen (first_is (is_word (codes "syntax")) tokens.left) _ _ (Ok x) e
+    chosen (first_is (is_word (codes "syntax")) tokens.left) {z = Ok x} e
     (λ is read. syntax_statement_found dialect tokens x read)
     (λ no_syntax read. without dialect no_syntax read)
   where
@@ -161,7 +163,7 @@ syntax_found dialect tokens x e =
     without All no_syntax read =
         let g = guard_ok (not (first_is (is_word (codes "edition")) tokens.left)) _ _ x read in
         subst (λ (y : Syntax × Place). IsSyntax All tokens.left y.0 y.1.left) (same_ok _ x g.1)
-        (no_statement no_syntax (not_true (first_is (is_word (codes "edition")) tokens.left) g.0))
+        (no_statement no_syntax (not-true (first_is (is_word (codes "edition")) tokens.left) g.0))
 
 -- by the dialect, custom options are refused or read past
 pub syntax_custom : {dialect : Dialect} {a b : List Lexeme} {x : Syntax} → IsSyntax dialect a x b
@@ -175,10 +177,10 @@ import_kind_found : (tokens : Place) (x : ImportKind × Place) → import_kind_a
     → IsImportKind tokens.left x.0 x.1.left
 unfolding import_kind_at
 import_kind_found tokens x e =
-    chosen (first_is (is_word (codes "weak")) tokens.left) _ _ (Ok x) e
+    chosen (first_is (is_word (codes "weak")) tokens.left) {z = Ok x} e
     (λ is read. subst (λ (y : ImportKind × Place). IsImportKind tokens.left y.0 y.1.left) (same_ok _ x read)
     (weak (next_found tokens.left is).1))
-    (λ no_weak read. chosen (first_is (is_word (codes "public")) tokens.left) _ _ (Ok x) read
+    (λ no_weak read. chosen (first_is (is_word (codes "public")) tokens.left) {z = Ok x} read
     (λ is read. subst (λ (y : ImportKind × Place). IsImportKind tokens.left y.0 y.1.left) (same_ok _ x read)
     (public (next_found tokens.left is).1))
     (λ no_public read. subst (λ (y : ImportKind × Place). IsImportKind tokens.left y.0 y.1.left) (same_ok _ x read)

@@ -76,7 +76,8 @@ use Rattle.proto_parse.specs.Reading.Messages.{message_item_by, message_item_at,
 use Rattle.proto_parse.specs.Reading.Services.{stream_at, method_type_at, method_item_at, method_items_at}
 use Rattle.proto_parse.specs.Reading.Services.{method_body_at, method_end_at, method_at, service_item_at}
 use Rattle.proto_parse.specs.Reading.Services.{service_items_at, service_at}
-use Rattle.proto_grammar.proofs.Steps.{same_ok, bind_ok, guard_ok, chosen}
+use Rattle.proto_grammar.proofs.Steps.{same_ok, bind_ok, guard_ok}
+use Rattle.proto_lex.proofs.ReadLemmas.{chosen}
 use Rattle.proto_grammar.proofs.TokenLemmas.{token_found, next_found}
 use Rattle.proto_parse.proofs.Choices.{member_next}
 use Rattle.proto_grammar.proofs.UntilLemmas.{until_at-found, adding-found, passing-found}
@@ -119,15 +120,15 @@ pub enum_item_found : (custom : CustomOptions) (tokens : Place) (x : Option Head
     → enum_item_at custom tokens ≡ Ok x → IsEnumItem custom tokens.left x.0 x.1.left
 unfolding enum_item_at
 enum_item_found custom tokens x e =
-    chosen (first_is (of_kind Semicolon) tokens.left) _ _ (Ok x) e
+    chosen (first_is (of_kind Semicolon) tokens.left) {z = Ok x} e
     (λ is read. subst (λ (y : Option Heading × Place). IsEnumItem custom tokens.left y.0 y.1.left) (same_ok _ x read)
     (enums-empty (next_found tokens.left is).1))
-    (λ no_semicolon read. chosen (first_is (is_word (codes "option")) tokens.left) _ _ (Ok x) read
+    (λ no_semicolon read. chosen (first_is (is_word (codes "option")) tokens.left) {z = Ok x} read
     (λ _ read.
     let o = bind_ok (option_at custom tokens) _ x read in
     subst (λ (y : Option Heading × Place). IsEnumItem custom tokens.left y.0 y.1.left) (same_ok _ x o.2)
     (enums-option (option_found custom _ _ o.1)))
-    (λ no_option read. chosen (first_is (is_word (codes "reserved")) tokens.left) _ _ (Ok x) read
+    (λ no_option read. chosen (first_is (is_word (codes "reserved")) tokens.left) {z = Ok x} read
     (λ _ read.
     let r = bind_ok (reserved_at true tokens) _ x read in
     subst (λ (y : Option Heading × Place). IsEnumItem custom tokens.left y.0 y.1.left) (same_ok _ x r.2)
@@ -187,7 +188,7 @@ labelled_found : (syntax : Syntax) (inner : Inside) (Inner : List Lexeme → Lis
     → Finds (labelled_at syntax inner first label) (IsLabelled syntax Inner first label)
 unfolding labelled_at
 labelled_found syntax inner Inner finds first label tokens x e =
-    chosen (is_proto2 syntax && begins_group tokens.left) _ _ (Ok x) e
+    chosen (is_proto2 syntax && begins_group tokens.left) {z = Ok x} e
     (λ is read.
     let g = bind_ok (group_at (custom_of syntax) inner first label tokens) _ x read in
     subst (λ (y : Item × Place). IsLabelled syntax Inner first label tokens.left y.0 y.1.left) (same_ok _ x g.2)
@@ -227,11 +228,11 @@ oneof_item_found : (syntax : Syntax) (inner : Inside) (Inner : List Lexeme → L
     → FindsInside inner Inner → Finds (oneof_item_at syntax inner) (IsOneofItem syntax Inner)
 unfolding oneof_item_at
 oneof_item_found syntax inner Inner finds tokens x e =
-    chosen (first_is (of_kind Semicolon) tokens.left) _ _ (Ok x) e
+    chosen (first_is (of_kind Semicolon) tokens.left) {z = Ok x} e
     (λ is read. subst (λ (y : Option Item × Place). IsOneofItem syntax Inner tokens.left y.0 y.1.left)
     (same_ok _ x read)
     (oneofs-empty (next_found tokens.left is).1))
-    (λ no_semicolon read. chosen (first_is (is_word (codes "option")) tokens.left) _ _ (Ok x) read
+    (λ no_semicolon read. chosen (first_is (is_word (codes "option")) tokens.left) {z = Ok x} read
     (λ _ read.
     let o = bind_ok (option_at (custom_of syntax) tokens) _ x read in
     subst (λ (y : Option Item × Place). IsOneofItem syntax Inner tokens.left y.0 y.1.left) (same_ok _ x o.2)
@@ -246,7 +247,7 @@ extend_item_found : (syntax : Syntax) (inner : Inside)
     → FindsInside inner Inner → Finds (extend_item_at syntax inner) (IsExtendItem syntax Inner)
 unfolding extend_item_at
 extend_item_found syntax inner Inner finds tokens x e =
-    chosen (first_is (of_kind Semicolon) tokens.left) _ _ (Ok x) e
+    chosen (first_is (of_kind Semicolon) tokens.left) {z = Ok x} e
     (λ is read. subst (λ (y : Option Item × Place). IsExtendItem syntax Inner tokens.left y.0 y.1.left)
     (same_ok _ x read)
     (extends-empty (next_found tokens.left is).1))
@@ -284,7 +285,7 @@ pub passed_item_found : (tokens : Place) (x : Unit {0} × Place) → passed_item
     → IsPassedItem tokens.left x.1.left
 unfolding passed_item_at
 passed_item_found tokens x e =
-    chosen (first_is (of_kind Semicolon) tokens.left) _ _ (Ok x) e
+    chosen (first_is (of_kind Semicolon) tokens.left) {z = Ok x} e
     (λ is read. subst (λ (y : Place). IsPassedItem tokens.left y.left) (left_of x read)
     (passes-empty (next_found tokens.left is).1))
     (λ no_semicolon read. passes-field no_semicolon (pass_field_found Skip _ _ read).1)
@@ -407,7 +408,7 @@ inside_found syntax (suc levels) =
 stream_found : (tokens : Place) (x : Unit {0} × Place) → stream_at tokens ≡ Ok x → IsStream tokens.left x.1.left
 unfolding stream_at
 stream_found tokens x e =
-    chosen (first_is (is_word (codes "stream")) tokens.left) _ _ (Ok x) e
+    chosen (first_is (is_word (codes "stream")) tokens.left) {z = Ok x} e
     (λ is read. subst (λ (y : Place). IsStream tokens.left y.left) (left_of x read)
     (stream (next_found tokens.left is).1))
     (λ not read. subst (λ (y : Place). IsStream tokens.left y.left) (left_of x read) (no_stream not))
@@ -428,7 +429,7 @@ pub method_item_found : (custom : CustomOptions) (tokens : Place) (x : Unit {0} 
     → method_item_at custom tokens ≡ Ok x → IsMethodItem custom tokens.left x.1.left
 unfolding method_item_at
 method_item_found custom tokens x e =
-    chosen (first_is (of_kind Semicolon) tokens.left) _ _ (Ok x) e
+    chosen (first_is (of_kind Semicolon) tokens.left) {z = Ok x} e
     (λ is read. subst (λ (y : Place). IsMethodItem custom tokens.left y.left) (left_of x read)
     (method_items-empty (next_found tokens.left is).1))
     (λ _ read. method_items-option (option_found custom _ _ read))
@@ -437,7 +438,7 @@ method_end_found : (custom : CustomOptions) (tokens : Place) (x : Span × Place)
     → method_end_at custom tokens ≡ Ok x → IsMethodEnd custom tokens.left x.0 x.1.left
 unfolding method_end_at method_body_at method_items_at
 method_end_found custom tokens x e =
-    chosen (first_is (of_kind Semicolon) tokens.left) _ _ (Ok x) e
+    chosen (first_is (of_kind Semicolon) tokens.left) {z = Ok x} e
     (λ _ read. semicolon (token_found _ _ read))
     (λ _ read.
     let o = bind_ok (token_that (of_kind OpenBrace) tokens) _ x read in
@@ -467,10 +468,10 @@ pub service_item_found : (custom : CustomOptions) (tokens : Place) (x : Option M
     → service_item_at custom tokens ≡ Ok x → IsServiceItem custom tokens.left x.0 x.1.left
 unfolding service_item_at
 service_item_found custom tokens x e =
-    chosen (first_is (of_kind Semicolon) tokens.left) _ _ (Ok x) e
+    chosen (first_is (of_kind Semicolon) tokens.left) {z = Ok x} e
     (λ is read. subst (λ (y : Option Method × Place). IsServiceItem custom tokens.left y.0 y.1.left) (same_ok _ x read)
     (services-empty (next_found tokens.left is).1))
-    (λ _ read. chosen (first_is (is_word (codes "option")) tokens.left) _ _ (Ok x) read
+    (λ _ read. chosen (first_is (is_word (codes "option")) tokens.left) {z = Ok x} read
     (λ _ read.
     let o = bind_ok (option_at custom tokens) _ x read in
     subst (λ (y : Option Method × Place). IsServiceItem custom tokens.left y.0 y.1.left) (same_ok _ x o.2)

@@ -1,10 +1,10 @@
 -- A second package statement: all steps have ended in front of it.
 use Rattle.std.proofs.Common.{◌≡◌, ◌==◌, Bool, true, false, cond, ◌&&◌, ◌||◌, Option, List, [], ◌∷◌, refl, sym}
 use Rattle.std.proofs.Common.{◌∙◌, codes}
+use Rattle.std.proofs.lemmas.Bool.{and_parts}
 use Rattle.proto_lex.specs.declared.token.TokenKind.TheVariants.{Identifier, StringLiteral, CloseBrace}
 use Rattle.proto_grammar.specs.Lexeme.{Lexeme}
 use Rattle.proto_grammar.specs.Terminal.{first, of_kind, is_plain_literal}
-use Rattle.proto_grammar.proofs.Steps.{both_true}
 use Rattle.proto_grammar.proofs.TokenLemmas.{other_kind, word_kind}
 use Rattle.proto_parse.proofs.Machine.{test_of, passes, Why, Step, Taken, or_next, take_by, ended, all_ended}
 use Rattle.proto_parse.proofs.Machine.{Fed, begun, fed_by, feed, is_package}
@@ -104,7 +104,7 @@ ended_goes Plains k t d n why fit word is e =
     (λ literal g. not_ended (of_kind StringLiteral t) (no_literal t word) literal) (λ other g. no_passed g))
 ended_goes Never k t d n why fit word is e = cc
 ended_goes (Then a b) k t d n why fit word is e =
-    let both = both_true (ended a) (ended b) is in
+    let both = and_parts (ended a) (ended b) is in
     stopped_then (take_by a (b ∷ k) t d) (take_by b k t d) why e
     (λ f. ended_goes a (b ∷ k) t d (head (example b) n) why fit.0 word both.0 f)
     (λ f. ended_goes b k t d n why fit.3 word both.1 f)
@@ -142,7 +142,7 @@ pub second_ended : (statement : Step) (k : List Step) (seen : Bool) (t : Lexeme)
     → of_kind Identifier t ≡ true → feed statement k seen t d ≡ SecondPackage
     → (all_ended k ≡ true) × (seen ≡ true)
 second_ended statement [] seen t d fits word e =
-    let both = both_true seen (is_package t)
+    let both = and_parts seen (is_package t)
     (second_begun statement (seen && is_package t) (take_by statement [] t d) (seen || is_package t) e) in
     (refl, both.0)
 second_ended statement (s ∷ k) seen t d fits word e =
@@ -167,7 +167,7 @@ ended_second statement [] seen t d why fits is ended_all was e =
     let off : SecondPackage ≡ Halted why = sym second ∙ e in
     cc
 ended_second statement (s ∷ k) seen t d why fits is ended_all was e =
-    let both = both_true (ended s) (all_ended k) ended_all in
+    let both = and_parts (ended s) (all_ended k) ended_all in
     halted_by statement (take_by s k t d) seen (feed statement k seen t d) why e
     (λ f. ended_goes s k t d (first (finish k)) why fits.0.2 (word_kind (codes "package") t is) both.0 f)
     (λ f. ended_second statement k seen t d why fits.1 is both.1 was f)

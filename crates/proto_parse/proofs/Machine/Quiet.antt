@@ -2,11 +2,12 @@
 use Rattle.std.proofs.Common.{◌≡◌, ℕ, ◌==◌, Bool, true, false, cond, ◌&&◌, ◌||◌, List, [], ◌∷◌, refl, sym, ◌∙◌, subst}
 use Rattle.std.proofs.Common.{codes}
 use Rattle.std.proofs.lemmas.Slice.Eq.{bytes_eq-Decides}
+use Rattle.std.proofs.lemmas.Bool.{and_parts}
 use Rattle.proto_lex.specs.declared.token.TokenKind.TheVariants.{Identifier, StringLiteral, CloseBrace, Dot}
 use Rattle.proto_grammar.specs.Lexeme.{Lexeme}
 use Rattle.proto_grammar.specs.Terminal.{is_kind, of_kind, is_word, is_plain_literal}
 use Rattle.proto_grammar.specs.Reading.Options.{depth_behind}
-use Rattle.proto_grammar.proofs.Steps.{both_true, either_true}
+use Rattle.proto_grammar.proofs.Steps.{either_true}
 use Rattle.proto_grammar.proofs.TokenLemmas.{same_kind, other_kind, kind_no_word}
 use Rattle.proto_parse.specs.Refused.{is_label}
 use Rattle.proto_parse.proofs.Machine.{Test, test_of, passes, Refusal, Why, Step, Taken, or_next, take_by, Fed, begun}
@@ -256,8 +257,8 @@ takes_label test =
 same_passes : (test : Test) (t : Lexeme) (word : List ℕ) → is_word word t ≡ true
     → passes test t ≡ passes test (word_of word)
 same_passes test t word is =
-    by_parts test (same_kind Identifier t.kind (both_true (is_kind Identifier t.kind) _ is).0)
-    ((bytes_eq-Decides t.spelling word).0 (both_true (is_kind Identifier t.kind) _ is).1)
+    by_parts test (same_kind Identifier t.kind (and_parts (is_kind Identifier t.kind) _ is).0)
+    ((bytes_eq-Decides t.spelling word).0 (and_parts (is_kind Identifier t.kind) _ is).1)
   where
     by_parts : (test : Test) → t.kind ≡ Identifier → t.spelling ≡ word → passes test t ≡ passes test (word_of word)
     by_parts (OfKind kind) e f = rw e refl
@@ -336,7 +337,7 @@ literal_no_label t is =
 plain_quiet : (t : Lexeme) (n : Bool) → is_plain_literal t ≡ true → is_label t ≡ true → n ≡ false
 plain_quiet t n plain is =
     absurd (let never : true ≡ false =
-    sym is ∙ literal_no_label t (both_true (of_kind StringLiteral t) _ plain).0 in cc)
+    sym is ∙ literal_no_label t (and_parts (of_kind StringLiteral t) _ plain).0 in cc)
 
 take_keeps : (s : Step) (k next : List Step) (t : Lexeme) (d : Bool) → Calm s (noisy_all k) → CalmAll k
     → take_by s k t d ≡ Took next → Kept t next

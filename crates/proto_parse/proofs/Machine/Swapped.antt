@@ -1,10 +1,10 @@
 -- What a plain literal does in the place of another string literal; and at which tokens nothing is taken.
 use Rattle.std.proofs.Common.{◌≡◌, ◌==◌, Bool, true, false, cond, ◌&&◌, ◌||◌, List, [], ◌∷◌, refl, sym, ap}
 use Rattle.std.proofs.Common.{subst}
+use Rattle.std.proofs.lemmas.Bool.{and_parts}
 use Rattle.proto_lex.specs.declared.token.TokenKind.TheVariants.{StringLiteral, CloseBrace}
 use Rattle.proto_grammar.specs.Lexeme.{Lexeme}
 use Rattle.proto_grammar.specs.Terminal.{of_kind, is_plain_literal}
-use Rattle.proto_grammar.proofs.Steps.{both_true}
 use Rattle.proto_grammar.proofs.TokenLemmas.{same_kind}
 use Rattle.proto_parse.proofs.Machine.{Test, test_of, passes, Why, Step, Taken, or_next, take_by}
 use Rattle.proto_parse.proofs.Machine.{Fed, begun, fed_by, feed, is_package}
@@ -21,7 +21,7 @@ literal_kind : (t : Lexeme) → of_kind StringLiteral t ≡ true → t.kind ≡ 
 literal_kind t is = same_kind StringLiteral t.kind is
 
 plain_literal : (t : Lexeme) → is_plain_literal t ≡ true → of_kind StringLiteral t ≡ true
-plain_literal t is = (both_true (of_kind StringLiteral t) _ is).0
+plain_literal t is = (and_parts (of_kind StringLiteral t) _ is).0
 
 -- no test of a step tells literals apart
 same_test : (test : Test) (t u : Lexeme) → of_kind StringLiteral t ≡ true → of_kind StringLiteral u ≡ true
@@ -215,7 +215,7 @@ feed_stops : (statement : Step) (k : List Step) (seen : Bool) (t : Lexeme) (d : 
     → FedStops (feed statement k seen t d) t
 feed_stops statement [] seen t d =
     begun_stops statement (seen && is_package t) (take_by statement [] t d) (seen || is_package t) t
-    (λ both. (both_true seen (is_package t) both).1) (take_stops statement [] t d)
+    (λ both. (and_parts seen (is_package t) both).1) (take_stops statement [] t d)
 feed_stops statement (s ∷ k) seen t d =
     fed_stops statement (take_by s k t d) seen (feed statement k seen t d) t (take_stops s k t d)
     (feed_stops statement k seen t d)

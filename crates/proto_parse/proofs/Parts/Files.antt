@@ -2,6 +2,7 @@
 use Rattle.std.proofs.Common.{◌≡◌, ℕ, zero, suc, ◌≤◌, Bool, true, false, cond, ◌&&◌, ◌||◌, is_some, Result, Ok, Err}
 use Rattle.std.proofs.Common.{Option}
 use Rattle.std.proofs.Common.{Some, None, List, [], ◌∷◌, length, refl, sym, ◌∙◌, ap, subst, codes, arith}
+use Rattle.std.proofs.lemmas.Bool.{and_parts}
 use Rattle.proto_lex.specs.declared.span.Span.{Span}
 use Rattle.proto_lex.specs.declared.token.TokenKind.TheVariants.{Identifier, Semicolon}
 use Rattle.proto_grammar.specs.declared.fault.SyntaxFault.{SyntaxFault}
@@ -22,7 +23,7 @@ use Rattle.proto_parse.specs.Reading.Services.{service_at}
 use Rattle.proto_grammar.specs.Reading.Options.{option_at}
 use Rattle.proto_grammar.specs.declared.tree.CustomOptions.TheVariants.{Refuse, Skip}
 use Rattle.proto_grammar.specs.declared.tree.Syntax.TheVariants.{Proto3, Extended, Proto2}
-use Rattle.proto_grammar.proofs.Steps.{read_as, bind_ok, same_ok, kept_ok, both_true}
+use Rattle.proto_grammar.proofs.Steps.{read_as, bind_ok, same_ok, kept_ok}
 use Rattle.proto_grammar.proofs.Places.{Behind}
 use Rattle.proto_grammar.proofs.UntilLemmas.{until_at-step}
 use Rattle.proto_grammar.proofs.TokenLemmas.{other_word, word_kind, other_kind, next_no_word, next_other_word}
@@ -330,7 +331,7 @@ module _ (levels : ℕ) (syntax : Syntax) where
           → FileAgrees (place_of end (t ∷ rest)) (machine st (t ∷ rest) [] (is_some f.package_name))
           (and_then (statement_at levels syntax f (place_of end (t ∷ rest))) (λ x. all_statements x.0 x.1))
       first_package true both =
-          let two = both_true (is_some f.package_name) (is_package t) both in
+          let two = and_parts (is_some f.package_name) (is_package t) both in
           rw (second_package levels syntax f t rest end two.0 two.1, two.0, two.1) ([], refl, refl)
       first_package false none =
           subst (λ o. FileAgrees (place_of end (t ∷ rest)) o

@@ -2,6 +2,7 @@
 use Rattle.std.proofs.Common.{◌≡◌, ◌⊎◌, inl, inr, ℕ, zero, suc, Bool, true, false, cond, ◌&&◌, Result, Ok, Err}
 use Rattle.std.proofs.Common.{Option, Some, None}
 use Rattle.std.proofs.Common.{List, [], ◌∷◌, refl, sym, ◌∙◌, subst, codes}
+use Rattle.std.proofs.lemmas.Bool.{and_parts}
 use Rattle.proto_lex.specs.declared.span.Span.{Span}
 use Rattle.proto_lex.specs.declared.token.TokenKind.TheVariants.{Integer, Semicolon, Equals, OpenBrace}
 use Rattle.proto_lex.specs.declared.token.TokenKind.TheVariants.{CloseBrace, Less, Dot}
@@ -30,7 +31,6 @@ use Rattle.proto_parse.specs.Reading.Messages.{braced_at, group_at, labelled_at,
 use Rattle.proto_parse.specs.Reading.Messages.{oneof_item_at, extend_item_at, oneof_at, extend_at, passed_item_at}
 use Rattle.proto_parse.specs.Reading.Messages.{passed_items_at, passed_extend_at, extend_statement_at, message_at}
 use Rattle.proto_parse.specs.Reading.Messages.{ranges_at, message_item_by, message_item_at, item_at, inside_at}
-use Rattle.proto_grammar.proofs.Steps.{both_true}
 use Rattle.proto_grammar.proofs.Places.{Behind, behind_here, behind_one}
 use Rattle.proto_grammar.proofs.UntilLemmas.{Falls}
 use Rattle.proto_parse.proofs.StepsFall.{passed_items_fall, items_fall}
@@ -192,7 +192,7 @@ module _ (st : Step) where
       (free_label_follows st syntax (place_of end (t ∷ rest)) off)
       (λ label. fol_cond st (typed_step (custom_of syntax)) label.1 (is_proto2 syntax && begins_group label.1.left) _ _
       (λ two. absurd (let never : true ≡ false =
-      sym (both_true (is_proto2 syntax) (begins_group label.1.left) two).0 ∙ off in cc))
+      sym (and_parts (is_proto2 syntax) (begins_group label.1.left) two).0 ∙ off in cc))
       (λ free. fol_value st (typed_step (custom_of syntax)) label.1 _ _
       (typed_follows st (custom_of syntax) t.span label.0 label.1)))) k seen
 

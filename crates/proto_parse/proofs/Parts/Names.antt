@@ -1,6 +1,7 @@
 -- What is read follows the parts: names and types.
 use Rattle.std.proofs.Common.{◌≡◌, ℕ, Bool, true, false, not, List, [], ◌∷◌}
 use Rattle.std.proofs.Common.{refl, ◌∙◌}
+use Rattle.std.proofs.lemmas.Bool.{and_parts}
 use Rattle.proto_lex.specs.declared.span.Span.{Span}
 use Rattle.proto_lex.specs.declared.token.TokenKind.TheVariants.{Identifier, Dot}
 use Rattle.proto_grammar.specs.declared.fault.SyntaxFault.TheVariants as variant
@@ -10,7 +11,6 @@ use Rattle.proto_grammar.specs.Reading.Repetition.{adding, passing, token_that}
 use Rattle.proto_grammar.specs.Reading.Names.{dot_name_at, dot_names_at, name_at, pass_dot_name_at, pass_dot_names_at}
 use Rattle.proto_grammar.specs.Reading.Names.{pass_name_at, leading_dot_at, type_name_at, pass_type_name_at}
 use Rattle.proto_grammar.specs.Reading.Names.{named_type_at, type_at}
-use Rattle.proto_grammar.proofs.Steps.{both_true}
 use Rattle.proto_grammar.proofs.Places.{behind_here, behind_one}
 use Rattle.proto_grammar.proofs.StepsFall.{dot_names_fall, pass_dot_names_fall}
 use Rattle.proto_grammar.proofs.TokenLemmas.{other_kind}
@@ -28,7 +28,7 @@ pub word_no_dot : (t : Lexeme) → of_kind Identifier t ≡ true → of_kind Dot
 word_no_dot t is = other_kind Identifier Dot t refl is
 
 pub scalar_word : (t : Lexeme) → is_scalar t ≡ true → of_kind Identifier t ≡ true
-scalar_word t is = (both_true (of_kind Identifier t) _ is).0
+scalar_word t is = (and_parts (of_kind Identifier t) _ is).0
 
 not_dots : (l : List Lexeme) → not_next Dot l ≡ true → dots l ≡ false
 not_dots l e = by_test (dots l) e
@@ -102,7 +102,7 @@ module _ (st : Step) where
   unfolding token_that
   scalar_by [] end is k seen = absurd cc
   scalar_by (t ∷ left) end is k seen =
-      let both = both_true (is_scalar t) (not_next Dot left) is in
+      let both = and_parts (is_scalar t) (not_next Dot left) is in
       let out : machine st (t ∷ left) (type_name_step ∷ k) seen ≡ machine st left k seen =
       name_begun t left k seen (scalar_word t both.0)
       ∙ machine_many_false st (OfKind Dot) left (Token (OfKind Identifier)) k seen (not_dots left both.1) in

@@ -1,5 +1,6 @@
 -- Marks at single tokens, and what is between the marks of a tree.
 use Rattle.std.proofs.Common.{ℕ, Bool, List, ◌∷◌}
+use Rattle.std.proofs.lemmas.Bool.{and_parts}
 use Rattle.proto_lex.specs.declared.span.Span.{Span}
 use Rattle.proto_lex.specs.declared.token.TokenKind.TheVariants.{Identifier, StringLiteral}
 use Rattle.proto_grammar.specs.Lexeme.{Lexeme}
@@ -10,7 +11,6 @@ use Rattle.proto_parse.specs.Walk.Among.{skip}
 use Rattle.proto_parse.proofs.Walk.Then.{First, Name, Literal, Other, at_first, at_name, at_literal, at_other}
 use Rattle.proto_grammar.specs.Grammar.Repetition.{One}
 use Rattle.proto_grammar.specs.Grammar.Repetition.One.{one}
-use Rattle.proto_grammar.proofs.Steps.{both_true}
 use Rattle.proto_grammar.proofs.TokenLemmas.{same_kind}
 use Rattle.proto_parse.proofs.Tails.{IsTail}
 use Rattle.proto_parse.proofs.Tails.IsTail.{here, onward}
@@ -28,27 +28,27 @@ pub at_a_word : (word : List ℕ) {a b : List Lexeme} {span : Span} {marks : Lis
     → Among marks b
     → Among (Name span ∷ marks) a
 at_a_word word (one {t} e) behind =
-    at_name (same_kind Identifier t.kind (both_true (is_kind Identifier t.kind) _ e).0) behind
+    at_name (same_kind Identifier t.kind (and_parts (is_kind Identifier t.kind) _ e).0) behind
 
 pub at_a_group_name : {a b : List Lexeme} {span : Span} {marks : List Mark} → One is_group_name a span b
     → Among marks b
     → Among (Name span ∷ marks) a
 at_a_group_name (one {t} e) behind =
-    at_name (same_kind Identifier t.kind (both_true (is_kind Identifier t.kind) _ e).0) behind
+    at_name (same_kind Identifier t.kind (and_parts (is_kind Identifier t.kind) _ e).0) behind
 
 pub at_a_scalar : {a b : List Lexeme} {span : Span} {marks : List Mark} → One is_scalar a span b → Among marks b
     → Among (Name span ∷ marks) a
 at_a_scalar (one {t} e) behind =
-    at_name (same_kind Identifier t.kind (both_true (is_kind Identifier t.kind) _ e).0) behind
+    at_name (same_kind Identifier t.kind (and_parts (is_kind Identifier t.kind) _ e).0) behind
 
 pub at_a_key : {a b : List Lexeme} {span : Span} {marks : List Mark} → One is_key a span b → Among marks b
     → Among (Name span ∷ marks) a
-at_a_key (one {t} e) behind = at_name (same_kind Identifier t.kind (both_true (is_kind Identifier t.kind) _ e).0) behind
+at_a_key (one {t} e) behind = at_name (same_kind Identifier t.kind (and_parts (is_kind Identifier t.kind) _ e).0) behind
 
 pub at_a_literal : {a b : List Lexeme} {span : Span} {marks : List Mark} → One is_plain_literal a span b → Among marks b
     → Among (Literal span ∷ marks) a
 at_a_literal (one {t} e) behind =
-    at_literal (same_kind StringLiteral t.kind (both_true (is_kind StringLiteral t.kind) _ e).0) behind
+    at_literal (same_kind StringLiteral t.kind (and_parts (is_kind StringLiteral t.kind) _ e).0) behind
 
 pub at_another : {test : Lexeme → Bool} {a b : List Lexeme} {span : Span} {marks : List Mark} → One test a span b
     → Among marks b → Among (Other span ∷ marks) a

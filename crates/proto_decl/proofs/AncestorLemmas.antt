@@ -33,21 +33,16 @@ use Rattle.proto_decl.specs.declared.declaration.Outline.{Outline}
 use Rattle.proto_decl.specs.declared.surrounding.Surrounding.{Surrounding}
 use Rattle.proto_lex.specs.Lexes.{Spells, identifier, sign}
 use Rattle.proto_lex.specs.declared.token.TokenKind.TheVariants.{Identifier}
+pub use Rattle.proto_parse.proofs.RefusedLemmas.{heads, tails}
 use Rattle.proto_decl.specs.Ancestors.{scoped, names_of, component_names, AreNamed, AreHeld}
 
 -- ---- lists
 
-heads : {A : Type 0} {x y : A} {xs ys : List A} → x ∷ xs ≡ y ∷ ys → x ≡ y
-heads e = cc
+pub in_front : {A : Type 0} (x : A) (xs : List A) → Contains (x ∷ xs) x
+in_front x xs = Contains-append_left (x ∷ []) xs x (Contains-push [] x)
 
-tails : {A : Type 0} {x y : A} {xs ys : List A} → x ∷ xs ≡ y ∷ ys → xs ≡ ys
-tails e = cc
-
-here : {A : Type 0} (x : A) (xs : List A) → Contains (x ∷ xs) x
-here x xs = Contains-append_left (x ∷ []) xs x (Contains-push [] x)
-
-there : {A : Type 0} (y : A) (xs : List A) (x : A) → Contains xs x → Contains (y ∷ xs) x
-there y xs x h = Contains-append_right (y ∷ []) xs x h
+pub behind_it : {A : Type 0} (y : A) (xs : List A) (x : A) → Contains xs x → Contains (y ∷ xs) x
+behind_it y xs x h = Contains-append_right (y ∷ []) xs x h
 
 module _ {A : Type 0} (P : A → Type 0) where
   each-append : (xs ys : List A) → AllByRecursion P xs → AllByRecursion P ys → AllByRecursion P (xs ++ ys)
@@ -301,14 +296,15 @@ module _ (s : Surrounding) (step : DeclarationStep) (o : Outline) (inner others 
   deeper-leads rest h (y ∷ []) behind some e =
       record {
         outline = o;
-        listed = here o (inner ++ others);
+        listed = in_front o (inner ++ others);
         same = p ∙ ap (λ (t : DeclarationStep). s.path ++ t ∷ []) (heads e);
       }
   deeper-leads rest h (y ∷ (z ∷ outer)) behind some e =
       let found = h (z ∷ outer) behind (λ q. cc) (tails e) in
       record {
         outline = found.outline;
-        listed = there o (inner ++ others) found.outline (Contains-append_left inner others found.outline found.listed);
+        listed = behind_it o (inner ++ others) found.outline
+            (Contains-append_left inner others found.outline found.listed);
         same = found.same ∙ (append_assoc s.path (step ∷ []) (z ∷ outer)
             ∙ ap (λ (t : DeclarationStep). s.path ++ (t ∷ (z ∷ outer))) (heads e));
       }
@@ -328,7 +324,7 @@ module _ (s : Surrounding) (step : DeclarationStep) (o : Outline) (inner others 
         let found = is.held outer behind some e in
         record {
           outline = found.outline;
-          listed = there o (inner ++ others) found.outline
+          listed = behind_it o (inner ++ others) found.outline
               (Contains-append_right inner others found.outline found.listed);
           same = found.same;
         };
@@ -340,7 +336,7 @@ module _ (s : Surrounding) (step : DeclarationStep) (o : Outline) (inner others 
     below = p;
     held = λ outer behind some e. record {
       outline = o;
-      listed = here o (inner ++ others);
+      listed = in_front o (inner ++ others);
       same = p ∙ ap (λ (l : List DeclarationStep). s.path ++ l) (one-step step outer behind some e);
     };
   }
@@ -411,9 +407,10 @@ module _ (lexed : Lexed) where
   stands [] ds z = tt
   stands (o ∷ os) [] z = absurd z
   stands (o ∷ os) (d ∷ ds) z = (
-    record { found = d; listed = here d ds; same = z.0.path },
+    record { found = d; listed = in_front d ds; same = z.0.path },
     each-weaker (λ x. Stands ds x.path) (λ x. Stands (d ∷ ds) x.path)
-        (λ x h. record { found = h.found; listed = there d ds h.found h.listed; same = h.same }) os (stands os ds z.1),
+        (λ x h. record { found = h.found; listed = behind_it d ds h.found h.listed; same = h.same }) os
+        (stands os ds z.1),
   )
 
   held-declarations : (all : List Outline) (outlines : List Outline) (declarations : List Declaration)

@@ -4,10 +4,6 @@ use Rattle.std.proofs.Common.{◌≡◌, refl, subst, Bool, true, false, not, �
 pub never : {A : Type 0} → false ≡ true → A
 never e = absurd (subst (λ b. cond b ⊥ (Unit {0})) e tt)
 
-pub both : (a b : Bool) → (a && b) ≡ true → (a ≡ true) × (b ≡ true)
-both true b e = (refl, e)
-both false b e = never e
-
 pub first_no : (a b : Bool) → (not a && b) ≡ true → (a ≡ false) × (b ≡ true)
 first_no true b e = never e
 first_no false b e = (refl, e)

@@ -11,6 +11,7 @@ use Rattle.std.specs.Cmp.Lexicographic.{pointwise, bytes_decides}
 use Rattle.std.specs.Str.{bytes_eq}
 use Rattle.proto_decl.specs.Names.{qualified}
 use Rattle.proto_decl.specs.FullNames.{mix, mixed_on, mixed, mixed_front}
+use Rattle.proto_parse.proofs.RefusedLemmas.{heads, tails}
 
 -- ---- what they are hashed by
 
@@ -44,12 +45,6 @@ same_scopes (a ∷ scope) [] name other_name e = absurd (omega (arith, e))
 same_scopes (a ∷ scope) (b ∷ other) name other_name e =
     same_fronts (a ∷ scope) (b ∷ other) (46 ∷ name) (46 ∷ other_name) e
 
-same_head : (x y : ℕ) (xs ys : List ℕ) → x ∷ xs ≡ y ∷ ys → x ≡ y
-same_head x y xs ys e = cc
-
-same_tail : (x y : ℕ) (xs ys : List ℕ) → x ∷ xs ≡ y ∷ ys → xs ≡ ys
-same_tail x y xs ys e = cc
-
 -- of two lists that are one, each in two parts, the longer first part begins with the shorter one
 record Between (front rest other other_rest : List ℕ) : Type 0 where
   between : List ℕ
@@ -61,9 +56,9 @@ parted : (front rest other other_rest : List ℕ) → length front < length othe
 parted [] rest other other_rest less e = record { between = other; other_is = refl; rest_is = e }
 parted (a ∷ front) rest [] other_rest less e = absurd (omega (arith, less))
 parted (a ∷ front) rest (b ∷ other) other_rest less e =
-    let head = same_head a b (front ++ rest) (other ++ other_rest) e in
+    let head = heads e in
     let more = parted front rest other other_rest (omega (arith, less))
-    (same_tail a b (front ++ rest) (other ++ other_rest) e) in
+    (tails e) in
     record {
       between = more.between;
       other_is = λ i. sym head i ∷ more.other_is i;
@@ -84,12 +79,12 @@ outside_at a front name inner other found less [] e =
     absurd (omega (arith, less, none, length-append (a ∷ front) []))
 outside_at a front name inner other found less (byte ∷ between) e =
     let rest : 46 ∷ name ≡ byte ∷ (between ++ 46 ∷ other) = found.rest_is ∙ ap (λ b. b ++ 46 ∷ other) e in
-    let dot = same_head 46 byte name (between ++ 46 ∷ other) rest in
+    let dot = heads rest in
     record {
       between = between;
       inner_is = found.other_is
           ∙ (ap (λ b. (a ∷ front) ++ b) e ∙ ap (λ b. (a ∷ front) ++ b ∷ between) (sym dot));
-      name_is = same_tail 46 byte name (between ++ 46 ∷ other) rest;
+      name_is = tails rest;
     }
 
 outside : (scope name inner other : List ℕ) → length scope < length inner
@@ -111,7 +106,7 @@ nested (a ∷ scope) between rest some = sym (append_assoc (a ∷ scope) (46 ∷
 same_names : (inner rest other : List ℕ) → qualified inner rest ≡ qualified inner other → rest ≡ other
 same_names [] rest other e = e
 same_names (b ∷ inner) rest other e =
-    same_tail 46 46 rest other (append_cancel_left (b ∷ inner) (46 ∷ rest) (46 ∷ other) e)
+    tails (append_cancel_left (b ∷ inner) (46 ∷ rest) (46 ∷ other) e)
 
 pub found_outside : (scope name inner other between rest : List ℕ) (same : Bool) → length scope < length inner
     → inner ≡ qualified scope between → name ≡ between ++ 46 ∷ rest → same ≡ pointwise nat_eq rest other

@@ -7,6 +7,7 @@ use Rattle.std.specs.List.Sorted.{IsPartitionPoint}
 use Rattle.std.proofs.lemmas.Bool.Decides.{nat_tests}
 use Rattle.std.proofs.lemmas.List.{take-take, get_or_default}
 use Rattle.std.proofs.lemmas.List.Sums.{sum_by-take-le}
+use Rattle.std.proofs.lemmas.Bool.{ltb-true, ltb-false, leb-true, leb-false}
 use Rattle.proto_lex.specs.declared.span.Span.{Span}
 use Rattle.proto_lex.specs.Lexed.{AreInOrder}
 use Rattle.proto_lex.specs.Position.{is_line_end, line_of}
@@ -18,23 +19,11 @@ lines_rise text i j h =
     (sum_by-take-le (λ c. cond {A = ℕ} (is_line_end c) 1 0) (take j text) i)
 
 -- what tests on numbers say
-pub less : (a b : ℕ) → ltb a b ≡ true → a < b
-less a b e = grind (arith, nat_tests)
-
-pub not_less : (a b : ℕ) → ltb a b ≡ false → b ≤ a
-not_less a b e = grind (arith, nat_tests)
-
-pub no_more : (a b : ℕ) → leb a b ≡ true → a ≤ b
-no_more a b e = grind (arith, nat_tests)
-
-pub more : (a b : ℕ) → leb a b ≡ false → b < a
-more a b e = grind (arith, nat_tests)
-
 pub less-test : (a b : ℕ) → IsTrue (ltb a b) ↔ (a < b)
-less-test a b = ((λ e. less a b e), λ h. grind (arith, nat_tests))
+less-test a b = ((λ e. ltb-true a b e), λ h. grind (arith, nat_tests))
 
 pub no_more-test : (a b : ℕ) → IsTrue (leb a b) ↔ (a ≤ b)
-no_more-test a b = ((λ e. no_more a b e), λ h. grind (arith, nat_tests))
+no_more-test a b = ((λ e. leb-true a b e), λ h. grind (arith, nat_tests))
 
 -- the element at an index
 pub record IsAt {X : Type 0} (xs : List X) (i : ℕ) (x : X) : Type 0 where
@@ -91,10 +80,10 @@ pub parted_less : {X : Type 0} (n : X → ℕ) (bound i : ℕ) (xs : List X) →
     → IsPartitionPoint (λ x. ltb (n x) bound ≡ true) (λ x. ltb (n x) bound ≡ false) xs i
     → IsPartitionPoint (λ x. n x < bound) (λ x. bound ≤ n x) xs i
 parted_less n bound i xs h p =
-    (λ k d low high. less _ _ (p.0 k d low high), λ k d low high. not_less _ _ (p.1 k d low high))
+    (λ k d low high. ltb-true _ _ (p.0 k d low high), λ k d low high. ltb-false _ _ (p.1 k d low high))
 
 pub parted_no_more : {X : Type 0} (n : X → ℕ) (bound i : ℕ) (xs : List X) → i ≤ length xs
     → IsPartitionPoint (λ x. leb (n x) bound ≡ true) (λ x. leb (n x) bound ≡ false) xs i
     → IsPartitionPoint (λ x. n x ≤ bound) (λ x. bound < n x) xs i
 parted_no_more n bound i xs h p =
-    (λ k d low high. no_more _ _ (p.0 k d low high), λ k d low high. more _ _ (p.1 k d low high))
+    (λ k d low high. leb-true _ _ (p.0 k d low high), λ k d low high. leb-false _ _ (p.1 k d low high))

@@ -3,9 +3,10 @@ use Rattle.std.proofs.Common.{◌≡◌, ℕ, ◌+◌, ◌-◌, ◌<◌, ◌≤�
 use Rattle.std.specs.List.{AllWithin}
 use Rattle.std.specs.List.Sorted.{IsPartitionPoint}
 use Rattle.std.proofs.lemmas.List.{get_or_default}
+use Rattle.std.proofs.lemmas.Bool.{ltb-true}
 use Rattle.proto_lex.specs.declared.span.Span.{Span}
 use Rattle.proto_lex.specs.Lexed.{AreInOrder}
-use Rattle.proto_decl.proofs.LineLemmas.{starts_rise, less}
+use Rattle.proto_decl.proofs.LineLemmas.{starts_rise}
 
 module _ {X : Type 0} (span : X → Span) (offset count : ℕ) (xs : List X) where
   -- the first ones, so many, begin before the offset
@@ -18,7 +19,7 @@ module _ {X : Type 0} (span : X → Span) (offset count : ℕ) (xs : List X) whe
         → ltb (span (get_or xs (count - 1) d)).start offset ≡ true
         → Begin count
     begin_by_last d some within is k e low high =
-        let last = less _ _ is in
+        let last = ltb-true _ _ is in
         let same = get_or_default xs (count - 1) d e (omega arith) in
         let last' = rw same at last in
         omega (arith, last', starts_rise span 0 k (count - 1) e xs ordered (omega arith) (omega arith))

@@ -4,6 +4,7 @@ use Rattle.std.proofs.Common.{None, List, [], ◌∷◌, ◌++◌, map, arith, o
 use Rattle.std.specs.List.{All, AllZip, Contains, flat_map, list_all}
 use Rattle.std.proofs.lemmas.Bool.Decides.{nat_tests}
 use Rattle.std.proofs.lemmas.List.Elements.{All-nil, All-cons, All-head, All-tail, All-append, All-contains_itself}
+use Rattle.std.proofs.lemmas.Bool.{and_parts}
 use Rattle.proto_lex.specs.Bytes.{is_letter, is_word}
 use Rattle.proto_lex.specs.Lexes.{Spells}
 use Rattle.proto_lex.specs.Lexes.Spells.{literal, sign, identifier, integer, float}
@@ -46,7 +47,7 @@ use Rattle.proto_decl.specs.declared.declaration.Outline.{Outline}
 use Rattle.proto_decl.specs.declared.surrounding.Surrounding.{Surrounding}
 use Rattle.proto_decl.specs.declared.declaration.Declaration.{Declaration}
 use Rattle.proto_decl.specs.declared.type_use.Component.{Component}
-use Rattle.proto_decl.proofs.BoolLemmas.{never, both}
+use Rattle.proto_decl.proofs.BoolLemmas.{never}
 
 -- identifiers are simple
 
@@ -58,7 +59,7 @@ word_no_dot b e = grind (arith, nat_tests)
 
 words_no_dot : (others : List ℕ) → list_all is_word others ≡ true → list_all (λ byte. not (byte == 46)) others ≡ true
 words_no_dot [] e = refl
-words_no_dot (b ∷ others) e = let p = both (is_word b) (list_all is_word others) e in
+words_no_dot (b ∷ others) e = let p = and_parts (is_word b) (list_all is_word others) e in
     rw (word_no_dot b p.0, words_no_dot others p.1) refl
 
 is_identifier : TokenKind → Bool

@@ -5,6 +5,7 @@ use Rattle.std.specs.Char.{to_ascii_lowercase}
 use Rattle.std.specs.List.{list_all}
 use Rattle.std.proofs.lemmas.Bool.Decides.{nat_tests}
 use Rattle.std.proofs.lemmas.List.{length-map}
+use Rattle.std.proofs.lemmas.Bool.{and_parts}
 use Rattle.proto_lex.specs.Bytes.{is_letter, is_word}
 use Rattle.proto_lex.specs.Lexes.{Spells}
 use Rattle.proto_lex.specs.Lexes.Spells.{sign, identifier}
@@ -12,13 +13,13 @@ use Rattle.proto_lex.specs.declared.token.TokenKind.{TokenKind}
 use Rattle.proto_lex.specs.declared.token.TokenKind.TheVariants.{Identifier}
 use Rattle.proto_lex.proofs.PieceFound.{sign_cases}
 use Rattle.proto_decl.specs.Names.{IsSimple, small_letters}
-use Rattle.proto_decl.proofs.BoolLemmas.{never, both}
+use Rattle.proto_decl.proofs.BoolLemmas.{never}
 
 -- what holds of each byte and passes to its small letter holds of all small letters
 all_small : (test : ℕ → Bool) → ((b : ℕ) → test b ≡ true → test (to_ascii_lowercase b) ≡ true) → (name : List ℕ)
     → list_all test name ≡ true → list_all test (small_letters name) ≡ true
 all_small test passes [] e = refl
-all_small test passes (b ∷ name) e = let p = both (test b) (list_all test name) e in
+all_small test passes (b ∷ name) e = let p = and_parts (test b) (list_all test name) e in
     rw (passes b p.0, all_small test passes name p.1) refl
 
 no_dot_small : (b : ℕ) → not (b == 46) ≡ true → not (to_ascii_lowercase b == 46) ≡ true

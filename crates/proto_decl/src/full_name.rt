@@ -103,7 +103,8 @@ impl<'a> FullName<'a> {
         qualified(alloc, self.scope, self.name)
     }
 
-    /// The number that it is hashed by: one for each full name, however it is parted. Takes no memory.
+    /// The number that it is hashed by. It depends on the full name alone, however that is parted; other names may have
+    /// it too. Takes no memory.
     pub fn mixed(&self) -> u64
         ensures { result ≡ spec.mixed self.now }
     {

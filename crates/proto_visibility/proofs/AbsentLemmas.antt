@@ -25,6 +25,8 @@ use Rattle.proto_visibility.specs.Absences.IsNeeded.{of_source, of_included}
 use Rattle.proto_visibility.specs.Tables.ImportTables.{imports_in, imports_of, is_absent, absent_at, absents_of}
 use Rattle.proto_visibility.specs.Tables.ImportTables.{absents_at, NoneIsAbsent, IsFirstAbsent}
 use Rattle.proto_visibility.proofs.FileRowLemmas.{not_falling}
+use Rattle.proto_visibility.proofs.FirstLemmas.{contained, take_next, at_contained}
+use Rattle.proto_visibility.proofs.ImportTableLemmas.{only}
 
 -- ---- imports in order
 
@@ -64,19 +66,6 @@ starts_rise (one ∷ imports) place (suc j) (suc k) a b order at there h =
 
 -- ---- lists of lists
 
-pub contained : {X : Type 0} (xs : List X) (j : ℕ) (x : X) → slice_get xs j ≡ Some x → Contains xs x
-contained xs j x e = (j, slice_get_within xs j x e, get_or_from_slice_get xs j x x e)
-
-at_contained : {X : Type 0} (xs : List X) (x : X) → (there : Contains xs x) → slice_get xs there.0 ≡ Some x
-at_contained xs x there = slice_get-get_or xs there.0 x there.1 ∙ ap Some there.2
-
-only : {X : Type 0} (x y : X) → Contains (x ∷ []) y → x ≡ y
-only x y there = by there.0 there.1 there.2
-  where
-    by : (k : ℕ) → k < length (x ∷ []) → get_or (x ∷ []) k y ≡ y → x ≡ y
-    by zero h e = e
-    by (suc k) h e = absurd (omega (arith, h))
-
 record IsGivenBy {X A : Type 0} (f : X → List A) (xs : List X) (y : A) : Type 0 where
   x : X
   index : ℕ
@@ -100,15 +89,6 @@ gives f (z ∷ zs) zero x y e given =
     one : {Z : Type 0} (a b : Z) → Some a ≡ Some b → a ≡ b
     one a b h = cc
 gives f (z ∷ zs) (suc k) x y e given = Contains-append_right (f z) (flat_map f zs) y (gives f zs k x y e given)
-
-take_next : {X : Type 0} (xs : List X) (k : ℕ) (x : X) → slice_get xs k ≡ Some x → take (k + 1) xs ≡ take k xs ++ x ∷ []
-take_next [] k x e = absurd (cc)
-take_next (y ∷ ys) zero x e = let same : y ≡ x = one y x e in ap (λ z. z ∷ []) same
-  where
-    one : {Z : Type 0} (a b : Z) → Some a ≡ Some b → a ≡ b
-    one a b h = cc
-take_next (y ∷ ys) (suc k) x e = let next : suc k + 1 ≡ suc (k + 1) = omega arith in
-    rw next (ap (λ zs. y ∷ zs) (take_next ys k x e))
 
 -- what one more gives
 pub given_next : {X A : Type 0} (f : X → List A) (xs : List X) (k : ℕ) (x : X) (old new : List A)

@@ -20,6 +20,7 @@ use Rattle.proto_visibility.specs.Tables.FileItems.{ArePrefixes, declared_item, 
 use Rattle.proto_visibility.proofs.SeeingLemmas.{slice_get_prefix}
 use Rattle.proto_visibility.proofs.ImportTableLemmas.{only}
 use Rattle.proto_visibility.proofs.ItemLemmas.{file_of_item}
+use Rattle.proto_visibility.proofs.FirstLemmas.{contained}
 
 -- ---- prefixes
 
@@ -34,7 +35,7 @@ one_File a b e = cc
 one_List : (a b : List (List ℕ)) → Some a ≡ Some b → a ≡ b
 one_List a b e = cc
 
-slice_get_last : {X : Type 0} (xs : List X) (x : X) (k : ℕ) → k ≡ length xs → slice_get (xs ++ x ∷ []) k ≡ Some x
+pub slice_get_last : {X : Type 0} (xs : List X) (x : X) (k : ℕ) → k ≡ length xs → slice_get (xs ++ x ∷ []) k ≡ Some x
 slice_get_last xs x k is =
     slice_get-get_or (xs ++ x ∷ []) k x (omega (arith, length_push xs x)) ∙ ap Some (get_or_push xs x x k (sym is))
 
@@ -62,9 +63,6 @@ abbrev pub AreItemsUpTo : List File → (row : List ℕ) → (count : ℕ) → L
 AreItemsUpTo files row count items = (item : Item) → Contains items item
     ↔ ((k : ℕ) × (file : File) × (k < count) × (slice_get files (get_or row k 0) ≡ Some file)
     × IsItemIn (get_or row k 0) file item)
-
-contained : {X : Type 0} (xs : List X) (j : ℕ) (x : X) → slice_get xs j ≡ Some x → Contains xs x
-contained xs j x e = (j, slice_get_within xs j x e, get_or_from_slice_get xs j x x e)
 
 slice_get_behind : {X : Type 0} (xs ys : List X) (k : ℕ) (y : X) → length xs ≤ k → slice_get (xs ++ ys) k ≡ Some y
     → slice_get ys (k - length xs) ≡ Some y

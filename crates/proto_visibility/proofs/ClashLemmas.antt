@@ -5,13 +5,14 @@ use Rattle.std.specs.List.{Contains, slice_get}
 use Rattle.std.specs.Str.{bytes_eq}
 use Rattle.std.specs.HashMap.{HashMap}
 use Rattle.std.proofs.lemmas.Bool.{cases_lt, cases_order, cases_Bool, false≢true, cond-true, cond-false, or_parts}
-use Rattle.std.proofs.lemmas.Option.{slice_get_within, slice_get-get_or, get_or_from_slice_get}
+use Rattle.std.proofs.lemmas.Option.{slice_get_within}
 use Rattle.std.proofs.lemmas.Slice.Eq.{bytes_eq-Decides}
 use Rattle.proto_visibility.specs.declared.place.FilePlace.{FilePlace}
 use Rattle.proto_visibility.specs.Items.{Before, Item}
 use Rattle.proto_visibility.specs.Clashes.{Excludes, ClashBy, NoClashBy}
 use Rattle.proto_visibility.specs.Tables.NameTables.{AreInPlace, HasNone, IsFirstNamed, AreFirst, place_if_declared}
 use Rattle.proto_visibility.specs.Tables.NameTables.{clash_with, index_in}
+use Rattle.proto_visibility.proofs.FirstLemmas.{contained_at, contained}
 
 -- ---- places
 
@@ -23,13 +24,6 @@ never_both a b (inr h) (inr k) = omega (arith, h.1, k.1)
 
 one_Item : (a b : Item) → Some a ≡ Some b → a ≡ b
 one_Item a b e = cc
-
-pub contained_at : (items : List Item) (item : Item) → Contains items item → (k : ℕ) × (slice_get items k ≡ Some item)
-contained_at items item there = (there.0, slice_get-get_or items there.0 item there.1 ∙ ap Some there.2)
-
-pub contains_at : (items : List Item) (k : ℕ) (item : Item) → slice_get items k ≡ Some item → Contains items item
-contains_at items k item stands =
-    (k, slice_get_within items k item stands, get_or_from_slice_get items k item item stands)
 
 module _ (items : List Item) (placed : AreInPlace items) where
   pub in_order : (j k : ℕ) (a b : Item) → slice_get items j ≡ Some a → slice_get items k ≡ Some b
@@ -163,8 +157,8 @@ is_clash items count item first place placed stands is found so_far =
           earlier = at.1;
           later = item;
           exclude = record {
-            first_is = contains_at items at.0 at.1 at.3;
-            second_is = contains_at items count item stands;
+            first_is = contained items at.0 at.1 at.3;
+            second_is = contained items count item stands;
             ordered = placed at.0 count at.1 item f.within at.3 stands;
             one_name = sym (ap (λ (x : Item). x.full_name) same) ∙ f.named;
             declares = at.5;

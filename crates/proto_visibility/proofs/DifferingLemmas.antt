@@ -1,11 +1,11 @@
 -- Names that can't clash, since the numbers of them differ.
-use Rattle.std.proofs.Common.{◌≡◌, ◌↔◌, ◌⊎◌, inl, inr, ℕ, ◌+◌, ◌<◌, ◌≤◌, zero, suc, Bool, true, false, ◌||◌, List}
-use Rattle.std.specs.Prelude.{nat_eq, not}
+use Rattle.std.proofs.Common.{◌≡◌, ◌↔◌, ◌⊎◌, inl, inr, ℕ, ◌+◌, ◌<◌, ◌≤◌, Bool, true, false, ◌||◌, List}
+use Rattle.std.specs.Prelude.{nat_eq}
 use Rattle.std.proofs.Common.{[], ◌∷◌, ◌++◌, length, get_or, take, map, Some, refl, ap, sym, ◌∙◌, subst, arith}
 use Rattle.std.specs.List.{Contains, slice_get, list_any}
 use Rattle.std.specs.HashSet.{HashSet, Updates}
 use Rattle.std.proofs.lemmas.Bool.{cases_lt, cases_Bool, false≢true, cond-true, cond-false}
-use Rattle.std.proofs.lemmas.Option.{slice_get_within, get_or_from_slice_get}
+use Rattle.std.proofs.lemmas.Option.{slice_get_within}
 use Rattle.std.proofs.lemmas.List.{append_assoc, append-nil, take_more, map-append, get_or_default}
 use Rattle.std.proofs.lemmas.List.Elements.{Contains-push_cases, Contains-append_left}
 use Rattle.std.proofs.lemmas.List.Elements.{Contains-append_right, Contains-append_cases}
@@ -22,10 +22,7 @@ use Rattle.proto_visibility.specs.Tables.Numbers.{AreApart, declarations_in, dec
 use Rattle.proto_visibility.proofs.ImportTableLemmas.{only}
 use Rattle.proto_visibility.proofs.AllItemsLemmas.{declared_to}
 use Rattle.proto_visibility.proofs.ClashLemmas.{never_both}
-
-pub fails : (b : Bool) → not b ≡ true → b ≡ false
-fails true e = sym e
-fails false e = refl
+use Rattle.proto_visibility.proofs.FirstLemmas.{contained, item_at}
 
 -- ---- one more item
 
@@ -144,14 +141,6 @@ more_up_to files row count number file old new is stands added so_far = (
 
 -- ---- all of them, and the packages
 
-item_at : {X : Type 0} (xs : List X) (k : ℕ) → k < length xs → (x : X) × (slice_get xs k ≡ Some x)
-item_at [] k h = absurd (omega (arith, h))
-item_at (x ∷ xs) zero h = (x, refl)
-item_at (x ∷ xs) (suc k) h = item_at xs k (omega (arith, h))
-
-contains_at : {X : Type 0} (xs : List X) (k : ℕ) (x : X) → slice_get xs k ≡ Some x → Contains xs x
-contains_at xs k x stands = (k, slice_get_within xs k x stands, get_or_from_slice_get xs k x x stands)
-
 -- what a test of a list doesn't find in it
 none_passes : {X : Type 0} (test : X → Bool) (xs : List X) → list_any test xs ≡ false → (x : X) → Contains xs x
     → test x ≡ false
@@ -172,7 +161,7 @@ module _ {S : Type 0} (files : List File) (prefixes : List (List (List ℕ))) (r
   not_numbered number name has =
       none_passes (λ name. has_number numbers name) has.0
       (none_passes (λ names. list_any (λ name. has_number numbers name) names) prefixes none has.0
-      (contains_at prefixes number has.0 has.1)) name has.2
+      (contained prefixes number has.0 has.1)) name has.2
 
   -- an item is a declaration, and one of those that are apart, or a package of these prefixes
   abbrev IsTold : Item → Type 0
@@ -202,7 +191,7 @@ module _ {S : Type 0} (files : List File) (prefixes : List (List (List ℕ))) (r
       let inside = slice_get_within facts.package_name index component stands in
       let prefix = item_at its.0 index (omega (arith, inside, are.one_each)) in
       let named = subst (Contains its.0) (are.each index prefix.0 prefix.1)
-      (contains_at its.0 index prefix.0 prefix.1) in
+      (contained its.0 index prefix.0 prefix.1) in
       inr (refl, (number, (its.0, its.1, named)))
 
   apart_from_packages : (x : Item) → Contains apart.0 x → (number : ℕ) (name : List ℕ)

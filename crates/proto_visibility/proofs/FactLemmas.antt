@@ -2,6 +2,7 @@
 use Rattle.std.proofs.Common.{◌≡◌, ℕ, List, Some, None, Option, MatchOption, ap, sym, ◌∙◌}
 use Rattle.std.specs.List.{slice_get}
 use Rattle.std.specs.Option.{option_map}
+use Rattle.std.proofs.lemmas.Option.{none-some}
 use denote.Ref.{Bor}
 use Rattle.proto_decl.specs.Facts.{Facts}
 use Rattle.proto_visibility.specs.Files.{File, HasFacts}
@@ -18,13 +19,10 @@ one_list_of_facts files number facts other has its =
     one_Facts facts other (sym has.known
     ∙ (ap (λ (f : File). f.facts) (one_File has.file its.file (sym has.numbered ∙ its.numbered)) ∙ its.known))
 
-none_some : {X : Type 0} (x : X) → None ≡ Some x → ⊥
-none_some x e = cc
-
 pub facts_at : (files : List File) (number : ℕ) (file : File) (facts : Option (Bor Facts))
     → slice_get files number ≡ Some file → option_map (λ its. its.now) facts ≡ file.facts
     → MatchOption facts ((other : Facts) → HasFacts files number other → ⊥) (λ its. HasFacts files number its.now)
 facts_at files number file None stands is =
-    λ other has. none_some other
+    λ other has. none-some other
     (is ∙ (ap (λ (f : File). f.facts) (one_File file has.file (sym stands ∙ has.numbered)) ∙ has.known))
 facts_at files number file (Some its) stands is = record { file = file; numbered = stands; known = sym is }

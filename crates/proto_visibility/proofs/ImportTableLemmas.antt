@@ -7,15 +7,16 @@ use Rattle.std.specs.Str.{bytes_eq}
 use Rattle.std.specs.HashMap.{HashMap}
 use denote.Ref.{Bor}
 use Rattle.std.proofs.lemmas.Bool.{cases_Bool, cases_lt, cond-true, cond-false, false≢true}
-use Rattle.std.proofs.lemmas.Option.{slice_get-get_or, slice_get_within}
+use Rattle.std.proofs.lemmas.Option.{slice_get-get_or, slice_get_within, same_Some}
 use Rattle.std.proofs.lemmas.Slice.Eq.{bytes_eq-Decides}
-use Rattle.std.proofs.lemmas.List.Elements.{Contains-append_right, Contains-append_left, Contains-append_cases}
-use Rattle.std.proofs.lemmas.List.Elements.{Contains-push, Contains-get_or}
+use Rattle.std.proofs.lemmas.List.Elements.{Contains-append_right, Contains-append_cases}
+use Rattle.std.proofs.lemmas.List.Elements.{Contains-get_or}
 use Rattle.std.proofs.lemmas.List.{take_more, length_push, get_or_push}
 use Rattle.std.proofs.lemmas.List.Elements.{filter_map-append}
 use Rattle.proto_visibility.proofs.SeeingLemmas.{slice_get_prefix}
 use Rattle.proto_decl.specs.Facts.{Facts}
 use Rattle.proto_decl.specs.declared.imported.Imported.{Imported}
+use Rattle.proto_decl.proofs.AncestorLemmas.{in_front}
 use Rattle.proto_visibility.specs.declared.import_table.Steps.{Steps}
 use Rattle.proto_visibility.specs.Files.{File, Imports, HaveOwnPaths, is_public, HasPathAt}
 use Rattle.proto_visibility.specs.Tables.ImportTables.{targets, HasStep, AreWithin, IsTableOf, number_in, AreNumbered}
@@ -32,9 +33,6 @@ pub only : {X : Type 0} (x y : X) → Contains (x ∷ []) y → x ≡ y
 only x y (zero, h, e) = e
 only x y (suc k, h, e) = absurd (omega arith)
 
-first : {X : Type 0} (x : X) (xs : List X) → Contains (x ∷ xs) x
-first x xs = Contains-append_left (x ∷ []) xs x (Contains-push [] x)
-
 filter_map_none : {X Y : Type 0} (h : X → Option Y) (x : X) (xs : List X) → h x ≡ None
     → filter_map h (x ∷ xs) ≡ filter_map h xs
 filter_map_none h x xs e = rw e refl
@@ -50,7 +48,7 @@ kept_from {X} h (x ∷ xs) y there = elim (cases_Option (h x)) [
   | inl absent ↦ later (kept_from h xs y (subst (λ zs. Contains zs y) (filter_map_none h x xs absent) there))
   | inr some ↦ elim (Contains-append_cases (some.0 ∷ []) (filter_map h xs) y
       (subst (λ zs. Contains zs y) (filter_map_some h x xs some.0 some.1) there)) [
-        | inl one ↦ (x, first x xs, some.1 ∙ ap Some (only some.0 y one))
+        | inl one ↦ (x, in_front x xs, some.1 ∙ ap Some (only some.0 y one))
         | inr other ↦ later (kept_from h xs y other)
       ]
 ]
@@ -63,7 +61,7 @@ pub kept_if : {X Y : Type 0} (h : X → Option Y) (xs : List X) (x : X) (y : Y) 
 kept_if h [] x y there e = absurd (omega (arith, there.1))
 kept_if h (z ∷ zs) x y there e = elim (Contains-append_cases (z ∷ []) zs x there) [
   | inl one ↦ subst (λ ys. Contains ys y) (sym (filter_map_some h z zs y (ap h (only z x one) ∙ e)))
-      (first y (filter_map h zs))
+      (in_front y (filter_map h zs))
   | inr other ↦ elim (cases_Option (h z)) [
     | inl absent ↦ subst (λ ys. Contains ys y) (sym (filter_map_none h z zs absent)) (kept_if h zs x y other e)
     | inr some ↦ subst (λ ys. Contains ys y) (sym (filter_map_some h z zs some.0 some.1))
@@ -115,9 +113,6 @@ imports_at file import there = elim (cases_Option file.facts) [
   | inl absent ↦ absurd (omega (arith, (subst (λ f. Contains (imports_in f) import) absent there).1))
   | inr some ↦ (some.0, some.1, subst (λ f. Contains (imports_in f) import) some.1 there)
 ]
-
-one_Some : {X : Type 0} (x y : X) → Some x ≡ Some y → x ≡ y
-one_Some x y e = cc
 
 module _ (files : List File) (table : List Steps) (number : List ℕ → Option ℕ)
     (numbered : (path : List ℕ) (k : ℕ) → (number path ≡ Some k) ↔ HasPathAt files path k)
@@ -220,7 +215,7 @@ numbered_more files old new count file own stands after so_far path number =
           let equal : file.path ≡ path = (bytes_eq-Decides file.path path).0 same in
           let now : number_in new path ≡ Some count =
           after path ∙ cond-true (bytes_eq file.path path) (Some count) (number_in old path) same in (
-            λ found. (let is : count ≡ number = one_Some count number (sym now ∙ found) in
+            λ found. (let is : count ≡ number = same_Some count number (sym now ∙ found) in
                 (subst (HasPathAt files path) is (file, stands, equal), omega arith)),
             λ there. (let is : count ≡ number = sym (own number there.0.0 there.1 there.0.1 (there.0.2 ∙ sym equal)) in
                 now ∙ ap Some is),
@@ -234,7 +229,7 @@ numbered_more files old new count file own stands after so_far path number =
               | inr last ↦ (
                   let is : number ≡ count = omega (arith, there.1) in
                   let one : there.0.0 ≡ file =
-                  one_Some there.0.0 file (sym there.0.1 ∙ (ap (slice_get files) is ∙ stands)) in
+                  same_Some there.0.0 file (sym there.0.1 ∙ (ap (slice_get files) is ∙ stands)) in
                   let equal : file.path ≡ path = ap (λ (f : File). f.path) (sym one) ∙ there.0.2 in
                   absurd (false≢true (sym apart ∙ (bytes_eq-Decides file.path path).1 equal)))
             ],
@@ -265,11 +260,11 @@ steps_more number files table count file steps size stands here each k one its h
   | inl before ↦ each k one its before at (sym (slice_get_prefix table (steps ∷ []) k (omega arith)) ∙ there)
   | inr last ↦ (
       let is : k ≡ count = omega arith in
-      let same : one ≡ file = one_Some one file (sym at ∙ (ap (slice_get files) is ∙ stands)) in
+      let same : one ≡ file = same_Some one file (sym at ∙ (ap (slice_get files) is ∙ stands)) in
       let last : slice_get (table ++ steps ∷ []) k ≡ Some steps =
       slice_get-get_or (table ++ steps ∷ []) k steps (omega (arith, length_push table steps))
       ∙ ap Some (get_or_push table steps steps k (size ∙ sym is)) in
-      let its_is : its ≡ steps = one_Some its steps (sym there ∙ last) in
+      let its_is : its ≡ steps = same_Some its steps (sym there ∙ last) in
       subst (λ f. AreStepsOf number f its) (sym same) (subst (AreStepsOf number file) (sym its_is) here))
 ]
 
@@ -302,7 +297,7 @@ own_more files old count file stands new numbered own i j a b i_in j_in at there
 ]
   where
     path_of : (k : ℕ) (x : File) → k ≡ count → slice_get files k ≡ Some x → x.path ≡ file.path
-    path_of k x is here = ap (λ (f : File). f.path) (one_Some x file (sym here ∙ (ap (slice_get files) is ∙ stands)))
+    path_of k x is here = ap (λ (f : File). f.path) (same_Some x file (sym here ∙ (ap (slice_get files) is ∙ stands)))
 
     never : (k : ℕ) (x : File) → k < count → slice_get files k ≡ Some x → x.path ≡ file.path → ⊥
     never k x before here path =

@@ -18,6 +18,7 @@ use Rattle.proto_decl.specs.Names.{dotted, package_of}
 use Rattle.proto_decl.specs.Facts.{Facts, PackageInOrder, component_spans, name_spans}
 use Rattle.proto_decl.specs.declared.type_use.Component.{Component}
 use Rattle.proto_decl.specs.declared.declaration.Declaration.{Declaration}
+use Rattle.proto_decl.proofs.CommentTextLemmas.{join_with_byte-push}
 use Rattle.proto_visibility.specs.Items.{Item}
 use Rattle.proto_visibility.specs.Tables.NameTables.{AreInPlace}
 use Rattle.proto_visibility.specs.Tables.FileItems.{declared_item, packaged_item, IsPackaged, IsItemOf, starts_of}
@@ -27,13 +28,6 @@ use Rattle.proto_visibility.proofs.ImportTableLemmas.{only}
 use Rattle.proto_visibility.proofs.SeeingLemmas.{slice_get_prefix}
 
 -- ---- prefixes
-
-pub join_push : (c : ℕ) (first x : List ℕ) (others : List (List ℕ))
-    → join_with_byte c (first ∷ (others ++ x ∷ [])) ≡ join_with_byte c (first ∷ others) ++ (c ∷ x)
-join_push c first x [] = refl
-join_push c first x (next ∷ others) =
-    ap (λ t. first ++ (c ∷ t)) (join_push c next x others)
-    ∙ sym (append_assoc first (c ∷ join_with_byte c (next ∷ others)) (c ∷ x))
 
 one_List : (a b : List ℕ) → Some a ≡ Some b → a ≡ b
 one_List a b e = cc
@@ -49,7 +43,7 @@ joined_more first x others i old new h at so_far pushed =
     ∙ map-append (λ c. c.name) (take i others) (x ∷ []) in
     pushed ∙ (append_assoc old (46 ∷ []) x.name
     ∙ (ap (λ t. t ++ (46 ∷ x.name)) so_far
-    ∙ (sym (join_push 46 first.name x.name (map (λ c. c.name) (take i others)))
+    ∙ (sym (join_with_byte-push 46 first.name x.name (map (λ c. c.name) (take i others)))
     ∙ ap (λ ts. join_with_byte 46 (first.name ∷ ts)) (sym more))))
 
 pub prefix_first : (first : Component) (others : List Component) (k : ℕ)

@@ -6,7 +6,7 @@ use Rattle.std.specs.List.Sorted.{IsNonDecreasing, IsBinarySearchResult}
 use Rattle.std.specs.Ordering.{nat_cmp}
 use Rattle.std.specs.Result.{is_ok}
 use Rattle.std.proofs.lemmas.Bool.{cases_lt, false≢true}
-use Rattle.std.proofs.lemmas.Option.{slice_get_within, slice_get-get_or, get_or_from_slice_get}
+use Rattle.std.proofs.lemmas.Option.{slice_get_within}
 use Rattle.std.proofs.lemmas.List.{get_or_default}
 use Rattle.std.proofs.lemmas.List.Sorted.{searched}
 use Rattle.proto_decl.specs.Facts.{Facts}
@@ -24,6 +24,7 @@ use Rattle.proto_visibility.specs.FileNames.{admits, Gives, IsGiving}
 use Rattle.proto_visibility.specs.FileNames.Gives.{declared as gives_declared, packaged as gives_packaged}
 use Rattle.proto_visibility.specs.Tables.GivenNames.{owned_at, IsDeclaring, IsListed, HasPrefix, AreNames}
 use Rattle.proto_visibility.proofs.FileRowLemmas.{decides_found}
+use Rattle.proto_visibility.proofs.FirstLemmas.{contained, contained_at}
 
 -- ---- declarations in a row
 
@@ -49,12 +50,6 @@ none_declares_more declared row admits count one stands not so_far k other h at 
           (subst (λ (x : DeclaredAt). Contains row x.file) same there))
     ]
 
-contained_at : {X : Type 0} (xs : List X) (x : X) → Contains xs x → (k : ℕ) × (slice_get xs k ≡ Some x)
-contained_at xs x there = (there.0, slice_get-get_or xs there.0 x there.1 ∙ ap Some there.2)
-
-contains_at : {X : Type 0} (xs : List X) (k : ℕ) (x : X) → slice_get xs k ≡ Some x → Contains xs x
-contains_at xs k x stands = (k, slice_get_within xs k x stands, get_or_from_slice_get xs k x x stands)
-
 pub none_declares : (declared : List DeclaredAt) (row : List ℕ) (admits : NameKind → Bool) (count : ℕ)
     → length declared ≤ count → NoneDeclaresUpTo declared row admits count
     → (number : ℕ) → Contains row number → IsDeclaring declared admits number → ⊥
@@ -65,7 +60,7 @@ none_declares declared row admits count all so_far number there d =
 
 pub declares : (declared : List DeclaredAt) (admits : NameKind → Bool) (k : ℕ) (one : DeclaredAt)
     → slice_get declared k ≡ Some one → admits (OfDeclaration one.kind) ≡ true → IsDeclaring declared admits one.file
-declares declared admits k one stands admitted = (one, contains_at declared k one stands, refl, admitted)
+declares declared admits k one stands admitted = (one, contained declared k one stands, refl, admitted)
 
 -- ---- numbers that two lists share
 
@@ -145,7 +140,7 @@ module _ (files : List File) (names : Names) (are : AreNames files names) (role 
           gives = record {
             kind = OfDeclaration one.declaration.kind;
             gives = subst (λ n. Gives its.0 n (OfDeclaration one.declaration.kind)) one.named
-                (gives_declared (contains_at its.0.declarations its.2 one.declaration one.stands));
+                (gives_declared (contained its.0.declarations its.2 one.declaration one.stands));
             admitted = ap (λ (x : DeclaredAt). admits role (OfDeclaration x.kind)) (sym one.is) ∙ d.3;
           };
         };

@@ -6,7 +6,7 @@ use Rattle.std.specs.List.{Contains, slice_get}
 use Rattle.std.specs.List.Sorted.{IsNonDecreasing}
 use Rattle.std.specs.Str.{bytes_eq}
 use Rattle.std.proofs.lemmas.Bool.{cases_lt, cases_Bool, cond-true, cond-false, false≢true}
-use Rattle.std.proofs.lemmas.Option.{slice_get_within, slice_get-get_or, get_or_from_slice_get}
+use Rattle.std.proofs.lemmas.Option.{slice_get_within, same_Some}
 use Rattle.std.proofs.lemmas.List.Elements.{Contains-get_or, Contains-push, Contains-push_cases, Contains-append_left}
 use Rattle.std.proofs.lemmas.List.Sorted.{IsNonDecreasingBy-push, IsNonDecreasingBy-short}
 use Rattle.std.proofs.lemmas.Slice.Eq.{bytes_eq-Decides}
@@ -21,6 +21,7 @@ use Rattle.proto_visibility.specs.Tables.FileItems.{ArePrefixes, AreAllPrefixes,
 use Rattle.proto_visibility.specs.FileNames.{IsPrefix}
 use Rattle.proto_visibility.specs.Tables.GivenNames.{IsDeclaredOf, IsDeclaredIn, IsDeclaredBy, ArePackaged, HasPrefix}
 use Rattle.proto_visibility.specs.Tables.GivenNames.{HasPrefixAt}
+use Rattle.proto_visibility.proofs.FirstLemmas.{contained, contained_at, item_at}
 
 -- ---- lists at names, with what comes to them in turn
 
@@ -101,9 +102,6 @@ added old new key x after name y = elim (cases_Bool (bytes_eq key name)) [
       ))
 ]
 
-one_Some : {X : Type 0} (x y : X) → Some x ≡ Some y → x ≡ y
-one_Some x y e = cc
-
 -- ---- declarations
 
 module _ (number : ℕ) (declarations : List Declaration) (count : ℕ) (declaration : Declaration)
@@ -125,7 +123,7 @@ module _ (number : ℕ) (declarations : List Declaration) (count : ℕ) (declara
         λ those. iff.1 (elim those [
           | inl before ↦ inl before
           | inr d ↦ (
-              let same : d.declaration ≡ declaration = one_Some d.declaration declaration (sym d.stands ∙ stands) in
+              let same : d.declaration ≡ declaration = same_Some d.declaration declaration (sym d.stands ∙ stands) in
               inr (
                 ap (λ (x : Declaration). x.full_name) (sym same) ∙ d.named,
                 d.is ∙ ap (λ (x : Declaration). record { file = number; index = count; kind = x.kind }) same,
@@ -136,7 +134,7 @@ module _ (number : ℕ) (declarations : List Declaration) (count : ℕ) (declara
   pub not_declared : is_aggregate (OfDeclaration declaration.kind) ≡ false → (name : List ℕ) (one : DeclaredAt)
       → IsDeclaredOf number declarations count name one → ⊥
   not_declared other name one d =
-      let same : d.declaration ≡ declaration = one_Some d.declaration declaration (sym d.stands ∙ stands) in
+      let same : d.declaration ≡ declaration = same_Some d.declaration declaration (sym d.stands ∙ stands) in
       false≢true (sym other ∙ (ap (λ (x : Declaration). is_aggregate (OfDeclaration x.kind)) (sym same) ∙ d.aggregate))
 
 pub declared_within : (number : ℕ) (declarations : List Declaration) (k : ℕ) (name : List ℕ) (one : DeclaredAt)
@@ -175,7 +173,7 @@ declared_by files count file old new stands its name one = (
   λ there. elim ((its name one).0 there) [ inl before ↦ inl before | inr here ↦ inr (file, stands, here) ],
   λ those. (its name one).1 (elim those [
     | inl before ↦ inl before
-    | inr here ↦ inr (subst (λ f. IsDeclaredIn count f name one) (one_Some here.0 file (sym here.1 ∙ stands)) here.2)
+    | inr here ↦ inr (subst (λ f. IsDeclaredIn count f name one) (same_Some here.0 file (sym here.1 ∙ stands)) here.2)
   ]),
 )
 
@@ -207,14 +205,8 @@ prefix_here number prefixes count prefix stands old new after name other =
     let iff = added old new prefix number after name other in (
       λ there. elim (iff.0 there) [ inl before ↦ inl before | inr here ↦ inr (stands ∙ ap Some here.0, here.1) ],
       λ those. iff.1 (elim those
-          [ inl before ↦ inl before | inr here ↦ inr (one_Some prefix name (sym stands ∙ here.0), here.1) ]),
+          [ inl before ↦ inl before | inr here ↦ inr (same_Some prefix name (sym stands ∙ here.0), here.1) ]),
     )
-
-contained_at : {X : Type 0} (xs : List X) (x : X) → Contains xs x → (k : ℕ) × (slice_get xs k ≡ Some x)
-contained_at xs x there = (there.0, slice_get-get_or xs there.0 x there.1 ∙ ap Some there.2)
-
-contains_at : {X : Type 0} (xs : List X) (k : ℕ) (x : X) → slice_get xs k ≡ Some x → Contains xs x
-contains_at xs k x stands = (k, slice_get_within xs k x stands, get_or_from_slice_get xs k x x stands)
 
 pub prefixes_all : (number : ℕ) (prefixes : List (List ℕ)) (old new : List ℕ → List ℕ)
     → ((name : List ℕ) (other : ℕ) → Contains (new name) other
@@ -223,7 +215,7 @@ pub prefixes_all : (number : ℕ) (prefixes : List (List ℕ)) (old new : List �
     ↔ (Contains (old name) other ⊎ ((other ≡ number) × Contains prefixes name))
 prefixes_all number prefixes old new its name other = (
   λ there. elim ((its name other).0 there)
-      [ inl before ↦ inl before | inr here ↦ inr (here.1.1, contains_at prefixes here.0 name here.1.0) ],
+      [ inl before ↦ inl before | inr here ↦ inr (here.1.1, contained prefixes here.0 name here.1.0) ],
   λ those. (its name other).1 (elim those [
     | inl before ↦ inl before
     | inr here ↦ (let at = contained_at prefixes name here.1 in inr (at.0, (at.1, here.0)))
@@ -243,7 +235,7 @@ prefixes_of_file prefixes count its old new stands more name other = (
     | inl before ↦ inl before
     | inr here ↦ inr (
       here.1,
-      subst (λ (xs : List (List ℕ)). Contains xs name) (one_Some here.0.0 its (sym here.0.1 ∙ stands)) here.0.2,
+      subst (λ (xs : List (List ℕ)). Contains xs name) (same_Some here.0.0 its (sym here.0.1 ∙ stands)) here.0.2,
     )
   ]),
 )
@@ -283,11 +275,6 @@ packaged_by_prefixes files prefixes now all its name number = (
       (its name number).1 (prefixes_at.0, prefixes_at.1, from has.1 prefixes_at.0 are has.4),
 )
   where
-    item_at : {X : Type 0} (xs : List X) (k : ℕ) → k < length xs → (x : X) × (slice_get xs k ≡ Some x)
-    item_at [] k h = absurd (omega (arith, h))
-    item_at (x ∷ xs) zero h = (x, refl)
-    item_at (x ∷ xs) (suc k) h = item_at xs k (omega (arith, h))
-
     to : (file : File) → slice_get files number ≡ Some file → (prefixes_here : List (List ℕ))
         → ArePrefixes (package_name_of file) prefixes_here → Contains prefixes_here name → HasPrefix files number name
     to file stands prefixes_here are there = elim (cases_facts file.facts) [
@@ -317,7 +304,7 @@ packaged_by_prefixes files prefixes now all its name number = (
         let at = item_at prefixes_here k (omega (arith, few, are.one_each)) in
         let next : k + 1 ≡ suc k = omega arith in
         let same : at.0 ≡ name = are.each k at.0 at.1 ∙ (ap (package_of facts.package_name) next ∙ sym is) in
-        contains_at prefixes_here k name (at.1 ∙ ap Some same)
+        contained prefixes_here k name (at.1 ∙ ap Some same)
 
 -- ---- answers
 

@@ -7,7 +7,7 @@ use Rattle.std.specs.List.{Contains, slice_get}
 use Rattle.std.specs.Str.{bytes_eq}
 use Rattle.std.specs.HashMap.{HashMap}
 use Rattle.std.proofs.lemmas.Bool.{cases_lt, cases_order, cases_Bool, false≢true, cond-true, cond-false, or_parts}
-use Rattle.std.proofs.lemmas.Option.{slice_get_within, slice_get-get_or}
+use Rattle.std.proofs.lemmas.Option.{slice_get_within, slice_get-get_or, same_Some}
 use Rattle.std.proofs.lemmas.Slice.Eq.{bytes_eq-Decides}
 use Rattle.proto_visibility.specs.declared.place.FilePlace.{FilePlace}
 use Rattle.proto_visibility.specs.declared.fault.LinkFault.{LinkFault}
@@ -22,8 +22,9 @@ use Rattle.proto_visibility.specs.Kept.{Omissions, IsKept, IsMet, IsOmission, Ar
 use Rattle.proto_visibility.specs.Tables.NameTables.{AreInPlace, clash_with, index_in}
 use Rattle.proto_visibility.specs.Tables.Passes.{AreUnreadOf, IsClashOmission, AreClashesOmitted, IsOpen, IsOpenAt}
 use Rattle.proto_visibility.specs.Tables.Passes.{IsTold, ArePassed}
-use Rattle.proto_visibility.proofs.ClashLemmas.{in_order, one_index, contained_at, contains_at, clash_at, no_clash_at}
+use Rattle.proto_visibility.proofs.ClashLemmas.{in_order, one_index, clash_at, no_clash_at}
 use Rattle.proto_visibility.proofs.ClashLemmas.{clash_by, no_clash_by}
+use Rattle.proto_visibility.proofs.FirstLemmas.{contained_at, contained}
 
 -- ---- a list of which one entry is set
 
@@ -45,11 +46,8 @@ set_elsewhere (x ∷ xs) zero (suc m) y apart = refl
 set_elsewhere (x ∷ xs) (suc n) zero y apart = refl
 set_elsewhere (x ∷ xs) (suc n) (suc m) y apart = set_elsewhere xs n m y (λ same. apart (ap suc same))
 
-some : {X : Type 0} (a b : X) → Some a ≡ Some b → a ≡ b
-some a b e = cc
-
 same_item : (items : List Item) (k : ℕ) (a b : Item) → slice_get items k ≡ Some a → slice_get items k ≡ Some b → a ≡ b
-same_item items k a b at there = some a b (sym at ∙ there)
+same_item items k a b at there = same_Some a b (sym at ∙ there)
 
 pub same_kept : (a b : Omissions) (n m : ℕ) → a ≡ b → n ≡ m → IsKept a n → IsKept b m
 same_kept a b n m list number kept =
@@ -57,7 +55,7 @@ same_kept a b n m list number kept =
 
 same_at : (items : List Item) (j k : ℕ) (a b : Item) → j ≡ k → slice_get items j ≡ Some a → slice_get items k ≡ Some b
     → a ≡ b
-same_at items j k a b same at there = some a b (sym at ∙ (ap (slice_get items) same ∙ there))
+same_at items j k a b same at there = same_Some a b (sym at ∙ (ap (slice_get items) same ∙ there))
 
 or_false : (x y : Bool) → x ≡ false → y ≡ false → (x || y) ≡ false
 or_false true y h e = h
@@ -65,7 +63,7 @@ or_false false y h e = e
 
 -- a file is kept or left out
 not_both : (fault : LinkFault) → Some None ≡ Some (Some fault) → ⊥
-not_both fault e = none (some {X = Option LinkFault} None (Some fault) e)
+not_both fault e = none (same_Some {A = Option LinkFault} None (Some fault) e)
   where
     none : {f : LinkFault} → None ≡ Some f → ⊥
     none h = cc
@@ -133,7 +131,7 @@ module _ (items : List Item) (placed : AreInPlace items) where
             let is : Some count ≡ Some k =
             sym (after name ∙ cond-true (bytes_eq item.full_name name) (Some count) (index_in names name) same) ∙ e
             in
-            let k_is = some count k is in (
+            let k_is = same_Some count k is in (
               omega arith,
               (
                 item,
@@ -183,7 +181,7 @@ module _ (items : List Item) (placed : AreInPlace items) where
           → a.full_name ≡ item.full_name → k ≤ j
       k_first j a before here open_a name =
           let f = so_far.first j a before here open_a in
-          let same : f.0 ≡ k = some f.0 k (sym f.1 ∙ (ap (index_in names) name ∙ known)) in
+          let same : f.0 ≡ k = same_Some f.0 k (sym f.1 ∙ (ap (index_in names) name ∙ known)) in
           omega (arith, f.2)
 
       k_name : open_k.0.full_name ≡ item.full_name
@@ -287,7 +285,7 @@ module _ (items : List Item) (placed : AreInPlace items) where
         met_now : (x : Item) (j : ℕ) → slice_get items j ≡ Some x → x.place.file ≤ item.place.file → IsOpen omissions x
             → IsMet (Contains items) new item.place.file x
         met_now x j here h open_x = record {
-          is_item = contains_at items j x here;
+          is_item = contained items j x here;
           meets = elim (cases_order x.place.file item.place.file) [
             | inl same ↦ inl same
             | inr apart ↦ elim apart [
@@ -301,7 +299,7 @@ module _ (items : List Item) (placed : AreInPlace items) where
         first_clash : ClashBy (IsMet (Contains items) new item.place.file) place item.place
         first_clash =
             let c = clash_at items (Some k) item place clashes in
-            let k_is = some k c.0 c.2 in
+            let k_is = same_Some k c.0 c.2 in
             let a_is = same_at items k c.0 open_k.0 c.1 k_is open_k.1 c.3 in
             record {
               earlier = open_k.0;
@@ -511,7 +509,8 @@ omissions_of files items start omissions are unread clashes = record {
         told number omission (unread.each number None at) (clashes.told number omission at out)
     entry number omission out (Some (Some fault)) at within =
         let its = unread.each number (Some fault) at in
-        let same : Some fault ≡ omission = some (Some fault) omission (sym (clashes.stays number fault at) ∙ out) in
+        let same : Some fault ≡ omission =
+        same_Some (Some fault) omission (sym (clashes.stays number fault at) ∙ out) in
         subst (IsOmission files omissions number) (ap Some (sym its.0) ∙ same) (refl, its.1)
 
 -- ---- files without facts
@@ -525,7 +524,7 @@ none_unread files omissions size =
 
 push_get : {X : Type 0} (xs : List X) (x y : X) (k : ℕ) → slice_get (xs ++ x ∷ []) k ≡ Some y
     → (slice_get xs k ≡ Some y) ⊎ ((k ≡ length xs) × (x ≡ y))
-push_get [] x y zero e = inr (refl, some x y e)
+push_get [] x y zero e = inr (refl, same_Some x y e)
 push_get [] x y (suc k) e = absurd (nothing e)
   where
     nothing : {Z : Type 0} {z : Z} → None ≡ Some z → ⊥
@@ -560,7 +559,7 @@ pub unread_by : (files : List File) (number : ℕ) (file : File) (row : List ℕ
     (λ fault. (fault ≡ Broken number) × (file.facts ≡ None) × Contains row number)
     → MatchOption omission (IsUnread files number → ⊥) (λ fault. (fault ≡ Broken number) × IsUnread files number)
 unread_by files number file row counted at None none = λ unread.
-    let same : unread.file ≡ file = some unread.file file (sym unread.numbered ∙ at) in
+    let same : unread.file ≡ file = same_Some unread.file file (sym unread.numbered ∙ at) in
     none (ap (λ (f : File). f.facts) (sym same) ∙ unread.unread) ((counted number).1 unread.counts)
 unread_by files number file row counted at (Some its) is =
     (is.0, record { file = file; counts = (counted number).0 is.2; numbered = at; unread = is.1 })

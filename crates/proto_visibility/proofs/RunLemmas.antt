@@ -4,7 +4,7 @@ use Rattle.std.proofs.Common.{◌++◌, length, get_or, take, drop, Some, None, 
 use Rattle.std.proofs.Common.{IsTrue}
 use Rattle.std.specs.List.{Contains, slice_get, range_with_len}
 use Rattle.std.specs.List.Sorted.{IsNonDecreasing, IsPartitionPoint}
-use Rattle.std.proofs.lemmas.Bool.{cases_lt}
+use Rattle.std.proofs.lemmas.Bool.{cases_lt, ltb-true, ltb-false, leb-true}
 use Rattle.std.proofs.lemmas.Bool.Decides.{nat_tests}
 use Rattle.std.proofs.lemmas.Option.{slice_get_within, get_or_from_slice_get, slice_get-get_or}
 use Rattle.std.proofs.lemmas.List.{append_assoc, get_or_default, take_all}
@@ -240,15 +240,6 @@ behind_first first others index =
 
 -- ---- a search by halves
 
-less : (a b : ℕ) → ltb a b ≡ true → a < b
-less a b e = grind (arith, nat_tests)
-
-not_less : (a b : ℕ) → ltb a b ≡ false → b ≤ a
-not_less a b e = grind (arith, nat_tests)
-
-no_more : (a b : ℕ) → leb a b ≡ true → a ≤ b
-no_more a b e = grind (arith, nat_tests)
-
 is_no_more : (a b : ℕ) → a ≤ b → leb a b ≡ true
 is_no_more a b h = grind (arith, nat_tests)
 
@@ -261,7 +252,7 @@ module _ (runs : List Run) (number before : ℕ) (order : AreInOrder runs)
     behind_point k run stands is = elim (cases_lt k before) [
       | inl early ↦ (
           let is_run = get_or_from_slice_get runs k run run stands in
-          let ends = less (get_or runs k run).last number (point.0 k run (omega arith) early) in
+          let ends = ltb-true (get_or runs k run).last number (point.0 k run (omega arith) early) in
           let same = ap (λ (r : Run). r.last) is_run in
           absurd (omega (arith, ends, same, is.1)))
       | inr late ↦ late
@@ -273,10 +264,10 @@ module _ (runs : List Run) (number before : ℕ) (order : AreInOrder runs)
         let within = slice_get_within runs before run stands in
         let is_run = get_or_from_slice_get runs before run run stands in (
           λ t. (
-              let ends = not_less (get_or runs before run).last number
+              let ends = ltb-false (get_or runs before run).last number
               (point.1 before run (omega arith) within) in
               let same = ap (λ (r : Run). r.last) is_run in
-              in_runs_if runs before run number stands (no_more run.first number t, omega (arith, ends, same))
+              in_runs_if runs before run number stands (leb-true run.first number t, omega (arith, ends, same))
               ),
           λ there. (
               let its = in_runs_from runs number there in

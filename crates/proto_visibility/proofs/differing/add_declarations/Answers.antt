@@ -2,11 +2,12 @@ use Rattle.std.proofs.Common.{◌≡◌, ◌<◌, ◌++◌, List, true, length, 
 use Rattle.std.specs.Prelude.{nat_eq}
 use Rattle.std.specs.HashSet.{Updates, contains}
 use Rattle.std.proofs.lemmas.List.{take_all}
+use Rattle.std.proofs.lemmas.Bool.{not-true}
 use Rattle.proto_decl.specs.FullNames.{mixed}
 use Rattle.proto_decl.specs.declared.declaration.Declaration.{Declaration}
 use Rattle.proto_visibility.specs.Tables.FileItems.{declared_item}
 use Rattle.proto_visibility.specs.Tables.Numbers.{AreApart}
-use Rattle.proto_visibility.proofs.DifferingLemmas.{none_of_file, apart_with, fails}
+use Rattle.proto_visibility.proofs.DifferingLemmas.{none_of_file, apart_with}
 use Rattle.proto_visibility.proofs.differing.add_declarations.Goals as goal
 
 pub loop-declaration-init : goal.loop-declaration-init
@@ -22,7 +23,7 @@ loop-declaration-preserved c =
     let within : index < length declarations = omega arith in
     let key : c.mixed.result ≡ mixed declaration.full_name = c.mixed.ensures ∙ ap mixed c.full_name.ensures in
     let fresh = ap (contains nat_eq old) (sym key)
-    ∙ fails (contains nat_eq old c.mixed.result) (sym c.in_ok-new.ensures.added ∙ c.if-not-new.false) in
+    ∙ not-true (contains nat_eq old c.mixed.result) (sym c.in_ok-new.ensures.added ∙ c.if-not-new.false) in
     let after = subst (λ k. Updates nat_eq old new k true) key c.in_ok-new.ensures.updates in
     λ number items apart. apart_with number declarations index declaration items old new within c.declaration-item.is
     fresh after (c.loop-declaration.invariant number items apart)

@@ -1,8 +1,9 @@
 use Rattle.std.proofs.Common.{◌≡◌, ◌≤◌, Some, length, get_or, refl, ap, sym, ◌∙◌, subst, arith, rules}
 use Rattle.std.specs.List.{slice_get}
 use Rattle.std.proofs.lemmas.Option.{slice_get_read}
+use Rattle.std.proofs.lemmas.Bool.{not-true}
 use Rattle.proto_visibility.proofs.CountingLemmas.{counted_at}
-use Rattle.proto_visibility.proofs.DifferingLemmas.{none_up_to, more_up_to, clear_by_numbers, fails}
+use Rattle.proto_visibility.proofs.DifferingLemmas.{none_up_to, more_up_to, clear_by_numbers}
 use Rattle.proto_visibility.proofs.differing.numbers_differ.Goals as goal
 
 pub offset_bounds-files-number : goal.offset_bounds-files-number
@@ -39,4 +40,4 @@ pub returns : goal.returns
 returns c = λ differ. clear_by_numbers c.args.files.now c.args.prefixes.now c.args.counted.now c.loop-number.numbers
     c.requires.counted c.requires.prefixes c.loop-number.number-index
     (subst (λ xs. length xs ≤ c.loop-number.number-index) c.as_slice-number-items.ensures.value (omega arith))
-    c.loop-number.invariant (sym c.has_package-shared.ensures ∙ fails c.has_package-shared.result differ)
+    c.loop-number.invariant (sym c.has_package-shared.ensures ∙ not-true c.has_package-shared.result differ)

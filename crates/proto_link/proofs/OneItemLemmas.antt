@@ -5,7 +5,7 @@ use Rattle.std.specs.List.{Contains, slice_get}
 use Rattle.std.proofs.lemmas.Bool.{cases_order, or_left}
 use Rattle.std.specs.Option.{option_map}
 use Rattle.std.proofs.lemmas.Option.{slice_get_within, slice_get_cases, slice_get-map}
-use Rattle.std.proofs.lemmas.List.Elements.{Contains-push, Contains-append_left, Contains-append_right}
+use Rattle.std.proofs.lemmas.List.Elements.{Contains-append_left, Contains-append_right}
 use Rattle.std.proofs.lemmas.List.Elements.{Contains-append_cases}
 use Rattle.std.proofs.Math.Bool.{or-true}
 use Rattle.proto_lex.specs.declared.span.Span.{Span}
@@ -14,6 +14,7 @@ use Rattle.proto_decl.specs.Names.{package_of}
 use Rattle.proto_decl.specs.Facts.{Facts, AreOfSomeFile, NamesInOrder, PackageInOrder, name_spans, component_spans}
 use Rattle.proto_decl.specs.declared.declaration.Declaration.{Declaration}
 use Rattle.proto_decl.specs.declared.type_use.Component.{Component}
+use Rattle.proto_decl.proofs.AncestorLemmas.{in_front as contains_first}
 use Rattle.proto_visibility.specs.declared.place.FilePlace.{FilePlace}
 use Rattle.proto_visibility.specs.Files.{File, HasFacts, HaveOrigins}
 use Rattle.proto_visibility.specs.Items.{Before, Item, IsItem}
@@ -25,9 +26,6 @@ use Rattle.proto_visibility.proofs.ImportTableLemmas.{only}
 use Rattle.proto_visibility.proofs.FactLemmas.{one_list_of_facts}
 
 -- ---- spans in order
-
-contains_first : {X : Type 0} (x : X) (xs : List X) → Contains (x ∷ xs) x
-contains_first x xs = Contains-append_left (x ∷ []) xs x (Contains-push [] x)
 
 pub contains_map : {X Y : Type 0} (f : X → Y) (xs : List X) (x : X) → Contains xs x → Contains (map f xs) (f x)
 contains_map f [] x there = absurd (omega (arith, there.1))

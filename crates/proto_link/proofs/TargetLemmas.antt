@@ -33,7 +33,7 @@ use Rattle.proto_visibility.specs.FileNames.Gives.{declared as gives_declared, p
 use Rattle.proto_visibility.specs.Entities.{IsEntityOf}
 use Rattle.proto_link.specs.Tables.Parts.{AreEntitiesOf, AreNamed, longer}
 use Rattle.proto_visibility.specs.Entities.IsEntityOf.{packaged, declared}
-use Rattle.proto_visibility.proofs.ItemLemmas.{join_push}
+use Rattle.proto_decl.proofs.CommentTextLemmas.{join_with_byte-push}
 use Rattle.proto_visibility.proofs.SeeingLemmas.{slice_get_prefix}
 use Rattle.proto_visibility.proofs.FactLemmas.{one_list_of_facts}
 
@@ -47,7 +47,7 @@ longer_of (t ∷ ts) (suc i) x within is =
     let next : suc i + 1 ≡ suc (i + 1) = omega arith in
     let more : take (i + 1) ts ≡ take i ts ++ x ∷ [] =
     take_more ts i x (omega (arith, within)) ∙ ap (λ y. take i ts ++ y ∷ []) (sym is) in
-    sym (join_push 46 t x (take i ts))
+    sym (join_with_byte-push 46 t x (take i ts))
     ∙ (ap (λ ys. dotted (t ∷ ys)) (sym more) ∙ ap (λ n. dotted (take n (t ∷ ts))) (sym next))
 
 pub prefix_longer : (name : List ℕ) (components : List (Bor (List ℕ))) (i : ℕ) (d : Bor (List ℕ)) (old new : List ℕ)

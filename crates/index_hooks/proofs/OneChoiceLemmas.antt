@@ -6,13 +6,7 @@ use Rattle.index_hooks.specs.declared.choice.DocChoice.{DocChoice}
 use Rattle.index_hooks.specs.declared.choice.DocChoice.TheVariants.{Pass}
 use Rattle.index_hooks.specs.MayChoose.{FirstOf, MayKeep, MayDocument, MayChoose}
 use Rattle.index_hooks.specs.OneChoice.{AllowsOne, AreExact}
-
--- the first element of a list that is not empty, and those behind it
-same_head : {H : Type 0} (x y : H) (xs ys : List H) → x ∷ xs ≡ y ∷ ys → x ≡ y
-same_head x y xs ys e = cc
-
-same_tail : {H : Type 0} (x y : H) (xs ys : List H) → x ∷ xs ≡ y ∷ ys → xs ≡ ys
-same_tail x y xs ys e = cc
+use Rattle.proto_decl.proofs.AncestorLemmas.{heads, tails}
 
 -- of all hooks, at the first of them or behind it
 all_at : {H : Type 0} (P : H → Type 0) (before : List H) (hook : H) (after : List H) → All P (before ++ hook ∷ after)
@@ -28,14 +22,14 @@ data Places {H : Type 0} (P : H → Type 0) (hook other : H) : Type 0 where
 
 places : {H : Type 0} (P : H → Type 0) (before : List H) (hook : H) (after its : List H) (other : H) (rest : List H)
     → All P before → All P its → before ++ hook ∷ after ≡ its ++ other ∷ rest → Places P hook other
-places P [] hook after [] other rest front its-front e = one (same_head hook other after rest e)
+places P [] hook after [] other rest front its-front e = one (heads e)
 places P [] hook after (x ∷ its) other rest front its-front e =
-    earlier (subst P (sym (same_head hook x after (its ++ other ∷ rest) e)) (All-head P x its its-front))
+    earlier (subst P (sym (heads e)) (All-head P x its its-front))
 places P (x ∷ before) hook after [] other rest front its-front e =
-    later (subst P (same_head x other (before ++ hook ∷ after) rest e) (All-head P x before front))
+    later (subst P (heads e) (All-head P x before front))
 places P (x ∷ before) hook after (y ∷ its) other rest front its-front e =
     places P before hook after its other rest (All-tail P x before front) (All-tail P y its its-front)
-    (same_tail x y (before ++ hook ∷ after) (its ++ other ∷ rest) e)
+    (tails e)
 
 module _ {F : Type 0} (may : F → Bool → Type 0) (filters : List F) (exact : All (λ f. AllowsOne (may f)) filters) where
   -- no filter may say both

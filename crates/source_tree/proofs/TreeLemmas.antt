@@ -42,7 +42,7 @@ mapped f (z ∷ zs) x there = elim (in_either z zs x there) [
   | inr later ↦ behind_it (f z) (map f zs) (f x) (mapped f zs x later)
 ]
 
-mapped_from : {X Y : Type 0} (f : X → Y) (xs : List X) (y : Y) → Contains (map f xs) y
+pub mapped_from : {X Y : Type 0} (f : X → Y) (xs : List X) (y : Y) → Contains (map f xs) y
     → (x : X) × Contains xs x × (f x ≡ y)
 mapped_from f [] y there = absurd (in_nothing y there)
 mapped_from {X} f (z ∷ zs) y there = elim (in_either (f z) (map f zs) y there) [

@@ -8,8 +8,8 @@ use denote.Ref.{Bor}
 use Rattle.scip_symbol.specs.Reading.{after, expect_at}
 use Rattle.std.proofs.Common.{rules}
 use Rattle.std.proofs.lemmas.Bool.Decides.{nat_tests}
-use Rattle.scip_symbol.proofs.ReadLemmas.{tested, chosen}
-use Rattle.proto_lex.proofs.ReadLemmas.{both}
+use Rattle.scip_symbol.proofs.ReadLemmas.{chosen}
+use Rattle.proto_lex.proofs.ReadLemmas.{both, chosen as tested}
 
 pub eqb-same : (b : ℕ) → eqb b b ≡ true
 eqb-same b = search (rules, nat_tests)

@@ -22,12 +22,7 @@ use Rattle.scip_symbol.proofs.NameLemmas.{simple-found}
 use Rattle.scip_symbol.proofs.SymbolLemmas.{not-space, local-there, spells-some, spaced-found, part-found}
 use Rattle.scip_symbol.proofs.BeginLemmas.{Begins, StopsIn, at-once, at-end, simple-stops, some-behind}
 use Rattle.scip_symbol.proofs.BeginLemmas.{descriptors-begin}
-
-heads : {x y : ℕ} {xs ys : List ℕ} → x ∷ xs ≡ y ∷ ys → x ≡ y
-heads e = cc
-
-tails : {x y : ℕ} {xs ys : List ℕ} → x ∷ xs ≡ y ∷ ys → xs ≡ ys
-tails e = cc
+use Rattle.proto_decl.proofs.AncestorLemmas.{heads, tails}
 
 -- ---- schemes and parts
 

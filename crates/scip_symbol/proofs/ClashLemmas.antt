@@ -10,7 +10,8 @@ use Rattle.proto_decl.specs.declared.declaration.DeclarationStep.{DeclarationSte
 use Rattle.proto_decl.specs.declared.declaration.Declaration.{Declaration}
 use Rattle.scip_symbol.specs.Entities.{Entity, OfFile, OfPackage, OfDeclaration}
 use Rattle.scip_symbol.specs.OneEntity.{declaration_at, declarations_of, AreWithoutClash, IsWithoutClash}
-use Rattle.source_tree.proofs.OrderLemmas.{in_nothing, only}
+pub use Rattle.source_tree.proofs.OrderLemmas.{in_nothing}
+use Rattle.source_tree.proofs.OrderLemmas.{only}
 
 module _ {A B : Type 0} (f : A → B) where
   record From (xs : List A) (y : B) : Type 0 where

@@ -1,5 +1,5 @@
 -- Reads, choices and tests.
-use Rattle.std.proofs.Common.{◌≡◌, ◌≢◌, ℕ, eqb, Bool, true, false, cond, Option, Some, None, Ok, Err, refl, ap}
+use Rattle.std.proofs.Common.{◌≡◌, ◌≢◌, ℕ, eqb, true, false, Option, Some, None, Ok, Err, refl, ap}
 use Rattle.std.proofs.lemmas.Bool.{eqb-true}
 use Rattle.scip_symbol.specs.Reading.{Read, ◌>>=◌, choose}
 
@@ -34,11 +34,6 @@ choose_some otherwise next e = ap (λ o. choose o otherwise next) e
 pub choose_none : {A B : Type 0} {o : Option A} (otherwise : B) (next : A → B) → o ≡ None
     → choose o otherwise next ≡ otherwise
 choose_none otherwise next e = ap (λ o. choose o otherwise next) e
-
-pub tested : {A P : Type 0} (b : Bool) {x y z : A} → cond b x y ≡ z → (b ≡ true → x ≡ z → P) → (b ≡ false → y ≡ z → P)
-    → P
-tested true e p q = p refl e
-tested false e p q = q refl e
 
 pub same_ok : {A : Type 0} {x y : A} (r : Read A) → r ≡ Ok x → r ≡ Ok y → x ≡ y
 same_ok r e f = cc

@@ -4,10 +4,11 @@ use Rattle.std.proofs.Common.{get_or, refl, ap, sym, ◌∙◌, subst, arith, ap
 use Rattle.std.proofs.lemmas.Bool.{eqb-true}
 use Rattle.scip_symbol.specs.Names.{doubled}
 use Rattle.scip_symbol.specs.Reading.{Front, onto, undoubled_at}
-use Rattle.scip_symbol.proofs.ReadLemmas.{tested, same_ok, ne-test}
+use Rattle.scip_symbol.proofs.ReadLemmas.{same_ok, ne-test}
 use Rattle.scip_symbol.proofs.AfterLemmas.{eqb-same}
 use Rattle.scip_symbol.proofs.DoubledLemmas.{other, mark}
 use Rattle.proto_lex.specs.Bytes.{starts}
+use Rattle.proto_lex.proofs.ReadLemmas.{chosen as tested}
 
 -- so many bytes read already
 abbrev pub ontos : List ℕ → Front (List ℕ) → Front (List ℕ)

@@ -2,22 +2,17 @@
 use Rattle.std.proofs.Common.{◌≡◌, ℕ, ◌≤◌, true, List, [], ◌∷◌, codes, refl, sym, subst, arith}
 use Rattle.std.specs.Prelude.{All, nat_le}
 use Rattle.std.specs.List.{list_all}
-use Rattle.std.proofs.lemmas.List.Elements.{All-cons, All-nil}
-use Rattle.std.proofs.lemmas.Bool.{and_parts}
-use Rattle.std.proofs.lemmas.Bool.Decides.{nat_tests}
+use Rattle.std.proofs.lemmas.List.Elements.{All-cons, All-nil, All-weaker}
+use Rattle.std.proofs.lemmas.List.Sums.{AllPass-from_list_all}
+use Rattle.std.proofs.lemmas.Bool.{leb-true}
 use Rattle.proto_lex.specs.Lexes.{identifier}
 use Rattle.scip_symbol.specs.Path.{IsComponent}
 use Rattle.scip_symbol.specs.Entities.{IsIdentifier, OfFile, OfPackage, OfDeclaration, IsEntity}
 use Rattle.proto_decl.specs.declared.declaration.DeclarationStep.{DeclarationStep}
 
-at_least : (x : ℕ) → nat_le 32 x ≡ true → 32 ≤ x
-at_least x h = grind (arith, nat_tests)
-
 printable : (xs : List ℕ) → list_all (nat_le 32) xs ≡ true → All (λ b. 32 ≤ b) xs
-printable [] h = All-nil (λ b. 32 ≤ b)
-printable (x ∷ xs) h =
-    let p = and_parts (nat_le 32 x) (list_all (nat_le 32) xs) h in
-    All-cons (λ b. 32 ≤ b) x xs (at_least x p.0) (printable xs p.1)
+printable xs h =
+    All-weaker (λ b. nat_le 32 b ≡ true) (λ b. 32 ≤ b) (λ b. leb-true 32 b) xs (AllPass-from_list_all (nat_le 32) xs h)
 
 pub spaced_file : IsEntity (OfFile (codes "a b.proto"))
 spaced_file = record {

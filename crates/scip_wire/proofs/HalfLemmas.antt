@@ -18,7 +18,8 @@ halves d =
     sym (append_assoc (front_fields d) (entries ++ language) encoding)
     ∙ ap (λ (fields : List Field). fields ++ encoding) (sym (append_assoc (front_fields d) entries language))
 
-pub halves_joined : (d : Document) → bytes_of (front_fields d) ++ bytes_of (back_fields d) ≡ bytes_of (document_fields d)
+pub halves_joined : (d : Document)
+    → bytes_of (front_fields d) ++ bytes_of (back_fields d) ≡ bytes_of (document_fields d)
 halves_joined d = sym (flat_map-append field_bytes (front_fields d) (back_fields d)) ∙ ap bytes_of (halves d)
 
 halves_len : (d : Document) → fields_len (document_fields d) ≡ fields_len (front_fields d) + fields_len (back_fields d)

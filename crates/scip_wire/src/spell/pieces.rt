@@ -67,8 +67,8 @@ fn begun_with<D: DocumentParts>(
     Shortened::with_room(alloc, prefix, room, places)
 }
 
-/// A document's record, as in the spelling of an index, with its tag and length. The document's occurrences are let go as
-/// soon as they are spelled: before that, of the memory for the record only what they need is touched.
+/// A document's record, as in the spelling of an index, with its tag and length. The document lets go of its
+/// occurrences as soon as they are spelled: until then, only their part of the record's memory is touched.
 pub fn spell_document<D: DocumentParts>(
     alloc: Global,
     document: &mut D,

@@ -3,17 +3,19 @@ use Rattle.std.proofs.Common.{◌≡◌, ◌∙◌, inl, inr, ℕ, Some, List, [
 use Rattle.std.specs.Prelude.{Contains}
 use Rattle.std.specs.List.{slice_get}
 use Rattle.std.proofs.lemmas.List.Elements.{All-nil, All-cons, All-contains, Contains-append_cases}
-use Rattle.std.proofs.lemmas.Option.{same_Some, slice_get-get_or}
+use Rattle.std.proofs.lemmas.Option.{same_Some}
 use Rattle.proto_decl.specs.Names.{dotted}
 use Rattle.proto_decl.specs.Facts.{Facts}
 use Rattle.proto_decl.specs.Ancestors.{names_of, component_names, AreHeld}
 use Rattle.proto_decl.specs.declared.declaration.Declaration.{Declaration}
+use Rattle.proto_decl.proofs.AncestorLemmas.{in_front, behind_it}
 use Rattle.proto_visibility.specs.Files.{File, HasFacts, HaveOrigins}
 use Rattle.proto_visibility.specs.Sees.{Counts}
 use Rattle.proto_visibility.specs.Clashes.{NoClash}
 use Rattle.proto_link.specs.Laws.{OneDeclarationAName}
 use Rattle.proto_visibility.proofs.FactLemmas.{one_list_of_facts}
-use Rattle.proto_visibility.proofs.FirstLemmas.{contained}
+use Rattle.proto_visibility.proofs.FirstLemmas.{contained, contained_at}
+use Rattle.proto_visibility.proofs.ImportTableLemmas.{only}
 use Rattle.scip_symbol.specs.Package.{Package, IsPackage}
 use Rattle.scip_symbol.specs.Entities.{Entity, OfFile, OfPackage, OfDeclaration, IsEntity}
 use Rattle.scip_symbol.specs.OneEntity.{declarations_of, AreWithoutClash, IsAmong}
@@ -22,15 +24,11 @@ pub use Rattle.scip_document.specs.Laws.{SymbolsNameOne}
 pub use Rattle.scip_document.specs.Tables.KnownFacts.{AreIdentifiers, WithoutClash}
 use Rattle.scip_document.specs.Named.{text_of, declaration_at}
 use Rattle.scip_document.proofs.EntityLemmas.{declaration-is}
-use Rattle.scip_document.proofs.EntryLemmas.{alone-in, first-in, behind-in}
 
 -- the facts of a file that counts
 pub record AreCounted (files : List File) (number : ℕ) (facts : Facts) : Type 0 where
   pub counts : Counts files number
   pub known : HasFacts files number facts
-
-pub find : {A : Type 0} (xs : List A) (x : A) → Contains xs x → (i : ℕ) × (slice_get xs i ≡ Some x)
-find xs x there = (there.0, slice_get-get_or xs there.0 x there.1 ∙ ap Some there.2)
 
 module _ (files : List File) (origins : HaveOrigins files) (clear : NoClash files) (one_name : OneDeclarationAName)
     (spelled : AreIdentifiers)
@@ -65,8 +63,8 @@ module _ (files : List File) (origins : HaveOrigins files) (clear : NoClash file
 
     either-counts : (facts : Facts) → Contains (f ∷ (g ∷ [])) facts → (number : ℕ) × AreCounted files number facts
     either-counts facts there = elim (Contains-append_cases (f ∷ []) (g ∷ []) facts there) [
-      | inl one ↦ (m, subst (AreCounted files m) (alone-in f facts one) a)
-      | inr two ↦ (n, subst (AreCounted files n) (alone-in g facts two) b)
+      | inl one ↦ (m, subst (AreCounted files m) (only f facts one) a)
+      | inr two ↦ (n, subst (AreCounted files n) (only g facts two) b)
     ]
 
     apart : AreWithoutClash (f ∷ (g ∷ []))
@@ -78,8 +76,8 @@ module _ (files : List File) (origins : HaveOrigins files) (clear : NoClash file
       one_name = λ facts others d e among also listed its same.
           let x = either-counts facts among in
           let y = either-counts others also in
-          let i = find facts.declarations d listed in
-          let j = find others.declarations e its in
+          let i = contained_at facts.declarations d listed in
+          let j = contained_at others.declarations e its in
           let one = one-declaration x.0 y.0 facts others i.0 j.0 d e x.1 y.1 i.1 j.1 same in
           same-declaration x.0 y.0 facts others i.0 j.0 d e x.1.known y.1.known one.0 one.1 i.1 j.1;
     }
@@ -103,8 +101,8 @@ module _ (files : List File) (origins : HaveOrigins files) (clear : NoClash file
         let entity = one-text id its_id good fine (declaration_at f d) (declaration_at g e)
         (declaration-is f d (spelled.named f (origins m f a.known)) (spelled.paths f (origins m f a.known)) listed)
         (declaration-is g e (spelled.named g (origins n g b.known)) (spelled.paths g (origins n g b.known)) its)
-        (put (f ∷ (g ∷ [])) f d (first-in f (g ∷ [])) listed)
-        (put (f ∷ (g ∷ [])) g e (behind-in f (g ∷ []) g (first-in g [])) its) same in
+        (put (f ∷ (g ∷ [])) f d (in_front f (g ∷ [])) listed)
+        (put (f ∷ (g ∷ [])) g e (behind_it f (g ∷ []) g (in_front g [])) its) same in
         one-declaration m n f g i j d e a b at there
         (All-contains (λ (x : Declaration). x.full_name ≡ dotted (component_names f.package_name ++ names_of x.path))
         f.declarations d (AreHeld.full_names (spelled.held f (origins m f a.known))) listed

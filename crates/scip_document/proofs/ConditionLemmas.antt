@@ -14,6 +14,7 @@ use Rattle.proto_decl.specs.declared.type_use.Component.{Component}
 use Rattle.proto_decl.specs.declared.type_use.Use.{Use}
 use Rattle.scip_symbol.specs.Path.{IsGoodPath}
 use Rattle.proto_visibility.specs.Files.{File, HasFacts, HasPath}
+use Rattle.proto_visibility.proofs.FirstLemmas.{item_at}
 use Rattle.scip_document.specs.Chosen.{Chosen, HasChoice, HaveChoices}
 use Rattle.scip_document.specs.Conditions.{HaveGoodPaths}
 use Rattle.scip_document.specs.Texts.{AreOfText}
@@ -22,7 +23,6 @@ use Rattle.scip_document.specs.OccurrenceOrder.{occurrence_cmp}
 use Rattle.scip_document.specs.Tables.Listing.{has_path}
 use Rattle.scip_document.specs.Tables.Merges.{IsMerged, AreUntied}
 use Rattle.scip_document.proofs.MergeLemmas.{head_or_tail, not_in_none}
-use Rattle.scip_document.proofs.EntryLemmas.{at-index}
 
 pub all_of_map : {X Y : Type 0} (P : Y → Type 0) (f : X → Y) (xs : List X) → All P (map f xs) → All (λ x. P (f x)) xs
 all_of_map P f [] all = All-nil (λ x. P (f x))
@@ -60,7 +60,7 @@ pub choices_there : (files : List File) (chosen : Chosen) (source : ℕ) (facts 
     → HasFacts files source facts → (index : ℕ) → index < length facts.declarations
     → HasChoice chosen source index
 choices_there files chosen source facts have known index within =
-    let declared = at-index facts.declarations index within in
+    let declared = item_at facts.declarations index within in
     have source index facts declared.0 (record { has_facts = known; numbered = declared.1 })
 
 -- paths of files

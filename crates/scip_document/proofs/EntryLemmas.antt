@@ -1,40 +1,23 @@
 -- The lists of entries: what they have.
 use Rattle.std.proofs.Common.{◌≡◌, ◌∙◌, inl, inr, ℕ, zero, suc, ◌+◌, ◌<◌, Bool, true, false, cond, Some, List, [], ◌∷◌}
-use Rattle.std.proofs.Common.{◌++◌, length, take, sym, ap, refl, subst, append_assoc, add-one, arith}
+use Rattle.std.proofs.Common.{◌++◌, take, sym, ap, refl, subst, append_assoc, add-one, arith}
 use Rattle.std.specs.List.{slice_get, Contains}
 use Rattle.std.proofs.lemmas.Bool.{false≢true}
 use Rattle.std.proofs.lemmas.List.{append-nil}
 use Rattle.std.proofs.lemmas.List.FromFn.{length-map-range_with_len, get_or-map-range_with_len}
 use Rattle.std.proofs.lemmas.List.Elements.{Contains-get_or, Contains-append_left, Contains-append_right}
-use Rattle.std.proofs.lemmas.List.Elements.{Contains-append_cases, Contains-push, Contains-push_cases}
+use Rattle.std.proofs.lemmas.List.Elements.{Contains-append_cases, Contains-push}
 use Rattle.std.proofs.lemmas.Option.{same_Some, none-some}
 use Rattle.index_hooks.specs.declared.choice.Choice.{Choice}
 use Rattle.proto_decl.specs.Facts.{Facts}
 use Rattle.proto_decl.specs.declared.declaration.Declaration.{Declaration}
 use Rattle.scip_model.specs.declared.records.SymbolInformation.{SymbolInformation}
 use Rattle.scip_symbol.specs.Package.{Package}
+use Rattle.scip_symbol.proofs.ClashLemmas.{in_nothing}
 use Rattle.scip_document.specs.Chosen.{Chosen, IsChosen}
 use Rattle.scip_document.specs.Entries.{package_entry, declaration_entry}
 use Rattle.scip_document.specs.Tables.EntryLists.{package_entries_up_to, entry_if_kept, kept_entries, choices_for}
-
--- ---- lists
-
-pub nothing-in : {A : Type 0} (x : A) → Contains [] x → ⊥
-nothing-in x there = omega (arith, there.1)
-
-pub alone-in : {A : Type 0} (y x : A) → Contains (y ∷ []) x → y ≡ x
-alone-in y x there = elim (Contains-push_cases [] y x there) [ inl none ↦ absurd (nothing-in x none) | inr same ↦ same ]
-
-pub first-in : {A : Type 0} (x : A) (xs : List A) → Contains (x ∷ xs) x
-first-in x xs = Contains-append_left (x ∷ []) xs x (Contains-push [] x)
-
-pub behind-in : {A : Type 0} (y : A) (xs : List A) (x : A) → Contains xs x → Contains (y ∷ xs) x
-behind-in y xs x there = Contains-append_right (y ∷ []) xs x there
-
-pub at-index : {A : Type 0} (xs : List A) (i : ℕ) → i < length xs → (x : A) × (slice_get xs i ≡ Some x)
-at-index [] i within = absurd (omega (arith, within))
-at-index (x ∷ xs) zero within = (x, refl)
-at-index (x ∷ xs) (suc i) within = at-index xs i (omega (arith, within))
+use Rattle.proto_visibility.proofs.ImportTableLemmas.{only}
 
 -- ---- packages
 
@@ -91,8 +74,8 @@ module _ (id : Package) (facts : Facts) where
 
   -- that of one declaration
   pub in-one : (b : Bool) (y x : SymbolInformation) → Contains (cond b (y ∷ []) []) x → (b ≡ true) × (x ≡ y)
-  in-one true y x there = (refl, sym (alone-in y x there))
-  in-one false y x there = absurd (nothing-in x there)
+  in-one true y x there = (refl, sym (only y x there))
+  in-one false y x there = absurd (in_nothing x there)
 
   one-in : (b : Bool) (y : SymbolInformation) → b ≡ true → Contains (cond b (y ∷ []) []) y
   one-in true y kept = Contains-push [] y
@@ -100,8 +83,8 @@ module _ (id : Package) (facts : Facts) where
 
   pub in-kept : (ds : List Declaration) (cs : List Choice) (x : SymbolInformation)
       → Contains (kept_entries id facts ds cs) x → IsOfKept id facts ds cs x
-  in-kept [] cs x there = absurd (nothing-in x there)
-  in-kept (d ∷ ds) [] x there = absurd (nothing-in x there)
+  in-kept [] cs x there = absurd (in_nothing x there)
+  in-kept (d ∷ ds) [] x there = absurd (in_nothing x there)
   in-kept (d ∷ ds) (c ∷ cs) x there =
       elim (Contains-append_cases (entry_if_kept id facts d c) (kept_entries id facts ds cs) x there) [
         | inl here ↦ (

@@ -11,6 +11,7 @@ use Rattle.std.proofs.lemmas.Option.{same_Some, slice_get_within}
 use Rattle.index_hooks.specs.declared.choice.Choice.{Choice}
 use Rattle.proto_decl.specs.Facts.{Facts}
 use Rattle.proto_decl.specs.declared.declaration.Declaration.{Declaration}
+use Rattle.proto_decl.proofs.AncestorLemmas.{in_front, behind_it}
 use Rattle.proto_visibility.specs.Files.{File, HasFacts, HaveOrigins, IsIncludedAt, IsSource}
 use Rattle.proto_visibility.specs.Sees.{Counts}
 use Rattle.proto_visibility.specs.Sees.Counts.{seen}
@@ -21,7 +22,8 @@ use Rattle.proto_link.specs.Targets.IsNamed.{packaged, declared}
 use Rattle.proto_visibility.specs.declared.entities.Entity.{Entity}
 use Rattle.proto_visibility.specs.declared.entities.Entity.TheVariants as link
 use Rattle.proto_visibility.proofs.FactLemmas.{one_list_of_facts}
-use Rattle.proto_visibility.proofs.FirstLemmas.{contained}
+use Rattle.proto_visibility.proofs.FirstLemmas.{contained, item_at, contained_at}
+use Rattle.proto_visibility.proofs.ImportTableLemmas.{only}
 use Rattle.scip_model.specs.declared.records.SymbolInformation.{SymbolInformation}
 use Rattle.scip_symbol.specs.Package.{Package}
 use Rattle.scip_document.specs.Packages.{Packages, ArePackages, package_of_file}
@@ -31,32 +33,32 @@ use Rattle.scip_document.specs.Entries.{declaration_entry, IsKeptEntry, HasExter
 use Rattle.scip_document.specs.Tables.ExternalLists.{Pair, pair_cmp, Adds, IsEntryAt, IsEntryOf, IsExternal}
 use Rattle.scip_document.specs.Tables.ExternalLists.{NoneIncluded}
 use Rattle.scip_document.specs.Indexes.{info_cmp, AreExternals}
-use Rattle.scip_document.proofs.EntryLemmas.{nothing-in, alone-in, first-in, behind-in, at-index}
+use Rattle.scip_symbol.proofs.ClashLemmas.{in_nothing}
 use Rattle.scip_document.proofs.PackageLemmas.{file_good}
 use Rattle.scip_document.proofs.PairLemmas.{pairs_total}
 use Rattle.scip_document.proofs.SortLemmas.{ascending-list, distinct-cons, not-below}
 use Rattle.scip_document.proofs.SourceEntryLemmas.{infos_total, differ}
-use Rattle.scip_document.proofs.ApartLemmas.{SymbolsNameOne, WithoutClash, AreIdentifiers, find, one-declared}
+use Rattle.scip_document.proofs.ApartLemmas.{SymbolsNameOne, WithoutClash, AreIdentifiers, one-declared}
 
 -- ---- lists that go together
 
 module _ {X Y : Type 0} (R : X → Y → Type 0) where
   zip-from : (xs : List X) (ys : List Y) → AllZip R xs ys → (y : Y) → Contains ys y → (x : X) × Contains xs x × R x y
-  zip-from [] [] all y there = absurd (nothing-in y there)
+  zip-from [] [] all y there = absurd (in_nothing y there)
   zip-from [] (b ∷ ys) all y there = absurd all
   zip-from (a ∷ xs) [] all y there = absurd all
   zip-from (a ∷ xs) (b ∷ ys) all y there = elim (Contains-append_cases (b ∷ []) ys y there) [
-    | inl one ↦ (a, first-in a xs, subst (R a) (alone-in b y one) all.0)
-    | inr more ↦ (let rest = zip-from xs ys all.1 y more in (rest.0, behind-in a xs rest.0 rest.1, rest.2))
+    | inl one ↦ (a, in_front a xs, subst (R a) (only b y one) all.0)
+    | inr more ↦ (let rest = zip-from xs ys all.1 y more in (rest.0, behind_it a xs rest.0 rest.1, rest.2))
   ]
 
   zip-to : (xs : List X) (ys : List Y) → AllZip R xs ys → (x : X) → Contains xs x → (y : Y) × Contains ys y × R x y
-  zip-to [] [] all x there = absurd (nothing-in x there)
+  zip-to [] [] all x there = absurd (in_nothing x there)
   zip-to [] (b ∷ ys) all x there = absurd all
   zip-to (a ∷ xs) [] all x there = absurd all
   zip-to (a ∷ xs) (b ∷ ys) all x there = elim (Contains-append_cases (a ∷ []) xs x there) [
-    | inl one ↦ (b, first-in b ys, subst (λ (z : X). R z b) (alone-in a x one) all.0)
-    | inr more ↦ (let rest = zip-to xs ys all.1 x more in (rest.0, behind-in b ys rest.0 rest.1, rest.2))
+    | inl one ↦ (b, in_front b ys, subst (λ (z : X). R z b) (only a x one) all.0)
+    | inr more ↦ (let rest = zip-to xs ys all.1 x more in (rest.0, behind_it b ys rest.0 rest.1, rest.2))
   ]
 
 -- ---- what is known of a declaration that a use names
@@ -164,7 +166,7 @@ module _ (files : List File) (chosen : Chosen) (ids : Packages) where
       → IsExternal files chosen (length files) (has.number, has.index)
   external-pair entry has =
       let names = has.names in
-      let used = find names.facts.uses names.type_use names.listed in
+      let used = contained_at names.facts.uses names.type_use names.listed in
       record {
         source = has.source;
         within = slice_get_within files has.source has.is_source.file has.is_source.numbered;
@@ -206,7 +208,7 @@ module _ (files : List File) (chosen : Chosen) (ids : Packages) where
       let used = source.of_uses in
       let target = used.is.target in
       let part = used.is.of_parts in
-      let component = at-index used.element.components part.index
+      let component = item_at used.element.components part.index
       (omega (arith, part.within, used.is.is_target.one_each)) in
       record {
         source = is.source;
@@ -237,7 +239,7 @@ module _ (files : List File) (chosen : Chosen) (ids : Packages) where
   pub none-external : NoneIncluded files (length files) → AreExternals files chosen ids []
   unfolding IsStrictlySortedBy
   none-external none = record {
-    exact = λ x. (λ there. absurd (nothing-in x there), λ has. absurd (unlike x has));
+    exact = λ x. (λ there. absurd (in_nothing x there), λ has. absurd (unlike x has));
     ascends = tt;
   }
     where
@@ -263,7 +265,7 @@ none-more files count included before here same = λ number less. elim (cases_lt
 pub all-added : (P : Pair → Type 0) (named once : List Pair) → Adds P [] named
     → ((x : Pair) → Contains once x ↔ Contains named x) → (x : Pair) → Contains once x ↔ P x
 all-added P named once adds same = λ x. (
-  λ there. elim ((adds x).0 ((same x).0 there)) [ inl none ↦ absurd (nothing-in x none) | inr is ↦ is ],
+  λ there. elim ((adds x).0 ((same x).0 there)) [ inl none ↦ absurd (in_nothing x none) | inr is ↦ is ],
   λ is. (same x).1 ((adds x).1 (inr is)),
 )
 
@@ -307,10 +309,10 @@ module _ (files : List File) (origins : HaveOrigins files) (clear : NoClash file
       let less = All-contains (λ (q : Pair). pair_cmp p q ≡ Less) ps other.0
       (All-from_recursion (λ (q : Pair). pair_cmp p q ≡ Less) ps up.0) other.1 in
       differ x y (λ same.
-      let one = symbols-differ p other.0 x y (there p (first-in p ps))
-      (there other.0 (behind-in p ps other.0 other.1)) all.0 other.2 same in
+      let one = symbols-differ p other.0 x y (there p (in_front p ps))
+      (there other.0 (behind_it p ps other.0 other.1)) all.0 other.2 same in
       apart-pairs p other.0 less one.0 one.1))
-      (made-distinct ps xs (λ q listed. there q (behind-in p ps q listed)) up.1 all.1)
+      (made-distinct ps xs (λ q listed. there q (behind_it p ps q listed)) up.1 all.1)
 
   -- the entries of all, in order
   pub external-list : (pairs : List Pair) → ((x : Pair) → Contains pairs x ↔ IsExternal files chosen (length files) x)

@@ -3,6 +3,8 @@ use Rattle.std.proofs.Common.{◌≡◌, ◌∙◌, ap, sym, refl, subst, ℕ, z
 use Rattle.std.proofs.Common.{◌∷◌, ◌++◌, length, take, drop, get_or, slice_range, arith, inl, inr, ◌⊎◌}
 use Rattle.std.proofs.lemmas.List.{length-append, take-append-le, drop-append-le, drop_at, take_all, get_or_append_left}
 use Rattle.std.proofs.lemmas.List.{length-drop}
+use Rattle.std.proofs.lemmas.Option.{slice_get_cases, none-some}
+use Rattle.std.proofs.Math.Nat.{eq-or-lt_of_le}
 use Rattle.std.proofs.lemmas.Str.{IsCharBoundary-at_seam, IsCharBoundary-end}
 use Rattle.std.specs.Str.{IsCharBoundary, IsUtf8}
 use Rattle.std.specs.List.{slice_get}
@@ -53,18 +55,8 @@ begins_there text ends (suc index) are within some =
 -- more behind the text
 boundary_more : (text more : List ℕ) (end : ℕ) → IsUtf8 more → IsCharBoundary text end
     → IsCharBoundary (text ++ more) end
-boundary_more text more end spelled is = by_place (eq_or_lt end (length text) is.0)
+boundary_more text more end spelled is = by_place (eq-or-lt_of_le {n = end} {m = length text} is.0)
   where
-    eq_or_lt : (a b : ℕ) → a ≤ b → (a ≡ b) ⊎ (a < b)
-    eq_or_lt zero zero h = inl refl
-    eq_or_lt zero (suc b) h = inr (omega arith)
-    eq_or_lt (suc a) zero h = absurd (omega (arith, h))
-    eq_or_lt (suc a) (suc b) h = more_or (eq_or_lt a b (omega (arith, h)))
-      where
-        more_or : (a ≡ b) ⊎ (a < b) → (suc a ≡ suc b) ⊎ (suc a < suc b)
-        more_or (inl e) = inl (ap suc e)
-        more_or (inr l) = inr (omega (arith, l))
-
     by_place : (end ≡ length text) ⊎ (end < length text) → IsCharBoundary (text ++ more) end
     by_place (inl e) = subst (λ (n : ℕ). IsCharBoundary (text ++ more) n) (sym e)
         (IsCharBoundary-at_seam (text ++ more) text more refl spelled)
@@ -111,6 +103,7 @@ ends_more text more start (end ∷ ends) spelled are = (
 
 -- a list that has nothing there ends before
 pub none_past : {X : Type 0} (xs : List X) (number : ℕ) → slice_get xs number ≡ None → length xs ≤ number
-none_past [] number e = omega arith
-none_past (x ∷ xs) zero e = absurd (cc)
-none_past (x ∷ xs) (suc number) e = omega (arith, none_past xs number e)
+none_past xs number none = elim (slice_get_cases xs number).1 [
+  | inl there ↦ absurd (none-some there.0 (sym none ∙ there.2))
+  | inr past ↦ past.0
+]

@@ -1,7 +1,8 @@
 -- What the parts of a target name has symbols.
-use Rattle.std.proofs.Common.{◌≡◌, ◌∙◌, sym, ap, refl, subst, ◌≢◌, ℕ, zero, suc, ◌<◌, ◌==◌, ◌&&◌, Bool}
-use Rattle.std.proofs.Common.{true, false, cond, List, [], ◌∷◌, ◌++◌, length, take, arith, length-append}
+use Rattle.std.proofs.Common.{◌≡◌, ◌∙◌, sym, ap, refl, subst, ◌≢◌, ℕ, zero, suc, ◌<◌, ◌==◌, Bool}
+use Rattle.std.proofs.Common.{true, false, List, [], ◌∷◌, ◌++◌, length, take, arith, length-append}
 use Rattle.std.specs.List.{All, Contains, list_all}
+use Rattle.std.proofs.lemmas.Bool.{and_parts}
 use Rattle.std.proofs.lemmas.Bool.Decides.{nat_tests}
 use Rattle.std.proofs.lemmas.List.Elements.{All-nil, All-cons, All-head, All-tail, All-append, All-take, All-contains}
 use Rattle.std.proofs.lemmas.List.Splits.{slice_split_none, slice_split_at, length-slice_split}
@@ -20,6 +21,7 @@ use Rattle.proto_decl.specs.declared.kind.DeclarationKind.TheVariants.{Method}
 use Rattle.proto_decl.specs.declared.declaration.DeclarationStep.{DeclarationStep}
 use Rattle.proto_decl.specs.declared.declaration.Declaration.{Declaration}
 use Rattle.proto_decl.specs.declared.type_use.Use.{Use}
+use Rattle.proto_decl.proofs.BoolLemmas.{never}
 use Rattle.scip_symbol.specs.Entities.{IsIdentifier}
 use Rattle.proto_visibility.specs.Files.{File, HaveOrigins}
 use Rattle.proto_visibility.specs.Knows.{NameKind, Knows, KnowsAs, is_type}
@@ -34,9 +36,6 @@ use Rattle.proto_visibility.specs.declared.entities.Entity.{Entity}
 use Rattle.scip_document.specs.Tables.Listing.{IsNameable, AreNameable}
 use Rattle.scip_document.proofs.ApartLemmas.{AreIdentifiers}
 
-never : {A : Type 0} → false ≡ true → A
-never e = absurd (subst (λ b. cond b ⊥ (Unit {0})) e tt)
-
 -- identifiers have no dots
 
 abbrev is_dot : ℕ → Bool
@@ -44,10 +43,6 @@ is_dot byte = byte == 46
 
 abbrev NoDots : List ℕ → Type 0
 NoDots name = All (λ byte. is_dot byte ≡ false) name
-
-both : (a b : Bool) → (a && b) ≡ true → (a ≡ true) × (b ≡ true)
-both true b e = (refl, e)
-both false b e = never e
 
 letter_no_dot : (b : ℕ) → is_letter b ≡ true → is_dot b ≡ false
 letter_no_dot b e = grind (arith, nat_tests)
@@ -57,7 +52,7 @@ word_no_dot b e = grind (arith, nat_tests)
 
 words_no_dots : (others : List ℕ) → list_all is_word others ≡ true → NoDots others
 words_no_dots [] e = All-nil (λ (byte : ℕ). is_dot byte ≡ false)
-words_no_dots (b ∷ others) e = let p = both (is_word b) (list_all is_word others) e in
+words_no_dots (b ∷ others) e = let p = and_parts (is_word b) (list_all is_word others) e in
     All-cons (λ (byte : ℕ). is_dot byte ≡ false) b others (word_no_dot b p.0) (words_no_dots others p.1)
 
 is_identifier : TokenKind → Bool

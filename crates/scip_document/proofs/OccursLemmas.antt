@@ -21,7 +21,8 @@ use Rattle.proto_link.specs.Targets.{IsTarget}
 use Rattle.proto_link.specs.declared.target.Target.{Target}
 use Rattle.proto_visibility.specs.declared.entities.Entity.{Entity}
 use Rattle.proto_visibility.specs.declared.entities.Entity.TheVariants as link
-use Rattle.proto_visibility.proofs.FirstLemmas.{contained}
+use Rattle.proto_visibility.proofs.FirstLemmas.{contained, contained_at}
+use Rattle.proto_visibility.proofs.ImportTableLemmas.{only}
 use Rattle.scip_document.specs.Packages.{Packages, package_of_path, package_of_file, package_of_part}
 use Rattle.scip_document.specs.Chosen.{Chosen, IsKept}
 use Rattle.scip_document.specs.Gaps.{IsFound}
@@ -35,8 +36,6 @@ use Rattle.scip_document.proofs.MergeLemmas.{at_head, not_in_none}
 use Rattle.scip_document.proofs.ListingLemmas.{given_by, gives_it}
 use Rattle.scip_document.proofs.ConditionLemmas.{path_from, path_to}
 use Rattle.scip_document.proofs.NamedLemmas.{same_facts, declared_is}
-use Rattle.scip_document.proofs.EntryLemmas.{alone-in}
-use Rattle.scip_document.proofs.ApartLemmas.{find}
 
 -- what a list gives, from its start
 record IsGivenAt {A B : Type 0} (gives : ℕ → A → List B) (xs : List A) (o : B) : Type 0 where
@@ -164,7 +163,7 @@ module _ (files : List File) (chosen : Chosen) (ids : Packages) (encoding : Enco
       (one_target : (type_use : Use) (a b : Target) → IsTarget files source type_use a
       → IsTarget files source type_use b → a ≡ b) where
     own_occurs : (o : Occurrence) → Contains (own_occurrence id file.path ∷ []) o → Wanted o
-    own_occurs o h = subst Wanted (alone-in (own_occurrence id file.path) o h) (of_file at)
+    own_occurs o h = subst Wanted (only (own_occurrence id file.path) o h) (of_file at)
 
     imports_occur : (o : Occurrence) → Contains (each_from (at_import ids encoding text files) 0 facts.imports) o
         → Wanted o
@@ -173,7 +172,7 @@ module _ (files : List File) (chosen : Chosen) (ids : Packages) (encoding : Enco
         let there = if_so (has_path files g.item.path)
         (occurrence_over encoding text (package_of_path ids g.item.path) g.item.span (OfFile g.item.path)
         import_role ∷ []) o g.given in
-        subst Wanted (alone-in _ o there.1)
+        subst Wanted (only _ o there.1)
         (of_import {imported = g.item} known (contained facts.imports g.at g.item g.item_is)
         (path_from files g.item.path there.0))
 
@@ -181,7 +180,7 @@ module _ (files : List File) (chosen : Chosen) (ids : Packages) (encoding : Enco
         → Contains (each_from (at_package ids.run encoding text facts) 0 facts.package_name) o → Wanted o
     packages_occur o h =
         let g = given_at (at_package ids.run encoding text facts) facts.package_name o h in
-        subst Wanted (alone-in _ o g.given) (of_package g.at {component = g.item} known g.item_is)
+        subst Wanted (only _ o g.given) (of_package g.at {component = g.item} known g.item_is)
 
     declared_occur : (o : Occurrence)
         → Contains (each_from (at_declaration id encoding text chosen source facts) 0 facts.declarations) o → Wanted o
@@ -190,7 +189,7 @@ module _ (files : List File) (chosen : Chosen) (ids : Packages) (encoding : Enco
         let kept = if_so (keeps chosen source g.at)
         (occurrence_over encoding text id g.item.name (declaration_at facts g.item) definition_role ∷ []) o g.given
         in
-        subst Wanted (alone-in _ o kept.1)
+        subst Wanted (only _ o kept.1)
         (of_declaration g.at {declared = g.item} (record { has_facts = known; numbered = g.item_is })
         (kept_from chosen source g.at kept.0))
 
@@ -202,7 +201,7 @@ module _ (files : List File) (chosen : Chosen) (ids : Packages) (encoding : Enco
         → Contains (at_entity (package_of_part files ids part) encoding text component.span e) o → Wanted o
     entity_occurs o type_use target index component part listed is c p shown None e h = absurd (not_in_none o h)
     entity_occurs o type_use target index component part listed is c p shown (Some entity) e h =
-        subst Wanted (alone-in _ o h) (of_component {component = component} {part = part} {entity = entity}
+        subst Wanted (only _ o h) (of_component {component = component} {part = part} {entity = entity}
         (record {
           facts = facts;
           type_use = type_use;
@@ -276,7 +275,7 @@ module _ (files : List File) (chosen : Chosen) (ids : Packages) (encoding : Enco
         let o = occurrence_over encoding text (package_of_part files ids part) component.span entity no_role in
         let used = subst (λ (f : Facts). Contains f.uses names.type_use)
         (same_facts files source names.facts facts names.has_facts known) names.listed in
-        let k = find facts.uses names.type_use used in
+        let k = contained_at facts.uses names.type_use used in
         let t = zip_at (IsFound files source) facts.uses found are_found k.0 names.type_use k.1 in
         let there = ap found_at t.1 ∙ is_found names.type_use names.target names.is_target t.0 t.2 in
         let entity_there : Contains
@@ -299,7 +298,7 @@ module _ (files : List File) (chosen : Chosen) (ids : Packages) (encoding : Enco
         inl (inl (inl (inl (at_head (own_occurrence id other.path) (own_occurrence id file.path) []
         (ap (λ (f : File). own_occurrence id f.path) same)))))
     occurs_listed _ (of_import {facts = other} {imported = imported} has listed there) =
-        let k = find facts.imports imported
+        let k = contained_at facts.imports imported
         (subst (λ (f : Facts). Contains f.imports imported) (same_facts files source other facts has known) listed)
         in
         inl (inl (inl (inr (gives_at (at_import ids encoding text files) facts.imports _ k.0 imported k.1

@@ -25,7 +25,7 @@ use Rattle.std.proofs.lemmas.Map.Lookups.{exact_bytes}
 use Rattle.std.proofs.lemmas.Cmp.{eq_by_cmp_equiv}
 use Rattle.std.proofs.lemmas.Option.{slice_get-map, slice_get_within, slice_get-get_or, get_or_from_slice_get}
 use Rattle.std.proofs.lemmas.Option.{same_Some}
-use Rattle.proto_visibility.proofs.FirstLemmas.{contained, position-none}
+use Rattle.proto_visibility.proofs.FirstLemmas.{contained, position-none, item_at}
 use Rattle.scip_model.specs.declared.records.Document.{Document}
 use Rattle.scip_document.specs.Indexes.{document_cmp}
 use Rattle.scip_document.specs.Pieces.{IsRising, paths_of, AreMerged, IsStranger, IsTwice, AreFine, IsFirstMissing}
@@ -33,7 +33,6 @@ use Rattle.scip_document.specs.Pieces.{MayRefuseMerge, texts}
 use Rattle.scip_document.specs.Tables.TakenPaths.{IsMarked, IsNotMarked, AreMarked}
 use Rattle.scip_document.specs.declared.merge_fault.MergeFault.{MergeFault}
 use Rattle.scip_document.specs.declared.merge_fault.MergeFault.TheVariants.{Stranger, Twice, Missing, Memory}
-use Rattle.scip_document.proofs.EntryLemmas.{at-index}
 use Rattle.scip_document.proofs.SortLemmas.{rises, one-ascending, keys-ascend}
 
 -- ---- a path among rising ones
@@ -73,7 +72,7 @@ text-in : (paths : List (Bor (List ℕ))) (path : List ℕ) → Contains (texts 
     → (k : ℕ) × (x : Bor (List ℕ)) × (slice_get paths k ≡ Some x) × (x.now ≡ path)
 text-in paths path there =
     let within : there.0 < length paths = omega (arith, there.1, length-map paths (λ (p : Bor (List ℕ)). p.now)) in
-    let x = at-index paths there.0 within in
+    let x = item_at paths there.0 within in
     let one : get_or (texts paths) there.0 path ≡ x.0.now =
     get_or_from_slice_get (texts paths) there.0 x.0.now path (text-at paths there.0 x.0 x.1) in
     (there.0, x.0, x.1, sym one ∙ there.2)
@@ -83,7 +82,7 @@ pub found-path : (paths : List (Bor (List ℕ))) (path : List ℕ) (r : Result �
     → IsBinarySearchResult (λ (y : Bor (List ℕ)). slice_cmp nat_cmp y.now path) paths r
     → MatchOption (result_ok r) (Contains (texts paths) path → ⊥) (λ number. slice_get (texts paths) number ≡ Some path)
 found-path paths path (Ok i) rising within found =
-    let x = at-index paths i within in
+    let x = item_at paths i within in
     let same : (get_or paths i x.0) ≡ x.0 = get_or_from_slice_get paths i x.0 x.0 x.1 in
     let equal : x.0.now ≡ path =
     exact_bytes x.0.now path (subst (λ (y : Bor (List ℕ)). slice_cmp nat_cmp y.now path ≡ Equal) same (found x.0))
@@ -251,7 +250,7 @@ module _ (paths : List (List ℕ)) (rising : IsRising paths) (pieces : List Docu
         → AreFine paths pieces (length pieces) × IsFirstMissing paths pieces number
     first-missing number found =
         let clear = position-Some (λ mark. not mark) marks number false found in
-        let path = at-index paths number (omega (arith, clear.0, are.size)) in (
+        let path = item_at paths number (omega (arith, clear.0, are.size)) in (
           fine (length pieces) marks are,
           record {
             missing = record {

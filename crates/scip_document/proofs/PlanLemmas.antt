@@ -21,6 +21,7 @@ use Rattle.proto_lex.specs.declared.position.Encoding.{Encoding}
 use Rattle.proto_decl.specs.Facts.{Facts}
 use Rattle.proto_decl.specs.declared.declaration.Declaration.{Declaration}
 use Rattle.proto_visibility.specs.Files.{File, HasFacts}
+use Rattle.proto_visibility.proofs.FirstLemmas.{item_at}
 use Rattle.scip_model.specs.declared.records.Occurrence.{Occurrence}
 use Rattle.scip_symbol.specs.Entities.{OfFile}
 use Rattle.scip_symbol.specs.Entities as symbols
@@ -36,17 +37,7 @@ use Rattle.scip_document.specs.Tables.OwnTexts.{declaration_texts, occurrence_wi
 use Rattle.scip_document.specs.Tables.Plans.{text_at, Grown, IsNumberOf, IsNumberIn, HasOwnTexts, AreAdded}
 use Rattle.scip_document.specs.Tables.Plans.{occurrence_of, package_texts_up_to, own_texts, declaration_number}
 use Rattle.scip_document.specs.declared.planned.PlannedOccurrence.{PlannedOccurrence}
-use Rattle.scip_document.proofs.EntryLemmas.{at-index}
 use Rattle.scip_document.proofs.NamedLemmas.{same_facts, declared_is}
-
-pub none_is_some : {Y : Type 0} {y : Y} → None ≡ Some y → ⊥
-none_is_some h = cc
-
-pub same_some : {Y : Type 0} {x y : Y} → Some x ≡ Some y → x ≡ y
-same_some h = cc
-
-pub false_is_true : false ≡ true → ⊥
-false_is_true h = false≢true h
 
 -- ---- texts that grow
 
@@ -233,7 +224,7 @@ module _ {K : Type 0} (text_in : K → List ℕ) where
       → position (λ (key : K). bytes_eq text (text_in key)) keys ≡ Some index
       → slice_get (map text_in keys) index ≡ Some text
   key_found keys index text within found =
-      let key = at-index keys index within in
+      let key = item_at keys index within in
       let at = position-Some (λ (key : K). bytes_eq text (text_in key)) keys index key.0 found in
       key_stored keys index key.0 text key.1
       (subst (λ (k : K). bytes_eq text (text_in k) ≡ true) (get_or_from_slice_get keys index key.0 key.0 key.1) at.1)

@@ -14,8 +14,9 @@ use Rattle.std.proofs.lemmas.List.Elements.{Contains-push}
 use Rattle.std.proofs.lemmas.List.Sorted.{Contains-permutation, IsPermutation-sym}
 use Rattle.std.proofs.lemmas.Map.Keys.{IsDistinct-head, IsDistinct-tail, IsDistinct-cons, IsDistinct-IsPermutation}
 use Rattle.std.proofs.lemmas.Map.Keys.{apart_from_distinct, sorted_from_all_adjacent}
+use Rattle.scip_symbol.proofs.ClashLemmas.{in_nothing}
 use Rattle.scip_document.specs.Indexes.{IsAscendingListOf}
-use Rattle.scip_document.proofs.EntryLemmas.{alone-in, nothing-in}
+use Rattle.proto_visibility.proofs.ImportTableLemmas.{only}
 
 -- of two orders, each the other turned, the first is Less where the second isn't and they aren't Equal
 below : (there back : Ordering) → there ≡ ordering_reverse back → is_lt back ≡ false → is_eq there ≡ false
@@ -68,7 +69,7 @@ module _ {X : Type 0} {cmp : X → X → Ordering} (total : IsTotalOrder cmp) wh
   tail-in x y xs ys same up z there also = elim (Contains-append_cases (y ∷ []) ys z also) [
     | inr behind ↦ behind
     | inl first ↦ (
-        let one : x ≡ z = same ∙ alone-in y z first in
+        let one : x ≡ z = same ∙ only y z first in
         absurd (not-below x (subst (λ w. cmp x w ≡ Less) (sym one)
         (All-contains (λ w. cmp x w ≡ Less) xs z (All-from_recursion (λ w. cmp x w ≡ Less) xs up) there))))
   ]
@@ -79,9 +80,9 @@ module _ {X : Type 0} {cmp : X → X → Ordering} (total : IsTotalOrder cmp) wh
   unfolding IsStrictlySortedBy
   one-ascending [] [] up also into back = refl
   one-ascending [] (y ∷ ys) up also into back =
-      absurd (nothing-in y (back y (Contains-append_left (y ∷ []) ys y (Contains-push [] y))))
+      absurd (in_nothing y (back y (Contains-append_left (y ∷ []) ys y (Contains-push [] y))))
   one-ascending (x ∷ xs) [] up also into back =
-      absurd (nothing-in x (into x (Contains-append_left (x ∷ []) xs x (Contains-push [] x))))
+      absurd (in_nothing x (into x (Contains-append_left (x ∷ []) xs x (Contains-push [] x))))
   one-ascending (x ∷ xs) (y ∷ ys) up also into back =
       let same : x ≡ y = heads
       (Contains-append_cases (y ∷ []) ys x (into x (Contains-append_left (x ∷ []) xs x (Contains-push [] x))))
@@ -92,8 +93,8 @@ module _ {X : Type 0} {cmp : X → X → Ordering} (total : IsTotalOrder cmp) wh
       cc
     where
       heads : (Contains (y ∷ []) x ⊎ Contains ys x) → (Contains (x ∷ []) y ⊎ Contains xs y) → x ≡ y
-      heads (inl first) other = sym (alone-in y x first)
-      heads (inr behind) (inl first) = alone-in x y first
+      heads (inl first) other = sym (only y x first)
+      heads (inr behind) (inl first) = only x y first
       heads (inr behind) (inr later) =
           absurd (not-both x y (All-contains (λ w. cmp x w ≡ Less) xs y
           (All-from_recursion (λ w. cmp x w ≡ Less) xs up.0) later)

@@ -21,6 +21,7 @@ use Rattle.index_hooks.specs.declared.choice.Choice.{Choice}
 use Rattle.proto_decl.specs.Facts.{Facts}
 use Rattle.proto_decl.specs.declared.declaration.Declaration.{Declaration}
 use Rattle.proto_decl.specs.declared.type_use.Component.{Component}
+use Rattle.proto_decl.proofs.AncestorLemmas.{in_front, behind_it}
 use Rattle.proto_visibility.specs.Files.{File, HaveOrigins}
 use Rattle.proto_visibility.specs.Clashes.{NoClash}
 use Rattle.proto_link.specs.Laws.{OneDeclarationAName}
@@ -31,7 +32,8 @@ use Rattle.scip_symbol.specs.Package.{Package, IsPackage}
 use Rattle.scip_symbol.specs.Entities.{Entity, OfFile, OfPackage, OfDeclaration, IsEntity}
 use Rattle.scip_symbol.specs.OneEntity.{IsAmong, declarations_of}
 use Rattle.scip_symbol.proofs.ClashLemmas.{put}
-use Rattle.proto_visibility.proofs.FirstLemmas.{contained}
+use Rattle.proto_visibility.proofs.FirstLemmas.{contained, item_at}
+use Rattle.proto_visibility.proofs.ImportTableLemmas.{only}
 use Rattle.scip_document.specs.Packages.{Packages, package_of_file}
 use Rattle.scip_document.specs.Chosen.{Chosen}
 use Rattle.scip_document.specs.Named.{text_of, package_at, declaration_at}
@@ -41,7 +43,7 @@ use Rattle.scip_document.specs.Tables.EntryLists.{package_entries_up_to, package
 use Rattle.scip_document.specs.Tables.EntryLists.{choices_for, source_entries}
 use Rattle.scip_document.specs.Indexes.{info_cmp, IsAscendingListOf}
 use Rattle.scip_document.proofs.EntityLemmas.{package-is, declaration-is}
-use Rattle.scip_document.proofs.EntryLemmas.{alone-in, first-in, behind-in, at-index, in-packages, package-in, in-one}
+use Rattle.scip_document.proofs.EntryLemmas.{in-packages, package-in, in-one}
 use Rattle.scip_document.proofs.EntryLemmas.{in-kept, kept-in, chosen-for, is-chosen}
 use Rattle.scip_document.proofs.SortLemmas.{ascending-list, distinct-cons, distinct-append}
 use Rattle.scip_document.proofs.ApartLemmas.{SymbolsNameOne, WithoutClash, AreIdentifiers, AreCounted, one-text}
@@ -112,7 +114,7 @@ module _ (files : List File) (origins : HaveOrigins files) (clear : NoClash file
 
   among : (d : Declaration) → Contains facts.declarations d
       → IsAmong (declarations_of (facts ∷ (facts ∷ []))) (declaration_at facts d)
-  among d listed = put (facts ∷ (facts ∷ [])) facts d (first-in facts (facts ∷ [])) listed
+  among d listed = put (facts ∷ (facts ∷ [])) facts d (in_front facts (facts ∷ [])) listed
 
   file-package : (index : ℕ) → index < length facts.package_name
       → text_of id (OfFile file.path) ≢ text_of run (package_at facts (index + 1))
@@ -223,12 +225,12 @@ module _ (files : List File) (chosen : Chosen) (ids : Packages) (source : ℕ) (
   listed-is : (x : SymbolInformation) → Contains entries x → HasEntry files chosen ids source x
   listed-is x there = elim
       (Contains-append_cases (file_entry id file.path ∷ []) (package_entries ids.run facts ++ kept-list) x there) [
-        | inl file_is ↦ subst (HasEntry files chosen ids source) (alone-in (file_entry id file.path) x file_is)
+        | inl file_is ↦ subst (HasEntry files chosen ids source) (only (file_entry id file.path) x file_is)
             (of_file {file = file} numbered)
         | inr others ↦ elim (Contains-append_cases (package_entries ids.run facts) kept-list x others) [
           | inl package_of ↦ (
               let of = in-packages ids.run facts (length facts.package_name) x package_of in
-              let component = at-index facts.package_name of.0 of.1 in
+              let component = item_at facts.package_name of.0 of.1 in
               subst (HasEntry files chosen ids source) (sym of.2)
               (of_package {facts = facts} of.0 {component = component.0} counted.known component.1))
           | inr kept ↦ (
@@ -248,14 +250,14 @@ module _ (files : List File) (chosen : Chosen) (ids : Packages) (source : ℕ) (
   is-listed : {x : SymbolInformation} → HasEntry files chosen ids source x → Contains entries x
   is-listed (of_file {file = other} at) =
       subst (λ (f : File). Contains entries (file_entry id f.path)) (same_Some file other (sym numbered ∙ at))
-      (first-in (file_entry id file.path) (package_entries ids.run facts ++ kept-list))
+      (in_front (file_entry id file.path) (package_entries ids.run facts ++ kept-list))
   is-listed (of_package {facts = others} index known at) =
       let same : facts ≡ others = one_list_of_facts files source facts others counted.known known in
       let within : index < length facts.package_name =
       subst (λ (f : Facts). index < length f.package_name) (sym same)
       (slice_get_within others.package_name index _ at) in
       subst (λ (f : Facts). Contains entries (package_entry ids.run f (index + 1))) same
-      (behind-in (file_entry id file.path) (package_entries ids.run facts ++ kept-list)
+      (behind_it (file_entry id file.path) (package_entries ids.run facts ++ kept-list)
       (package_entry ids.run facts (index + 1))
       (Contains-append_left (package_entries ids.run facts) kept-list (package_entry ids.run facts (index + 1))
       (package-in ids.run facts (length facts.package_name) index within)))
@@ -267,7 +269,7 @@ module _ (files : List File) (chosen : Chosen) (ids : Packages) (source : ℕ) (
       let is : x ≡ declaration_entry id facts kept.declaration kept.choice =
       kept.is ∙ ap (λ (f : Facts). declaration_entry id f kept.declaration kept.choice) same in
       subst (Contains entries) (sym is)
-      (behind-in (file_entry id file.path) (package_entries ids.run facts ++ kept-list)
+      (behind_it (file_entry id file.path) (package_entries ids.run facts ++ kept-list)
       (declaration_entry id facts kept.declaration kept.choice)
       (Contains-append_right (package_entries ids.run facts) kept-list
       (declaration_entry id facts kept.declaration kept.choice)

@@ -17,7 +17,8 @@ fn compare_with_whole(front: &str, rest: &str, whole: &str) -> Ordering
     }
 }
 
-/// A text in two parts, compared with another in two parts that doesn't begin with the first part of this one.
+/// A text in two parts, compared with another in two parts. The first part of the other doesn't begin with that of
+/// this one.
 fn compare_with_other(front: &str, rest: &str, other_front: &str, other_rest: &str) -> Ordering
     requires { (after : List ℕ) → other_front.now ≢ front.now ++ after }
     ensures { result ≡ slice_cmp nat_cmp (front.now ++ rest.now) (other_front.now ++ other_rest.now) }

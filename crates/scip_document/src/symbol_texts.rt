@@ -69,8 +69,7 @@ fn front_text(alloc: Global, id: &PackageId, facts: &FileFacts) -> Result<OwnedT
     Ok(OwnedText::from_string(printed))
 }
 
-/// Adds what the text of a declaration's symbol has behind the front, which is the text of its package: each begins
-/// with that.
+/// Adds what the text of a declaration's symbol has behind the front, the text of its package.
 fn push_rest(
     alloc: Global,
     rests: &mut JoinedTexts,

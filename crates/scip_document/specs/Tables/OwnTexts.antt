@@ -1,5 +1,5 @@
 -- The texts of the symbols of a file's own declarations, and what has them.
-use Rattle.std.specs.Prelude.{ℕ, ℤ, List, [], ◌∷◌, if◌then◌else◌, map}
+use Rattle.std.specs.Prelude.{ℕ, ℤ, List, map}
 use Rattle.proto_lex.specs.declared.span.Span.{Span}
 use Rattle.proto_lex.specs.declared.position.Encoding.{Encoding}
 use Rattle.scip_model.specs.declared.records.Occurrence.{Occurrence}
@@ -9,11 +9,9 @@ use Rattle.proto_decl.specs.Declares.{simple_name}
 use Rattle.proto_decl.specs.Facts.{Facts}
 use Rattle.proto_decl.specs.declared.declaration.Declaration.{Declaration}
 use Rattle.scip_symbol.specs.Package.{Package}
-use Rattle.scip_document.specs.Chosen.{Chosen}
 use Rattle.scip_document.specs.Documentation.{documentation_of}
 use Rattle.scip_document.specs.Named.{text_of, declaration_at}
-use Rattle.scip_document.specs.Occurs.{range_over, definition_role}
-use Rattle.scip_document.specs.Tables.Listing.{keeps}
+use Rattle.scip_document.specs.Occurs.{range_over}
 
 -- of each declaration, in order
 abbrev pub declaration_texts : Package → Facts → List (List ℕ)
@@ -23,12 +21,6 @@ declaration_texts id facts = map (λ declaration. text_of id (declaration_at fac
 abbrev pub occurrence_with : Encoding → (text : List ℕ) → Span → (symbol : List ℕ) → ℤ → Occurrence
 occurrence_with encoding text span symbol roles =
     record { range = range_over encoding text span; symbol = symbol; symbol_roles = roles }
-
--- the occurrence of a declaration whose symbol has this text, where it is kept
-abbrev pub occurrences_with : Encoding → (text : List ℕ) → Chosen → (file : ℕ) → (symbol : List ℕ) → (index : ℕ)
-    → Declaration → List Occurrence
-occurrences_with encoding text chosen file symbol index declared =
-    if keeps chosen file index then occurrence_with encoding text declared.name symbol definition_role ∷ [] else []
 
 -- the entry of a declaration whose symbol has this text
 abbrev pub entry_with : (symbol : List ℕ) → Declaration → Choice → SymbolInformation

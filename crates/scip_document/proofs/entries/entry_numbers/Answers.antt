@@ -8,17 +8,17 @@ use Rattle.scip_document.specs.Tables.EntryLists.{source_entries, choices_for}
 use Rattle.scip_document.specs.Tables.EntryNumbers.{package_names}
 use Rattle.scip_document.specs.Tables.Plans.{text_at, entry_of}
 use Rattle.scip_document.proofs.ApartLemmas.{AreCounted}
-use Rattle.scip_document.proofs.EntryLemmas.{at-index}
 use Rattle.scip_document.proofs.EntryNumberLemmas.{texts_rank, sorted_entries, all_are, are_numbered}
 use Rattle.scip_document.proofs.LinkedLemmas.{source-counts}
 use Rattle.scip_document.proofs.PackageLemmas.{file_good}
 use Rattle.scip_document.proofs.SourceEntryLemmas.{distinct, source-list}
 use Rattle.scip_document.proofs.entries.entry_numbers.Goals as goal
+use Rattle.proto_visibility.proofs.FirstLemmas.{item_at}
 
 pub push_declarations-requires : goal.push_declarations-requires
 push_declarations-requires c = λ index within.
     let facts = c.args.facts.now in
-    let declared = at-index facts.declarations index within in
+    let declared = item_at facts.declarations index within in
     c.requires.choices c.args.maker.now.source index facts declared.0
     (record { has_facts = c.requires.known; numbered = declared.1 })
 

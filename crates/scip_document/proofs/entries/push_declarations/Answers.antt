@@ -8,9 +8,10 @@ use Rattle.index_hooks.specs.declared.choice.Choice.{Choice}
 use Rattle.proto_decl.specs.declared.declaration.Declaration.{Declaration}
 use Rattle.scip_document.specs.Entries.{declaration_entry}
 use Rattle.scip_document.specs.Tables.EntryLists.{kept_entries, entry_if_kept, choices_for}
-use Rattle.scip_document.proofs.EntryLemmas.{at-index, kept-more}
+use Rattle.scip_document.proofs.EntryLemmas.{kept-more}
 use Rattle.scip_document.proofs.EntryNumberLemmas.{kept_one}
 use Rattle.scip_document.proofs.entries.push_declarations.Goals as goal
+use Rattle.proto_visibility.proofs.FirstLemmas.{item_at}
 
 pub loop-index-preserved : goal.loop-index-preserved
 loop-index-preserved c = λ id entry numbered.
@@ -22,7 +23,7 @@ loop-index-preserved c = λ id entry numbered.
     let old = map entry c.args.numbers.now.items in
     let within = subst (λ (ds : List Declaration). index < length ds) c.declarations-index-end.ensures
     c.loop-index-test.true in
-    let declared = at-index facts.declarations index within in
+    let declared = item_at facts.declarations index within in
     let chosen : slice_get choices index ≡ Some choice =
     ap (λ (l : List Choice). slice_get l index)
     (get_or_from_slice_get c.args.maker.now.choices.now c.args.maker.now.source c.of-choice.ensures.of_file []

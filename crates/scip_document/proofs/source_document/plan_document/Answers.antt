@@ -1,7 +1,7 @@
-use Rattle.std.proofs.Common.{◌≡◌, ◌∙◌, ap, sym, refl, subst, List, ℕ, Some, map}
+use Rattle.std.proofs.Common.{◌∙◌, ap, sym, refl, subst, List, ℕ, map}
 use Rattle.scip_document.proofs.LinkedLemmas.{source-facts}
 use Rattle.scip_document.proofs.NamedLemmas.{some_facts, given_facts}
-use Rattle.std.proofs.lemmas.Option.{slice_get_within}
+use Rattle.std.proofs.lemmas.Option.{slice_get_within, same_Some}
 use Rattle.scip_symbol.specs.Package.{Package}
 use Rattle.scip_document.specs.Packages.{package_of_file}
 use Rattle.scip_document.specs.Tables.Plans.{own_texts, Grown}
@@ -14,9 +14,6 @@ use Rattle.scip_document.specs.Indexes.{IsAscendingListOf, info_cmp}
 use Rattle.scip_document.specs.Tables.EntryNumbers.{package_names}
 use Rattle.scip_document.specs.Tables.Plans.{entry_of}
 use Rattle.scip_document.proofs.source_document.plan_document.Goals as goal
-
-same_some : {Y : Type 0} {x y : Y} → Some x ≡ Some y → x ≡ y
-same_some h = cc
 
 pub unwrap-facts-requires : goal.unwrap-facts-requires
 unwrap-facts-requires c =
@@ -62,7 +59,7 @@ returns-clause-document c =
     let facts = c.unwrap-facts.result.now in
     let path = c.path_of-path.ensures in
     let texts = c.occurrences.new.texts in
-    let same_file = same_some (sym path.1 ∙ c.requires.source.numbered) in
+    let same_file = same_Some _ _ (sym path.1 ∙ c.requires.source.numbered) in
     let symbols = ap (λ (names : List (List ℕ)).
     map (entry_of texts c.path_of-path.result.now names facts c.of_file.result.now) c.in_ok-entries.entries.items)
     (c.in_ok-packages.ensures ∙ ap package_names c.package_name.ensures)

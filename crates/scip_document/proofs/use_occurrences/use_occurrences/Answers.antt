@@ -5,12 +5,13 @@ use Rattle.std.proofs.lemmas.List.{append-nil, append_assoc, take_all}
 use Rattle.std.proofs.lemmas.Option.{slice_get_read}
 use Rattle.proto_lex.specs.declared.span.Span.{Span}
 use Rattle.proto_decl.specs.declared.type_use.Use.{Use}
+use Rattle.proto_visibility.proofs.FirstLemmas.{take_next}
 use Rattle.proto_link.specs.declared.target.Target.{Target}
 use Rattle.scip_model.specs.declared.records.Occurrence.{Occurrence}
 use Rattle.scip_document.specs.Gaps.{IsFound}
 use Rattle.scip_document.specs.Tables.Listing.{each_from, at_target, at_use, unless_found, gap_at}
 use Rattle.scip_document.specs.Tables.Plans.{occurrence_of}
-use Rattle.scip_document.proofs.TargetLemmas.{take_more, zip_more, zip_length, more_found}
+use Rattle.scip_document.proofs.TargetLemmas.{zip_more, zip_length, more_found}
 use Rattle.scip_document.proofs.PlanLemmas.{grown_same, grown_then, own_then}
 use Rattle.scip_document.proofs.use_occurrences.use_occurrences.Goals as goal
 
@@ -54,7 +55,7 @@ loop-type_use-preserved c =
     let old = c.args.gaps.now.items in
     let there : slice_get uses index ≡ Some type_use =
     slice_get_read uses (length uses) index type_use refl c.loop-type_use-test.true c.type_use-item.is in
-    let next : take (index + 1) uses ≡ front ++ type_use ∷ [] = take_more uses index type_use there in
+    let next : take (index + 1) uses ≡ front ++ type_use ∷ [] = take_next uses index type_use there in
     let size = zip_length (IsFound files source) front found so_far.1 in
     record {
       grown = grown_then c.args.texts.now c.loop-type_use.texts c.add_use.new.texts c.loop-type_use.invariant.grown

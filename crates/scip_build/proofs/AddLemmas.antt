@@ -4,9 +4,10 @@ use Rattle.std.proofs.Common.{subst, arith}
 use Rattle.std.specs.List.{Contains, slice_get}
 use Rattle.std.proofs.lemmas.Bool.{cases_lt}
 use Rattle.std.proofs.lemmas.Option.{same_Some, slice_get_within}
+use Rattle.std.proofs.lemmas.List.Elements.{Contains-append_right, Contains-append_left, Contains-append_cases}
 use Rattle.scip_build.specs.declared.fault.BuildFault.{BuildFault}
 use Rattle.scip_build.specs.Telling.{Adds, FromFront}
-use Rattle.scip_build.proofs.GapLemmas.{not_in_none, in_more, in_head, in_either, in_first, in_second}
+use Rattle.source_tree.proofs.OrderLemmas.{in_either, in_nothing, in_front}
 
 module _ {X : Type 0} (IsOf : X → BuildFault → Type 0) (xs : List X) where
   -- one element more
@@ -80,16 +81,16 @@ adds_none Is told none = λ x. (
 pub adds_one : (Is : BuildFault → Type 0) (told : List BuildFault) (one : BuildFault) → Is one
     → ((x : BuildFault) → Is x → one ≡ x) → Adds Is told (told ++ one ∷ [])
 adds_one Is told one is only = λ x. (
-  λ there. elim (in_either told (one ∷ []) x there) [
+  λ there. elim (Contains-append_cases told (one ∷ []) x there) [
     | inl kept ↦ inl kept
-    | inr last ↦ elim (in_more one [] x last) [
+    | inr last ↦ elim (in_either one [] x last) [
       | inl same ↦ inr (subst Is same is)
-      | inr none ↦ absurd (not_in_none x none)
+      | inr none ↦ absurd (in_nothing x none)
     ]
   ],
   λ either. elim either [
-    | inl kept ↦ in_first told (one ∷ []) x kept
-    | inr it ↦ in_second told (one ∷ []) x (subst (Contains (one ∷ [])) (only x it) (in_head one []))
+    | inl kept ↦ Contains-append_left told (one ∷ []) x kept
+    | inr it ↦ Contains-append_right told (one ∷ []) x (subst (Contains (one ∷ [])) (only x it) (in_front one []))
   ],
 )
 

@@ -18,6 +18,7 @@ use Rattle.proto_visibility.specs.Linked.{CanBeLinked, MayRefuse}
 use Rattle.proto_visibility.specs.declared.place.FilePlace.{FilePlace}
 use Rattle.proto_visibility.specs.declared.fault.LinkFault.{LinkFault}
 use Rattle.proto_visibility.specs.declared.fault.LinkFault.TheVariants as link
+use Rattle.proto_visibility.proofs.FirstLemmas.{item_at}
 use Rattle.scip_document.specs.Conditions.{IsResolved, AllResolve, IsFirstUnresolved}
 use Rattle.scip_document.specs.Uses.{UsesResolve}
 use Rattle.source_tree.specs.Files.{TreeFile}
@@ -34,7 +35,6 @@ use Rattle.scip_build.specs.Documents.{IsLeastUnresolved}
 use Rattle.scip_build.specs.Builds.{OfReadings, IsBuildFault}
 use Rattle.scip_build.specs.Laws.{OneFileFault, OneFirstFaulty, OneLinking, NoReadingsWhereFaulty}
 use Rattle.scip_build.specs.BuildLaws.{cause_of, BuiltHasNoFault, OneBuildFault}
-use Rattle.scip_build.proofs.ReadingLemmas.{at_number}
 use Rattle.scip_build.proofs.ReadyLemmas.{whole_at, have_origins}
 
 in_middle : {X : Type 0} (before : List X) (x : X) (behind : List X) → Contains (before ++ x ∷ behind) x
@@ -213,7 +213,7 @@ named faulty dialect allows tree workers number fault (refuse, inr later) =
     let has = later.2.1 in
     let within : number < length tree =
     rw (sym later.1.one_each) (slice_get_within later.0 number has.reading has.numbered) in
-    let there = at_number tree number within in
+    let there = item_at tree number within in
     let Contents : Result FileContents FileFault → Type 0 = HasContents Refuse dialect allows number there.0 in
     let contents = subst Contents has.unread (later.1.each number there.0 has.reading there.1 has.numbered).contents in
     record { file = there.0; numbered = there.1; unreadable = contents.1 }

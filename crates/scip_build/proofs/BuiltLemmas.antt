@@ -14,6 +14,7 @@ use Rattle.index_hooks.specs.declared.choice.Choice.{Choice}
 use Rattle.scip_model.specs.declared.records.Document.{Document}
 use Rattle.scip_document.specs.Chosen.{Chosen}
 use Rattle.source_tree.specs.Files.{TreeFile}
+use Rattle.source_tree.proofs.OrderLemmas.{in_nothing}
 use Rattle.scip_build.specs.declared.settings.Settings.{Settings}
 use Rattle.scip_build.specs.declared.made.Made.{Made}
 use Rattle.scip_build.specs.declared.parts.Parts.{Parts}
@@ -28,7 +29,6 @@ use Rattle.scip_build.specs.Kept.{told_cmp, AreKept}
 use Rattle.scip_build.specs.Telling.{AreInOrder, all_told, AreKeptFiles}
 use Rattle.scip_build.specs.Forms.{IsMadeOf, IsLinkedAndMade, IsBuiltOfInForm, IsBuiltInForm}
 use Rattle.scip_build.proofs.RefusalLemmas.{not_both}
-use Rattle.scip_build.proofs.GapLemmas.{not_in_none}
 use Rattle.scip_build.proofs.KeptTreeLemmas.{map_kept, kept_tree, all_of}
 use Rattle.scip_build.proofs.ToldLemmas.{is_told, told_is, own_keys}
 use Rattle.scip_build.proofs.GoodTreeLemmas.{all_kept, good_files_are_kept, are_all_kept, none_told}
@@ -57,7 +57,7 @@ whole_built {Out} Is all settings made told refuse none of =
       kept = sym (all_of omissions all one_each (are_all_kept files));
       decided = in_form.made.decided;
       told_is = record {
-        exact = λ fault. (λ there. absurd (not_in_none fault there), λ is. absurd (nothing fault is));
+        exact = λ fault. (λ there. absurd (in_nothing fault there), λ is. absurd (nothing fault is));
         ascends = none_ascends;
       };
     } in

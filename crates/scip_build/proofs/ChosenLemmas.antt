@@ -2,14 +2,7 @@
 use Rattle.std.proofs.Common.{◌≡◌, ◌∙◌, ℕ, ◌+◌, ◌<◌, ◌≤◌, List, [], ◌∷◌, ◌++◌, length, take, get_or, ap, sym, subst}
 use Rattle.std.specs.List.{AllZip}
 use Rattle.std.proofs.lemmas.List.{take_more, take_all}
-
--- one more of each
-push : {A B : Type 0} (R : A → B → Type 0) (xs : List A) (ys : List B) (x : A) (y : B) → AllZip R xs ys → R x y
-    → AllZip R (xs ++ x ∷ []) (ys ++ y ∷ [])
-push R [] [] x y all r = (r, tt)
-push R [] (b ∷ ys) x y all r = absurd all
-push R (a ∷ xs) [] x y all r = absurd all
-push R (a ∷ xs) (b ∷ ys) x y all r = (all.0, push R xs ys x y all.1 r)
+use Rattle.proto_decl.proofs.FactLemmas.{AllZip-push}
 
 module _ {A B : Type 0} (R : A → B → Type 0) (xs : List A) (ys : List B) (i : ℕ) where
   pub one_more : (x : A) (y : B) → i < length xs → x ≡ get_or xs i x → AllZip R (take i xs) ys → R x y
@@ -18,7 +11,7 @@ module _ {A B : Type 0} (R : A → B → Type 0) (xs : List A) (ys : List B) (i 
       let P : List A → Type 0 = λ front. AllZip R front (ys ++ y ∷ []) in
       let front : take i xs ++ x ∷ [] ≡ take (i + 1) xs =
       ap (λ a. take i xs ++ a ∷ []) is ∙ sym (take_more xs i x within) in
-      subst P front (push R (take i xs) ys x y all r)
+      subst P front (AllZip-push R (take i xs) ys x y all r)
 
   pub all_of_them : length xs ≤ i → AllZip R (take i xs) ys → AllZip R xs ys
   all_of_them past all = let P : List A → Type 0 = λ front. AllZip R front ys in subst P (take_all i xs past) all

@@ -5,6 +5,7 @@ use Rattle.std.specs.Option.{option_map}
 use Rattle.std.specs.declared.cmp.Ordering.TheVariants.{Less}
 use Rattle.std.proofs.lemmas.Option.{same_Some, slice_get-map, slice_get_within}
 use Rattle.proto_visibility.specs.Files.{File, IsSource}
+use Rattle.proto_visibility.proofs.FirstLemmas.{contained, item_at, at_contained}
 use Rattle.index_pool.specs.Phase.{AnswersEach, IsLeastFault}
 use Rattle.scip_model.specs.declared.records.Document.{Document}
 use Rattle.scip_document.specs.Chosen.{Chosen}
@@ -21,9 +22,8 @@ use Rattle.scip_build.specs.declared.fault.BuildFault.TheVariants as build
 use Rattle.scip_build.specs.Files.{ReadFile}
 use Rattle.scip_build.specs.Documents.{text_in, text_of, texts_of, HasReadText, AreReady, IsDocumentAt, GivesDocument}
 use Rattle.scip_build.specs.Documents.{MayRefuseDocuments}
-use Rattle.scip_build.proofs.ReadingLemmas.{at_number}
 use Rattle.scip_build.proofs.LinkingLemmas.{mapped_at}
-use Rattle.scip_build.proofs.PlaceLemmas.{place_of, contained, rising_from_places}
+use Rattle.scip_build.proofs.PlaceLemmas.{rising_from_places}
 
 -- the documents of what was made
 abbrev pub document_in : SourceDocument → Document
@@ -46,7 +46,7 @@ module _ (readings : List ReadFile) (files : List File) (chosen : Chosen) (setti
     made_at number is =
         let below = (ready.sources number).1 is in
         let within : number < length made = rw answers.0 below in
-        let there = at_number made number within in
+        let there = item_at made number within in
         (there.0, there.1, answers.1 number there.0 there.1)
 
     pub is_source_at : (number : ℕ) (document : SourceDocument) → slice_get made number ≡ Some document
@@ -61,7 +61,7 @@ module _ (readings : List ReadFile) (files : List File) (chosen : Chosen) (setti
     found : (document : Document) → Contains documents document
         → HasDocument files (texts_of readings) chosen settings.package settings.encoding document
     found document listed =
-        let of = mapped_at document_in made listed.0 document (place_of documents document listed) in
+        let of = mapped_at document_in made listed.0 document (at_contained documents document listed) in
         let is = answers.1 listed.0 of.0 of.1 in
         let Is : Document → Type 0 = IsDocumentOf files chosen settings.package settings.encoding listed.0 is.text in
         record {

@@ -23,6 +23,7 @@ use Rattle.scip_document.specs.Packages.{Packages}
 use Rattle.scip_document.specs.Conditions.{AllResolve}
 use Rattle.scip_document.specs.Indexes.{IsIndexOf}
 use Rattle.source_tree.specs.Files.{TreeFile}
+use Rattle.source_tree.proofs.OrderLemmas.{in_nothing, in_front}
 use Rattle.scip_build.specs.declared.settings.Settings.{Settings}
 use Rattle.scip_build.specs.declared.faulty.Faulty.{Faulty}
 use Rattle.scip_build.specs.declared.faulty.Faulty.TheVariants.{Refuse, Skip}
@@ -38,7 +39,6 @@ use Rattle.scip_build.specs.BuildLaws.{SetTheSame, BuiltWhereNothingIsTold}
 use Rattle.scip_build.specs.Kept.{IsLeftFor, IsTold, NothingIsToldOfAGoodTree}
 use Rattle.scip_build.specs.Kept.IsTold.{of_file, of_import, of_use}
 use Rattle.scip_build.proofs.LinkingLemmas.{mapped_at}
-use Rattle.scip_build.proofs.GapLemmas.{not_in_none, in_head}
 use Rattle.scip_build.proofs.KeptTreeLemmas.{all_of}
 
 -- ---- where nothing is left out
@@ -109,7 +109,7 @@ module _ (all : List ReadFile) (omissions : Omissions) (one_each : length omissi
 
 none_listed : (told : List BuildFault) → ((fault : BuildFault) → Contains told fault → ⊥) → told ≡ []
 none_listed [] none = refl
-none_listed (x ∷ xs) none = absurd (none x (in_head x xs))
+none_listed (x ∷ xs) none = absurd (none x (in_front x xs))
 
 -- ---- where nothing is told
 
@@ -184,7 +184,7 @@ module _ (good : NothingIsLeftOutOfGoodFiles) where
         where
           none_is : (fault : BuildFault) → IsTold all kept.omissions fault → ⊥
           none_is fault is =
-              not_in_none fault (subst (λ (l : List BuildFault). Contains l fault) none
+              in_nothing fault (subst (λ (l : List BuildFault). Contains l fault) none
               ((kept.told_is.exact fault).1 is))
 
           all_kept : AreAllKept kept.omissions

@@ -1,13 +1,13 @@
 -- one more choice
 mod ChosenLemmas
 -- files as they are linked
-mod LinkingLemmas
+pub mod LinkingLemmas
 -- proofs of the laws
 mod LawLemmas
 -- what the phase answers, file by file
 mod ReadingLemmas
 -- the second phase: lists by their places, what it stands on, and what it answers
-mod PlaceLemmas
+pub mod PlaceLemmas
 mod ReadyLemmas
 mod DocumentLemmas
 mod GapLemmas

@@ -1,11 +1,11 @@
 -- Files as they are linked.
-use Rattle.std.proofs.Common.{◌≡◌, ◌∙◌, ℕ, zero, suc, ◌<◌, List, [], ◌∷◌, length, map, Option, Some, Result, Ok, Err}
+use Rattle.std.proofs.Common.{◌≡◌, ◌∙◌, ℕ, zero, suc, ◌<◌, List, [], ◌∷◌, length, map, Some, Result, Ok, Err}
 use Rattle.std.proofs.Common.{ap, sym, refl, arith}
 use Rattle.std.specs.List.{slice_get}
-use Rattle.std.specs.Option.{unwrap_or}
-use Rattle.std.proofs.lemmas.Option.{slice_get_within, none-some}
+use Rattle.std.proofs.lemmas.Option.{slice_get_within, none-some, same_Some}
 use Rattle.proto_visibility.specs.Files.{File}
 use Rattle.proto_visibility.specs.Files as link
+use Rattle.proto_visibility.proofs.FirstLemmas.{item_at}
 use Rattle.proto_parse.specs.tree.Dialect.{Dialect}
 use Rattle.proto_decl.specs.Seen.{Seen}
 use Rattle.index_hooks.specs.declared.choice.Choice.{Choice}
@@ -17,16 +17,12 @@ use Rattle.scip_build.specs.Files.{FileContents, ReadFile}
 use Rattle.scip_build.specs.Readings.{HasContents, IsReadingOf, AreReadingsOf}
 use Rattle.scip_build.specs.Laws.{OneListOfFacts, NoFactsWhereUnreadable}
 use Rattle.scip_build.specs.Linking.{facts_in, linked_file, linked_files}
-use Rattle.scip_build.proofs.ReadingLemmas.{at_number}
-
-same_some : {A : Type 0} (a b : A) → Some a ≡ Some b → a ≡ b
-same_some {A} a b e = ap (λ (o : Option A). unwrap_or o a) e
 
 -- what a mapped list has at a number
 pub mapped_at : {A B : Type 0} (f : A → B) (xs : List A) (k : ℕ) (y : B) → slice_get (map f xs) k ≡ Some y
     → (x : A) × (slice_get xs k ≡ Some x) × (y ≡ f x)
 mapped_at f [] k y at = absurd (none-some y at)
-mapped_at f (x ∷ xs) zero y at = (x, refl, sym (same_some (f x) y at))
+mapped_at f (x ∷ xs) zero y at = (x, refl, sym (same_Some (f x) y at))
 mapped_at f (x ∷ xs) (suc k) y at = mapped_at f xs k y at
 
 module _ (faulty : Faulty) (dialect : Dialect) (allows : Seen → Choice → Type 0) (files : List TreeFile)
@@ -37,7 +33,7 @@ module _ (faulty : Faulty) (dialect : Dialect) (allows : Seen → Choice → Typ
   in_tree number file at =
       let read = mapped_at linked_file readings number file at in
       let within : number < length files = rw (sym are.one_each) (slice_get_within readings number read.0 read.1) in
-      let there = at_number files number within in
+      let there = item_at files number within in
       (there.0, there.1, ap (λ (f : File). f.path) read.2 ∙ (are.each number there.0 read.0 there.1 read.1).path)
 
   pub own_paths : HaveOwnPaths files → link.HaveOwnPaths (linked_files readings)
@@ -85,5 +81,5 @@ module _ (one : OneListOfFacts) (apart : NoFactsWhereUnreadable) (faulty other :
   one_linking files readings again are also =
       same_mapped linked_file readings again (are.one_each ∙ sym also.one_each) (λ k a b at and.
       let within : k < length files = rw (sym are.one_each) (slice_get_within readings k a at) in
-      let there = at_number files k within in
+      let there = item_at files k within in
       same_linked k there.0 a b (are.each k there.0 a there.1 at) (also.each k there.0 b there.1 and))

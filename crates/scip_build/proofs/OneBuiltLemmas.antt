@@ -21,13 +21,16 @@ use Rattle.proto_visibility.specs.declared.fault.LinkFault.TheVariants as link
 use Rattle.proto_visibility.specs.Files.{File}
 use Rattle.proto_visibility.specs.Absences.{IsUnread, IsMissing}
 use Rattle.proto_visibility.specs.Kept.{Omissions, IsOmission, AreOmissions, kept_of}
+use Rattle.proto_visibility.proofs.FirstLemmas.{contained, item_at}
 use Rattle.proto_link.specs.Laws.{OneOmissionList}
+use Rattle.proto_link.proofs.OneItemLemmas.{contains_map}
 use Rattle.scip_document.specs.Packages.{Packages}
 use Rattle.index_hooks.specs.declared.choice.Choice.{Choice}
 use Rattle.scip_document.specs.Chosen.{Chosen}
 use Rattle.scip_document.specs.Indexes.{IsIndexOf}
 use Rattle.scip_document.specs.Laws.{OneIndex}
 use Rattle.source_tree.specs.Files.{TreeFile}
+use Rattle.source_tree.proofs.TreeLemmas.{mapped_from}
 use Rattle.scip_build.specs.declared.settings.Settings.{Settings}
 use Rattle.scip_build.specs.declared.built.Built.{Built}
 use Rattle.scip_build.specs.declared.faulty.Faulty.{Faulty}
@@ -45,11 +48,8 @@ use Rattle.scip_build.specs.Builds.{IsBuilt}
 use Rattle.scip_build.specs.Laws.{OneListOfFacts, NoFactsWhereUnreadable, OneFileFault}
 use Rattle.scip_build.specs.BuildLaws.{SetTheSame, AllowOne, OneBuilt}
 use Rattle.scip_document.proofs.SortLemmas.{one-ascending}
-use Rattle.scip_build.proofs.ReadingLemmas.{at_number}
 use Rattle.scip_build.proofs.LinkingLemmas.{same_mapped, one_linking}
-use Rattle.scip_build.proofs.PlaceLemmas.{contained}
 use Rattle.scip_build.proofs.ReadyLemmas.{whole_at, have_origins}
-use Rattle.scip_build.proofs.GapLemmas.{of_mapped, is_mapped}
 use Rattle.scip_build.proofs.KeptTreeLemmas.{map_kept}
 use Rattle.scip_build.proofs.ToldLemmas.{key_total, of_same, one_told}
 use Rattle.scip_build.proofs.GoodTreeLemmas.{fault_of}
@@ -62,7 +62,7 @@ unreadable : (faulty : Faulty) (dialect : Dialect) (allows : Seen → Choice →
 unreadable faulty dialect allows tree readings are number fault has =
     let within : number < length tree =
     rw (sym are.one_each) (slice_get_within readings number has.reading has.numbered) in
-    let there = at_number tree number within in
+    let there = item_at tree number within in
     let Contents : Result FileContents FileFault → Type 0 = HasContents faulty dialect allows number there.0 in
     let contents = subst Contents has.unread (are.each number there.0 has.reading there.1 has.numbered).contents in
     (there.0, there.1, contents.1)
@@ -109,7 +109,7 @@ module _ (one : OneListOfFacts) (apart : NoFactsWhereUnreadable) (allows others 
           → AreSame a.contents b.contents
       same_at k a b at and =
           let within : k < length tree = rw (sym are.one_each) (slice_get_within readings k a at) in
-          let there = at_number tree k within in
+          let there = item_at tree k within in
           same_contents k there.0 a.contents b.contents (are.each k there.0 a there.1 at).contents
           (also.each k there.0 b there.1 and).contents
 
@@ -250,10 +250,10 @@ module _ (one : OneListOfFacts) (apart : NoFactsWhereUnreadable) (one_fault : On
 
   keys_there : (key : Key) → Contains (map told_key built.told) key → Contains (map told_key other.told) key
   keys_there key there =
-      let of = of_mapped told_key built.told key there in
+      let of = mapped_from told_key built.told key there in
       let listed = (also.of_files.kept.told_is.exact of.0).1
       (told_too of.0 ((is.of_files.kept.told_is.exact of.0).0 of.1)) in
-      subst (Contains (map told_key other.told)) of.2 (is_mapped told_key other.told of.0 listed)
+      subst (Contains (map told_key other.told)) of.2 (contains_map told_key other.told of.0 listed)
 
 -- the keys of a list in order are in order
 module _ {X K : Type 0} (f : X → K) (cmp : K → K → Ordering) where

@@ -1,6 +1,6 @@
 -- What the phase answers, file by file.
-use Rattle.std.proofs.Common.{◌≡◌, ◌∙◌, ℕ, zero, suc, ◌<◌, true, true≢false, List, [], ◌∷◌, length, Option, Some}
-use Rattle.std.proofs.Common.{Result, Ok, Err, sym, refl, subst, arith}
+use Rattle.std.proofs.Common.{◌≡◌, ◌∙◌, ℕ, ◌<◌, true, true≢false, List, length, Option, Some}
+use Rattle.std.proofs.Common.{Result, Ok, Err, sym, subst}
 use Rattle.std.specs.List.{slice_get}
 use Rattle.std.specs.Option.{IfSome}
 use Rattle.std.proofs.lemmas.Option.{slice_get_within}
@@ -18,12 +18,7 @@ use Rattle.source_tree.specs.Files.{TreeFile}
 use Rattle.scip_build.specs.Files.{FileContents, ReadFile}
 use Rattle.scip_build.specs.Readings.{may_be_unread, HasContents, IsReadingOf, AreReadingsOf, IsReadIfSource}
 use Rattle.scip_build.specs.Readings.{IsFirstFaulty, GivesReading, MayRefuseFiles, MayRefuseReading}
-
--- what a list has at a number below its length
-pub at_number : {X : Type 0} (xs : List X) (k : ℕ) → k < length xs → (x : X) × (slice_get xs k ≡ Some x)
-at_number [] k within = absurd (omega (arith, within))
-at_number (x ∷ xs) zero within = (x, refl)
-at_number (x ∷ xs) (suc k) within = at_number xs k (omega (arith, within))
+use Rattle.proto_visibility.proofs.FirstLemmas.{item_at}
 
 -- what holds where a list has something, holds of what it has
 holds_at : {X : Type 0} (P : X → Type 0) (xs : List X) (k : ℕ) (x : X) → slice_get xs k ≡ Some x
@@ -55,7 +50,7 @@ module _ (faulty : Faulty) (dialect : Dialect) (allows : Seen → Choice → Typ
       → IsLeastFault (GivesReading faulty dialect allows files) (length files) number fault
       → MayRefuseFiles faulty dialect files workers fault
   refused_of workers number fault least =
-      let there = at_number files number least.0 in
+      let there = item_at files number least.0 in
       by fault there.0 there.1
       (holds_at (λ f. MayRefuseReading faulty dialect number f fault) files number there.0 there.1 least.1)
     where
@@ -89,7 +84,7 @@ module _ (faulty : Faulty) (dialect : Dialect) (allows : Seen → Choice → Typ
   no_readings_where_faulty refused no_facts readings number fault are first =
       let within : number < length readings =
       rw are.one_each (slice_get_within files number first.file first.numbered) in
-      let there = at_number readings number within in
+      let there = item_at readings number within in
       let has = source_has_facts faulty refused dialect allows number first.file there.0.contents
       (are.each number first.file there.0 first.numbered there.1).contents first.faulty.source in
       no_facts dialect number first.file.bytes has.0 fault has.1 first.faulty.unreadable

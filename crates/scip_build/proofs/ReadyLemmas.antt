@@ -9,6 +9,7 @@ use Rattle.std.specs.Ordering.{nat_cmp, bool_cmp, ordering_then}
 use Rattle.std.specs.Cmp.Lexicographic.{slice_cmp}
 use Rattle.std.proofs.lemmas.List.{length-map}
 use Rattle.std.proofs.lemmas.Option.{same_Some, none-some, slice_get-map, slice_get_within, get_or_from_slice_get}
+use Rattle.std.proofs.lemmas.Bool.{not-true}
 use Rattle.proto_parse.specs.tree.Dialect.{Dialect}
 use Rattle.proto_decl.specs.Facts.{Facts, AreFactsOf, AreOfSomeFile}
 use Rattle.proto_decl.specs.Seen.{Seen}
@@ -18,6 +19,7 @@ use Rattle.proto_visibility.specs.Files.{File, HasFacts, HaveOrigins, IsSource}
 use Rattle.proto_visibility.specs.Sees.Counts.{seen}
 use Rattle.proto_visibility.specs.Sees.SeesBy.{itself}
 use Rattle.proto_visibility.specs.Linked.{HaveClearNames}
+use Rattle.proto_visibility.proofs.FirstLemmas.{item_at}
 use Rattle.scip_symbol.specs.Path.{IsGoodPath}
 use Rattle.scip_document.specs.Chosen.{HaveChoices}
 use Rattle.scip_document.specs.Conditions.{HaveGoodPaths}
@@ -33,7 +35,6 @@ use Rattle.scip_build.specs.Linking.{facts_in, linked_file, linked_files, choice
 use Rattle.scip_build.specs.Ready.{AreWhole, AreWholeIfRead, reading_cmp, AreOfTree}
 use Rattle.scip_build.specs.Keeping.{is_source}
 use Rattle.scip_build.specs.Documents.{text_of, HasReadText, IsRead, AreReady}
-use Rattle.scip_build.proofs.ReadingLemmas.{at_number}
 use Rattle.scip_build.proofs.LinkingLemmas.{mapped_at, own_paths}
 use Rattle.scip_build.proofs.PlaceLemmas.{beside, rising_at}
 
@@ -84,7 +85,7 @@ module _ (faulty : Faulty) (dialect : Dialect) (allows : Seen → Choice → Typ
   read_at : (number : ℕ) (reading : ReadFile) → slice_get readings number ≡ Some reading → IsReadAt number reading
   read_at number reading at =
       let within : number < length tree = rw (sym are.one_each) (slice_get_within readings number reading at) in
-      let there = at_number tree number within in
+      let there = item_at tree number within in
       record { file = there.0; numbered = there.1; is = are.each number there.0 reading there.1 at }
 
   pub whole_at : (number : ℕ) (reading : ReadFile) → slice_get readings number ≡ Some reading
@@ -198,10 +199,6 @@ module _ (readings : List ReadFile)
 
 -- ---- the sources in front
 
-not_true : (b : Bool) → not b ≡ true → b ≡ false
-not_true false e = refl
-not_true true e = absurd (true≢false (sym e))
-
 not_false : (b : Bool) → b ≡ false → not b ≡ true
 not_false false e = refl
 not_false true e = absurd (true≢false e)
@@ -290,16 +287,16 @@ module _ (readings : List ReadFile) (tree : AreOfTree readings) (clear : HaveCle
       let source : read.0.is_included ≡ false = sym (ap (λ (f : File). f.is_included) read.2) ∙ is.source in
       in_front is_source readings
       (λ i j a b less at and passes. not_false a.is_included
-      (source_first a b (tree.rising i j a b less at and) (not_true b.is_included passes)))
+      (source_first a b (tree.rising i j a b less at and) (not-true b.is_included passes)))
       number read.0 read.1 (not_false read.0.is_included source)
 
   source_at : (number : ℕ) → number < count
       → (reading : ReadFile) × (slice_get readings number ≡ Some reading) × (reading.is_included ≡ false)
   source_at number below =
-      let there = at_number readings number (front_within is_source readings number below) in (
+      let there = item_at readings number (front_within is_source readings number below) in (
         there.0,
         there.1,
-        not_true there.0.is_included (front_passes is_source readings number there.0 there.1 below),
+        not-true there.0.is_included (front_passes is_source readings number there.0 there.1 below),
       )
 
   is_source_at : (number : ℕ) → number < count → IsSource (linked_files readings) number
@@ -336,7 +333,7 @@ module _ (readings : List ReadFile) (tree : AreOfTree readings) (clear : HaveCle
   ascends lesser number a b less below at and =
       let first = mapped_at linked_file readings lesser a at in
       let second = mapped_at linked_file readings number b and in
-      let source = not_true second.0.is_included
+      let source = not-true second.0.is_included
       (front_passes is_source readings number second.0 second.1 below) in
       let up = tree.rising lesser number first.0 second.0 less first.1 second.1 in
       rw (first.2, second.2) (by_path first.0 second.0 (source_first first.0 second.0 up source) source up)

@@ -2,14 +2,14 @@
 use Rattle.std.proofs.Common.{◌≡◌, ◌∙◌, ◌↔◌, inl, inr, ℕ, ◌+◌, ◌++◌, Bool, true, false, List, []}
 use Rattle.std.proofs.Common.{length, map, Option, Some, None, Result, Err, ap, sym, refl, subst, arith}
 use Rattle.std.specs.List.{Contains, slice_get}
-use Rattle.std.specs.declared.cmp.Ordering.{Ordering}
-use Rattle.std.specs.declared.cmp.Ordering.TheVariants.{Less, Equal, Greater}
+use Rattle.std.specs.declared.cmp.Ordering.TheVariants.{Equal}
 use Rattle.std.specs.Ordering.{nat_cmp, bool_cmp, ordering_then, is_lt}
 use Rattle.std.specs.Cmp.{IsTotalOrder, IsStrictWeakOrder, bool_cmp_total}
 use Rattle.std.proofs.lemmas.Cmp.{on_total, then_total, nat_cmp_total}
 use Rattle.std.proofs.lemmas.List.Sorted.{ranks_by}
 use Rattle.std.proofs.lemmas.Map.Lookups.{exact_unsigned}
 use Rattle.std.proofs.lemmas.Option.{same_Some, slice_get_within}
+use Rattle.std.proofs.lemmas.List.Elements.{Contains-append_right, Contains-append_left, Contains-append_cases}
 use Rattle.proto_visibility.specs.declared.place.FilePlace.{FilePlace}
 use Rattle.proto_visibility.specs.declared.fault.LinkFault.{LinkFault}
 use Rattle.proto_visibility.specs.declared.fault.LinkFault.TheVariants as link
@@ -32,8 +32,11 @@ use Rattle.scip_build.specs.Kept.IsTold.{of_file, of_import, of_use}
 use Rattle.scip_build.specs.Keeping.{kept_numbers}
 use Rattle.scip_build.specs.Telling.{Adds, FromFront, place_by, told_import, told_use, HaveOwnKeys}
 use Rattle.scip_build.proofs.LinkingLemmas.{mapped_at}
-use Rattle.scip_build.proofs.GapLemmas.{not_in_none, in_either, in_first, in_second, of_mapped, is_mapped}
 use Rattle.scip_build.proofs.KeptTreeLemmas.{number_of}
+use Rattle.proto_link.proofs.OneItemLemmas.{contains_map}
+use Rattle.source_tree.proofs.OrderLemmas.{in_nothing}
+use Rattle.source_tree.proofs.TreeLemmas.{mapped_from}
+use Rattle.scip_document.proofs.OrderLemmas.{both_equal}
 
 -- ---- keys
 
@@ -47,11 +50,6 @@ told_total = on_total told_key key_total
 
 pub told_rank : IsStrictWeakOrder (λ x y. is_lt (told_cmp x y))
 told_rank = ranks_by told_total (λ (fault : BuildFault). fault)
-
-both_equal : (r s : Ordering) → ordering_then r s ≡ Equal → (r ≡ Equal) × (s ≡ Equal)
-both_equal Less s e = cc
-both_equal Equal s e = (refl, e)
-both_equal Greater s e = cc
 
 one_bool : (a b : Bool) → bool_cmp a b ≡ Equal → a ≡ b
 one_bool false false e = refl
@@ -91,15 +89,6 @@ one_place : (a b : FilePlace) → a.file ≡ b.file → a.span.start ≡ b.span.
 one_place a b file start end = λ i. record { file = file i; span = record { start = start i; end = end i } }
 
 -- ---- a file that is left out
-
-none_is_some : {X : Type 0} (x : X) → None ≡ Some x → ⊥
-none_is_some x e = cc
-
-some_is_none : {X : Type 0} (x : X) → Some x ≡ None → ⊥
-some_is_none x e = cc
-
-one_ok : {X : Type 0} (a b : X) → Some a ≡ Some b → a ≡ b
-one_ok a b e = cc
 
 one_fault : (all : List ReadFile) (number : ℕ) (a b : FileFault) → HasFault all number a → HasFault all number b → a ≡ b
 one_fault all number a b first second =
@@ -167,7 +156,7 @@ module _ (all : List ReadFile) (omissions : Omissions) (are : AreOmissions (link
   not_kept number omission told at left k reading there same =
       let is = is_kept omissions all k reading there in
       let here : omission ≡ None =
-      one_ok omission None (sym at ∙ (ap (λ n. slice_get omissions n) same ∙ is)) in
+      same_Some omission None (sym at ∙ (ap (λ n. slice_get omissions n) same ∙ is)) in
       let Left : Option LinkFault → Type 0 = λ o. IsLeftFor all o told in
       subst Left here left
 
@@ -198,7 +187,7 @@ module _ (all : List ReadFile) (omissions : Omissions) (are : AreOmissions (link
       → AreOneKey (told_key a) (told_key b) → a ≡ b
   one_told a b (of_file n o at left) (of_file m p and right) same =
       let numbers : n ≡ m = sym (left_of n o a at left) ∙ (same.file ∙ left_of m p b and right) in
-      let omission : o ≡ p = one_ok o p (sym at ∙ (ap (λ k. slice_get omissions k) numbers ∙ and)) in
+      let omission : o ≡ p = same_Some o p (sym at ∙ (ap (λ k. slice_get omissions k) numbers ∙ and)) in
       let Left : Option LinkFault → Type 0 = λ x. IsLeftFor all x a in
       one_left all p a b (subst Left omission left) right
   one_told a _ (of_file n o at left) (of_import q missing) same =
@@ -247,20 +236,20 @@ module _ (all : List ReadFile) (omissions : Omissions) (are : AreOmissions (link
     uses = map (told_use (kept_numbers 0 omissions)) gaps
 
     pub is_told : (fault : BuildFault) → Contains ((left ++ imports) ++ uses) fault → IsTold all omissions fault
-    is_told fault there = elim (in_either (left ++ imports) uses fault there) [
-      | inl front ↦ elim (in_either left imports fault front) [
+    is_told fault there = elim (Contains-append_cases (left ++ imports) uses fault there) [
+      | inl front ↦ elim (Contains-append_cases left imports fault front) [
         | inl one ↦ elim ((left_are fault).0 one) [
-          | inl none ↦ absurd (not_in_none fault none)
+          | inl none ↦ absurd (in_nothing fault none)
           | inr from ↦ of_file from.index from.element from.stands from.is
         ]
         | inr import ↦ (
-            let of = of_mapped (told_import (kept_numbers 0 omissions)) missing fault import in
+            let of = mapped_from (told_import (kept_numbers 0 omissions)) missing fault import in
             let is = (missing_are of.0).0 of.1 in
             let at = import_at of.0 is in
             subst (IsTold all omissions) (ap MissingImport (sym (moved of.0 at.0 at.1)) ∙ of.2) (of_import of.0 is))
       ]
       | inr use_ ↦ (
-          let of = of_mapped (told_use (kept_numbers 0 omissions)) gaps fault use_ in
+          let of = mapped_from (told_use (kept_numbers 0 omissions)) gaps fault use_ in
           let is = (gaps_are of.0).0 of.1 in
           let at = use_at of.0 is in
           subst (IsTold all omissions) (ap Unresolved (sym (moved of.0 at.0 at.1)) ∙ of.2) (of_use of.0 is))
@@ -268,24 +257,26 @@ module _ (all : List ReadFile) (omissions : Omissions) (are : AreOmissions (link
 
     pub told_is : (fault : BuildFault) → IsTold all omissions fault → Contains ((left ++ imports) ++ uses) fault
     told_is fault (of_file n o at found) =
-        in_first (left ++ imports) uses fault (in_first left imports fault ((left_are fault).1 (inr (record {
+        let there = (left_are fault).1 (inr (record {
           index = n;
           element = o;
           within = slice_get_within omissions n o at;
           stands = at;
           is = found;
-        }))))
+        })) in
+        Contains-append_left (left ++ imports) uses fault (Contains-append_left left imports fault there)
     told_is _ (of_import p is) =
         let at = import_at p is in
-        let there = is_mapped (told_import (kept_numbers 0 omissions)) missing p ((missing_are p).1 is) in
+        let there = contains_map (told_import (kept_numbers 0 omissions)) missing p ((missing_are p).1 is) in
         let fault : BuildFault = MissingImport (place_among_all omissions p) in
-        in_first (left ++ imports) uses fault (in_second left imports fault
+        Contains-append_left (left ++ imports) uses fault (Contains-append_right left imports fault
         (subst (Contains imports) (ap MissingImport (moved p at.0 at.1)) there))
     told_is _ (of_use p is) =
         let at = use_at p is in
-        let there = is_mapped (told_use (kept_numbers 0 omissions)) gaps p ((gaps_are p).1 is) in
+        let there = contains_map (told_use (kept_numbers 0 omissions)) gaps p ((gaps_are p).1 is) in
         let fault : BuildFault = Unresolved (place_among_all omissions p) in
-        in_second (left ++ imports) uses fault (subst (Contains uses) (ap Unresolved (moved p at.0 at.1)) there)
+        Contains-append_right (left ++ imports) uses fault
+        (subst (Contains uses) (ap Unresolved (moved p at.0 at.1)) there)
 
     pub own_keys : HaveOwnKeys ((left ++ imports) ++ uses)
     own_keys a b first second equal =

@@ -118,8 +118,8 @@ fn linker_of<'a, 'r, R: Threads>(
 /// Links files that were read, given as they are linked. If there is more than one worker, two threads link.
 ///
 /// Of the refusals `File` comes first: the least included file that some source sees and that
-/// couldn't be read. Then `Duplicate`, then `MissingImport`. `Memory` comes at any growth. `Spawn` never comes: what
-/// no thread can be started for is done by the calling one.
+/// couldn't be read. Then `Duplicate`, then `MissingImport`. `Memory` comes at any growth. `Spawn` never comes: if no
+/// thread can be started, the calling one does all.
 pub fn link<'a, 'r, R: Threads, G>(
     run: &Run<'_, R, G>,
     readings: &[Reading<'_>],

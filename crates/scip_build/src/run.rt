@@ -1,9 +1,9 @@
-//! What the phases of a build run on.
+//! What a build runs on.
 
 use index_pool::Workers;
 use std::alloc::Global;
 
-/// What the phases of a build run on: threads of a runtime, so many workers, and a gate whose calls
+/// What a build runs on: threads of a runtime, so many workers, and a gate whose calls
 /// come round each file.
 #[derive(Drop)]
 pub struct Run<'a, R, G> {

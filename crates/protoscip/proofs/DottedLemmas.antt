@@ -1,7 +1,7 @@
 -- Names that are joined by dots: of parts without a dot one text is made by one list.
-use Rattle.std.proofs.Common.{◌≡◌, ◌∙◌, sym, ap, refl, subst, ℕ, zero, suc, ◌<◌, ◌==◌, Bool, true, false, cond, List}
+use Rattle.std.proofs.Common.{◌≡◌, ◌∙◌, sym, ap, refl, subst, ℕ, zero, suc, ◌<◌, ◌==◌, Bool, true, false, List}
 use Rattle.std.proofs.Common.{[], ◌∷◌, length, take, arith}
-use Rattle.std.specs.Prelude.{not, ◌&&◌}
+use Rattle.std.specs.Prelude.{not}
 use Rattle.std.specs.List.{All, list_all, slice_split, onto_first}
 use Rattle.std.proofs.lemmas.List.Elements.{All-nil, All-cons, All-head, All-tail, All-take}
 use Rattle.std.proofs.lemmas.List.Splits.{slice_split-cons_yes, slice_split-cons_no, slice_split_none, slice_split_at}
@@ -9,6 +9,7 @@ use Rattle.std.proofs.lemmas.List.Splits.{length-slice_split}
 use Rattle.proto_decl.specs.Names.{IsSimple, dotted, components_of}
 use Rattle.proto_decl.specs.Ancestors.{component_names}
 use Rattle.proto_decl.specs.declared.type_use.Component.{Component}
+use Rattle.proto_decl.proofs.BoolLemmas.{first_no}
 
 abbrev is_dot : ℕ → Bool
 is_dot byte = byte == 46
@@ -16,13 +17,6 @@ is_dot byte = byte == 46
 -- a text without a dot
 abbrev pub HasNoDot : List ℕ → Type 0
 HasNoDot name = All (λ byte. is_dot byte ≡ false) name
-
-never : {A : Type 0} → false ≡ true → A
-never e = absurd (subst (λ b. cond b ⊥ (Unit {0})) e tt)
-
-first_no : (b others : Bool) → (not b && others) ≡ true → (b ≡ false) × (others ≡ true)
-first_no true others e = never e
-first_no false others e = (refl, e)
 
 simple_no_dot : (name : List ℕ) → list_all (λ byte. not (byte == 46)) name ≡ true → HasNoDot name
 simple_no_dot [] e = All-nil (λ (byte : ℕ). is_dot byte ≡ false)

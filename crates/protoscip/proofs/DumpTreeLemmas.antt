@@ -14,7 +14,7 @@ use Rattle.source_tree.specs.declared.fault.TreeFault.TheVariants as refusal
 use Rattle.source_tree.specs.Files.{SourceFile, TreeFile, in_tree, file_cmp}
 use Rattle.source_tree.specs.Trees.{IsTreeOf, IsFileOf, of_source, of_included}
 use Rattle.protoscip.specs.Dump.{source_path, dump_tree}
-use Rattle.protoscip.proofs.ListLemmas.{place_of, contained}
+use Rattle.proto_visibility.proofs.FirstLemmas.{contained, at_contained}
 
 -- a list of one has nothing else
 only : {X : Type 0} (x y : X) (k : ℕ) → slice_get (x ∷ []) k ≡ Some y → y ≡ x
@@ -28,7 +28,7 @@ not_listed (x ∷ xs) behind file same = cc
 
 is_it : (file : SourceFile) (x : TreeFile) → IsFileOf (file ∷ []) [] x → x ≡ in_tree false file
 is_it file _ (of_source {file = other} has) =
-    ap (in_tree false) (only file other has.0 (place_of (file ∷ []) other has))
+    ap (in_tree false) (only file other has.0 (at_contained (file ∷ []) other has))
 is_it file _ (of_included {file = other} counts) = absurd (not_listed counts.before counts.behind other counts.listed)
 
 module _ (bytes : List ℕ) where
@@ -44,7 +44,7 @@ module _ (bytes : List ℕ) where
   unfolding source IsStrictlySortedBy
   one_source [] tree = absurd
       (none-some (in_tree false source)
-      (place_of [] (in_tree false source)
+      (at_contained [] (in_tree false source)
       ((tree.whole (in_tree false source)).1 (of_source (contained (source ∷ []) zero source refl)))))
   one_source (x ∷ []) tree =
       ap (λ (y : TreeFile). y ∷ []) (is_it source x ((tree.whole x).0 (contained (x ∷ []) zero x refl)))

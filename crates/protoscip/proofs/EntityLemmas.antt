@@ -1,6 +1,6 @@
 -- The entities of linked files: what occurs names one, and a symbol's text is that of one.
 use Rattle.std.proofs.Common.{◌≡◌, ◌∙◌, ◌⊎◌, inl, inr, ℕ, zero, ◌+◌, ◌<◌, Some, List, [], ◌∷◌, ◌++◌, map, take, sym, ap}
-use Rattle.std.proofs.Common.{refl, subst, arith}
+use Rattle.std.proofs.Common.{refl, subst, arith, ⊎_elim}
 use Rattle.std.specs.Prelude.{Contains}
 use Rattle.std.specs.List.{slice_get}
 use Rattle.std.specs.Str.{bytes_eq}
@@ -16,6 +16,7 @@ use Rattle.proto_decl.specs.Ancestors.{names_of, component_names, AreHeld}
 use Rattle.proto_decl.specs.declared.imported.Imported.{Imported}
 use Rattle.proto_decl.specs.declared.declaration.Declaration.{Declaration}
 use Rattle.proto_decl.specs.declared.type_use.Component.{Component}
+use Rattle.proto_decl.proofs.AncestorLemmas.{in_front, behind_it}
 use Rattle.proto_visibility.specs.declared.entities.Entity.{Entity as Part}
 use Rattle.proto_visibility.specs.declared.entities.Entity.TheVariants as link
 use Rattle.proto_visibility.specs.Clashes.{NoClash}
@@ -27,6 +28,8 @@ use Rattle.proto_visibility.specs.Sees.{Counts}
 use Rattle.proto_visibility.specs.Sees.LeadsTo.{at_once}
 use Rattle.proto_visibility.specs.Sees.SeesBy.{import}
 use Rattle.proto_visibility.specs.Sees.Counts.{seen}
+use Rattle.proto_visibility.proofs.FirstLemmas.{contained, at_contained}
+use Rattle.proto_visibility.proofs.ImportTableLemmas.{only}
 use Rattle.proto_link.specs.Targets.{IsNamed}
 use Rattle.proto_link.specs.Targets.IsNamed.{packaged as named_package, declared as named_declared}
 use Rattle.scip_symbol.specs.Package.{Package, IsPackage}
@@ -41,15 +44,14 @@ use Rattle.scip_document.specs.Occurs.{Occurs}
 use Rattle.scip_document.specs.Occurs as rule
 use Rattle.scip_document.proofs.ApartLemmas.{AreIdentifiers, AreCounted, one-text}
 use Rattle.scip_document.proofs.EntityLemmas.{package-is, declaration-is}
-use Rattle.scip_document.proofs.EntryLemmas.{nothing-in, alone-in, first-in, behind-in}
+use Rattle.source_tree.proofs.OrderLemmas.{in_nothing}
 use Rattle.scip_document.proofs.LinkedLemmas.{source-counts}
 use Rattle.scip_document.proofs.PackageLemmas.{by_path, file_good}
 use Rattle.scip_model.specs.declared.records.Occurrence.{Occurrence}
 use Rattle.protoscip.specs.NameLaws.{LawsOfNames}
 use Rattle.protoscip.specs.Headline.{IsEntityOf, of_file, of_package, of_declaration, entity_of, package_of_entity}
 use Rattle.protoscip.proofs.DottedLemmas.{same_front}
-use Rattle.protoscip.proofs.LinkedLemmas.{mapped_at}
-use Rattle.protoscip.proofs.ListLemmas.{place_of, contained}
+use Rattle.scip_build.proofs.LinkingLemmas.{mapped_at}
 
 -- what they say of identifiers
 spelled : LawsOfNames → AreIdentifiers
@@ -57,18 +59,14 @@ spelled laws = record { named = laws.named; paths = laws.paths; held = laws.held
 
 -- ---- texts in a list
 
-either : {A B C : Type 0} → (A → C) → (B → C) → A ⊎ B → C
-either f g (inl a) = f a
-either f g (inr b) = g b
-
 has_text : (texts : List (List ℕ)) (text : List ℕ) → Contains texts text ⊎ (Contains texts text → ⊥)
-has_text [] text = inr (λ there. nothing-in text there)
+has_text [] text = inr (λ there. in_nothing text there)
 has_text (first ∷ texts) text = elim (cases_Bool (bytes_eq first text)) [
   | inl same ↦ inl (contained (first ∷ texts) zero text (ap Some ((bytes_eq-Decides first text).0 same)))
-  | inr other ↦ either
-      (λ there. inl (behind-in first texts text there))
-      (λ none. inr (λ there. either
-      (λ here. false≢true (sym other ∙ (bytes_eq-Decides first text).1 (alone-in first text here)))
+  | inr other ↦ ⊎_elim
+      (λ there. inl (behind_it first texts text there))
+      (λ none. inr (λ there. ⊎_elim
+      (λ here. false≢true (sym other ∙ (bytes_eq-Decides first text).1 (only first text here)))
       none
       (Contains-append_cases (first ∷ []) texts text there)))
       (has_text texts text)
@@ -100,7 +98,7 @@ module _ (files : List File) (origins : HaveOrigins files) (laws : LawsOfNames) 
       named : HasPath files imported.path → IsEntityOf files (OfFile imported.path)
       named there =
           let at = mapped_at (λ (file : File). file.path) files there.0 imported.path
-          (place_of (map (λ (file : File). file.path) files) imported.path there) in
+          (at_contained (map (λ (file : File). file.path) files) imported.path there) in
           let Is : List ℕ → Type 0 = λ path. IsEntityOf files (OfFile path) in
           subst Is (sym at.2) (of_file (counts there.0 at.0 at.1 (sym at.2)) at.1)
 
@@ -212,7 +210,7 @@ module _ (files : List File) (origins : HaveOrigins files) (good : HaveGoodPaths
   no_facts : AreWithoutClash []
   no_facts = record {
     held = All-nil (λ (x : Facts). AreHeld x.package_name x.declarations);
-    one_name = λ facts others d e there also listed its same. absurd (nothing-in facts there);
+    one_name = λ facts others d e there also listed its same. absurd (in_nothing facts there);
   }
 
   module _ (id its_id : Package) (is_package : IsPackage id) (is_fine : IsPackage its_id) where
@@ -239,16 +237,16 @@ module _ (files : List File) (origins : HaveOrigins files) (good : HaveGoodPaths
     one_by entity other its also (inl a) (inl b) same =
         let all : List Facts = a.facts ∷ (b.facts ∷ []) in
         one_of a.number b.number a.facts b.facts a.counted b.counted entity other its also
-        (among entity a all (first-in a.facts (b.facts ∷ [])))
-        (among other b all (behind-in a.facts (b.facts ∷ []) b.facts (first-in b.facts []))) same
+        (among entity a all (in_front a.facts (b.facts ∷ [])))
+        (among other b all (behind_it a.facts (b.facts ∷ []) b.facts (in_front b.facts []))) same
     one_by entity other its also (inl a) (inr b) same =
         let all : List Facts = a.facts ∷ (a.facts ∷ []) in
         one_of a.number a.number a.facts a.facts a.counted a.counted entity other its also
-        (among entity a all (first-in a.facts (a.facts ∷ []))) (b (declarations_of all)) same
+        (among entity a all (in_front a.facts (a.facts ∷ []))) (b (declarations_of all)) same
     one_by entity other its also (inr a) (inl b) same =
         let all : List Facts = b.facts ∷ (b.facts ∷ []) in
         one_of b.number b.number b.facts b.facts b.counted b.counted entity other its also (a (declarations_of all))
-        (among other b all (first-in b.facts (b.facts ∷ []))) same
+        (among other b all (in_front b.facts (b.facts ∷ []))) same
     one_by entity other its also (inr a) (inr b) same = one_else entity other its also a b same
 
     one_text_one : (entity other : Entity) → IsEntityOf files entity → IsEntityOf files other

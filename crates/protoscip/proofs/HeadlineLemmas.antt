@@ -10,6 +10,7 @@ use Rattle.proto_decl.specs.Facts.{Facts}
 use Rattle.proto_decl.specs.declared.type_use.Use.{Use}
 use Rattle.proto_visibility.specs.Files.{File, HasFacts, IsSource, HaveOrigins}
 use Rattle.proto_visibility.specs.Kept.{Omissions, kept_of, number_among_all}
+use Rattle.proto_visibility.proofs.FirstLemmas.{contained}
 use Rattle.index_hooks.specs.declared.choice.Choice.{Choice}
 use Rattle.source_tree.specs.Files.{TreeFile}
 use Rattle.scip_symbol.specs.Package.{Package}
@@ -41,7 +42,6 @@ use Rattle.protoscip.specs.Headline.{IsAt, Answers, AnswersNames, Headline}
 use Rattle.protoscip.specs.NameLaws.{LawsOfNames}
 use Rattle.protoscip.proofs.EntityLemmas.{entity_is, symbol_is, one_entity, one_symbol, own_entity}
 use Rattle.protoscip.proofs.LinkedLemmas.{at_all_linked, have_origins, good_paths}
-use Rattle.protoscip.proofs.ListLemmas.{contained}
 use Rattle.protoscip.proofs.UseLemmas.{component_names}
 use Rattle.protoscip.proofs.SiteLemmas.{IsAsked, asked, of_symbol, defining, just}
 

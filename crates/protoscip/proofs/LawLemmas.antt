@@ -1,6 +1,7 @@
 -- Faults of a tree exclude one another, and where it is indexed there is none.
-use Rattle.std.proofs.Common.{◌≡◌, ◌≢◌, ◌∙◌, ◌⊎◌, inl, inr, ℕ, true, false, ◌<◌, ◌≤◌, List, length, ap, sym, subst}
+use Rattle.std.proofs.Common.{◌≡◌, ◌≢◌, ◌∙◌, ◌⊎◌, inl, inr, ℕ, true, ◌<◌, ◌≤◌, List, length, ap, sym, subst}
 use Rattle.std.proofs.Common.{refl, arith}
+use Rattle.std.proofs.lemmas.Bool.{false≢true}
 use Rattle.proto_decl.specs.Seen.{Seen}
 use Rattle.proto_visibility.specs.declared.fault.LinkFault.{LinkFault}
 use Rattle.proto_visibility.specs.declared.fault.LinkFault.TheVariants as link
@@ -33,9 +34,6 @@ fault_of (build.Duplicate first second) = fault.Duplicate first second
 fault_of (build.MissingImport place) = fault.MissingImport place
 fault_of (build.Unresolved place) = fault.Unresolved place
 
-no_truth : false ≡ true → ⊥
-no_truth never = cc
-
 -- the index of the tree has too many bytes, by some choices
 IsLarge : (Seen → Choice → Type 0) → Settings → List TreeFile → Type 0
 IsLarge allows settings tree =
@@ -53,8 +51,8 @@ split : (allows : Seen → Choice → Type 0) (settings : Settings) (tree : List
     → IsRefused allows settings tree workers of → is_of_tree of ≡ true
     → (of ≡ fault.TooLarge) × IsLarge allows settings tree ⊎ IsOfBuild allows settings tree workers of
 unfolding IsLarge fault_of
-split allows settings tree workers fault.Spawn is named = absurd (no_truth named)
-split allows settings tree workers fault.Memory is named = absurd (no_truth named)
+split allows settings tree workers fault.Spawn is named = absurd (false≢true named)
+split allows settings tree workers fault.Memory is named = absurd (false≢true named)
 split allows settings tree workers (fault.Lex number e) is named =
     inr (record { because = build.File number (file.Lex e); is = is; named = λ memory. cc; same = refl })
 split allows settings tree workers (fault.Syntax number e) is named =

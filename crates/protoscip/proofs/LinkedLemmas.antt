@@ -1,7 +1,7 @@
 -- Files that were read are linked with facts of their texts, and under the tree's paths.
-use Rattle.std.proofs.Common.{◌≡◌, ◌∙◌, ℕ, zero, suc, ◌<◌, List, [], ◌∷◌, length, map, Some, None, Result, Ok, Err, ap}
+use Rattle.std.proofs.Common.{◌≡◌, ◌∙◌, ℕ, ◌<◌, List, [], ◌∷◌, length, Some, None, Result, Ok, Err, ap}
 use Rattle.std.proofs.Common.{sym}
-use Rattle.std.proofs.Common.{refl, subst, arith}
+use Rattle.std.proofs.Common.{refl, subst}
 use Rattle.std.specs.Prelude.{All}
 use Rattle.std.specs.List.{slice_get}
 use Rattle.std.proofs.lemmas.Option.{same_Some, none-some, slice_get_within}
@@ -13,6 +13,7 @@ use Rattle.index_hooks.specs.declared.choice.Choice.{Choice}
 use Rattle.proto_visibility.specs.Files.{File, HaveOrigins}
 use Rattle.proto_visibility.specs.Kept.{Omissions, kept_of, number_among_all}
 use Rattle.proto_visibility.proofs.KeptLemmas.{at_all}
+use Rattle.proto_visibility.proofs.FirstLemmas.{contained, item_at}
 use Rattle.scip_symbol.specs.Path.{IsGoodPath}
 use Rattle.scip_document.specs.Conditions.{HaveGoodPaths}
 use Rattle.source_tree.specs.Files.{TreeFile}
@@ -22,20 +23,7 @@ use Rattle.scip_build.specs.Files.{FileContents, ReadFile}
 use Rattle.scip_build.specs.declared.faulty.Faulty.{Faulty}
 use Rattle.scip_build.specs.Readings.{HasContents, IsReadingOf, AreReadingsOf}
 use Rattle.scip_build.specs.Linking.{facts_in, linked_file, linked_files}
-use Rattle.protoscip.proofs.ListLemmas.{contained}
-
--- what a list has at a number below its length
-pub at_number : {X : Type 0} (xs : List X) (k : ℕ) → k < length xs → (x : X) × (slice_get xs k ≡ Some x)
-at_number [] k within = absurd (omega (arith, within))
-at_number (x ∷ xs) zero within = (x, refl)
-at_number (x ∷ xs) (suc k) within = at_number xs k (omega (arith, within))
-
--- what a mapped list has at a number
-pub mapped_at : {A B : Type 0} (f : A → B) (xs : List A) (k : ℕ) (y : B) → slice_get (map f xs) k ≡ Some y
-    → (x : A) × (slice_get xs k ≡ Some x) × (y ≡ f x)
-mapped_at f [] k y at = absurd (none-some y at)
-mapped_at f (x ∷ xs) zero y at = (x, refl, sym (same_Some (f x) y at))
-mapped_at f (x ∷ xs) (suc k) y at = mapped_at f xs k y at
+use Rattle.scip_build.proofs.LinkingLemmas.{mapped_at}
 
 -- the files that are kept, among all
 linked_kept : (omissions : Omissions) (all : List ReadFile)
@@ -68,7 +56,7 @@ module _ (faulty : Faulty) (dialect : Dialect) (allows : Seen → Choice → Typ
   linked_at number file at =
       let read = mapped_at linked_file readings number file at in
       let within : number < length tree = rw (sym are.one_each) (slice_get_within readings number read.0 read.1) in
-      let there = at_number tree number within in
+      let there = item_at tree number within in
       record {
         reading = read.0;
         of = there.0;

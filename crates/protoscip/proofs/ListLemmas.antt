@@ -2,18 +2,10 @@
 use Rattle.std.proofs.Common.{◌≡◌, ◌∙◌, ℕ, zero, suc, List, [], ◌∷◌, Some, ap}
 use Rattle.std.specs.Prelude.{Bool, true, false, cond, Contains}
 use Rattle.std.specs.List.{slice_get, filter, find}
-use Rattle.std.proofs.lemmas.Option.{same_Some, none-some, slice_get_within, slice_get-get_or, get_or_from_slice_get}
+use Rattle.std.proofs.lemmas.Option.{same_Some, none-some}
 use Rattle.std.proofs.lemmas.List.Elements.{All-contains, All-contains_itself, All-filter, filter_passes}
-use Rattle.std.proofs.lemmas.List.Elements.{Contains-append_right}
-
-pub place_of : {X : Type 0} (xs : List X) (x : X) (there : Contains xs x) → slice_get xs there.0 ≡ Some x
-place_of xs x there = slice_get-get_or xs there.0 x there.1 ∙ ap Some there.2
-
-pub contained : {X : Type 0} (xs : List X) (k : ℕ) (x : X) → slice_get xs k ≡ Some x → Contains xs x
-contained xs k x at = (k, slice_get_within xs k x at, get_or_from_slice_get xs k x x at)
-
-pub behind : {X : Type 0} (y : X) (ys : List X) (x : X) → Contains ys x → Contains (y ∷ ys) x
-behind y ys x there = Contains-append_right (y ∷ []) ys x there
+use Rattle.source_tree.proofs.OrderLemmas.{behind_it}
+use Rattle.proto_visibility.proofs.FirstLemmas.{contained}
 
 module _ {X : Type 0} (test : X → Bool) where
   -- what a filter lets through,
@@ -32,7 +24,7 @@ module _ {X : Type 0} (test : X → Bool) where
   kept (y ∷ ys) (suc k) x at passes =
       let others = kept ys k x at passes in
       elim (test y) as (λ b. Contains (cond b (y ∷ filter test ys) (filter test ys)) x)
-      [ true ↦ behind y (filter test ys) x others | false ↦ others ]
+      [ true ↦ behind_it y (filter test ys) x others | false ↦ others ]
 
   -- what is found is there
   pub found : (xs : List X) (x : X) → find test xs ≡ Some x → Contains xs x
@@ -40,5 +32,5 @@ module _ {X : Type 0} (test : X → Bool) where
   found (y ∷ ys) x is =
       (elim (test y) as (λ b. cond b (Some y) (find test ys) ≡ Some x → Contains (y ∷ ys) x) [
         | true ↦ λ e. contained (y ∷ ys) zero x e
-        | false ↦ λ e. behind y ys x (found ys x e)
+        | false ↦ λ e. behind_it y ys x (found ys x e)
       ]) is

@@ -15,7 +15,9 @@ use Rattle.std.proofs.lemmas.Map.Made.{length-le_from_is_member}
 use Rattle.std.proofs.lemmas.List.Elements.{All-contains, All-contains_itself, All-from_recursion, All-weaker}
 use Rattle.std.proofs.lemmas.List.Elements.{Contains-append_cases, Contains-append_left, recursion_from_All}
 use Rattle.std.proofs.lemmas.Option.{same_Some, none-some}
-use Rattle.protoscip.proofs.ListLemmas.{contained, behind, filtered}
+use Rattle.protoscip.proofs.ListLemmas.{filtered}
+use Rattle.source_tree.proofs.OrderLemmas.{behind_it}
+use Rattle.proto_visibility.proofs.FirstLemmas.{contained}
 
 -- ---- numbered lists
 
@@ -50,7 +52,7 @@ module _ {X A : Type 0} (f : X → List A) where
   from_flat [] y there = absurd (omega (arith, there.1))
   from_flat (x ∷ xs) y there = elim (Contains-append_cases (f x) (flat_map f xs) y there) [
     | inl here ↦ (x, contained (x ∷ xs) zero x refl, here)
-    | inr others ↦ (let of = from_flat xs y others in (of.0, behind x xs of.0 of.1, of.2))
+    | inr others ↦ (let of = from_flat xs y others in (of.0, behind_it x xs of.0 of.1, of.2))
   ]
 
   pub to_flat : (xs : List X) (k : ℕ) (x : X) (y : A) → slice_get xs k ≡ Some x → Contains (f x) y
@@ -63,7 +65,7 @@ module _ {X A : Type 0} (f : X → List A) where
     where
       after : (front : List A) → Contains (flat_map f xs) y → Contains (front ++ flat_map f xs) y
       after [] there = there
-      after (a ∷ front) there = behind a (front ++ flat_map f xs) y (after front there)
+      after (a ∷ front) there = behind_it a (front ++ flat_map f xs) y (after front there)
 
 -- ---- lists that rise
 
@@ -93,7 +95,7 @@ module _ {X : Type 0} (cmp : X → X → Ordering) where
       | inl here ↦ before_one x xs up.0 y here
       | inr later ↦ before x y (contained (x ∷ xs) zero x refl) later
     ]),
-    rising_append xs ys up.1 also (λ z y here later. before z y (behind x xs z here) later),
+    rising_append xs ys up.1 also (λ z y here later. before z y (behind_it x xs z here) later),
   )
 
   pub rising_filter : (test : X → Bool) (xs : List X) → IsStrictlySortedBy cmp xs
@@ -109,17 +111,6 @@ module _ {X : Type 0} (cmp : X → X → Ordering) where
         )
         | false ↦ others
       ]
-
-  -- of two places of a list that rises the later has the greater
-  pub rising_at : (xs : List X) (i j : ℕ) (x y : X) → IsStrictlySortedBy cmp xs → i < j → slice_get xs i ≡ Some x
-      → slice_get xs j ≡ Some y → cmp x y ≡ Less
-  unfolding IsStrictlySortedBy
-  rising_at [] i j x y up less at and = absurd (none-some x at)
-  rising_at (z ∷ xs) i zero x y up less at and = absurd (omega (arith, less))
-  rising_at (z ∷ xs) zero (suc j) x y up less at and =
-      let Before : X → Type 0 = λ w. cmp w y ≡ Less in
-      subst Before (same_Some z x at) (before_one z xs up.0 y (contained xs j y and))
-  rising_at (z ∷ xs) (suc i) (suc j) x y up less at and = rising_at xs i j x y up.1 (omega (arith, less)) at and
 
   -- a list that rises and has nothing but what another has is no longer
   pub no_longer : IsTotalOrder cmp → (xs ys : List X) → IsStrictlySortedBy cmp xs

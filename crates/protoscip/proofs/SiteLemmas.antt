@@ -19,9 +19,10 @@ use Rattle.scip_query.specs.OccurrenceAt.{Subject, subject_at, subject_in, subje
 use Rattle.scip_query.specs.References.{is_local, is_of, is_definition}
 use Rattle.scip_query.specs.Sites.{Site, Numbered, numbered_documents, sites_in, sites_of, document_named}
 use Rattle.protoscip.specs.Headline.{IsSite, site_cmp}
-use Rattle.protoscip.proofs.ListLemmas.{place_of, contained, filtered, kept, found}
+use Rattle.protoscip.proofs.ListLemmas.{filtered, kept, found}
 use Rattle.protoscip.proofs.RisingLemmas.{from_numbered, to_numbered, from_flat, to_flat, below, level, before_all}
 use Rattle.protoscip.proofs.RisingLemmas.{rising_append, rising_filter}
+use Rattle.proto_visibility.proofs.FirstLemmas.{contained, at_contained}
 
 -- ---- what stands in an index
 
@@ -34,7 +35,7 @@ numbered_in : (n : ℕ) (documents : List Document) (d : Numbered)
     → (k : ℕ) × (d.number ≡ n + k) × (slice_get documents k ≡ Some d.document)
 numbered_in n documents d there =
     let of = from_numbered numbering n documents there.0 d
-    (place_of (map numbering (enumerate_from n documents)) d there) in
+    (at_contained (map numbering (enumerate_from n documents)) d there) in
     (there.0, ap (λ (e : Numbered). e.number) of.2, of.1 ∙ ap Some (sym (ap (λ (e : Numbered). e.document) of.2)))
 
 numbered : (index : Index) (d : Numbered) → Contains (numbered_documents index) d
@@ -64,7 +65,7 @@ sited_in : (d : Numbered) (n : ℕ) (occurrences : List Occurrence) (site : Site
     → Contains (map (siting d) (enumerate_from n occurrences)) site → IsSited d n occurrences site
 sited_in d n occurrences site there =
     let of = from_numbered (siting d) n occurrences there.0 site
-    (place_of (map (siting d) (enumerate_from n occurrences)) site there) in
+    (at_contained (map (siting d) (enumerate_from n occurrences)) site there) in
     record {
       k = there.0;
       of_number = ap (λ (s : Site). s.place.document) of.2;
@@ -220,7 +221,7 @@ just index test P decides = record {
     λ there. let f = filtered test (sites_of index) site there in (site_from index site f.0, (decides site).0 f.1),
     λ both.
         let there = site_to index site both.0 in
-        kept test (sites_of index) there.0 site (place_of (sites_of index) site there) ((decides site).1 both.1),
+        kept test (sites_of index) there.0 site (at_contained (sites_of index) site there) ((decides site).1 both.1),
   );
   ascends = rising_filter site_cmp test (sites_of index) (rising_from 0 index.documents);
 }

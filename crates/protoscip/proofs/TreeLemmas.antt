@@ -1,5 +1,5 @@
 -- The tree of sources and included files is a tree: so the headline applies to what is read from files.
-use Rattle.std.proofs.Common.{◌≡◌, inl, inr, ℕ, zero, suc, ◌<◌, Some, List, [], ◌∷◌, ◌++◌, map, sym, ap, refl, subst}
+use Rattle.std.proofs.Common.{◌≡◌, inl, inr, ℕ, zero, ◌<◌, Some, List, ◌∷◌, ◌++◌, map, sym, refl, subst}
 use Rattle.std.proofs.Common.{arith}
 use Rattle.std.specs.Prelude.{true, false, All, Contains}
 use Rattle.std.specs.declared.cmp.Ordering.TheVariants.{Less}
@@ -10,25 +10,16 @@ use Rattle.std.proofs.lemmas.Bool.{cases_order}
 use Rattle.std.proofs.lemmas.List.{length-append, length-map}
 use Rattle.std.proofs.lemmas.List.Elements.{All-contains, All-contains_itself, All-weaker, Contains-append_left}
 use Rattle.std.proofs.lemmas.List.Elements.{Contains-append_right}
-use Rattle.std.proofs.lemmas.Option.{same_Some, none-some}
 use Rattle.scip_symbol.specs.Path.{IsGoodPath}
 use Rattle.source_tree.specs.Files.{SourceFile, TreeFile, in_tree, paths_of, file_cmp}
 use Rattle.source_tree.specs.Trees.{IsTree, IsTreeOf, IsFileOf, of_source, of_included, Counts, HaveOwnPaths}
 use Rattle.source_tree.proofs.OrderLemmas.{not_below_itself}
 use Rattle.source_tree.proofs.PathLemmas.{paths_total}
 use Rattle.source_tree.proofs.TreeLemmas.{files_total}
-use Rattle.protoscip.proofs.ListLemmas.{place_of, contained}
-use Rattle.protoscip.proofs.RisingLemmas.{no_longer, rising_at}
-
--- what a list has a mapped list has
-mapping : {X Y : Type 0} (f : X → Y) (xs : List X) (k : ℕ) (x : X) → slice_get xs k ≡ Some x
-    → slice_get (map f xs) k ≡ Some (f x)
-mapping f [] k x at = absurd (none-some x at)
-mapping f (y ∷ ys) zero x at = ap Some (ap f (same_Some y x at))
-mapping f (y ∷ ys) (suc k) x at = mapping f ys k x at
-
-mapped : {X Y : Type 0} (f : X → Y) (xs : List X) (x : X) → Contains xs x → Contains (map f xs) (f x)
-mapped f xs x there = contained (map f xs) there.0 (f x) (mapping f xs there.0 x (place_of xs x there))
+use Rattle.scip_build.proofs.PlaceLemmas.{rising_at}
+use Rattle.protoscip.proofs.RisingLemmas.{no_longer}
+use Rattle.proto_link.proofs.OneItemLemmas.{contains_map}
+use Rattle.proto_visibility.proofs.FirstLemmas.{contained}
 
 module _ (sources included : List SourceFile) where
   listed : (file : SourceFile) → Counts sources included file → Contains included file
@@ -42,10 +33,10 @@ module _ (sources included : List SourceFile) where
       → Contains (map (in_tree false) sources ++ map (in_tree true) included) file
   given _ (of_source {file = file} there) =
       Contains-append_left (map (in_tree false) sources) (map (in_tree true) included) (in_tree false file)
-      (mapped (in_tree false) sources file there)
+      (contains_map (in_tree false) sources file there)
   given _ (of_included {file = file} counts) =
       Contains-append_right (map (in_tree false) sources) (map (in_tree true) included) (in_tree true file)
-      (mapped (in_tree true) included file (listed file counts))
+      (contains_map (in_tree true) included file (listed file counts))
 
   good : All (λ (file : SourceFile). IsGoodPath file.path) (sources ++ included) → (file : TreeFile)
       → IsFileOf sources included file → IsGoodPath file.path
@@ -65,7 +56,7 @@ module _ (sources included : List SourceFile) where
   not_counted : (x y : SourceFile) → Contains sources x → Counts sources included y → x.path ≡ y.path → ⊥
   not_counted x y there counts same =
       let Has : List ℕ → Type 0 = λ path. Contains (paths_of sources) path in
-      counts.apart (subst Has same (mapped (λ (f : SourceFile). f.path) sources x there))
+      counts.apart (subst Has same (contains_map (λ (f : SourceFile). f.path) sources x there))
 
   apart : (a b : TreeFile) → IsFileOf sources included a → IsFileOf sources included b → file_cmp a b ≡ Less
       → a.path ≡ b.path → ⊥

@@ -20,6 +20,7 @@ use Rattle.proto_visibility.specs.Sees.{Sees}
 use Rattle.proto_visibility.specs.Knows.{NameKind, Knows, is_type}
 use Rattle.proto_visibility.specs.Knows.NameKind.{OfPackage as IsPackageKind}
 use Rattle.proto_visibility.specs.Knows.Knows.{declared as known_declared, packaged as known_packaged}
+use Rattle.proto_visibility.proofs.FirstLemmas.{item_at, at_contained}
 use Rattle.proto_link.specs.Targets.{IsNamed}
 use Rattle.proto_link.specs.Targets.IsNamed.{packaged as named_package, declared as named_declared}
 use Rattle.proto_link.proofs.TargetLemmas.{used_fit, resolved_type}
@@ -27,8 +28,6 @@ use Rattle.scip_symbol.specs.Entities.{Entity, OfPackage}
 use Rattle.scip_document.specs.Conditions.{IsResolved}
 use Rattle.scip_document.specs.Named.{NamesIn, IsNamedAs, declaration_at}
 use Rattle.protoscip.specs.UseLaws.{EachUseHasATarget}
-use Rattle.protoscip.proofs.LinkedLemmas.{at_number}
-use Rattle.protoscip.proofs.ListLemmas.{place_of}
 
 -- ---- a list of what there is for each place
 
@@ -64,7 +63,7 @@ module _ (files : List File) (file : ℕ) where
       let Is : List ℕ → Type 0 = λ front. Knows files file front IsPackageKind in
       (link.Package count, named_package (subst Is same (known_packaged sees has some few)))
   entity_named seen facts sees has name count _ (entity_declared {declaration = declared} there) same =
-      (link.Declared seen there.0, named_declared sees has (place_of facts.declarations declared there) same)
+      (link.Declared seen there.0, named_declared sees has (at_contained facts.declarations declared there) same)
 
   module _ (fronts : (facts : Facts) → AreOfSomeFile facts → PrefixesAreEntities facts)
       (origins : HaveOrigins files) where
@@ -116,7 +115,7 @@ module _ (files : List File) (source : ℕ) where
       → (part : Part) × (entity : Entity) × NamesIn files source component part entity
   component_names targets origins facts type_use component is has listed among type_name =
       let target = targets files origins source type_use type_name.0 type_name.1 in
-      let part = at_number target.0.parts among.0 (omega (arith, among.1, target.1.one_each)) in
+      let part = item_at target.0.parts among.0 (omega (arith, among.1, target.1.one_each)) in
       let entity = named_as target.0.name _ part.0 (target.1.named among.0 part.0 part.1) in (
         part.0,
         entity.0,
@@ -128,7 +127,7 @@ module _ (files : List File) (source : ℕ) where
           has_facts = has;
           listed = listed;
           is_target = target.1;
-          component_is = place_of type_use.components component among;
+          component_is = at_contained type_use.components component among;
           part_is = part.1;
           entity_is = entity.1;
         },

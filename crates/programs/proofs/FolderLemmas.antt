@@ -1,12 +1,11 @@
 -- The packages of files, by the folders that they are read from.
 use Rattle.std.proofs.Common.{◌≡◌, ◌∙◌, ◌⊎◌, inl, inr, refl, sym, ap, subst, ℕ, Bool, true, false, List, [], ◌∷◌, ◌++◌}
-use Rattle.std.proofs.Common.{Option, map, length, ◌||◌, ◌<◌, ◌+◌, ◌==◌, suc, arith, take, drop, ap₂, get_or, add-one}
+use Rattle.std.proofs.Common.{Option, map, length, ◌||◌, ◌<◌, ◌+◌, take, drop, ap₂, get_or, add-one}
 use Rattle.std.proofs.Common.{drop-cons}
 use Rattle.std.specs.Prelude.{All, if◌then◌else◌, string_bytes}
 use Rattle.std.specs.List.{AllZip, list_any}
 use Rattle.std.specs.Str.{bytes_eq}
 use Rattle.std.proofs.Math.Bool.{or-false}
-use Rattle.std.proofs.lemmas.Bool.{eqb-true}
 use Rattle.std.proofs.lemmas.List.{append-nil, append_assoc, take-append-drop, map-append, take_more}
 use Rattle.std.proofs.lemmas.List.Elements.{All-nil, All-cons, All-head, All-tail, All-push}
 use Rattle.std.proofs.lemmas.List.Folds.{list_any-append}
@@ -225,12 +224,6 @@ package_more folders number folder old new id below is so_far named more =
       subst (λ (l : List PackageFolder). All (λ earlier. IsPackage (folder_package earlier)) l) (sym next)
           (All-push (λ earlier. IsPackage (folder_package earlier)) (take number folders) folder so_far.1 named.1),
     )
-
--- nothing is there
-pub none_there : {A : Type 0} (xs : List A) (count : ℕ) → length xs ≡ count → (count == 0) ≡ true → xs ≡ []
-none_there [] count is none = refl
-none_there (x ∷ xs) count is none =
-    let never : suc (length xs) ≡ 0 = is ∙ eqb-true count 0 none in absurd (omega (arith, never))
 
 -- ---- folders whose package isn't one
 

@@ -3,8 +3,9 @@ use Rattle.command_line.specs.declared.options.PackageFolder.{PackageFolder}
 use Rattle.scip_symbol.specs.Package.{Package}
 use Rattle.scip_document.specs.Packages.{Packages}
 use Rattle.programs.specs.Folders.{AreFolders}
-use Rattle.programs.proofs.FolderLemmas.{folders_of_run, none_there}
+use Rattle.programs.proofs.FolderLemmas.{folders_of_run}
 use Rattle.programs.proofs.folders.load_folders.Goals as goal
+use Rattle.source_files.proofs.WalkLemmas.{none_there}
 
 pub returns-then-is_empty-clause-folders : goal.returns-then-is_empty-clause-folders
 returns-then-is_empty-clause-folders g c =

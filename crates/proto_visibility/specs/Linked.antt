@@ -43,8 +43,5 @@ pub record AreChecked {S : Type 0} (files : List File) (numbers : HashMap (Bor (
 -- what a namespace keeps of its files
 pub record IsLinked {S : Type 0} (files : List File) (numbers : HashMap (Bor (List ℕ)) ℕ S) (rows : List (List ℕ))
     (names : Names) : Type 0 where
-  pub clear_names : HaveClearNames files
-  pub origins : HaveOrigins files
-  pub numbers_are : AreNumbered files numbers
-  pub rows_are : AreRowsBy (Imports files) (length files) rows
+  pub checked : AreChecked files numbers rows
   pub names_are : AreNames files names

@@ -10,7 +10,7 @@ use Rattle.proto_visibility.proofs.namespace.Namespace.first_giving.Goals as goa
 
 pub row-requires : goal.row-requires
 row-requires c =
-    subst (λ n. c.args.file < n) (sym c.self.invariant.rows_are.one_each)
+    subst (λ n. c.args.file < n) (sym c.self.invariant.checked.rows_are.one_each)
     (subst (λ (fs : List File). c.args.file < length fs) (sym c.self.view_is) c.requires)
 
 pub returns : goal.returns
@@ -20,7 +20,7 @@ returns c =
     let role = admits c.args.role in
     let same : files ≡ c.args.self.now = c.self.view_is in
     let sees : (number : ℕ) → Contains row number ↔ Sees files c.args.file number =
-    c.self.invariant.rows_are.each c.args.file row c.row.ensures in
+    c.self.invariant.checked.rows_are.each c.args.file row c.row.ensures in
     let found = found_in_files files c.self.inside.names c.self.invariant.names_are c.args.role c.args.name.now row
     c.first_giving.result c.first_giving.ensures in
     subst (λ (fs : List File). MatchOption c.first_giving.result (KnowsAs fs c.args.file role c.args.name.now → ⊥)

@@ -8,5 +8,5 @@ pub returns : goal.returns
 returns c =
     subst (λ (fs : List File). IsTrue c.is_numbered.result ↔ HasPath fs c.args.path.now) c.self.view_is
     (path_iff c.self.inside.files.now
-    (number_in c.self.inside.numbers) c.self.invariant.numbers_are c.args.path.now c.is_numbered.result
+    (number_in c.self.inside.numbers) c.self.invariant.checked.numbers_are c.args.path.now c.is_numbered.result
     c.is_numbered.ensures)

@@ -5,6 +5,7 @@ ghost use Rattle.proto_grammar.specs.Gives.{Gives};
 ghost use Rattle.proto_grammar.specs.declared.tree.CustomOptions.TheVariants.{Skip};
 ghost use Rattle.proto_parse.specs.Reading.Messages.{heading_at, value_at, enum_item_at, enum_items_at, enum_at};
 
+use crate::fitting::fitted;
 use proto_grammar::{CustomOptions, Enum, Heading, Parser, SyntaxFault, keep};
 use proto_lex::TokenKind;
 use sequences::Sequence;
@@ -90,5 +91,6 @@ pub(crate) fn enumeration(
     let heading = heading(parser, "enum")?;
     let values = enum_items(parser, alloc, custom)?;
     parser.token(TokenKind::CloseBrace)?;
+    let values = Sequence::from_vec(fitted(alloc, values.into_vec())?);
     Ok(Enum { heading, values })
 }

@@ -3,6 +3,7 @@
 
 mod enums;
 mod files;
+mod fitting;
 mod laws;
 mod messages;
 mod parsing;

@@ -12,6 +12,7 @@ ghost use Rattle.proto_parse.specs.Reading.Messages.{extend_statement_at, messag
 ghost use Rattle.proto_parse.specs.Reading.Messages.{item_at, inside_at};
 
 use crate::enums::{enumeration, heading};
+use crate::fitting::fitted;
 use crate::passed::passed_extend;
 use crate::statement::{MessageStatement, Within};
 use proto_grammar::{Block, Head, Item, Label, Leaf, Parser, Syntax, SyntaxFault};
@@ -378,7 +379,7 @@ fn braced(
 {
     let items = items(parser, alloc, syntax, levels, within)?;
     parser.token(TokenKind::CloseBrace)?;
-    Ok(items)
+    Ok(fitted(alloc, items)?)
 }
 
 /// Puts the item at the end, if there is one.

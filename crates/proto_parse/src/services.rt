@@ -8,6 +8,7 @@ ghost use Rattle.proto_parse.specs.Reading.Services.{method_body_at, method_end_
 ghost use Rattle.proto_parse.specs.Reading.Services.{service_items_at, service_at};
 
 use crate::enums::heading;
+use crate::fitting::fitted;
 use proto_grammar::{CustomOptions, Heading, Method, Parser, Service, SyntaxFault, TypeName, keep};
 use proto_lex::{Span, TokenKind};
 use sequences::Sequence;
@@ -155,5 +156,6 @@ pub(crate) fn service(
     let heading = heading(parser, "service")?;
     let methods = service_items(parser, alloc, custom)?;
     parser.token(TokenKind::CloseBrace)?;
+    let methods = Sequence::from_vec(fitted(alloc, methods.into_vec())?);
     Ok(Service { heading, methods })
 }

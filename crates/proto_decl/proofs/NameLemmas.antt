@@ -25,7 +25,6 @@ use Rattle.proto_decl.specs.Outlines.{name_of, step_named, step_to, outline_at, 
 use Rattle.proto_decl.specs.Outlines.{scope_heading, in_enum, in_head, in_leaf, in_body, in_item, file_surrounding}
 use Rattle.proto_decl.specs.Outlines.{outlines_of}
 use Rattle.proto_decl.specs.Declares.{IsDeclaration, simple_name}
-use Rattle.proto_decl.specs.Paths.{last_kind}
 use Rattle.proto_decl.specs.Laws.{AreOfGroup, IsSpelled, IsNamedAt}
 use Rattle.proto_decl.specs.Laws.IsSpelled.{as_it_stands, as_its_group}
 use Rattle.proto_decl.specs.declared.kind.DeclarationKind.{DeclarationKind}
@@ -41,34 +40,6 @@ pub simple_name-push : (path : List DeclarationStep) (step : DeclarationStep)
 simple_name-push [] step = refl
 simple_name-push (first ∷ []) step = refl
 simple_name-push (first ∷ (next ∷ others)) step = simple_name-push (next ∷ others) step
-
--- the last step's kind, and an outline by its scope's full name and its path
-pub last_kind-push : (path : List DeclarationStep) (step : DeclarationStep) → last_kind (path ++ step ∷ []) ≡ step.kind
-last_kind-push [] step = refl
-last_kind-push (first ∷ []) step = refl
-last_kind-push (first ∷ (next ∷ others)) step = last_kind-push (next ∷ others) step
-
-abbrev outline_on : (scope : List ℕ) → List DeclarationStep → Heading → Outline
-outline_on scope path heading = record {
-  kind = last_kind path;
-  full_name = qualified scope (simple_name path);
-  path = path;
-  heading = heading;
-}
-
-pub outline_on-push : (scope : List ℕ) (path outer : List DeclarationStep) (last : DeclarationStep) (heading : Heading)
-    → path ≡ outer ++ last ∷ []
-    → outline_on scope path heading
-    ≡ record {
-      kind = last.kind;
-      full_name = qualified scope last.name;
-      path = outer ++ last ∷ [];
-      heading = heading;
-    }
-outline_on-push scope path outer last heading is =
-    let kind = ap last_kind is ∙ last_kind-push outer last in
-    let name = ap simple_name is ∙ simple_name-push outer last in
-    λ i. record { kind = kind i; full_name = qualified scope (name i); path = is i; heading = heading }
 
 -- the field and the message of one group
 record OfGroup (text : List ℕ) (field message : Outline) : Type 0 where

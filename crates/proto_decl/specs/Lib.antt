@@ -7,7 +7,6 @@ pub mod Spans
 pub mod Imports
 -- what contracts see of a declaration
 pub mod Values
-pub mod Paths
 -- what a file declares, and which comments document it
 pub mod Outlines
 pub mod Comments

@@ -1,4 +1,4 @@
--- What contracts see of a declaration, and of one before its comments are looked for.
+-- What contracts see of a declaration, of one before its comments are looked for, and of what is around it.
 use Rattle.std.specs.Prelude.{ℕ, List}
 use Rattle.proto_lex.specs.declared.span.Span.{Span}
 use Rattle.proto_parse.specs.tree.Heading.{Heading}
@@ -20,3 +20,8 @@ pub record Outline : Type 0 where
   pub full_name : List ℕ
   pub path : List DeclarationStep
   pub heading : Heading
+
+-- The full name of the scope that declarations are in, and the path to what they are in.
+pub record Surrounding : Type 0 where
+  pub scope : List ℕ
+  pub path : List DeclarationStep

@@ -3,13 +3,12 @@
 ghost use Rattle.std.specs.Prelude.{◌≡◌, ◌++◌, ◌∷◌, [], IfOk};
 ghost use Rattle.proto_decl.specs.Names.{qualified};
 ghost use Rattle.proto_decl.specs.Declares.{simple_name};
-ghost use Rattle.proto_decl.specs.Paths.{last_kind};
 
 use crate::full_name::FullName;
 use crate::kind::DeclarationKind;
 use crate::named_declaration::NamedDeclaration;
-use crate::path::{DeclarationPath, SharedSteps};
-use crate::scope_name::ScopeName;
+use crate::path::DeclarationPath;
+use crate::surrounding::Surrounding;
 use lent_texts::{KeptText, LentText};
 use proto_lex::Span;
 use proto_parse::Heading;
@@ -23,30 +22,15 @@ pub struct DeclarationStep<'t> {
     pub name: KeptText<'t>,
 }
 
-/// The kind of what a path leads to.
-fn last_kind(path: &DeclarationPath<'_>) -> DeclarationKind
-    ensures { result ≡ last_kind path.now }
-{
-    let (_, step) = path.parts();
-    step.kind
-}
-
-/// The simple name of what a path leads to.
-fn simple_name<'a>(path: &'a DeclarationPath<'_>) -> &'a str
-    ensures { result.now ≡ simple_name path.now }
-{
-    let (_outer, last) = path.parts();
-    last.name.as_str()
-}
-
 /// A declaration of a file.
 ///
 /// Contracts see its kind, its full name, its path, the place of its simple name, and its comments' texts. The full
-/// name has no text of its own: its parts are the scope's full name, which many share, and the simple name.
+/// name has no text of its own: its parts are the scope's full name and the simple name. The scope's full name and the
+/// path to what it is in are shared with all that is there.
 #[derive(Debug, Drop)]
 pub struct Declaration<'t> {
-    scope: ScopeName,
-    path: DeclarationPath<'t>,
+    surrounding: Surrounding<'t>,
+    last: DeclarationStep<'t>,
     name: Span,
     leading: KeptText<'t>,
     trailing: LentText<'t>,
@@ -57,14 +41,13 @@ impl<'t> Model for Declaration<'t> {
 
     ghost Value = { Declaration };
 
+    ghost use Rattle.std.specs.Prelude.{◌++◌, ◌∷◌, []};
     ghost use Rattle.proto_decl.specs.Names.{qualified};
-    ghost use Rattle.proto_decl.specs.Declares.{simple_name};
-    ghost use Rattle.proto_decl.specs.Paths.{last_kind};
 
     ghost view = { λ declaration. record {
-      kind = last_kind declaration.path;
-      full_name = qualified declaration.scope (simple_name declaration.path);
-      path = declaration.path;
+      kind = declaration.last.kind;
+      full_name = qualified declaration.surrounding.scope declaration.last.name;
+      path = declaration.surrounding.path ++ declaration.last ∷ [];
       name = declaration.name;
       leading = declaration.leading;
       trailing = declaration.trailing;
@@ -88,8 +71,8 @@ impl<'t> Declaration<'t> {
         } }
     {
         Declaration {
-            scope: outline.scope,
-            path: outline.path,
+            surrounding: outline.surrounding,
+            last: outline.last,
             name: outline.heading.name,
             leading,
             trailing,
@@ -100,23 +83,23 @@ impl<'t> Declaration<'t> {
     pub fn kind(&self) -> DeclarationKind
         ensures { result ≡ self.now.kind }
     {
-        last_kind(&self.path)
+        self.last.kind
     }
 
     /// The path from the package to the declaration, outermost first: the messages or the service
     /// around it, for a value its enum, and last the declaration itself. A oneof stands in no path
     /// but its own, and an `extend` in none.
-    pub fn path(&self) -> &DeclarationPath<'t>
-        ensures { result.now ≡ self.now.path }
+    pub fn path(&self) -> DeclarationPath<'_, 't>
+        ensures { result ≡ self.now.path }
     {
-        &self.path
+        DeclarationPath::new(self.surrounding.path(), &self.last)
     }
 
     /// The simple name. That of a group's field is the group's name in small letters.
     pub fn simple_name(&self) -> &str
         ensures { result.now ≡ simple_name self.now.path }
     {
-        simple_name(&self.path)
+        self.last.name.as_str()
     }
 
     /// Where its simple name stands. The name of a group's field stands nowhere: its place is the word `group`.
@@ -145,7 +128,7 @@ impl<'t> Declaration<'t> {
     pub fn full_name(&self) -> FullName<'_>
         ensures { result ≡ self.now.full_name }
     {
-        FullName::in_scope(&self.scope, simple_name(&self.path))
+        FullName::within(&self.surrounding, self.last.name.as_str())
     }
 
     /// The declaration with the text of its full name.
@@ -163,8 +146,8 @@ impl<'t> Declaration<'t> {
 /// be spelled at its name's place.
 #[derive(Debug, Drop)]
 pub(crate) struct Outline<'t> {
-    scope: ScopeName,
-    path: DeclarationPath<'t>,
+    surrounding: Surrounding<'t>,
+    last: DeclarationStep<'t>,
     heading: Heading,
 }
 
@@ -173,37 +156,34 @@ impl<'t> Model for Outline<'t> {
 
     ghost Value = { Outline };
 
+    ghost use Rattle.std.specs.Prelude.{◌++◌, ◌∷◌, []};
     ghost use Rattle.proto_decl.specs.Names.{qualified};
-    ghost use Rattle.proto_decl.specs.Declares.{simple_name};
-    ghost use Rattle.proto_decl.specs.Paths.{last_kind};
 
     ghost view = { λ outline. record {
-      kind = last_kind outline.path;
-      full_name = qualified outline.scope (simple_name outline.path);
-      path = outline.path;
+      kind = outline.last.kind;
+      full_name = qualified outline.surrounding.scope outline.last.name;
+      path = outline.surrounding.path ++ outline.last ∷ [];
       heading = outline.heading;
     } };
 }
 
 impl<'t> Outline<'t> {
-    /// The outline of what the last step leads to behind these, in the scope with this full name, at this heading.
+    /// The outline of what the last step leads to in this surrounding, at this heading.
     pub(crate) fn new(
-        scope: ScopeName,
-        outer: SharedSteps<'t>,
+        surrounding: Surrounding<'t>,
         last: DeclarationStep<'t>,
         heading: Heading,
     ) -> Outline<'t>
         ensures { result ≡ record {
           kind = last.entry.kind;
-          full_name = qualified scope last.entry.name;
-          path = outer.entry ++ last.entry ∷ [];
+          full_name = qualified surrounding.entry.scope last.entry.name;
+          path = surrounding.entry.path ++ last.entry ∷ [];
           heading = heading;
         } }
     {
-        let path = DeclarationPath::new(outer, last);
         Outline {
-            scope,
-            path,
+            surrounding,
+            last,
             heading,
         }
     }

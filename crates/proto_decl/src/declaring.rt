@@ -20,8 +20,6 @@ use crate::facts::FileFacts;
 use crate::imports::imports_of;
 use crate::layout::{Begun, begun_before};
 use crate::package::{package_scope, package_spans};
-use crate::path::SharedSteps;
-use crate::scope_name::ScopeName;
 use crate::surrounding::Surrounding;
 use crate::type_use::Use;
 use crate::type_uses::components_at;
@@ -142,10 +140,7 @@ fn declared_in<'t>(
     ensures uses { IfOk result (λ made. made.1.items
         ≡ flat_map (uses_in_item text.now scope) items.items) }
 {
-    let surrounding = Surrounding {
-        scope: ScopeName::new(alloc, scope)?,
-        path: SharedSteps::new(alloc, Sequence::new(alloc))?,
-    };
+    let surrounding = Surrounding::new(alloc, scope, Sequence::new(alloc))?;
     declared_at(alloc, lexed, text, &surrounding, items)
 }
 

@@ -27,6 +27,7 @@ ghost use Rattle.proto_decl.specs.FullNames as spec;
 use crate::mixing::mixed_on;
 use crate::names::qualified;
 use crate::scope_name::ScopeName;
+use crate::surrounding::Surrounding;
 use sequences::OwnedText;
 use std::alloc::{AllocError, Global};
 use std::hash::{Hash, Hasher};
@@ -57,12 +58,19 @@ impl<'a> Model for FullName<'a> {
 
 impl<'a> FullName<'a> {
     /// The full name of this name in this scope.
-    pub fn in_scope(scope: &'a ScopeName, name: &'a str) -> FullName<'a>
+    pub fn in_scope(scope: &'a ScopeName<'_>, name: &'a str) -> FullName<'a>
         ensures { result ≡ qualified scope.now name.now }
     {
+        FullName::within(scope.surrounding(), name)
+    }
+
+    /// The full name of this name in the scope of a surrounding.
+    pub(crate) fn within(surrounding: &'a Surrounding<'_>, name: &'a str) -> FullName<'a>
+        ensures { result ≡ qualified surrounding.now.scope name.now }
+    {
         FullName {
-            scope: scope.as_str(),
-            mixed: scope.mixed(),
+            scope: surrounding.scope(),
+            mixed: surrounding.mixed(),
             name,
         }
     }

@@ -2,6 +2,7 @@
 #![tactic(auto)]
 
 mod ancestors;
+mod around;
 mod comment_text;
 mod comments;
 mod declaration;

@@ -2,25 +2,80 @@
 
 ghost use Rattle.std.specs.Prelude.{◌≡◌, ◌++◌, ◌∷◌, [], IfOk};
 ghost use Rattle.proto_lex.specs.Lexed.{IsPart};
+ghost use Rattle.proto_decl.specs.FullNames.{mixed_front};
 ghost use Rattle.proto_decl.specs.Outlines.{scope_heading, step_to, inside, beside};
 
+use crate::around::Around;
 use crate::declaration::DeclarationStep;
 use crate::kind::DeclarationKind;
 use crate::names::{qualified, spelling_at};
-use crate::path::SharedSteps;
-use crate::scope_name::ScopeName;
 use lent_texts::KeptText;
 use proto_parse::{Head, Heading};
-use sequences::Sequence;
+use sequences::{OwnedText, Sequence};
 use std::alloc::{AllocError, Global};
+use std::marker::Model;
+use std::sync::Arc;
 
-/// What stands around a declaration.
+/// What is around a declaration, which all that is there shares.
+///
+/// Contracts see the full name of the scope, which is empty for the root, and the path to what the declaration is in.
 #[derive(Debug, Drop)]
 pub(crate) struct Surrounding<'t> {
+    around: Arc<Around<'t>, Global>,
+}
+
+impl<'t> Model for Surrounding<'t> {
+    ghost use Rattle.std.specs.Arc.{arc_value};
+    ghost use Rattle.proto_decl.specs.Values.{Surrounding};
+
+    ghost Value = { Surrounding };
+
+    ghost view = { λ shared. arc_value shared.around };
+}
+
+impl<'t> Surrounding<'t> {
+    /// The surrounding with this full name of the scope and this path, which has one owner.
+    pub(crate) fn new(
+        alloc: Global,
+        scope: OwnedText,
+        path: Sequence<DeclarationStep<'t>>,
+    ) -> Result<Surrounding<'t>, AllocError>
+        ensures { IfOk result (λ surrounding. surrounding ≡ record { scope = scope; path = path.entry }) }
+    {
+        Ok(Surrounding {
+            around: Arc::new(alloc, Around::new(scope, path))?,
+        })
+    }
+
+    /// The same surrounding, with one owner more. Nothing is copied.
+    pub(crate) fn share(&self) -> Result<Surrounding<'t>, AllocError>
+        ensures { IfOk result (λ surrounding. surrounding ≡ self.now) }
+    {
+        Ok(Surrounding {
+            around: Arc::try_clone(&self.around)?,
+        })
+    }
+
     /// The full name of the scope; the root's is empty.
-    pub(crate) scope: ScopeName,
-    /// The path to what the declaration stands in.
-    pub(crate) path: SharedSteps<'t>,
+    pub(crate) fn scope(&self) -> &str
+        ensures { result.now ≡ self.now.scope }
+    {
+        self.around.scope()
+    }
+
+    /// What the full name of the scope is mixed to in front of a name.
+    pub(crate) fn mixed(&self) -> u64
+        ensures { result ≡ mixed_front self.now.scope }
+    {
+        self.around.mixed()
+    }
+
+    /// The path to what the declaration is in, outermost first.
+    pub(crate) fn path(&self) -> &[DeclarationStep<'t>]
+        ensures { result.now ≡ self.now.path }
+    {
+        self.around.path()
+    }
 }
 
 /// The heading of a block that is a scope: of a message or a group.
@@ -76,16 +131,16 @@ fn step_to<'t>(text: &'t str, kind: DeclarationKind, heading: Heading) -> Declar
 fn steps_through<'t>(
     alloc: Global,
     text: &'t str,
-    path: &SharedSteps<'t>,
+    path: &[DeclarationStep<'t>],
     kind: DeclarationKind,
     heading: Heading,
-) -> Result<SharedSteps<'t>, AllocError>
+) -> Result<Sequence<DeclarationStep<'t>>, AllocError>
     requires { IsPart text.now heading.name }
     ensures { IfOk result (λ longer. longer ≡ path.now ++ step_to text.now kind heading ∷ []) }
 {
-    let mut longer = copy_path(alloc, path.as_slice())?;
+    let mut longer = copy_path(alloc, path)?;
     longer.push(step_to(text, kind, heading))?;
-    SharedSteps::new(alloc, Sequence::from_vec(longer))
+    Ok(Sequence::from_vec(longer))
 }
 
 /// The surrounding of what stands in a message or a service with this heading.
@@ -99,15 +154,10 @@ pub(crate) fn inside<'t>(
     requires { IsPart text.now heading.name }
     ensures { IfOk result (λ inner. inner ≡ inside text.now surrounding.now kind heading) }
 {
-    let scope = qualified(
-        alloc,
-        surrounding.scope.as_str(),
-        spelling_at(text, heading.name),
-    )?;
-    Ok(Surrounding {
-        scope: ScopeName::new(alloc, scope)?,
-        path: steps_through(alloc, text, &surrounding.path, kind, heading)?,
-    })
+    let name = spelling_at(text, heading.name);
+    let scope = qualified(alloc, surrounding.scope(), name)?;
+    let path = steps_through(alloc, text, surrounding.path(), kind, heading)?;
+    Surrounding::new(alloc, scope, path)
 }
 
 /// The surrounding of the values of an enum with this heading.
@@ -121,8 +171,7 @@ pub(crate) fn beside<'t>(
     requires { IsPart text.now heading.name }
     ensures { IfOk result (λ inner. inner ≡ beside text.now surrounding.now kind heading) }
 {
-    Ok(Surrounding {
-        scope: surrounding.scope.share()?,
-        path: steps_through(alloc, text, &surrounding.path, kind, heading)?,
-    })
+    let scope = OwnedText::copy_of(alloc, surrounding.scope())?;
+    let path = steps_through(alloc, text, surrounding.path(), kind, heading)?;
+    Surrounding::new(alloc, scope, path)
 }

@@ -24,5 +24,5 @@ pub struct Use<'t> {
     pub span: Span,
     /// The full name of the innermost scope: the message or the service around the use. From each
     /// scope `scope_around` gives the next one.
-    pub scope: ScopeName,
+    pub scope: ScopeName<'t>,
 }

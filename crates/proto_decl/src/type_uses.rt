@@ -10,6 +10,7 @@ ghost use Rattle.proto_decl.specs.Uses as spec;
 use crate::imports::{end_of, start_of};
 use crate::names::spelling_at;
 use crate::scope_name::ScopeName;
+use crate::surrounding::Surrounding;
 use crate::type_use::{Component, Use};
 use lent_texts::LentText;
 use proto_lex::Span;
@@ -46,15 +47,15 @@ fn name_start(leading_dot: Option<Span>, components: &[Span]) -> u32
     }
 }
 
-/// The use of a type in the scope with this full name.
+/// The use of a type in a surrounding.
 fn use_of<'t>(
     alloc: Global,
     text: &'t str,
-    scope: &ScopeName,
+    surrounding: &Surrounding<'t>,
     name: &TypeName,
 ) -> Result<Use<'t>, AllocError>
     requires { OfTypeName (IsPart text.now) name.now }
-    ensures { IfOk result (λ found. found ≡ spec.use_of text.now scope.now name.now) }
+    ensures { IfOk result (λ found. found ≡ spec.use_of text.now surrounding.now.scope name.now) }
 {
     let components = name.components.as_slice();
     Ok(Use {
@@ -64,7 +65,7 @@ fn use_of<'t>(
             start: name_start(name.leading_dot, components),
             end: end_of(components),
         },
-        scope: scope.share()?,
+        scope: ScopeName::of(surrounding)?,
     })
 }
 
@@ -72,17 +73,18 @@ fn use_of<'t>(
 fn use_type<'t>(
     alloc: Global,
     text: &'t str,
-    scope: &ScopeName,
+    surrounding: &Surrounding<'t>,
     field_type: &FieldType,
     uses: &mut Vec<Use<'t>>,
 ) -> Result<(), AllocError>
     requires { OfType (IsPart text.now) field_type.now }
-    ensures { OnOk result (uses.new.items ≡ uses.old.items ++ spec.uses_of_type text.now scope.now field_type.now) }
+    ensures { OnOk result (uses.new.items
+        ≡ uses.old.items ++ spec.uses_of_type text.now surrounding.now.scope field_type.now) }
 {
     match field_type {
         FieldType::Scalar(_) => Ok(()),
         FieldType::Named(name) => {
-            uses.push(use_of(alloc, text, scope, name)?)?;
+            uses.push(use_of(alloc, text, surrounding, name)?)?;
             Ok(())
         }
     }
@@ -92,17 +94,17 @@ fn use_type<'t>(
 pub(crate) fn use_methods<'t>(
     alloc: Global,
     text: &'t str,
-    scope: &ScopeName,
+    surrounding: &Surrounding<'t>,
     methods: &[Method],
     uses: &mut Vec<Use<'t>>,
 ) -> Result<(), AllocError>
     requires { All (OfMethod (IsPart text.now)) methods.now }
     ensures { OnOk result (uses.new.items
-        ≡ uses.old.items ++ flat_map (spec.uses_of_method text.now scope.now) methods.now) }
+        ≡ uses.old.items ++ flat_map (spec.uses_of_method text.now surrounding.now.scope) methods.now) }
 {
     for method in methods {
-        uses.push(use_of(alloc, text, scope, &method.input)?)?;
-        uses.push(use_of(alloc, text, scope, &method.output)?)?;
+        uses.push(use_of(alloc, text, surrounding, &method.input)?)?;
+        uses.push(use_of(alloc, text, surrounding, &method.output)?)?;
     }
     Ok(())
 }
@@ -111,17 +113,18 @@ pub(crate) fn use_methods<'t>(
 pub(crate) fn use_leaf<'t>(
     alloc: Global,
     text: &'t str,
-    scope: &ScopeName,
+    surrounding: &Surrounding<'t>,
     leaf: &Leaf,
     uses: &mut Vec<Use<'t>>,
 ) -> Result<(), AllocError>
     requires { OfLeaf (IsPart text.now) leaf.now }
-    ensures { OnOk result (uses.new.items ≡ uses.old.items ++ spec.uses_in_leaf text.now scope.now leaf.now) }
+    ensures { OnOk result (uses.new.items
+        ≡ uses.old.items ++ spec.uses_in_leaf text.now surrounding.now.scope leaf.now) }
 {
     match leaf {
         Leaf::Enum(_) => Ok(()),
-        Leaf::Field(field) => use_type(alloc, text, scope, &field.field_type, uses),
-        Leaf::MapField(field) => use_type(alloc, text, scope, &field.value, uses),
+        Leaf::Field(field) => use_type(alloc, text, surrounding, &field.field_type, uses),
+        Leaf::MapField(field) => use_type(alloc, text, surrounding, &field.value, uses),
     }
 }
 
@@ -129,16 +132,17 @@ pub(crate) fn use_leaf<'t>(
 pub(crate) fn use_head<'t>(
     alloc: Global,
     text: &'t str,
-    scope: &ScopeName,
+    surrounding: &Surrounding<'t>,
     head: &Head,
     uses: &mut Vec<Use<'t>>,
 ) -> Result<(), AllocError>
     requires { OfHead (IsPart text.now) head.now }
-    ensures { OnOk result (uses.new.items ≡ uses.old.items ++ spec.uses_in_head text.now scope.now head.now) }
+    ensures { OnOk result (uses.new.items
+        ≡ uses.old.items ++ spec.uses_in_head text.now surrounding.now.scope head.now) }
 {
     match head {
         Head::Extend(name) => {
-            uses.push(use_of(alloc, text, scope, name)?)?;
+            uses.push(use_of(alloc, text, surrounding, name)?)?;
             Ok(())
         }
         Head::Message(_) | Head::Group(_) | Head::Oneof(_) => Ok(()),

@@ -39,7 +39,7 @@ fn walk_leaf<'t>(
         ≡ found.old.uses.items ++ uses_in_leaf text.now surrounding.now.scope leaf.now) }
 {
     outline_leaf(alloc, text, surrounding, leaf, &mut found.outlines)?;
-    use_leaf(alloc, text, &surrounding.scope, leaf, &mut found.uses)
+    use_leaf(alloc, text, surrounding, leaf, &mut found.uses)
 }
 
 /// Adds what a block declares and uses, without what stands in it.
@@ -57,7 +57,7 @@ fn walk_head<'t>(
         ≡ found.old.uses.items ++ uses_in_head text.now surrounding.now.scope head.now) }
 {
     outline_head(alloc, text, surrounding, head, &mut found.outlines)?;
-    use_head(alloc, text, &surrounding.scope, head, &mut found.uses)
+    use_head(alloc, text, surrounding, head, &mut found.uses)
 }
 
 /// Adds a block and what stands in it.
@@ -133,7 +133,7 @@ fn walk_service<'t>(
     let inner = inside(alloc, text, surrounding, kind, service.heading)?;
     let methods = service.methods.as_slice();
     outline_methods(text, &inner, methods, &mut found.outlines)?;
-    use_methods(alloc, text, &inner.scope, methods, &mut found.uses)
+    use_methods(alloc, text, &inner, methods, &mut found.uses)
 }
 
 /// Adds what stands in a file.

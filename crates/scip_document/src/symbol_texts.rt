@@ -56,7 +56,7 @@ pub(crate) fn declaration_text(
     requires { Contains facts.now.declarations declaration.now }
     ensures { IfOk result (λ text. text ≡ text_of id.now (declaration_at facts.now declaration.now)) }
 {
-    let printed = print_declaration(alloc, id, facts.package_name(), declaration.path())?;
+    let printed = print_declaration(alloc, id, facts.package_name(), &declaration.path())?;
     Ok(OwnedText::from_string(printed))
 }
 
@@ -81,7 +81,7 @@ fn push_rest(
         → behind front.now rests.new
         ≡ behind front.now rests.old ++ text_of id (declaration_at facts declaration.now) ∷ []) }
 {
-    let text = print_below(alloc, front, declaration.path())?;
+    let text = print_below(alloc, front, &declaration.path())?;
     match text.as_str().strip_prefix(front) {
         Some(rest) => rests.push(rest),
         None => Ok(()),

@@ -1,6 +1,6 @@
 //! The symbols of a file, a package and a declaration, their texts, and the parts of a package.
 
-ghost use Rattle.std.specs.Prelude.{◌≡◌, ◌∷◌, [], IfOk};
+ghost use Rattle.std.specs.Prelude.{◌≡◌, ◌∷◌, []};
 ghost use Rattle.proto_decl.specs.declared.kind.DeclarationKind.TheVariants.{Message};
 
 use crate::calls::{see, text_of_symbol};
@@ -10,7 +10,7 @@ use proto_lex::Span;
 use scip_symbol::{
     BadPart, PackageId, Symbol, SymbolParts, file_symbol, package_symbol, symbol_of,
 };
-use sequences::{OwnedText, Sequence};
+use sequences::OwnedText;
 use std::alloc::{AllocError, Global};
 use std::test::Fail;
 
@@ -35,15 +35,21 @@ fn component(name: &str) -> Component<'_>
     }
 }
 
-/// The path to a message outside all others.
-fn way<'t>(alloc: Global, name: &'t str) -> Result<DeclarationPath<'t>, AllocError>
-    ensures { IfOk result (λ way. way ≡ record { kind = Message; name = name.now } ∷ []) }
+/// The step to a message.
+fn step_to(name: &str) -> DeclarationStep<'_>
+    ensures { result ≡ record { kind = Message; name = name.now } }
 {
-    let step = DeclarationStep {
+    DeclarationStep {
         kind: DeclarationKind::Message,
         name: KeptText::lent(name),
-    };
-    DeclarationPath::from_steps(alloc, Sequence::new(alloc), step)
+    }
+}
+
+/// The path to a message outside all others.
+fn way<'a, 't>(message: &'a DeclarationStep<'t>) -> DeclarationPath<'a, 't>
+    ensures { result ≡ message.now ∷ [] }
+{
+    DeclarationPath::new(&[], message)
 }
 
 /// The text of a file's symbol.
@@ -60,8 +66,8 @@ fn package_text(alloc: Global, id: &PackageId) -> Result<String, AllocError> {
 
 /// The text of a message's symbol.
 fn message_text(alloc: Global, id: &PackageId) -> Result<String, AllocError> {
-    let a = way(alloc, "A")?;
-    text_of_symbol(alloc, symbol_of(alloc, id, &[], &a))
+    let a = step_to("A");
+    text_of_symbol(alloc, symbol_of(alloc, id, &[], &way(&a)))
 }
 
 /// The text of a local symbol.

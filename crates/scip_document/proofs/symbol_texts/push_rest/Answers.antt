@@ -32,8 +32,8 @@ pub returns : goal.returns
 unfolding text_of
 returns c = λ id facts known.
     let names = component_names facts.package_name in
-    absurd (c.in-None.ensures.cases (steps_text c.path.result.now)
+    absurd (c.in-None.ensures.cases (steps_text c.path.result)
     (c.as_str.ensures.value
     ∙ (c.in_ok-text.ensures id names known
-    ∙ (text_behind id names c.path.result.now
-    ∙ ap (λ (its : List ℕ). its ++ steps_text c.path.result.now) (sym known)))))
+    ∙ (text_behind id names c.path.result
+    ∙ ap (λ (its : List ℕ). its ++ steps_text c.path.result) (sym known)))))

@@ -5,6 +5,6 @@ use Rattle.proto_decl.proofs.declaration.Declaration.full_name.Goals as goal
 
 pub returns : goal.returns
 returns c =
-    c.in_scope.ensures
-    ∙ (ap (qualified c.self.inside.scope) c.simple_name.ensures
+    c.within.ensures
+    ∙ (ap (qualified c.self.inside.surrounding.scope) c.as_str.ensures
     ∙ ap (λ (d : Declaration). d.full_name) c.self.view_is)

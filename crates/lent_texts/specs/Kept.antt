@@ -5,4 +5,4 @@ use Rattle.lent_texts.specs.declared.place.Place.TheVariants.{Lent, Owned}
 
 abbrev pub bytes_at : Place → List ℕ
 bytes_at (Lent text) = text.now
-bytes_at (Owned text) = text
+bytes_at (Owned text) = text.value

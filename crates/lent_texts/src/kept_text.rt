@@ -34,12 +34,13 @@ impl<'t> KeptText<'t> {
     }
 
     /// This text, which is owned from now on.
-    pub fn owned(text: OwnedText) -> KeptText<'t>
-        ensures { result ≡ text }
+    pub fn owned(alloc: Global, text: OwnedText) -> Result<KeptText<'t>, AllocError>
+        ensures { IfOk result (λ kept. kept ≡ text) }
     {
-        KeptText {
+        let text = Box::new(alloc, text)?;
+        Ok(KeptText {
             place: Place::Owned(text),
-        }
+        })
     }
 
     /// The text.
@@ -58,7 +59,10 @@ impl<'t> KeptText<'t> {
     {
         match &self.place {
             Place::Lent(text) => Ok(KeptText::lent(text)),
-            Place::Owned(text) => Ok(KeptText::owned(OwnedText::copy_of(alloc, text.as_str())?)),
+            Place::Owned(text) => {
+                let text = OwnedText::copy_of(alloc, text.as_str())?;
+                KeptText::owned(alloc, text)
+            }
         }
     }
 }

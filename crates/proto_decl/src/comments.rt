@@ -132,7 +132,7 @@ fn texts_of<'t>(
         [comment] => Ok(KeptText::lent(text_of(lexed, *comment))),
         [first, others @ ..] => {
             let joined = joined_texts(alloc, lexed, *first, others)?;
-            Ok(KeptText::owned(joined))
+            KeptText::owned(alloc, joined)
         }
     }
 }

@@ -72,7 +72,7 @@ fn path_of<'t>(alloc: Global, text: &'t str, literals: &[Span]) -> Result<KeptTe
 {
     match literals {
         [literal] => Ok(KeptText::lent(between_quotes(text, *literal))),
-        _ => Ok(KeptText::owned(joined_literals(alloc, text, literals)?)),
+        _ => KeptText::owned(alloc, joined_literals(alloc, text, literals)?),
     }
 }
 

@@ -132,7 +132,7 @@ fn outline_group<'t>(
         name: group.word,
         closing: group.heading.closing,
     };
-    let field = KeptText::owned(name);
+    let field = KeptText::owned(alloc, name)?;
     outlines.push(outline_named(surrounding, DeclarationKind::Field, field, place)?)?;
     outlines.push(outline_at(text, surrounding, DeclarationKind::Message, group.heading)?)?;
     Ok(())

@@ -5,7 +5,7 @@ pub mod FullNames
 pub mod Spans
 -- what a file imports
 pub mod Imports
--- what contracts see of a declaration
+-- what contracts see of a declaration, and of what is around it
 pub mod Values
 -- what a file declares, and which comments document it
 pub mod Outlines

@@ -1,4 +1,4 @@
-//! What the declarations of one scope share.
+//! What the declarations directly in one file, message, service or enum share.
 
 ghost use Rattle.std.specs.Prelude.{◌≡◌};
 ghost use Rattle.proto_decl.specs.FullNames.{mixed_front};

@@ -25,8 +25,8 @@ pub struct DeclarationStep<'t> {
 /// A declaration of a file.
 ///
 /// Contracts see its kind, its full name, its path, the place of its simple name, and its comments' texts. The full
-/// name has no text of its own: its parts are the scope's full name and the simple name. The scope's full name and the
-/// path to what it is in are shared with all that is there.
+/// name has no text of its own: its parts are the scope's full name and the simple name. The scope's full name, and the
+/// path without its last step, are shared with all that is directly in the same file, message, service or enum.
 #[derive(Debug, Drop)]
 pub struct Declaration<'t> {
     surrounding: Surrounding<'t>,

@@ -26,7 +26,6 @@ ghost use Rattle.proto_decl.specs.FullNames as spec;
 
 use crate::mixing::mixed_on;
 use crate::names::qualified;
-use crate::scope_name::ScopeName;
 use crate::surrounding::Surrounding;
 use sequences::OwnedText;
 use std::alloc::{AllocError, Global};
@@ -57,13 +56,6 @@ impl<'a> Model for FullName<'a> {
 }
 
 impl<'a> FullName<'a> {
-    /// The full name of this name in this scope.
-    pub fn in_scope(scope: &'a ScopeName<'_>, name: &'a str) -> FullName<'a>
-        ensures { result ≡ qualified scope.now name.now }
-    {
-        FullName::within(scope.surrounding(), name)
-    }
-
     /// The full name of this name in the scope of a surrounding.
     pub(crate) fn within(surrounding: &'a Surrounding<'_>, name: &'a str) -> FullName<'a>
         ensures { result ≡ qualified surrounding.now.scope name.now }

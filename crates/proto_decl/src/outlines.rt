@@ -23,8 +23,8 @@ fn outline_named<'t>(
 ) -> Result<Outline<'t>, AllocError>
     ensures { IfOk result (λ outline. outline ≡ spec.outline_named surrounding.now kind name.entry heading) }
 {
-    let around = surrounding.share()?;
-    Ok(Outline::new(around, DeclarationStep { kind, name }, heading))
+    let shared = surrounding.share()?;
+    Ok(Outline::new(shared, DeclarationStep { kind, name }, heading))
 }
 
 /// The outline of a declaration with this heading.

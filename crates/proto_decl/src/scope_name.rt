@@ -6,7 +6,7 @@ use crate::surrounding::Surrounding;
 use std::alloc::AllocError;
 use std::marker::Model;
 
-/// The full name of a scope, which all that is there shares.
+/// The full name of the scope of a use. All that is directly in the same file, message or service shares it.
 ///
 /// Contracts see the list of its bytes.
 #[derive(Debug, Drop)]
@@ -37,12 +37,5 @@ impl<'t> ScopeName<'t> {
         ensures { result.now ≡ self.now }
     {
         self.surrounding.scope()
-    }
-
-    /// The surrounding of what is in the scope.
-    pub(crate) fn surrounding(&self) -> &Surrounding<'t>
-        ensures { result.now.scope ≡ self.now }
-    {
-        &self.surrounding
     }
 }

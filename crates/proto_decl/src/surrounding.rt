@@ -16,7 +16,7 @@ use std::alloc::{AllocError, Global};
 use std::marker::Model;
 use std::sync::Arc;
 
-/// What is around a declaration, which all that is there shares.
+/// What is around a declaration. All that is directly in the same file, message, service or enum shares it.
 ///
 /// Contracts see the full name of the scope, which is empty for the root, and the path to what the declaration is in.
 #[derive(Debug, Drop)]

@@ -29,6 +29,7 @@ use Rattle.proto_parse.proofs.Joined.{joined_exact}
 
 -- ---- what goes on
 
+-- two lists that are one: their first items, and what is behind these
 pub heads : {A : Type 0} {x y : A} {xs ys : List A} → x ∷ xs ≡ y ∷ ys → x ≡ y
 heads e = cc
 

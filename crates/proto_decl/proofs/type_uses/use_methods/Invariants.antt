@@ -6,4 +6,5 @@ use Rattle.proto_decl.proofs.type_uses.use_methods.Given as goal
 -- the uses of the methods so far
 abbrev pub invariant-loop-method : goal.invariant-loop-method
 invariant-loop-method l =
-    l.uses.items ≡ l.fn.uses.items ++ flat_map (uses_of_method l.text l.surrounding.scope) (take l.method-index l.methods)
+    l.uses.items
+    ≡ l.fn.uses.items ++ flat_map (uses_of_method l.text l.surrounding.scope) (take l.method-index l.methods)

@@ -162,13 +162,12 @@ fn add_seeing(draft: &mut Draft, files: &[LinkFile], number: usize, seen: &[usiz
     for other in 0..files.len() {
         draft.add(if seen.contains(&other) { "1" } else { "0" });
     }
-    let uses = match file.facts {
-        Some(facts) if !file.included => facts.uses(),
-        _ => &[],
-    };
     let mut known = Vec::new(draft.alloc());
     add_items_of(draft.alloc(), &mut known, files, seen)?;
-    add_uses(draft, known.as_slice(), number, uses)
+    match file.facts {
+        Some(facts) if !file.included => add_uses(draft, known.as_slice(), number, facts.uses()),
+        _ => Ok(()),
+    }
 }
 
 /// Adds the line of a file.

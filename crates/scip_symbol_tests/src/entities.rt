@@ -1,6 +1,6 @@
 //! The symbols of a file, a package and a declaration, their texts, and the parts of a package.
 
-ghost use Rattle.std.specs.Prelude.{◌≡◌, ◌∷◌, []};
+ghost use Rattle.std.specs.Prelude.{◌≡◌};
 ghost use Rattle.proto_decl.specs.declared.kind.DeclarationKind.TheVariants.{Message};
 
 use crate::calls::{see, text_of_symbol};
@@ -45,13 +45,6 @@ fn step_to(name: &str) -> DeclarationStep<'_>
     }
 }
 
-/// The path to a message outside all others.
-fn way<'a, 't>(message: &'a DeclarationStep<'t>) -> DeclarationPath<'a, 't>
-    ensures { result ≡ message.now ∷ [] }
-{
-    DeclarationPath::new(&[], message)
-}
-
 /// The text of a file's symbol.
 fn file_text(alloc: Global, id: &PackageId) -> Result<String, AllocError> {
     text_of_symbol(alloc, file_symbol(alloc, id, "a b.proto"))
@@ -67,7 +60,10 @@ fn package_text(alloc: Global, id: &PackageId) -> Result<String, AllocError> {
 /// The text of a message's symbol.
 fn message_text(alloc: Global, id: &PackageId) -> Result<String, AllocError> {
     let a = step_to("A");
-    text_of_symbol(alloc, symbol_of(alloc, id, &[], &way(&a)))
+    text_of_symbol(
+        alloc,
+        symbol_of(alloc, id, &[], &DeclarationPath::new(&[], &a)),
+    )
 }
 
 /// The text of a local symbol.

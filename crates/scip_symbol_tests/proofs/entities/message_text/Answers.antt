@@ -5,4 +5,4 @@ use Rattle.scip_symbol_tests.proofs.entities.message_text.Goals as goal
 
 pub symbol_of-requires : goal.symbol_of-requires
 symbol_of-requires c =
-    message c.way.result c.way.ensures (ap (λ (step : DeclarationStep). step.name) c.step_to.ensures)
+    message c.new.result c.new.ensures (ap (λ (step : DeclarationStep). step.name) c.step_to-a.ensures)

@@ -13,10 +13,12 @@
 #include <errno.h>
 #include <fcntl.h>
 #include <malloc.h>
+#include <signal.h>
 #include <stddef.h>
 #include <stdio.h>
 #include <stdlib.h>
 #include <sys/mman.h>
+#include <sys/prctl.h>
 #include <sys/single_threaded.h>
 #include <sys/stat.h>
 #include <sys/wait.h>
@@ -113,6 +115,7 @@ static int in_copy(unsigned long number) {
     shared->was_refused = 0;
     pid_t copy = fork();
     if (copy == 0) {
+        prctl(PR_SET_PDEATHSIG, SIGKILL);
         refused_number = number;
         is_walker = number == 0;
         if (!is_walker)
@@ -158,6 +161,7 @@ static int in_next_copy(unsigned long number) {
 
 // Of the starter: makes the walker, and then the copies that are whole runs. Only these come back.
 static void try_all(void) {
+    prctl(PR_SET_PDEATHSIG, SIGKILL); // each of these processes ends with the one that made it
     part = number_in("PART");
     parts = number_in("PARTS");
     followed = number_in("FOLLOWED");

@@ -23,10 +23,14 @@ fn facts_of<'t>(alloc: Global, tokens: &Tokens<'_, 't>) -> Option<FileFacts<'t>>
     }
 }
 
-/// Whether the facts of tokens are listed as is due.
+/// Whether the facts of tokens are listed as is due. They are listed again if not, since a part may lack for want of
+/// memory.
 fn are_tokens_listed(alloc: Global, tokens: &Tokens<'_, '_>, want: &str) -> bool {
+    let source = tokens.text().as_str();
     match facts_of(alloc, tokens) {
-        Some(facts) => is_listed(alloc, tokens.text().as_str(), &facts, want),
+        Some(facts) => {
+            is_listed(alloc, source, &facts, want) || is_listed(alloc, source, &facts, want)
+        }
         None => false,
     }
 }

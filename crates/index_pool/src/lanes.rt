@@ -150,6 +150,7 @@ impl LaneOwner {
         requires { thief_deque thief ≡ owner_deque self.old }
         ensures view { owner_view self.new ≡ lane_view true true (owner_view self.old).given
             (owner_view self.old).popped (thief_view thief).stolen }
+        ensures found { found_empty self.new ≡ found_empty self.old }
         ensures same { owner_deque self.new ≡ owner_deque self.old }
     {
         let LaneThief { stealer, pass, .. } = thief;

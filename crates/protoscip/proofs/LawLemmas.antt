@@ -9,7 +9,7 @@ use Rattle.index_hooks.specs.declared.choice.Choice.{Choice}
 use Rattle.source_tree.specs.Files.{TreeFile}
 use Rattle.scip_build.specs.Builds.{IsBuilt, IsBuildFault}
 use Rattle.scip_build.specs.BuildLaws.{cause_of, BuiltHasNoFault, OneBuildFault, SetTheSame}
-use Rattle.scip_build.specs.BuildLaws.{OneBuilt}
+use Rattle.scip_build.specs.BuildLaws.{OneBuiltOfChoices, OneBuilt}
 use Rattle.scip_build.specs.declared.built.Built.{Built}
 use Rattle.scip_build.specs.declared.settings.Settings.{Settings}
 use Rattle.scip_build.specs.declared.fault.BuildFault.{BuildFault}
@@ -20,7 +20,7 @@ use Rattle.scip_wire.specs.Spelling.{spelling_of, max_index_len}
 use Rattle.protoscip.specs.declared.recorded.Recorded.{Recorded}
 use Rattle.protoscip.specs.Indexes.{built_of, IsIndexed, IsRefused}
 use Rattle.protoscip.specs.IndexLaws.{is_of_tree, OneFault, IndexedHasNoFault, AllowOneChoice}
-use Rattle.protoscip.specs.IndexLaws.{OneIndexing, OneIndexingHasNoFault}
+use Rattle.protoscip.specs.IndexLaws.{OneIndexingOfChoices, OneIndexing, OneIndexingHasNoFault}
 use Rattle.protoscip.specs.declared.fault.Fault.{Fault}
 use Rattle.protoscip.specs.declared.fault.Fault.TheVariants as fault
 
@@ -112,17 +112,30 @@ module _ (allows others : Seen → Choice → Type 0) where
   indexed_has_no_fault none settings tree workers recorded bytes fault.Read indexed is = absurd is
   indexed_has_no_fault none settings tree workers recorded bytes (fault.Answer count) indexed is = absurd is
 
+  -- what is built is one, so what is recorded and the bytes are
+  same_indexing : (settings : Settings) (tree : List TreeFile) (recorded more : Recorded) (bytes also : List ℕ)
+      → (indexed : IsIndexed allows settings tree recorded bytes) (again : IsIndexed others settings tree more also)
+      → built_of indexed.index recorded ≡ built_of again.index more → (recorded ≡ more) × (bytes ≡ also)
+  same_indexing settings tree recorded more bytes also indexed again same =
+      let index : indexed.index ≡ again.index = ap (λ (b : Built). b.index) same in
+      let choices : recorded.choices ≡ more.choices = ap (λ (b : Built). b.choices) same in
+      let told : recorded.told ≡ more.told = ap (λ (b : Built). b.told) same in (
+        (λ i. record { choices = choices i; told = told i }),
+        indexed.spelled.spelling ∙ (ap spelling_of index ∙ sym again.spelled.spelling),
+      )
+
+  pub one_indexing_of_choices : OneBuiltOfChoices allows others → OneIndexingOfChoices allows others
+  one_indexing_of_choices one settings tree recorded more bytes also choices indexed again =
+      let same = one settings settings tree (built_of indexed.index recorded) (built_of again.index more)
+      (set_itself settings) choices indexed.built again.built in
+      same_indexing settings tree recorded more bytes also indexed again same
+
   module _ (one : OneBuilt allows others) where
     pub one_indexing : OneIndexing allows others
     one_indexing settings tree recorded more bytes also sole indexed again =
         let same = one settings settings tree (built_of indexed.index recorded) (built_of again.index more) sole
         (set_itself settings) indexed.built again.built in
-        let index : indexed.index ≡ again.index = ap (λ (b : Built). b.index) same in
-        let choices : recorded.choices ≡ more.choices = ap (λ (b : Built). b.choices) same in
-        let told : recorded.told ≡ more.told = ap (λ (b : Built). b.told) same in (
-          (λ i. record { choices = choices i; told = told i }),
-          indexed.spelled.spelling ∙ (ap spelling_of index ∙ sym again.spelled.spelling),
-        )
+        same_indexing settings tree recorded more bytes also indexed again same
 
     not_too_large : (settings : Settings) (tree : List TreeFile) (workers : ℕ) (recorded : Recorded) (bytes : List ℕ)
         → AllowOneChoice allows others

@@ -39,13 +39,21 @@ IndexedHasNoFault allows others =
     → IsIndexed allows settings tree recorded bytes → IsRefused others settings tree workers fault
     → (is_of_tree fault ≡ false) ⊎ (fault ≡ TooLarge)
 
+-- once the choices are recorded, what is told and the bytes depend only on the tree, these choices and the settings,
+-- whatever else may be chosen
+abbrev pub OneIndexingOfChoices : (allows others : Seen → Choice → Type 0) → Type 0
+OneIndexingOfChoices allows others =
+    (settings : Settings) (tree : List TreeFile) (recorded more : Recorded) (bytes also : List ℕ)
+    → recorded.choices ≡ more.choices
+    → IsIndexed allows settings tree recorded bytes → IsIndexed others settings tree more also
+    → (recorded ≡ more) × (bytes ≡ also)
+
 -- only one choice may come for what is seen of a declaration, whichever of the two is asked
 abbrev pub AllowOneChoice : (allows others : Seen → Choice → Type 0) → Type 0
 AllowOneChoice allows others = (seen : Seen) (choice another : Choice) → allows seen choice → others seen another
     → choice ≡ another
 
--- there, the choices, what is told and the bytes are one function of the tree, of what is allowed, and of the settings,
--- whatever the workers;
+-- there, the choices are one, too: so all depends only on the tree, what is allowed, and the settings;
 abbrev pub OneIndexing : (allows others : Seen → Choice → Type 0) → Type 0
 OneIndexing allows others =
     (settings : Settings) (tree : List TreeFile) (recorded more : Recorded) (bytes also : List ℕ)
@@ -53,7 +61,7 @@ OneIndexing allows others =
     → IsIndexed allows settings tree recorded bytes → IsIndexed others settings tree more also
     → (recorded ≡ more) × (bytes ≡ also)
 
--- and a tree that is indexed has no fault at all
+-- and a tree that is indexed has no fault of its own, not even one of size
 abbrev pub OneIndexingHasNoFault : (allows others : Seen → Choice → Type 0) → Type 0
 OneIndexingHasNoFault allows others =
     (settings : Settings) (tree : List TreeFile) (workers : ℕ) (recorded : Recorded) (bytes : List ℕ) (fault : Fault)

@@ -4,7 +4,7 @@
 ghost use Rattle.protoscip.specs.DumpLaws.{OneListing, ListedUnlessMemory};
 ghost use Rattle.protoscip.specs.Headline.{Headline, HeadlineOfTree};
 ghost use Rattle.protoscip.specs.IndexLaws.{OneFault, IndexedHasNoFault, OneIndexing};
-ghost use Rattle.protoscip.specs.IndexLaws.{OneIndexingHasNoFault};
+ghost use Rattle.protoscip.specs.IndexLaws.{OneIndexingOfChoices, OneIndexingHasNoFault};
 ghost use Rattle.protoscip.specs.NameLaws.{LawsOfNames};
 ghost use Rattle.protoscip.specs.UseLaws.{EachUseHasATarget};
 
@@ -34,9 +34,11 @@ pub fn indexed_has_no_fault<C: Chooses, D: Chooses>(chooser: &C, other: &D)
     built_has_no_fault(chooser, other);
 }
 
-/// If only one choice is allowed for each declaration, the choices, what is told and the bytes of an index are one
-/// function of the tree, of what is allowed and of the settings, and nothing else is answered.
+/// For the same recorded choices and settings, a tree has at most one list of what is told and one index's bytes. If
+/// only one choice is allowed for each declaration, the choices are one, too, and an indexed tree has no fault of its
+/// own.
 pub fn one_indexing<C: Chooses, D: Chooses>(chooser: &C, other: &D)
+    ensures of_choices { OneIndexingOfChoices (C.allows chooser.now) (D.allows other.now) }
     ensures one { OneIndexing (C.allows chooser.now) (D.allows other.now) }
     ensures accepted { OneIndexingHasNoFault (C.allows chooser.now) (D.allows other.now) }
 {

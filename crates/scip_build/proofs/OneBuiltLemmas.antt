@@ -1,4 +1,4 @@
--- Where one choice alone may come for what is seen, what is built is one.
+-- What is built by the same choices is one, and where one choice alone may come for what is seen, the choices are.
 use Rattle.std.proofs.Common.{◌≡◌, ◌∙◌, ℕ, ◌<◌, List, [], ◌∷◌, length, map, Option, Some, None, Result, Ok, Err, ap}
 use Rattle.std.proofs.Common.{sym}
 use Rattle.std.proofs.Common.{refl, subst}
@@ -15,7 +15,6 @@ use Rattle.proto_decl.specs.Facts.{Facts}
 use Rattle.proto_decl.specs.Seen.{Seen}
 use Rattle.proto_decl.specs.declared.declaration.Declaration.{Declaration}
 use Rattle.proto_lex.specs.declared.position.Encoding.{Encoding}
-use Rattle.proto_visibility.specs.declared.place.FilePlace.{FilePlace}
 use Rattle.proto_visibility.specs.declared.fault.LinkFault.{LinkFault}
 use Rattle.proto_visibility.specs.declared.fault.LinkFault.TheVariants as link
 use Rattle.proto_visibility.specs.Files.{File}
@@ -39,14 +38,14 @@ use Rattle.scip_build.specs.declared.fault.BuildFault.{BuildFault}
 use Rattle.scip_build.specs.declared.fault.BuildFault.TheVariants as build
 use Rattle.scip_build.specs.Parsed.{IsUnreadable}
 use Rattle.scip_build.specs.Files.{FileContents, ReadFile}
-use Rattle.scip_build.specs.Readings.{seen_of, AreChosen, HasContents, AreReadingsOf}
+use Rattle.scip_build.specs.Readings.{seen_of, AreChosen, AreContentsOf, HasContents, AreReadingsOf}
 use Rattle.scip_build.specs.Linking.{linked_file, linked_files, choices_in, choices_of, HasFault}
 use Rattle.scip_build.specs.Documents.{text_in, text_of, texts_of, IsUnresolvedAt}
 use Rattle.scip_build.specs.Kept.{IsLeftFor, place_among_all, IsTold, Key, told_key, key_cmp}
 use Rattle.scip_build.specs.Kept.IsTold.{of_file, of_import, of_use}
 use Rattle.scip_build.specs.Builds.{IsBuilt}
 use Rattle.scip_build.specs.Laws.{OneListOfFacts, NoFactsWhereUnreadable, OneFileFault}
-use Rattle.scip_build.specs.BuildLaws.{SetTheSame, AllowOne, OneBuilt}
+use Rattle.scip_build.specs.BuildLaws.{SetTheSame, AllowOne, OneBuiltOfChoices, OneBuilt}
 use Rattle.scip_document.proofs.SortLemmas.{one-ascending}
 use Rattle.scip_build.proofs.LinkingLemmas.{same_mapped, one_linking}
 use Rattle.scip_build.proofs.ReadyLemmas.{whole_at, have_origins}
@@ -67,59 +66,66 @@ unreadable faulty dialect allows tree readings are number fault has =
     let contents = subst Contents has.unread (are.each number there.0 has.reading there.1 has.numbered).contents in
     (there.0, there.1, contents.1)
 
-module _ (one : OneListOfFacts) (apart : NoFactsWhereUnreadable) (allows others : Seen → Choice → Type 0)
-    (agree : AllowOne allows others) where
-  -- the choices for one list of declarations
-  same_choices : (declarations : List Declaration) (xs ys : List Choice) → AreChosen allows declarations xs
-      → AreChosen others declarations ys → xs ≡ ys
-  same_choices [] [] [] chosen also = refl
-  same_choices [] [] (y ∷ ys) chosen also = absurd also
-  same_choices [] (x ∷ xs) ys chosen also = absurd chosen
-  same_choices (d ∷ ds) [] ys chosen also = absurd chosen
-  same_choices (d ∷ ds) (x ∷ xs) [] chosen also = absurd also
-  same_choices (d ∷ ds) (x ∷ xs) (y ∷ ys) chosen also =
-      let here = agree (seen_of d) x y chosen.0 also.0 in
-      let more = same_choices ds xs ys chosen.1 also.1 in
-      λ i. here i ∷ more i
+-- the choices for one list of declarations
+same_choices : (allows others : Seen → Choice → Type 0) → AllowOne allows others
+    → (declarations : List Declaration) (xs ys : List Choice)
+    → AreChosen allows declarations xs → AreChosen others declarations ys → xs ≡ ys
+same_choices allows others agree [] [] [] chosen also = refl
+same_choices allows others agree [] [] (y ∷ ys) chosen also = absurd also
+same_choices allows others agree [] (x ∷ xs) ys chosen also = absurd chosen
+same_choices allows others agree (d ∷ ds) [] ys chosen also = absurd chosen
+same_choices allows others agree (d ∷ ds) (x ∷ xs) [] chosen also = absurd also
+same_choices allows others agree (d ∷ ds) (x ∷ xs) (y ∷ ys) chosen also =
+    let here = agree (seen_of d) x y chosen.0 also.0 in
+    let more = same_choices allows others agree ds xs ys chosen.1 also.1 in
+    λ i. here i ∷ more i
 
-  -- what is kept of a file beside its facts
-  abbrev AreSame : (a b : Result FileContents FileFault) → Type 0
-  AreSame a b = (choices_in a ≡ choices_in b) × (text_in a ≡ text_in b)
+module _ (apart : NoFactsWhereUnreadable) (allows others : Seen → Choice → Type 0) (faulty another : Faulty)
+    (dialect : Dialect) where
+  -- what is the same of contents, and of any two faults, is of one file read twice
+  same_in : {Y : Type 0} (f : Result FileContents FileFault → Y) (number : ℕ) (file : TreeFile)
+      → ((a b : FileContents) → AreContentsOf dialect allows number file.bytes a
+      → AreContentsOf dialect others number file.bytes b → f (Ok a) ≡ f (Ok b))
+      → ((fault other : FileFault) → f (Err fault) ≡ f (Err other))
+      → (a b : Result FileContents FileFault)
+      → HasContents faulty dialect allows number file a → HasContents another dialect others number file b → f a ≡ f b
+  same_in f number file read unread (Ok a) (Ok b) has also = read a b has also
+  same_in f number file read unread (Ok a) (Err fault) has also =
+      absurd (apart dialect number file.bytes a.facts fault has.1.facts_in also.1)
+  same_in f number file read unread (Err fault) (Ok b) has also =
+      absurd (apart dialect number file.bytes b.facts fault also.1.facts_in has.1)
+  same_in f number file read unread (Err fault) (Err other) has also = unread fault other
 
-  module _ (faulty another : Faulty) (dialect : Dialect) where
-    same_contents : (number : ℕ) (file : TreeFile) (a b : Result FileContents FileFault)
-        → HasContents faulty dialect allows number file a → HasContents another dialect others number file b
-        → AreSame a b
-    same_contents number file (Ok a) (Ok b) has also =
-        let facts : a.facts ≡ b.facts = one dialect number file.bytes a.facts b.facts has.1.facts_in also.1.facts_in in
-        let Of : Facts → Type 0 = λ f. AreChosen others f.declarations b.choices in (
-          same_choices a.facts.declarations a.choices b.choices has.1.chosen (subst Of (sym facts) also.1.chosen),
-          has.0 ∙ sym also.0,
-        )
-    same_contents number file (Ok a) (Err fault) has also =
-        absurd (apart dialect number file.bytes a.facts fault has.1.facts_in also.1)
-    same_contents number file (Err fault) (Ok b) has also =
-        absurd (apart dialect number file.bytes b.facts fault also.1.facts_in has.1)
-    same_contents number file (Err fault) (Err other) has also = (refl, refl)
+  chosen_alike : OneListOfFacts → AllowOne allows others → (number : ℕ) (file : TreeFile) (a b : FileContents)
+      → AreContentsOf dialect allows number file.bytes a → AreContentsOf dialect others number file.bytes b
+      → a.choices ≡ b.choices
+  chosen_alike one agree number file a b has also =
+      let facts : a.facts ≡ b.facts = one dialect number file.bytes a.facts b.facts has.1.facts_in also.1.facts_in in
+      let Of : Facts → Type 0 = λ f. AreChosen others f.declarations b.choices in
+      same_choices allows others agree a.facts.declarations a.choices b.choices has.1.chosen
+      (subst Of (sym facts) also.1.chosen)
 
-    module _ (tree : List TreeFile) (readings again : List ReadFile)
-        (are : AreReadingsOf faulty dialect allows tree readings)
-        (also : AreReadingsOf another dialect others tree again) where
-      same_at : (k : ℕ) (a b : ReadFile) → slice_get readings k ≡ Some a → slice_get again k ≡ Some b
-          → AreSame a.contents b.contents
-      same_at k a b at and =
-          let within : k < length tree = rw (sym are.one_each) (slice_get_within readings k a at) in
-          let there = item_at tree k within in
-          same_contents k there.0 a.contents b.contents (are.each k there.0 a there.1 at).contents
-          (also.each k there.0 b there.1 and).contents
+  module _ (tree : List TreeFile) (readings again : List ReadFile)
+      (are : AreReadingsOf faulty dialect allows tree readings)
+      (also : AreReadingsOf another dialect others tree again) where
+    -- both read the same file there
+    contents_at : (k : ℕ) (a b : ReadFile) → slice_get readings k ≡ Some a → slice_get again k ≡ Some b
+        → (file : TreeFile) × HasContents faulty dialect allows k file a.contents
+        × HasContents another dialect others k file b.contents
+    contents_at k a b at and =
+        let within : k < length tree = rw (sym are.one_each) (slice_get_within readings k a at) in
+        let there = item_at tree k within in
+        (there.0, (are.each k there.0 a there.1 at).contents, (also.each k there.0 b there.1 and).contents)
 
-      same_lists : map choices_of readings ≡ map choices_of again
-      same_lists = same_mapped choices_of readings again (are.one_each ∙ sym also.one_each)
-          (λ k a b at and. (same_at k a b at and).0)
+    same_texts : texts_of readings ≡ texts_of again
+    same_texts = same_mapped text_of readings again (are.one_each ∙ sym also.one_each)
+        (λ k a b at and. let has = contents_at k a b at and in
+        same_in text_in k has.0 (λ x y is too. is.0 ∙ sym too.0) (λ x y. refl) a.contents b.contents has.1 has.2)
 
-      same_texts : texts_of readings ≡ texts_of again
-      same_texts = same_mapped text_of readings again (are.one_each ∙ sym also.one_each)
-          (λ k a b at and. (same_at k a b at and).1)
+    same_lists : OneListOfFacts → AllowOne allows others → map choices_of readings ≡ map choices_of again
+    same_lists one agree = same_mapped choices_of readings again (are.one_each ∙ sym also.one_each)
+        (λ k a b at and. let has = contents_at k a b at and in
+        same_in choices_in k has.0 (chosen_alike one agree k has.0) (λ x y. refl) a.contents b.contents has.1 has.2)
 
 -- what is the same of all is of those that are kept
 kept_same : {Y : Type 0} (f : ReadFile → Y) (all again readings others : List ReadFile) (a b : Omissions)
@@ -131,7 +137,7 @@ kept_same f all again readings others a b first second omissions whole =
     ∙ (sym (map_kept f b again) ∙ ap (map f) (sym second)))))
 
 module _ (one : OneListOfFacts) (apart : NoFactsWhereUnreadable) (one_fault : OneFileFault) (one_list : OneOmissionList)
-    (one_index : OneIndex) (allows others : Seen → Choice → Type 0) (agree : AllowOne allows others)
+    (one_index : OneIndex) (allows others : Seen → Choice → Type 0)
     (settings another : Settings) (tree : List TreeFile) (built other : Built)
     (same : SetTheSame settings another) (is : IsBuilt allows settings tree built)
     (also : IsBuilt others another tree other) where
@@ -172,18 +178,18 @@ module _ (one : OneListOfFacts) (apart : NoFactsWhereUnreadable) (one_fault : On
   same_files : linked_files is.of_files.readings ≡ linked_files also.of_files.readings
   same_files = kept_alike linked_file all_linked
 
-  choices_are : built.choices ≡ other.choices
-  choices_are = is.of_files.choices ∙ (kept_alike choices_of
-      (same_lists one apart allows others agree settings.faulty another.faulty settings.dialect tree all again
-      is.read read_again) ∙ sym also.of_files.choices)
+  choices_are : AllowOne allows others → built.choices ≡ other.choices
+  choices_are agree = is.of_files.choices ∙ (kept_alike choices_of
+      (same_lists apart allows others settings.faulty another.faulty settings.dialect tree all again
+      is.read read_again one agree) ∙ sym also.of_files.choices)
 
   texts_are : texts_of is.of_files.readings ≡ texts_of also.of_files.readings
   texts_are = kept_alike text_of
-      (same_texts one apart allows others agree settings.faulty another.faulty settings.dialect tree all again
+      (same_texts apart allows others settings.faulty another.faulty settings.dialect tree all again
       is.read read_again)
 
-  index_is : built.index ≡ other.index
-  index_is =
+  index_is : built.choices ≡ other.choices → built.index ≡ other.index
+  index_is choices =
       let Is : List File → List (List ℕ) → Chosen → Packages → Encoding → List ℕ → Type 0 =
       λ fs ts chosen ids encoding root. IsIndexOf fs ts chosen ids encoding root other.index in
       let files = linked_files is.of_files.readings in
@@ -193,11 +199,10 @@ module _ (one : OneListOfFacts) (apart : NoFactsWhereUnreadable) (one_fault : On
       (sym same_files) also.of_files.index in
       let t = subst (λ x. Is files x other.choices another.package another.encoding another.project_root)
       (sym texts_are) f in
-      let c = subst (λ x. Is files texts x another.package another.encoding another.project_root) (sym choices_are) t
+      let c = subst (λ x. Is files texts x another.package another.encoding another.project_root) (sym choices) t
       in
       let p = subst (λ x. Is files texts built.choices x another.encoding another.project_root) (sym same.id) c in
-      let e = subst (λ x. Is files texts built.choices settings.package x another.project_root) (sym same.encoding) p
-      in
+      let e = subst (λ x. Is files texts built.choices settings.package x another.project_root) (sym same.encoding) p in
       let r = subst (λ x. Is files texts built.choices settings.package settings.encoding x) (sym same.project_root) e
       in
       one_index files texts built.choices settings.package settings.encoding settings.project_root built.index
@@ -231,8 +236,7 @@ module _ (one : OneListOfFacts) (apart : NoFactsWhereUnreadable) (one_fault : On
   of_left number (Some link.Memory) told at out left = absurd left
 
   kept_files : linked_files (kept_of a all) ≡ linked_files (kept_of b again)
-  kept_files = map_kept linked_file a all ∙ (ap (kept_of a) all_linked
-      ∙ (ap (λ o. kept_of o (linked_files again)) same_omissions ∙ sym (map_kept linked_file b again)))
+  kept_files = kept_same linked_file all again (kept_of a all) (kept_of b again) a b refl refl same_omissions all_linked
 
   -- what is told of one is told of the other
   told_too : (told : BuildFault) → IsTold all a told → IsTold again b told
@@ -275,34 +279,24 @@ set_the_same settings another same = record {
   dialect = sym same.dialect;
 }
 
-allow_one : (allows others : Seen → Choice → Type 0) → AllowOne allows others → AllowOne others allows
-allow_one allows others agree seen choice another is also = sym (agree seen another choice also is)
-
 module _ (one : OneListOfFacts) (apart : NoFactsWhereUnreadable) (one_fault : OneFileFault) (one_list : OneOmissionList)
     (one_index : OneIndex) (allows others : Seen → Choice → Type 0) where
-  pub one_built : OneBuilt allows others
-  one_built settings another tree built other agree same is also =
+  pub one_built_of_choices : OneBuiltOfChoices allows others
+  one_built_of_choices settings another tree built other same choices is also =
       λ i. record { index = index i; choices = choices i; told = told i }
     where
       index : built.index ≡ other.index
-      index = index_is one apart one_fault one_list one_index allows others agree settings another tree built other same
-          is
-          also
-
-      choices : built.choices ≡ other.choices
-      choices = choices_are one apart one_fault one_list one_index allows others agree settings another tree built other
-          same is also
+      index = index_is one apart one_fault one_list one_index allows others settings another tree built other same is
+          also choices
 
       keys : map told_key built.told ≡ map told_key other.told
       keys = one-ascending key_total (map told_key built.told) (map told_key other.told)
           (ascends_mapped told_key key_cmp built.told is.of_files.kept.told_is.ascends)
           (ascends_mapped told_key key_cmp other.told also.of_files.kept.told_is.ascends)
-          (keys_there one apart one_fault one_list one_index allows others agree settings another tree built other same
-          is
-          also)
-          (keys_there one apart one_fault one_list one_index others allows
-          (allow_one allows others agree) another settings
-          tree other built (set_the_same settings another same) also is)
+          (keys_there one apart one_fault one_list one_index allows others settings another tree built other same
+          is also)
+          (keys_there one apart one_fault one_list one_index others allows another settings tree other built
+          (set_the_same settings another same) also is)
 
       -- what is at one place of the two lists is one
       at_one_place : (k : ℕ) (x y : BuildFault) → slice_get built.told k ≡ Some x → slice_get other.told k ≡ Some y
@@ -316,7 +310,7 @@ module _ (one : OneListOfFacts) (apart : NoFactsWhereUnreadable) (one_fault : On
           (sym key_x ∙ (ap (λ (l : List Key). slice_get l k) keys ∙ key_y)) in
           let told_x = (is.of_files.kept.told_is.exact x).0 (contained built.told k x at) in
           let told_y = (also.of_files.kept.told_is.exact y).0 (contained other.told k y and) in
-          let too = told_too one apart one_fault one_list one_index allows others agree settings another tree built
+          let too = told_too one apart one_fault one_list one_index allows others settings another tree built
           other same is also x told_x in
           one_told also.all also.of_files.kept.omissions also.of_files.kept.left_out x y too told_y
           (of_same (told_key x) (told_key y) key)
@@ -327,3 +321,9 @@ module _ (one : OneListOfFacts) (apart : NoFactsWhereUnreadable) (one_fault : On
       told : built.told ≡ other.told
       told = sym (map-id built.told)
           ∙ (same_mapped (λ (x : BuildFault). x) built.told other.told count at_one_place ∙ map-id other.told)
+
+  pub one_built : OneBuilt allows others
+  one_built settings another tree built other agree same is also =
+      let choices = choices_are one apart one_fault one_list one_index allows others settings another tree built other
+      same is also agree in
+      one_built_of_choices settings another tree built other same choices is also

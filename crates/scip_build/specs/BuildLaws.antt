@@ -45,13 +45,20 @@ pub record SetTheSame (settings other : Settings) : Type 0 where
   pub encoding : settings.encoding ≡ other.encoding
   pub dialect : settings.dialect ≡ other.dialect
 
+-- Once the choices are recorded, what is built depends only on the tree, these choices and the settings, whatever else
+-- may be chosen. If faults are refused and there is none, the same is built as if they were skipped.
+abbrev pub OneBuiltOfChoices : (allows others : Seen → Choice → Type 0) → Type 0
+OneBuiltOfChoices allows others =
+    (settings another : Settings) (tree : List TreeFile) (built other : Built) → SetTheSame settings another
+    → built.choices ≡ other.choices
+    → IsBuilt allows settings tree built → IsBuilt others another tree other → built ≡ other
+
 -- only one choice may come for what is seen of a declaration, whichever of the two is asked
 abbrev pub AllowOne : (allows others : Seen → Choice → Type 0) → Type 0
 AllowOne allows others = (seen : Seen) (choice another : Choice) → allows seen choice → others seen another
     → choice ≡ another
 
--- There, what is built is one: a function of the tree, of what is allowed, and of the settings, whatever the workers.
--- If faults are refused and there is none, the same is built as if they were skipped.
+-- There, the choices are one, too: so what is built depends only on the tree, what is allowed, and the settings.
 abbrev pub OneBuilt : (allows others : Seen → Choice → Type 0) → Type 0
 OneBuilt allows others =
     (settings another : Settings) (tree : List TreeFile) (built other : Built) → AllowOne allows others

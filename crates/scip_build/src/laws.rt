@@ -1,7 +1,7 @@
 //! Laws: what the definitions say about readings and faults, whatever the code does.
 
 ghost use Rattle.scip_build.specs.BuildLaws.{BuiltHasNoFault, OneBuildFault, OneBuilt};
-ghost use Rattle.scip_build.specs.BuildLaws.{BuiltWhereNothingIsTold};
+ghost use Rattle.scip_build.specs.BuildLaws.{OneBuiltOfChoices, BuiltWhereNothingIsTold};
 ghost use Rattle.scip_build.specs.Kept.{NothingIsToldOfAGoodTree};
 ghost use Rattle.scip_build.specs.KeptUses.{KeptResolvesAlike};
 ghost use Rattle.scip_build.specs.Laws.{OneListOfFacts, NoFactsWhereUnreadable, LexedWhereUnparsed, OneFileFault};
@@ -105,11 +105,13 @@ pub fn kept_resolves_alike()
     ensures { KeptResolvesAlike }
 {}
 
-/// If only one choice may come for what is seen of a declaration, a tree has one index, one list of choices and one
-/// list of what is told by its settings, whatever the workers. If it has no fault, they are the same whether faults
-/// are refused or skipped. The two choosers may be one.
+/// For the same recorded choices and settings, a tree has at most one index and one list of what is told, whatever
+/// else may be chosen and whatever the workers. If only one choice may come for what is seen of a declaration, the
+/// choices are one, too. If a tree has no fault, this is the same whether faults are refused or skipped. The two
+/// choosers may be one.
 pub fn one_built<C: Chooses, D: Chooses>(chooser: &C, other: &D)
-    ensures { OneBuilt (C.allows chooser.now) (D.allows other.now) }
+    ensures of_choices { OneBuiltOfChoices (C.allows chooser.now) (D.allows other.now) }
+    ensures one { OneBuilt (C.allows chooser.now) (D.allows other.now) }
 {
     one_list_of_facts_a_file();
     faults_exclude_facts();

@@ -1,4 +1,4 @@
--- What the code lists and marks: no public contract names it.
+-- What the code lists and marks: no clause of a public function names it.
 -- what the laws of the crates below say
 pub mod KnownFacts
 -- the lists that make up what occurs, and two lists in order made one

@@ -1,18 +1,20 @@
 # What the scripts share that run the built program as a user would and compare what it gives: to be
 # sourced, with `set -u`. Sets top, program, work (an empty folder, which goes at the end), right and
-# wrong. The program is the built one that PROTOSCIP names in the environment; without it this repository's,
-# built where it isn't as new as its sources.
+# wrong. The program is the built one that PROTOSCIP names in the environment; without it the one that this repository's
+# script runs.
 #
 # Needs only bash and coreutils; run_as_nobody, run as root, setpriv (util-linux).
 
 top=$(dirname "$(dirname "$(readlink -f "${BASH_SOURCE[0]}")")")
 work=$(mktemp -d) || exit 1
 trap 'chmod -R u+rwx "$work" && rm -rf "$work"' EXIT
-program=$top/protoscip built=$top/crates/protoscip_cli/out/protoscip_cli
+# Under the name that help and command line faults print.
+program=$work/bin/protoscip
+mkdir "$work/bin" || exit 1
 if [ -n "${PROTOSCIP-}" ]; then
-    # Under the name that help and command line faults print.
-    mkdir "$work/bin" && cp "$PROTOSCIP" "$work/bin/protoscip" || exit 1
-    program=$work/bin/protoscip built=$program
+    cp "$PROTOSCIP" "$program" || exit 1
+else
+    "$top/protoscip" --install "$work/bin" || exit 1
 fi
 right=0 wrong=0
 : >"$work/in"
@@ -169,7 +171,7 @@ as_nobody() {
 
 # run_as_nobody ARGUMENT..: `run`, as nobody, of a copy of the program, since he may not reach the repository.
 run_as_nobody() {
-    [ -e "$work/program" ] || cp "$built" "$work/program" || exit 1
+    [ -e "$work/program" ] || cp "$program" "$work/program" || exit 1
     as_nobody "$work/program" "$@" <"$work/in" >"$work/out" 2>"$work/err"
     status=$?
 }

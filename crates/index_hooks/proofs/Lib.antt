@@ -4,3 +4,5 @@ mod AskedLemmas
 mod NameLemmas
 -- promises that allow one answer each allow one choice
 mod OneChoiceLemmas
+-- answers that are the same
+mod SameAnswerLemmas

@@ -10,5 +10,9 @@ pub mod IsUnder
 pub mod MayChoose
 -- the one choice of promises that allow one answer each
 pub mod OneChoice
+-- what contracts see of a filter or of a rule
+pub mod Promised
+-- which answers the ready promises allow
+pub mod ReadyPromises
 -- whose turn it is to be asked
 pub mod Turns

@@ -9,7 +9,9 @@ use proto_decl::DeclView;
 pub struct AnyAnswer;
 
 impl FilterPromise for AnyAnswer {
-    ghost may = { λ _ _ _. Unit {0} };
+    ghost use Rattle.index_hooks.specs.ReadyPromises.{AllowsAny};
+
+    ghost may = { λ _ seen keep. AllowsAny seen keep };
 
     fn allows(&self, _view: &DeclView<'_>, _keep: bool) -> bool {
         true
@@ -17,7 +19,9 @@ impl FilterPromise for AnyAnswer {
 }
 
 impl DocPromise for AnyAnswer {
-    ghost may = { λ _ _ _. Unit {0} };
+    ghost use Rattle.index_hooks.specs.ReadyPromises.{AllowsAny};
+
+    ghost may = { λ _ seen answer. AllowsAny seen answer };
 
     fn allows(&self, _view: &DeclView<'_>, _answer: DocChoice) -> bool {
         true

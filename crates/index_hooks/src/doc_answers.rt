@@ -1,7 +1,6 @@
 //! Documentation rules known by their answers.
 
-ghost use Rattle.std.specs.Prelude.{◌≡◌, ◌↔◌, IsTrue, Contains};
-ghost use Rattle.index_hooks.specs.declared.choice.DocChoice.{DocChoice};
+ghost use Rattle.std.specs.Prelude.{◌≡◌};
 
 use crate::callback::DocCallback;
 use crate::choice::DocChoice;
@@ -16,7 +15,9 @@ use proto_decl::DeclView;
 pub struct DocAlways(pub DocChoice);
 
 impl DocPromise for DocAlways {
-    ghost may = { λ promise _ answer. answer ≡ promise.0 };
+    ghost use Rattle.index_hooks.specs.ReadyPromises.{AnswersOnly};
+
+    ghost may = { λ promise seen answer. AnswersOnly promise.0 seen answer };
 
     fn allows(&self, _view: &DeclView<'_>, answer: DocChoice) -> bool {
         answer == self.0
@@ -24,7 +25,9 @@ impl DocPromise for DocAlways {
 }
 
 impl DocCallback for DocAlways {
-    ghost gives = { λ promise _ answer. answer ≡ promise.0 };
+    ghost use Rattle.index_hooks.specs.ReadyPromises.{AnswersOnly};
+
+    ghost gives = { λ promise seen answer. AnswersOnly promise.0 seen answer };
 
     fn call(&self, _view: &DeclView<'_>) -> DocChoice {
         self.0
@@ -34,7 +37,8 @@ impl DocCallback for DocAlways {
 impl DocAlways {
     /// The documentation rule that always gives this answer.
     pub fn rule(self) -> DocRule<DocAlways, DocAlways>
-        ensures { result ≡ self }
+        ensures promise { result.promise ≡ self }
+        ensures callback { result.callback ≡ self }
     {
         DocRule::new(self, self)
     }
@@ -45,7 +49,9 @@ impl DocAlways {
 pub struct DocOneOf(pub Vec<DocChoice>);
 
 impl DocPromise for DocOneOf {
-    ghost may = { λ promise _ answer. Contains promise.0.items answer };
+    ghost use Rattle.index_hooks.specs.ReadyPromises.{AnswersOneOf};
+
+    ghost may = { λ promise seen answer. AnswersOneOf promise.0.items seen answer };
 
     fn allows(&self, _view: &DeclView<'_>, answer: DocChoice) -> bool {
         self.0.as_slice().contains(&answer)

@@ -11,7 +11,7 @@ use proto_decl::DeclView;
 use std::marker::Model;
 
 /// A callback that says of each declaration whether it is kept, beside a promise that allows each of its answers.
-/// Contracts see only the promise.
+/// Contracts see both; in a registry, only the promise.
 #[derive(Drop)]
 pub struct Filter<P: FilterPromise, C: FilterCallback> {
     promise: P,
@@ -21,10 +21,11 @@ pub struct Filter<P: FilterPromise, C: FilterCallback> {
 impl<P: FilterPromise, C: FilterCallback> Model for Filter<P, C> {
     ghost use Rattle.std.specs.Prelude.{Bool};
     ghost use Rattle.proto_decl.specs.Seen.{Seen};
+    ghost use Rattle.index_hooks.specs.Promised.{Promised};
 
-    ghost Value = { P };
+    ghost Value = { Promised P C };
 
-    ghost view = { λ f. f.promise };
+    ghost view = { λ f. record { promise = f.promise; callback = f.callback } };
 
     ghost invariant = { λ f. (seen : Seen) (keep : Bool) → C.gives f.callback seen keep → P.may f.promise seen keep };
 }
@@ -33,16 +34,21 @@ impl<P: FilterPromise, C: FilterCallback> Filter<P, C> {
     /// The filter that asks this callback. The promise has to allow each answer that it may give.
     pub fn new(promise: P, callback: C) -> Filter<P, C>
         requires { (seen : Seen) (keep : Bool) → C.gives callback seen keep → P.may promise seen keep }
-        ensures { result ≡ promise }
+        ensures promise { result.promise ≡ promise }
+        ensures callback { result.callback ≡ callback }
     {
         Filter { promise, callback }
     }
 }
 
 impl<P: FilterPromise, C: FilterCallback> FilterHook for Filter<P, C> {
-    ghost may = { λ f seen keep. P.may f seen keep };
+    ghost may = { λ f seen keep. P.may f.promise seen keep };
 
-    fn ask(&self, _ticket: Ticket, view: &DeclView<'_>) -> bool {
+    /// The answer is one that the callback may give, for what is seen here.
+    fn ask(&self, _ticket: Ticket, view: &DeclView<'_>) -> bool
+        ensures promised { P.may self.now.promise view.now result }
+        ensures asked { C.gives self.now.callback view.now result }
+    {
         self.callback.call(view)
     }
 }

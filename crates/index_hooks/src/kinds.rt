@@ -1,7 +1,9 @@
 //! Declarations chosen by their kind.
 
-ghost use Rattle.std.specs.Prelude.{◌↔◌, IsTrue, Contains};
+ghost use Rattle.std.specs.Prelude.{◌≡◌, ◌↔◌, IsTrue, Contains};
 
+use crate::callback::FilterCallback;
+use crate::filter::Filter;
 use crate::promise::FilterPromise;
 use proto_decl::{DeclView, DeclarationKind};
 
@@ -61,16 +63,37 @@ impl Kinds {
 }
 
 /// The promise of a filter that answers `true` if and only if the kind is in the set.
+///
+/// It is also the callback that answers so.
 #[derive(Clone, Copy, Debug, PartialEq, Eq)]
 pub struct KindIn(pub Kinds);
 
 impl FilterPromise for KindIn {
-    ghost use Rattle.std.specs.Prelude.{◌↔◌, IsTrue};
-    ghost use Rattle.index_hooks.specs.HasKind.{HasKind};
+    ghost use Rattle.index_hooks.specs.ReadyPromises.{KeepsKinds};
 
-    ghost may = { λ promise seen keep. IsTrue keep ↔ HasKind promise.0 seen.kind };
+    ghost may = { λ promise seen keep. KeepsKinds promise.0 seen keep };
 
     fn allows(&self, view: &DeclView<'_>, keep: bool) -> bool {
         keep == self.0.contains(view.kind())
+    }
+}
+
+impl FilterCallback for KindIn {
+    ghost use Rattle.index_hooks.specs.ReadyPromises.{KeepsKinds};
+
+    ghost gives = { λ promise seen keep. KeepsKinds promise.0 seen keep };
+
+    fn call(&self, view: &DeclView<'_>) -> bool {
+        self.0.contains(view.kind())
+    }
+}
+
+impl KindIn {
+    /// The filter that keeps the declarations of these kinds.
+    pub fn filter(self) -> Filter<KindIn, KindIn>
+        ensures promise { result.promise ≡ self }
+        ensures callback { result.callback ≡ self }
+    {
+        Filter::new(self, self)
     }
 }

@@ -5,6 +5,9 @@
 //! that allows each of its answers. All that is known of what a `Registry` chooses is what the
 //! promises of its filters and rules allow; `AnyAnswer` allows everything.
 //!
+//! Ready ones: `KindIn(kinds).filter()`, `NamePrefix::filter(alloc, "a.b")?`, `WithComment.filter()` and
+//! `DocAlways(DocChoice::Both).rule()`, each beside its promise.
+//!
 //! A filter of one's own:
 //!
 //! ```
@@ -61,6 +64,7 @@ mod promise;
 mod registry;
 mod rule;
 mod turns;
+mod with_comment;
 
 pub use any_answer::AnyAnswer;
 pub use callback::{DocCallback, FilterCallback};
@@ -76,3 +80,4 @@ pub use promise::{DocPromise, FilterPromise};
 pub use registry::{MAX_HOOKS, Promises, Registry};
 pub use rule::DocRule;
 pub use turns::{Chooses, Ticket, Turns};
+pub use with_comment::WithComment;

@@ -31,7 +31,10 @@ fn is_under(scope: &str, name: &str) -> bool
 }
 
 impl FilterPromise for NamePrefix {
-    ghost may = { λ promise seen keep. IsTrue keep ↔ IsUnder (string_bytes promise.0) seen.full_name };
+    ghost use Rattle.std.specs.String.{string_bytes};
+    ghost use Rattle.index_hooks.specs.ReadyPromises.{KeepsUnder};
+
+    ghost may = { λ promise seen keep. KeepsUnder (string_bytes promise.0) seen keep };
 
     fn allows(&self, view: &DeclView<'_>, keep: bool) -> bool {
         keep == is_under(self.0.as_str(), view.full_name())
@@ -39,7 +42,10 @@ impl FilterPromise for NamePrefix {
 }
 
 impl FilterCallback for NamePrefix {
-    ghost gives = { λ promise seen keep. IsTrue keep ↔ IsUnder (string_bytes promise.0) seen.full_name };
+    ghost use Rattle.std.specs.String.{string_bytes};
+    ghost use Rattle.index_hooks.specs.ReadyPromises.{KeepsUnder};
+
+    ghost gives = { λ promise seen keep. KeepsUnder (string_bytes promise.0) seen keep };
 
     fn call(&self, view: &DeclView<'_>) -> bool {
         is_under(self.0.as_str(), view.full_name())
@@ -49,7 +55,8 @@ impl FilterCallback for NamePrefix {
 impl NamePrefix {
     /// The filter that keeps what has this full name, or one that begins with it and a dot.
     pub fn filter(alloc: Global, prefix: &str) -> Result<Filter<NamePrefix, NamePrefix>, AllocError>
-        ensures { IfOk result (λ filter. string_bytes filter.0 ≡ prefix.now) }
+        ensures promise { IfOk result (λ filter. string_bytes filter.promise.0 ≡ prefix.now) }
+        ensures callback { IfOk result (λ filter. string_bytes filter.callback.0 ≡ prefix.now) }
     {
         let promise = NamePrefix(String::from_str(alloc, prefix)?);
         let callback = NamePrefix(String::from_str(alloc, prefix)?);

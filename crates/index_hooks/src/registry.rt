@@ -89,6 +89,13 @@ impl Registry {
     {
         add(&mut self.rules, rule)
     }
+
+    /// The choice for a declaration, as by `Chooses::choose`.
+    pub fn choose(&self, view: &DeclView<'_>) -> Choice
+        ensures { ⟦<Registry as Chooses>⟧.allows self.now view.now result }
+    {
+        Chooses::choose(self, view)
+    }
 }
 
 /// Asks the filter whose turn it is.

@@ -44,3 +44,22 @@ fn seventeenth_filter_comes_back(rt: HostRuntime) -> Result<(), Fail> {
     see(&rt, so, "the 16 filters and the rule");
     Ok(())
 }
+
+/// Faults, their names, and how they are shown.
+const SHOWN: [(HookFault, &str, &str); 2] = [
+    (
+        HookFault::Full,
+        "Full",
+        "the registry has 16 of this kind already",
+    ),
+    (HookFault::Memory, "Memory", "memory ran out"),
+];
+
+#[test]
+fn faults_are_shown_in_sentences(rt: HostRuntime) -> Result<(), Fail> {
+    for (fault, name, due) in &SHOWN {
+        let text = format!(in rt.alloc(); "{fault}")?;
+        see(&rt, text.as_str() == *due && fault.name() == *name, due);
+    }
+    Ok(())
+}

@@ -4,8 +4,8 @@ ghost use Rattle.std.specs.Prelude.{◌≢◌, ◌↔◌, [], IsTrue};
 
 use crate::shared::{see, see_added};
 use index_hooks::{
-    AnyAnswer, Choice, Chooses, DocCallback, DocChoice, DocRule, Filter, FilterCallback,
-    FilterPromise, Registry,
+    AnyAnswer, Choice, DocCallback, DocChoice, DocRule, Filter, FilterCallback, FilterPromise,
+    Registry,
 };
 use proto_decl::{DeclView, DeclarationKind};
 use std::test::Fail;

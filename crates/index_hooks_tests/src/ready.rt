@@ -3,7 +3,7 @@
 use crate::shared::{Alone, message, see};
 use index_hooks::{
     AnyAnswer, BoxedFilter, BoxedRule, Choice, Chooses, DocAlways, DocChoice, DocOneOf, DocPromise,
-    FilterPromise, KindIn, Kinds, NamePrefix,
+    FilterPromise, KindIn, Kinds, NamePrefix, WithComment,
 };
 use proto_decl::{DeclView, DeclarationKind};
 use std::alloc::{AllocError, Global};
@@ -43,6 +43,42 @@ fn both_alone(alloc: Global, view: &DeclView<'_>) -> Result<bool, AllocError> {
             && always.allows(view, DocChoice::Both)
             && !always.allows(view, DocChoice::Pass),
     )
+}
+
+/// Whether a filter by kind keeps the view, and one by comments too.
+fn are_kept(alloc: Global, view: &DeclView<'_>) -> Result<(bool, bool), AllocError> {
+    let kinds = Kinds::of(&[DeclarationKind::Message]);
+    let by_kind: BoxedFilter = Box::new(alloc, KindIn(kinds).filter())?;
+    let by_comment: BoxedFilter = Box::new(alloc, WithComment.filter())?;
+    let rule: BoxedRule = Box::new(alloc, DocAlways(DocChoice::Both).rule())?;
+    let kind = Alone(&by_kind, &rule).choose(view).keep;
+    let comment = Alone(&by_comment, &rule).choose(view).keep;
+    Ok((
+        kind && KindIn(kinds).allows(view, true),
+        comment && WithComment.allows(view, true),
+    ))
+}
+
+/// Kinds and texts before and behind, and whether a filter of messages keeps them, and one of what has a comment. The
+/// second reads: an enum with a text behind it.
+const VIEWS: [(DeclarationKind, &str, &str, (bool, bool)); 4] = [
+    (DeclarationKind::Message, "before", "", (true, true)),
+    (DeclarationKind::Enum, "", "behind", (false, true)),
+    (DeclarationKind::Message, "", "", (true, false)),
+    (DeclarationKind::Field, "", "", (false, false)),
+];
+
+#[test]
+fn filters_by_kind_and_by_comment(rt: HostRuntime) -> Result<(), Fail> {
+    for (kind, leading, trailing, due) in &VIEWS {
+        let view = DeclView::new(*kind, "M", "a.M", leading, trailing);
+        see(
+            &rt,
+            are_kept(rt.alloc(), &view)? == *due,
+            "by kind, by comment",
+        );
+    }
+    Ok(())
 }
 
 #[test]

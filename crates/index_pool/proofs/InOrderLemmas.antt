@@ -1,22 +1,22 @@
 -- The results, put into the order of their inputs.
 use Rattle.std.proofs.Common.{◌≡◌, ◌≢◌, ℕ, zero, suc, ◌+◌, ◌<◌, ◌≤◌, true, false, List, [], ◌∷◌, ◌++◌, length, set}
 use Rattle.std.proofs.Common.{get_or, drop, slice_get, All, Option, Some, None, Result, Ok, Err, refl, sym, ap, ◌∙◌}
-use Rattle.std.proofs.Common.{subst, append-nil, ◌⊎◌, inl, inr, ⊎_elim, add-one, ◌==◌, map, arith}
-use Rattle.std.specs.Prelude.{IfOk, IfErr, MatchResult}
-use lib.ListN.{get_or-map, length-map}
+use Rattle.std.proofs.Common.{subst, append-nil, ◌⊎◌, inl, inr, ⊎_elim, add-one, ◌==◌, arith}
+use Rattle.std.specs.Prelude.{IfErr}
 use Rattle.std.proofs.Math.ListN.{length-set, length-drop}
 use Rattle.std.proofs.Math.Seq.{drop-cons}
 use Rattle.std.proofs.lemmas.List.{length_push, get_or-set_same, get_or-set_other, nil_from_length}
 use Rattle.std.proofs.lemmas.Option.{slice_get_within, get_or_from_slice_get, slice_get-get_or}
-use Rattle.std.proofs.lemmas.List.Elements.{All-get_or, All-map, Contains-append_left, Contains-push}
-use Rattle.std.proofs.lemmas.List.Sums.{sum_by_push}
+use Rattle.std.proofs.lemmas.List.Elements.{All-get_or, All-head, All-tail, Contains-append_left, Contains-push}
+use Rattle.std.proofs.lemmas.List.Sums.{sum_by_push, sum_by-cons}
 use Rattle.std.proofs.lemmas.Bool.Decides.{eqb_tells}
 use Rattle.index_pool.specs.declared.phase.worker.Ran.{Ran}
 use Rattle.index_pool.specs.declared.phase.fault.PoolFault.{PoolFault}
 use Rattle.index_pool.specs.declared.phase.fault.PoolFault.TheVariants.{Spawn, Memory, Job}
 use Rattle.index_pool.specs.Once.{HasEachOnceBelow}
-use Rattle.index_pool.specs.Phase.{AnswersEach, MayRefuse, RanOnce, Returned, AnswersRuns, RefusesRuns}
-use Rattle.index_pool.specs.Tables.PhaseSteps.{weight, numbers_of, RanEach, IsAmong, IsFilled, IsFull, HasResult}
+use Rattle.index_pool.specs.Phase.{AnswersEach, MayRefuse, EachIsRun}
+use Rattle.index_pool.specs.Tables.PhaseSteps.{weight, numbers_of, AllGiven, RanEach, IsAmong, IsFilled, IsFull}
+use Rattle.index_pool.specs.Tables.PhaseSteps.{HasResult}
 use Rattle.index_pool.proofs.OnceLemmas.{only_at, only_at_other, one_below}
 use Rattle.index_pool.proofs.ResultsLemmas.{once_weighs}
 
@@ -186,46 +186,28 @@ refusal_weaker P Q n m workers same weaker (Job k fault) a = (
   λ j below. (let o = a.2 j below in (o.0, weaker j (Ok o.0) o.1)),
 )
 
--- a result as a run: its number, and what `run` returned
-abbrev pub run_of : {A : Type 0} → Ran A → ℕ × A
-run_of r = (r.number, r.answer)
+-- a number that the results weigh has one
+has_result : {A : Type 0} (gives : ℕ → A → Type 0) (j : ℕ) (rs : List (Ran A)) → AllGiven gives rs
+    → 0 < weight (only_at j) rs → (a : A) × gives j a
+has_result gives j [] all some = absurd (omega arith)
+has_result {A} gives j (r ∷ rs) all some =
+    let P : Ran A → Type 0 = λ q. gives q.number q.answer in
+    let sum = sum_by-cons (λ (q : Ran A). only_at j q.number) r rs in
+    ⊎_elim
+    (λ (yes : ((r.number == j) ≡ true) × (r.number ≡ j)).
+    (r.answer, subst (λ k. gives k r.answer) yes.1 (All-head P r rs all)))
+    (λ (no : ((r.number == j) ≡ false) × (r.number ≢ j)).
+    let none = only_at_other j r.number no.1 in has_result gives j rs (All-tail P r rs all) (omega arith))
+    (eqb_tells r.number j)
 
-numbers_of_runs : {A : Type 0} (rs : List (Ran A)) → map (λ (run : ℕ × A). run.0) (map run_of rs) ≡ numbers_of rs
-numbers_of_runs [] = refl
-numbers_of_runs (r ∷ rs) = ap (λ ns. r.number ∷ ns) (numbers_of_runs rs)
-
-runs_once : {A : Type 0} (gives : ℕ → A → Type 0) (n : ℕ) (rs : List (Ran A)) → RanEach gives n rs
-    → RanOnce gives n (map run_of rs)
-runs_once {A} gives n rs ran = (
-  subst (HasEachOnceBelow n) (sym (numbers_of_runs rs)) ran.1,
-  All-map (λ (run : ℕ × A). gives run.0 run.1) run_of rs ran.0,
-)
-
--- what is among the results was returned by a run
-returned : {A : Type 0} (rs : List (Ran A)) (k : ℕ) (a : A) → IsAmong rs k a → Returned (map run_of rs) k a
-returned {A} rs k a among =
-    let r : Ran A = record { number = k; answer = a } in
-    let few = among.1 in
-    let count = length-map rs run_of in
-    (among.0, omega arith, get_or-map run_of rs among.0 r ∙ ap run_of among.2)
-
-pub of_runs : {V Out Fault : Type 0} (gives : ℕ → Result Out Fault → Type 0) (n : ℕ)
-    (rs : List (Ran (Result Out Fault))) → RanEach gives n rs → (items : V → List Out)
-    → (answer : Result V (PoolFault Fault)) → IfOk answer (λ v. AnswersEach (IsAmong rs) n (items v))
-    → IfErr answer (MayRefuse (IsAmong rs) n 1)
-    → MatchResult answer (λ v. AnswersRuns gives n (items v)) (RefusesRuns gives n)
-of_runs gives n rs ran items (Ok v) outs none = (
-  map run_of rs,
-  runs_once gives n rs ran,
-  answers_weaker (IsAmong rs) (Returned (map run_of rs)) n n refl (returned rs) (items v) outs,
-)
-of_runs gives n rs ran items (Err Spawn) none fault = tt
-of_runs gives n rs ran items (Err Memory) none fault = tt
-of_runs gives n rs ran items (Err (Job k cause)) none fault = (
-  map run_of rs,
-  runs_once gives n rs ran,
-  refusal_weaker (IsAmong rs) (Returned (map run_of rs)) n n 1 refl (returned rs) (Job k cause) fault,
-)
+pub each_is_run : {V Out Fault : Type 0} (gives : ℕ → Result Out Fault → Type 0) (n : ℕ)
+    (rs : List (Ran (Result Out Fault))) → RanEach gives n rs → (answer : Result V (PoolFault Fault))
+    → IfErr answer (EachIsRun gives n)
+each_is_run gives n rs ran (Ok v) = tt
+each_is_run gives n rs ran (Err Spawn) = tt
+each_is_run gives n rs ran (Err Memory) = tt
+each_is_run gives n rs ran (Err (Job k fault)) = λ j below. has_result gives j rs ran.0
+    (let one = once_weighs n rs ran.1 j in let is = one_below j n below in omega arith)
 
 -- what a filled slot has is among the results
 pub filled_among : {A : Type 0} (among : ℕ → A → Type 0) (n : ℕ) (slots : List (Option A)) → IsFilled among n slots

@@ -12,7 +12,8 @@ use lib.ListN.{get_elem?}
 use Rattle.crossbeam_deque.specs.Tasks.{Pushes, Takes, Finds, FindsFew, Forks, Merges}
 use Rattle.crossbeam_deque.proofs.Lists.{at_set, at_snoc}
 use Rattle.index_pool.specs.declared.lanes.rule.LaneView.{LaneView}
-use Rattle.index_pool.specs.Lane.{IsLane, lane_view, more_given, more_popped, more_stolen, IsShare, Fits, HoldsLane}
+use Rattle.index_pool.specs.Lane.{IsLane, lane_view, more_given, more_popped, more_stolen, Fits, HoldsLane}
+use Rattle.index_pool.specs.Lane.{OwnerFinds, ThiefFinds}
 
 at_end : (l : List LaneView) (a b : LaneView) (j : ℕ) → get_elem? l j ≢ some b → get_elem? (l ++ a ∷ []) j ≡ some b
     → j ≡ length l
@@ -86,6 +87,26 @@ lane_counts given queue popped stolen l =
     let c = length_permutation l.0 (popped ++ stolen) l.2 in
     let d = length-append popped stolen in omega arith
 
+-- what a party knows of the queue
+owner_finds : (owner thief : ℕ) (given queue popped stolen : List ℕ) (party : ℕ) (v : LaneView) → v.owns ≡ true
+    → Fits owner thief given popped stolen party v → IsLane given queue popped stolen → OwnerFinds v queue
+owner_finds owner thief given queue popped stolen party v owns fits lane =
+    let own = fits.0 owns in (
+      stolen,
+      subst (λ g. IsLane g queue v.popped stolen) (sym own.1)
+          (subst (λ p. IsLane given queue p stolen) (sym own.2) lane),
+      λ may. sym (fits.1 may).2,
+    )
+
+thief_finds : (owner thief : ℕ) (given queue popped stolen : List ℕ) (party : ℕ) (v : LaneView) → v.steals ≡ true
+    → Fits owner thief given popped stolen party v → IsLane given queue popped stolen → ThiefFinds v queue
+thief_finds owner thief given queue popped stolen party v may fits lane =
+    let rob = fits.1 may in (
+      popped,
+      subst (λ g. IsLane g queue popped v.stolen) (sym rob.1)
+          (subst (λ p. IsLane given queue popped p) (sym rob.2) lane),
+    )
+
 pub gives : (party : ℕ) (v : LaneView) (xs : List ℕ) → v.owns ≡ true → v.steals ≡ true
     → Pushes HoldsLane party v xs (λ w. w ≡ more_given v xs)
 gives party v xs owns steals queue views h at =
@@ -113,7 +134,8 @@ gives party v xs owns steals queue views h at =
 
 pub pops : (party : ℕ) (v : LaneView) → v.owns ≡ true
     → Takes HoldsLane party v 1
-    (λ xs w. (w ≡ more_popped v xs) × All (Contains v.given) xs × (length (v.popped ++ xs) ≤ length v.given))
+    (λ xs w. (w ≡ more_popped v xs) × All (Contains v.given) xs × (length (v.popped ++ xs) ≤ length v.given)
+    × ((rest : List ℕ) × OwnerFinds v (xs ++ rest)))
 pops party v owns xs queue views _ _ h at =
     let w : LaneView = more_popped v xs in
     let mine = h.6 party v at in
@@ -134,12 +156,18 @@ pops party v owns xs queue views _ _ h at =
             ((λ _. (own.0, own.1, ap (λ l. l ++ xs) own.2)), mine.1)
             (λ j u other e. ((λ p. absurd (other (((h.6 j u e).0 p).0 ∙ sym own.0))), (h.6 j u e).1)),
       ),
-      (refl, subst (λ g. All (Contains g) xs) (sym own.1) (lane_contains h.2 queue h.3 h.4 xs h.5), count),
+      (
+        refl,
+        subst (λ g. All (Contains g) xs) (sym own.1) (lane_contains h.2 queue h.3 h.4 xs h.5),
+        count,
+        (queue, owner_finds h.0 h.1 h.2 (xs ++ queue) h.3 h.4 party v owns mine h.5),
+      ),
     )
 
 pub steals : (party : ℕ) (v : LaneView) → v.steals ≡ true
     → Takes HoldsLane party v 1
-    (λ xs w. (w ≡ more_stolen v xs) × All (Contains v.given) xs × (length (v.stolen ++ xs) ≤ length v.given))
+    (λ xs w. (w ≡ more_stolen v xs) × All (Contains v.given) xs × (length (v.stolen ++ xs) ≤ length v.given)
+    × ((rest : List ℕ) × ThiefFinds v (xs ++ rest)))
 steals party v may xs queue views _ _ h at =
     let w : LaneView = more_stolen v xs in
     let mine = h.6 party v at in
@@ -160,34 +188,35 @@ steals party v may xs queue views _ _ h at =
             (mine.0, λ _. (rob.0, rob.1, ap (λ l. l ++ xs) rob.2))
             (λ j u other e. ((h.6 j u e).0, λ p. absurd (other (((h.6 j u e).1 p).0 ∙ sym rob.0)))),
       ),
-      (refl, subst (λ g. All (Contains g) xs) (sym rob.1) (lane_contains h.2 queue h.3 h.4 xs h.5), count),
+      (
+        refl,
+        subst (λ g. All (Contains g) xs) (sym rob.1) (lane_contains h.2 queue h.3 h.4 xs h.5),
+        count,
+        (queue, thief_finds h.0 h.1 h.2 (xs ++ queue) h.3 h.4 party v may mine h.5),
+      ),
     )
 
-pub finds : (party : ℕ) (v : LaneView)
-    → Finds HoldsLane party v (v.owns ≡ true → v.steals ≡ true → IsPermutation v.given (v.popped ++ v.stolen))
-finds party v views h at owns may =
+pub finds : (party : ℕ) (v : LaneView) → v.owns ≡ true
+    → Finds HoldsLane party v (OwnerFinds v [] × (v.steals ≡ true → IsPermutation v.given (v.popped ++ v.stolen)))
+finds party v owns views h at =
     let mine = h.6 party v at in
-    let own = mine.0 owns in
-    let rob = mine.1 may in
-    let given : v.given ≡ h.5.0 = own.1 ∙ (h.5.1 ∙ append-nil h.5.0) in
-    let taken : h.3 ++ h.4 ≡ v.popped ++ v.stolen =
-    ap (λ l. l ++ h.4) (sym own.2) ∙ ap (λ l. v.popped ++ l) (sym rob.2) in
-    subst (λ l. IsPermutation l (v.popped ++ v.stolen)) (sym given) (subst (λ l. IsPermutation h.5.0 l) taken h.5.2)
+    let found = owner_finds h.0 h.1 h.2 [] h.3 h.4 party v owns mine h.5 in (
+      found,
+      λ may. (
+          let given : v.given ≡ found.1.0 = found.1.1 ∙ append-nil found.1.0 in
+          subst (λ l. IsPermutation v.given (v.popped ++ l)) (found.2 may)
+          (subst (λ l. IsPermutation l (v.popped ++ found.0)) (sym given) found.1.2)),
+    )
 
 none_of_few : (queue : List ℕ) (most : ℕ) → most ≡ 0 → length queue ≤ most → queue ≡ []
 none_of_few [] most none few = refl
 none_of_few (x ∷ xs) most none few = absurd (omega arith)
 
-pub finds_share : (most party : ℕ) (v : LaneView) → most ≡ 0 → v.steals ≡ true
-    → FindsFew HoldsLane most party v (IsShare v)
-finds_share most party v none may queue views few h at =
-    let rob = (h.6 party v at).1 may in
-    let empty : queue ≡ [] = none_of_few queue most none few in
-    let given : v.given ≡ h.5.0 = rob.1 ∙ (h.5.1 ∙ (ap (λ l. h.5.0 ++ l) empty ∙ append-nil h.5.0)) in (
-      h.3,
-      subst (λ l. IsPermutation l (h.3 ++ v.stolen)) (sym given)
-          (subst (λ l. IsPermutation h.5.0 (h.3 ++ l)) (sym rob.2) h.5.2),
-    )
+pub finds_few : (most party : ℕ) (v : LaneView) → most ≡ 0 → v.steals ≡ true
+    → FindsFew HoldsLane most party v (ThiefFinds v [])
+finds_few most party v none may queue views few h at =
+    thief_finds h.0 h.1 h.2 [] h.3 h.4 party v may (h.6 party v at)
+    (subst (λ q. IsLane h.2 q h.3 h.4) (none_of_few queue most none few) h.5)
 
 pub forks : (party : ℕ) (v : LaneView) → v.owns ≡ true → v.steals ≡ true
     → Forks HoldsLane party v (lane_view true false v.given v.popped []) (lane_view false true v.given [] v.stolen)

@@ -1,16 +1,19 @@
 -- The numbers that a lane is given.
-use Rattle.std.proofs.Common.{◌≡◌, ◌≢◌, ℕ, zero, suc, ◌+◌, ◌*◌, ◌/◌, ◌%◌, ◌<◌, ◌≤◌, ◌==◌, Bool, [], ◌∷◌, ◌++◌, length}
+use Rattle.std.proofs.Common.{◌≡◌, ◌≢◌, ℕ, zero, suc, ◌+◌, ◌*◌, ◌/◌, ◌%◌, ◌<◌, ◌≤◌, ◌==◌, Bool, List, [], ◌∷◌, ◌++◌}
+use Rattle.std.proofs.Common.{length}
 use Rattle.std.proofs.Common.{filter, cond, All, sum_by, nat_lt, if◌then◌else◌, zero-add, true, false, refl, sym, ap}
 use Rattle.std.proofs.Common.{◌∙◌, subst, ⊎_elim, eq-eqb, ne_eqb, add-one, append-nil, arith}
 use Rattle.std.proofs.lemmas.List.{length_push}
 use Rattle.std.proofs.lemmas.List.Elements.{filter-append, All-filter, All-from_get_or}
-use Rattle.std.proofs.lemmas.List.Sums.{sum_by_push}
+use Rattle.std.proofs.lemmas.List.Sums.{sum_by_push, sum_by-append}
+use Rattle.std.proofs.lemmas.List.Sorted.{sum_by-IsPermutation}
 use Rattle.std.proofs.lemmas.List.FromFn.{length-range_with_len, get_or-range_with_len}
 use Rattle.std.proofs.lemmas.Bool.Decides.{eqb_tells, nat_tests}
 use Rattle.std.proofs.Math.Nat.{mul-le-mul_right, lt_of_mul-lt-mul_right, le-div_iff_mul-le}
 use Rattle.std.specs.List.{range_with_len}
-use Rattle.index_pool.specs.Lane.{lane_numbers}
-use Rattle.index_pool.proofs.OnceLemmas.{range_more, sum_by-range_more}
+use Rattle.index_pool.specs.Lane.{lane_numbers, IsLane, LanesKeepTheirNumbers}
+use Rattle.index_pool.proofs.OnceLemmas.{range_more, sum_by-range_more, only_at, only_at_other, one_more_below}
+use Rattle.index_pool.proofs.OnceLemmas.{one_below, below_from_one}
 
 -- the numbers of lane w of so many
 module _ (lanes w : ℕ) where
@@ -125,3 +128,59 @@ lane_below n lanes w = All-filter (λ k. (k % lanes) == w) (λ k. k < n) (range_
     let count = length-range_with_len 0 n in
     let below : i < n = omega arith in
     subst (λ k. k < n) (sym (get_or-range_with_len 0 n i 0 below)) (omega arith))))
+
+-- how often the numbers of lane w have a number
+module _ (lanes w k : ℕ) where
+  times_of_own : (n : ℕ) → k % lanes ≡ w
+      → sum_by (only_at k) (lane_numbers n lanes w) ≡ (if nat_lt k n then 1 else 0)
+  times_of_own zero own = ap (sum_by (only_at k)) (lane_none lanes w) ∙ grind (arith, nat_tests)
+  times_of_own (suc n) own =
+      subst (λ m. sum_by (only_at k) (lane_numbers m lanes w) ≡ (if nat_lt k m then 1 else 0)) (add-one n) (⊎_elim
+      (λ (yes : (((n % lanes) == w) ≡ true) × (n % lanes ≡ w)).
+      let a = times_of_own n own in
+      let b = ap (sum_by (only_at k)) (lane_more_own lanes w n yes.1)
+      ∙ sum_by_push (only_at k) (lane_numbers n lanes w) n in
+      let c = one_more_below k n in omega arith)
+      (λ (no : (((n % lanes) == w) ≡ false) × (n % lanes ≢ w)).
+      let a = times_of_own n own in
+      let b = ap (sum_by (only_at k)) (lane_more_other lanes w n no.1) in
+      let c = one_more_below k n in
+      let d = only_at_other k n (λ same. no.1 (ap (λ x. x % lanes) same ∙ own)) in omega arith)
+      (eqb_tells (n % lanes) w))
+
+  times_of_other : (n : ℕ) → k % lanes ≢ w → sum_by (only_at k) (lane_numbers n lanes w) ≡ 0
+  times_of_other zero other = ap (sum_by (only_at k)) (lane_none lanes w)
+  times_of_other (suc n) other =
+      subst (λ m. sum_by (only_at k) (lane_numbers m lanes w) ≡ 0) (add-one n) (⊎_elim
+      (λ (yes : (((n % lanes) == w) ≡ true) × (n % lanes ≡ w)).
+      let a = times_of_other n other in
+      let b = ap (sum_by (only_at k)) (lane_more_own lanes w n yes.1)
+      ∙ sum_by_push (only_at k) (lane_numbers n lanes w) n in
+      let d = only_at_other k n (λ same. other (ap (λ x. x % lanes) (sym same) ∙ yes.1)) in omega arith)
+      (λ (no : (((n % lanes) == w) ≡ false) × (n % lanes ≢ w)).
+      ap (sum_by (only_at k)) (lane_more_other lanes w n no.1) ∙ times_of_other n other)
+      (eqb_tells (n % lanes) w))
+
+-- the three lists of a lane weigh what it was given
+lane_weight : (h : ℕ → ℕ) (given queue popped stolen : List ℕ) → IsLane given queue popped stolen
+    → sum_by h (queue ++ (popped ++ stolen)) ≡ sum_by h given
+lane_weight h given queue popped stolen l =
+    let a = sum_by-append h queue (popped ++ stolen) in
+    let b = sum_by-IsPermutation h l.0 (popped ++ stolen) l.2 in
+    let c = ap (sum_by h) l.1 ∙ sum_by-append h l.0 queue in omega arith
+
+pub keeps_its_numbers : LanesKeepTheirNumbers
+keeps_its_numbers n lanes w queue popped stolen l = record {
+  own = λ k below is. (lane_weight (only_at k) (lane_numbers n lanes w) queue popped stolen l
+      ∙ (times_of_own lanes w k n is ∙ one_below k n below));
+  no_other = λ k some. (
+      let all = lane_weight (only_at k) (lane_numbers n lanes w) queue popped stolen l in
+      let held : 0 < sum_by (only_at k) (queue ++ (popped ++ stolen)) = some in
+      ⊎_elim
+      (λ (yes : (((k % lanes) == w) ≡ true) × (k % lanes ≡ w)).
+      let own = times_of_own lanes w k n yes.1 in (below_from_one k n (omega arith), yes.1))
+      (λ (no : (((k % lanes) == w) ≡ false) × (k % lanes ≢ w)).
+      let none = times_of_other lanes w k n no.1 in absurd (omega arith))
+      (eqb_tells (k % lanes) w));
+  last = (l.0, l.1);
+}

@@ -22,7 +22,7 @@ range_more n = ap (range_with_len 0) (add-one n)
 pub sum_by-range_more : (h : ℕ → ℕ) (n : ℕ) → sum_by h (range_with_len 0 (n + 1)) ≡ sum_by h (range_with_len 0 n) + h n
 sum_by-range_more h n = ap (sum_by h) (range_more n) ∙ sum_by_push h (range_with_len 0 n) n
 
-one_more_below : (number n : ℕ)
+pub one_more_below : (number n : ℕ)
     → (if nat_lt number n then 1 else 0) + only_at number n ≡ (if nat_lt number (n + 1) then 1 else 0)
 one_more_below number n = grind (arith, nat_tests)
 

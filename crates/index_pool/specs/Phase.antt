@@ -1,7 +1,5 @@
 -- What a phase answers, by the meaning of its job: `gives k r` says that `run` may return r for input k.
-use Rattle.std.specs.Prelude.{◌≡◌, ℕ, ◌<◌, ⊤, List, length, map, All, Contains, slice_get, Option, Some, None}
-use Rattle.std.specs.Prelude.{Result, Ok, Err}
-use Rattle.index_pool.specs.Once.{HasEachOnceBelow}
+use Rattle.std.specs.Prelude.{◌≡◌, ℕ, ◌<◌, ⊤, List, length, slice_get, Option, Some, None, Result, Ok, Err}
 use Rattle.index_pool.specs.declared.phase.fault.PoolFault.{PoolFault}
 use Rattle.index_pool.specs.declared.phase.fault.PoolFault.TheVariants.{Spawn, Memory, Job}
 
@@ -21,26 +19,11 @@ MayRefuse gives n workers Spawn = 1 < workers
 MayRefuse gives n workers Memory = ⊤
 MayRefuse gives n workers (Job k fault) = IsLeastFault gives n k fault
 
--- the runs of n inputs, each with what `run` returned, in the order in which they were gathered: each input was run
--- once, and gave what it may give
-abbrev pub RanOnce : {A : Type 0} → (ℕ → A → Type 0) → ℕ → List (ℕ × A) → Type 0
-RanOnce gives n runs = HasEachOnceBelow n (map (λ run. run.0) runs) × All (λ run. gives run.0 run.1) runs
-
--- a run of input k returned a
-abbrev pub Returned : {A : Type 0} → List (ℕ × A) → ℕ → A → Type 0
-Returned runs k a = Contains runs (k, a)
-
--- each input was run once, and the answers are what these runs returned
-abbrev pub AnswersRuns : {Out Fault : Type 0} → (ℕ → Result Out Fault → Type 0) → ℕ → List Out → Type 0
-AnswersRuns {Out} {Fault} gives n outs =
-    (runs : List (ℕ × Result Out Fault)) × RanOnce gives n runs × AnswersEach (Returned runs) n outs
-
--- each input was run once, even if one has a fault, and the fault is the least of those that these runs returned
-abbrev pub RefusesRuns : {Out Fault : Type 0} → (ℕ → Result Out Fault → Type 0) → ℕ → PoolFault Fault → Type 0
-RefusesRuns gives n Spawn = ⊤
-RefusesRuns gives n Memory = ⊤
-RefusesRuns {Out} {Fault} gives n (Job k fault) =
-    (runs : List (ℕ × Result Out Fault)) × RanOnce gives n runs × IsLeastFault (Returned runs) n k fault
+-- also where an input has a fault, each of the n inputs was run, and gave what it may give
+abbrev pub EachIsRun : {Out Fault : Type 0} → (ℕ → Result Out Fault → Type 0) → ℕ → PoolFault Fault → Type 0
+EachIsRun gives n Spawn = ⊤
+EachIsRun gives n Memory = ⊤
+EachIsRun {Out} {Fault} gives n (Job k fault) = (j : ℕ) → j < n → (answer : Result Out Fault) × gives j answer
 
 -- one of the starts of this many workers' threads is refused, by its number, from 1
 abbrev pub IsStartRefused : Option ℕ → ℕ → Type 0

@@ -39,6 +39,7 @@ mod worker;
 use crate::workers::{MAX_INPUTS, Workers};
 use std::alloc::{AllocError, Global};
 use std::marker::Model;
+use thiserror::Error;
 use worker::CoreWorker;
 
 /// One event of the core machine.
@@ -62,7 +63,8 @@ pub enum Event {
 }
 
 /// The event isn't possible. Nothing has changed.
-#[derive(Clone, Copy, Debug, PartialEq, Eq)]
+#[derive(Clone, Copy, Debug, Drop, PartialEq, Eq, Error)]
+#[error("the event is not possible in this state")]
 pub struct NotPossible;
 
 /// The state of the core machine.

@@ -1,6 +1,8 @@
 //! Lanes: the deque of one worker, from which its owner pops and its neighbour steals.
 
 ghost use Rattle.std.specs.Prelude.{
+  ℕ,
+  List,
   ◌≡◌,
   ◌+◌,
   ◌<◌,
@@ -20,7 +22,15 @@ ghost use Rattle.std.specs.Prelude.{
   length,
 };
 ghost use Rattle.std.specs.List.Sorted.{IsPermutation};
-ghost use Rattle.index_pool.specs.Lane.{lane_numbers, lane_view, more_given, more_popped, more_stolen, IsShare};
+ghost use Rattle.index_pool.specs.Lane.{
+  lane_numbers,
+  lane_view,
+  more_given,
+  more_popped,
+  more_stolen,
+  OwnerFinds,
+  ThiefFinds,
+};
 ghost use Rattle.crossbeam_deque.specs.Handles.{worker_capacity, worker_flavor, worker_index, worker_view, SameWorker};
 ghost use Rattle.index_pool.specs.StolenCases.{IfGot, IfEmpty, IfRetry, IfNotGot};
 ghost use Rattle.index_pool.specs.Ticket.{number_of};
@@ -124,6 +134,8 @@ impl LaneOwner {
     /// stolen, once.
     pub fn pop(&mut self) -> Option<Ticket>
         ensures some { IfSome result (λ t. owner_view self.new ≡ more_popped (owner_view self.old) (number_of t ∷ [])) }
+        ensures first { IfSome result (λ t. (rest : List ℕ) × OwnerFinds (owner_view self.old) (number_of t ∷ rest)) }
+        ensures empty { IfNone result (OwnerFinds (owner_view self.old) []) }
         ensures one_given { IfSome result (λ t. Contains (owner_view self.old).given (number_of t)
             × (length (owner_view self.old).popped < length (owner_view self.old).given)) }
         ensures none { IfNone result (owner_view self.new ≡ owner_view self.old) }
@@ -166,11 +178,13 @@ impl LaneThief {
     /// thief last looked, or if it was empty.
     pub fn steal(&mut self) -> Stolen
         ensures got { IfGot result (λ t. thief_view self.new ≡ more_stolen (thief_view self.old) (number_of t ∷ [])) }
+        ensures first { IfGot result (λ t. (rest : List ℕ) × ThiefFinds (thief_view self.old) (number_of t ∷ rest)) }
         ensures one_given { IfGot result (λ t. Contains (thief_view self.old).given (number_of t)
             × (length (thief_view self.old).stolen < length (thief_view self.old).given)) }
         ensures none { IfNotGot result (thief_view self.new ≡ thief_view self.old) }
-        ensures empty { IfEmpty result (IsShare (thief_view self.old)) }
-        ensures retry { IfRetry result ((known_gone self.old < known_gone self.new) ⊎ IsShare (thief_view self.old)) }
+        ensures empty { IfEmpty result (ThiefFinds (thief_view self.old) []) }
+        ensures retry { IfRetry result ((known_gone self.old < known_gone self.new)
+            ⊎ ThiefFinds (thief_view self.old) []) }
         ensures tries { tries_left self.new ≡ tries_after result (tries_left self.old) }
         ensures same { thief_deque self.new ≡ thief_deque self.old }
     {

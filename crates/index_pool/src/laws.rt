@@ -2,7 +2,7 @@
 
 ghost use Rattle.index_pool.specs.CoreMachine.{LosesNoNumber, TakesEachNumber};
 ghost use Rattle.index_pool.specs.CoreLanes.{ShowsLanes};
-ghost use Rattle.index_pool.specs.Lane.{GivesItsFirst};
+ghost use Rattle.index_pool.specs.Lane.{GivesItsFirst, LanesKeepTheirNumbers};
 ghost use Rattle.index_pool.specs.LaneRuns.{LanesRunAsCore};
 
 /// In every state to which events lead, each seeded number is in one queue or in one worker's takings, once.
@@ -20,6 +20,12 @@ pub fn core_takes_each_number()
 /// known of the lanes as the push, the pop or the steal does whose event it is.
 pub fn core_shows_lanes()
     ensures { ShowsLanes }
+{}
+
+/// By the rule of a lane that was given its numbers, each of them is queued, popped or stolen, once, no other number
+/// is, and the queue has the last ones of them, rising.
+pub fn lanes_keep_their_numbers()
+    ensures { LanesKeepTheirNumbers }
 {}
 
 /// The rule of a lane lets a pop and a steal take the first number of the queue, and nothing else.

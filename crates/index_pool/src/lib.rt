@@ -15,7 +15,7 @@ pub use job::Job;
 pub use lanes::{LaneOwner, LaneThief, Stolen, Ticket, lane};
 pub use laws::{
     core_loses_no_number, core_shows_lanes, core_takes_each_number, lanes_give_their_first,
-    lanes_run_as_core,
+    lanes_keep_their_numbers, lanes_run_as_core,
 };
 pub use phase::{PoolFault, Task, run_phase, run_phase_refusing};
 pub use workers::{MAX_INPUTS, MAX_WORKERS, Workers};

@@ -1,10 +1,10 @@
 //! Phases: the inputs of a job, run by workers who pop and steal their numbers.
 
-ghost use Rattle.std.specs.Prelude.{◌≡◌, ℕ, ◌+◌, ◌<◌, ◌≤◌, All, length, sum_by, Err, IfOk, IfErr, MatchResult};
+ghost use Rattle.std.specs.Prelude.{◌≡◌, ℕ, ◌+◌, ◌<◌, ◌≤◌, All, length, sum_by, Err, IfOk, IfErr};
 ghost use Rattle.std.specs.List.{range_with_len};
 ghost use Rattle.index_pool.specs.Lane.{lane_numbers};
 ghost use Rattle.index_pool.specs.LaneEnds.{owner_view};
-ghost use Rattle.index_pool.specs.Phase.{AnswersEach, MayRefuse, AnswersRuns, RefusesRuns, IsStartRefused};
+ghost use Rattle.index_pool.specs.Phase.{AnswersEach, MayRefuse, EachIsRun, IsStartRefused};
 ghost use Rattle.index_pool.specs.declared.phase.fault.PoolFault.TheVariants.{Spawn};
 ghost use Rattle.index_pool.specs.Tables.PhaseSteps.{FreshPost, FreshLane, Gathers, RanEach, MayStop, MayEnd};
 
@@ -51,8 +51,7 @@ pub fn run_phase<R: Threads + Wait, J: Job, G: Gate>(
     requires known { inputs ≤ J.inputs job.now }
     ensures answers { IfOk result (λ outs. AnswersEach (J.gives job.now) inputs outs.items) }
     ensures refused { IfErr result (MayRefuse (J.gives job.now) inputs workers) }
-    ensures ran { MatchResult result (λ outs. AnswersRuns (J.gives job.now) inputs outs.items)
-        (RefusesRuns (J.gives job.now) inputs) }
+    ensures ran { IfErr result (EachIsRun (J.gives job.now) inputs) }
 {
     let task = Task { alloc, job, gate };
     match run_phase_refusing(rt, &task, inputs, workers, None) {
@@ -78,8 +77,7 @@ pub fn run_phase_refusing<R: Threads + Wait, J: Job, G: Gate>(
     ensures answers { IfOk result (λ answer. IfOk answer (λ outs. AnswersEach (J.gives task.now.job.now) inputs
         outs.items)) }
     ensures refused { IfOk result (λ answer. IfErr answer (MayRefuse (J.gives task.now.job.now) inputs workers)) }
-    ensures ran { IfOk result (λ answer. MatchResult answer (λ outs. AnswersRuns (J.gives task.now.job.now) inputs
-        outs.items) (RefusesRuns (J.gives task.now.job.now) inputs)) }
+    ensures ran { IfOk result (λ answer. IfErr answer (EachIsRun (J.gives task.now.job.now) inputs)) }
     ensures spawn { IfOk result (λ answer. IsStartRefused refused workers → answer ≡ Err Spawn) }
 {
     match run_lanes(rt, task, inputs, workers, starts_before(refused)) {

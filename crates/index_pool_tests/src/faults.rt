@@ -3,7 +3,7 @@
 ghost use Rattle.std.specs.Prelude.{◌≡◌, ◌⊎◌, Ok, Err};
 
 use crate::calls::{see, workers};
-use index_pool::{Job, NoGate, PoolFault, Ticket, Workers, run_phase};
+use index_pool::{Job, NoGate, NotPossible, PoolFault, Ticket, Workers, run_phase};
 use std::alloc::Global;
 use std::sync::Wait;
 use std::sync::atomic::{AtomicU64, Ordering};
@@ -63,5 +63,27 @@ fn the_least_fault_is_answered(rt: HostRuntime) -> Result<(), Fail> {
         };
         see(&rt, least == Some(true), "Job(7)");
     }
+    Ok(())
+}
+
+/// Faults, and how they are shown.
+const SHOWN: [(PoolFault<u8>, &str); 3] = [
+    (PoolFault::Spawn, "a thread could not be started"),
+    (PoolFault::Memory, "memory ran out"),
+    (PoolFault::Job(7, 70), "input 7 is faulty: 70"),
+];
+
+#[test]
+fn faults_are_shown_in_sentences(rt: HostRuntime) -> Result<(), Fail> {
+    for (fault, due) in &SHOWN {
+        let text = format!(in rt.alloc(); "{fault}")?;
+        see(&rt, text.as_str() == *due, due);
+    }
+    let text = format!(in rt.alloc(); "{NotPossible}")?;
+    see(
+        &rt,
+        text.as_str() == "the event is not possible in this state",
+        "not possible",
+    );
     Ok(())
 }

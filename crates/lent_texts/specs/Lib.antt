@@ -1,2 +1,2 @@
--- the bytes of a text, wherever it is
+-- the bytes of a text, wherever it is, and what its copy is
 pub mod Kept

@@ -53,16 +53,11 @@ impl<'t> KeptText<'t> {
         }
     }
 
-    /// The same text once more. Nothing is copied if something else owns it.
+    /// The same text once more: it is lent again if it is lent, which takes no memory, and copied if it is owned.
     pub fn copy(&self, alloc: Global) -> Result<KeptText<'t>, AllocError>
         ensures { IfOk result (λ copy. copy ≡ self.now) }
     {
-        match &self.place {
-            Place::Lent(text) => Ok(KeptText::lent(text)),
-            Place::Owned(text) => {
-                let text = OwnedText::copy_of(alloc, text.as_str())?;
-                KeptText::owned(alloc, text)
-            }
-        }
+        let place = self.place.copy(alloc)?;
+        Ok(KeptText { place })
     }
 }

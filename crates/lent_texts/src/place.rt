@@ -1,6 +1,9 @@
 //! Where a text is.
 
+ghost use Rattle.lent_texts.specs.Kept.{IsCopied};
+
 use sequences::OwnedText;
+use std::alloc::{AllocError, Global};
 
 /// Where a text is: something else owns it, or it is in a box of its own. Because of the box, this takes three words in
 /// place of four, and most texts are lent.
@@ -8,4 +11,19 @@ use sequences::OwnedText;
 pub(crate) enum Place<'t> {
     Lent(&'t str),
     Owned(Box<OwnedText>),
+}
+
+impl<'t> Place<'t> {
+    /// Where a copy of the text is: the same for one that is lent, and a box of its own for one that is owned.
+    pub(crate) fn copy(&self, alloc: Global) -> Result<Place<'t>, AllocError>
+        ensures { IsCopied self.now result }
+    {
+        match self {
+            Place::Lent(text) => Ok(Place::Lent(text)),
+            Place::Owned(text) => {
+                let copy = OwnedText::copy_of(alloc, text.as_str())?;
+                Ok(Place::Owned(Box::new(alloc, copy)?))
+            }
+        }
+    }
 }

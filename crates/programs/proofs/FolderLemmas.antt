@@ -11,7 +11,7 @@ use Rattle.std.proofs.lemmas.List.Elements.{All-nil, All-cons, All-head, All-tai
 use Rattle.std.proofs.lemmas.List.Folds.{list_any-append}
 use Rattle.std.proofs.lemmas.Slice.Eq.{bytes_eq-Decides}
 use Rattle.scip_symbol.specs.Package.{Package, IsPackage}
-use Rattle.scip_document.specs.Packages.{Root, Packages, with_path, package_among, package_of_path}
+use Rattle.scip_model.specs.Packages.{Root, Packages, with_path, package_among, package_of_path}
 use Rattle.command_line.specs.declared.options.IndexOptions.{IndexOptions}
 use Rattle.command_line.specs.declared.options.PackageFolder.{PackageFolder}
 use Rattle.source_tree.specs.Files.{SourceFile, TreeFile, paths_of}

@@ -7,7 +7,7 @@ use Rattle.source_tree.specs.Files.{TreeFile}
 use Rattle.source_files.specs.Entries.{Entry}
 use Rattle.source_files.specs.Loads.{IsLoadedBelow}
 use Rattle.scip_symbol.specs.Package.{Package, IsPackage}
-use Rattle.scip_document.specs.Packages.{Root, Packages, package_among, package_of_path}
+use Rattle.scip_model.specs.Packages.{Root, Packages, package_among, package_of_path}
 use Rattle.command_line.specs.declared.options.IndexOptions.{IndexOptions}
 use Rattle.command_line.specs.declared.options.PackageFolder.{PackageFolder}
 use Rattle.programs.specs.Settings.{package_in}

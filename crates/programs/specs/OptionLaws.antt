@@ -2,7 +2,7 @@
 -- `lists` and `gives` are what the system of files gives.
 use Rattle.std.specs.Prelude.{ℕ, List, Option}
 use Rattle.source_tree.specs.Files.{TreeFile}
-use Rattle.scip_document.specs.Packages.{Packages, ArePackages}
+use Rattle.scip_model.specs.Packages.{Packages, ArePackages}
 use Rattle.protoscip.specs.Headline.{Navigates}
 use Rattle.protoscip.specs.Indexes.{IsIndexed}
 use Rattle.protoscip.specs.declared.recorded.Recorded.{Recorded}

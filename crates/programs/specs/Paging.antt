@@ -3,7 +3,7 @@
 -- stream of messages.
 use Rattle.std.specs.Prelude.{◌≡◌, ◌++◌, ℕ, Bool, true, false, List, [], Option, Result, Ok, Err, codes, string_bytes}
 use Rattle.std.specs.Prelude.{if◌then◌else◌}
-use Rattle.scip_model.specs.declared.records.Index.{Index}
+use Rattle.scip_records.specs.declared.records.Index.{Index}
 use Rattle.scip_snapshot.specs.Showing.{Writer, writer, Maker}
 use Rattle.scip_snapshot.specs.declared.show_fault.ShowFault.{ShowFault}
 use Rattle.scip_site.specs.Making.{MakesSite}

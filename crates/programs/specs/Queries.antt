@@ -1,7 +1,7 @@
 -- What the program `query` answers of an index that a file holds.
 -- `gives` is what reading the file may give.
 use Rattle.std.specs.Prelude.{◌⊎◌, ℕ, List, Option, Some, None, Result, Ok, Err}
-use Rattle.scip_model.specs.declared.records.Index.{Index}
+use Rattle.scip_records.specs.declared.records.Index.{Index}
 use Rattle.scip_wire.specs.Decodes.{Decodes}
 use Rattle.scip_wire.specs.Refused.{NoIndex}
 use Rattle.scip_query.specs.declared.answer_fault.AnswerFault.{AnswerFault}

@@ -12,7 +12,7 @@ use Rattle.index_hooks.specs.declared.choice.Choice.{Choice}
 use Rattle.scip_symbol.specs.Package.{Package}
 use Rattle.scip_build.specs.declared.faulty.Faulty.{Faulty}
 use Rattle.scip_build.specs.declared.faulty.Faulty.TheVariants as faulty
-use Rattle.scip_document.specs.Packages.{Packages}
+use Rattle.scip_model.specs.Packages.{Packages}
 use Rattle.scip_build.specs.declared.settings.Settings.{Settings}
 use Rattle.command_line.specs.declared.options.IndexOptions.{IndexOptions}
 use Rattle.command_line.specs.declared.options.PositionsWord.{PositionsWord}

@@ -2,7 +2,7 @@
 -- `gives` is what reading a file may give, and `messages` the stream of messages.
 use Rattle.std.specs.Prelude.{◌≡◌, ℕ, Bool, List, Option, None, Some, Result, Ok, Err, string_bytes}
 use Rattle.std.specs.Option.{option_map}
-use Rattle.scip_model.specs.declared.records.Index.{Index}
+use Rattle.scip_records.specs.declared.records.Index.{Index}
 use Rattle.scip_snapshot.specs.Showing.{Writer, writer, Maker, ArePrinted, AreCutOff, AreFiled, AreFiledButOne, Shows}
 use Rattle.scip_snapshot.specs.declared.show_fault.ShowFault.{ShowFault}
 use Rattle.command_line.specs.declared.options.SnapshotOptions.{SnapshotOptions}

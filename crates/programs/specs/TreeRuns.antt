@@ -4,7 +4,7 @@ use Rattle.std.specs.Prelude.{ℕ, List, [], ◌∷◌, Option, Result, Ok, Err}
 use Rattle.proto_parse.specs.tree.Dialect.{Dialect}
 use Rattle.source_tree.specs.Files.{TreeFile}
 use Rattle.source_tree.specs.Trees.{IsSourceCount}
-use Rattle.scip_document.specs.Packages.{Packages}
+use Rattle.scip_model.specs.Packages.{Packages}
 use Rattle.scip_build.specs.declared.fault.BuildFault.{BuildFault}
 use Rattle.scip_snapshot.specs.Showing.{Writer}
 use Rattle.protoscip.specs.declared.fault.Fault.{Fault}

@@ -36,7 +36,7 @@ fn choice_of_word(word: DocWord) -> DocChoice
 
 /// The rule that a word of `--doc` asks for.
 fn rule_of(word: Option<DocWord>) -> Option<DocRule<DocAlways, DocAlways>>
-    ensures { option_map (λ rule. rule.0) result ≡ option_map choice_of_word word }
+    ensures { option_map (λ rule. rule.promise.0) result ≡ option_map choice_of_word word }
 {
     match word {
         Some(word) => Some(DocAlways(choice_of_word(word)).rule()),
@@ -49,7 +49,7 @@ fn filter_of(
     alloc: Global,
     prefix: Option<&str>,
 ) -> Result<Option<Filter<NamePrefix, NamePrefix>>, AllocError>
-    ensures { IfOk result (λ filter. option_map (λ f. string_bytes f.0) filter ≡ option_map (λ text. text.now)
+    ensures { IfOk result (λ filter. option_map (λ f. string_bytes f.promise.0) filter ≡ option_map (λ text. text.now)
         prefix.entry) }
 {
     match prefix {
@@ -65,9 +65,10 @@ impl OptionChoices {
         only: Option<&str>,
         doc: Option<DocWord>,
     ) -> Result<OptionChoices, AllocError>
-        ensures only { IfOk result (λ choices. option_map (λ f. string_bytes f.0) choices.filter ≡ option_map (λ text.
-            text.now) only.entry) }
-        ensures doc { IfOk result (λ choices. option_map (λ r. r.0) choices.rule ≡ option_map choice_of_word doc) }
+        ensures only { IfOk result (λ choices. option_map (λ f. string_bytes f.promise.0) choices.filter ≡ option_map
+            (λ text. text.now) only.entry) }
+        ensures doc { IfOk result (λ choices. option_map (λ r. r.promise.0) choices.rule
+            ≡ option_map choice_of_word doc) }
     {
         Ok(OptionChoices {
             filter: filter_of(alloc, only)?,
@@ -78,7 +79,7 @@ impl OptionChoices {
     /// Whether a declaration is kept. The filter has the first turn.
     fn keeps(&self, ticket: Ticket, view: &DeclView<'_>) -> bool
         requires { place_of ticket ≡ 0 }
-        ensures { IsKeptBy (option_map (λ f. string_bytes f.0) self.now.filter) view.now result }
+        ensures { IsKeptBy (option_map (λ f. string_bytes f.promise.0) self.now.filter) view.now result }
     {
         match &self.filter {
             Some(filter) => filter.ask(ticket, view),
@@ -89,7 +90,7 @@ impl OptionChoices {
     /// Which texts document a declaration. The rule has the second turn.
     fn documents(&self, ticket: Ticket, view: &DeclView<'_>) -> DocChoice
         requires { place_of ticket ≡ 1 }
-        ensures { result ≡ documented_by (option_map (λ r. r.0) self.now.rule) }
+        ensures { result ≡ documented_by (option_map (λ r. r.promise.0) self.now.rule) }
     {
         match &self.rule {
             Some(rule) => match rule.ask(ticket, view) {
@@ -106,8 +107,8 @@ impl Chooses for OptionChoices {
     ghost use Rattle.std.specs.String.{string_bytes};
     ghost use Rattle.programs.specs.Choices.{IsChosenBy};
 
-    ghost allows = { λ choices seen choice. IsChosenBy (option_map (λ f. string_bytes f.0) choices.filter)
-        (option_map (λ r. r.0) choices.rule) seen choice };
+    ghost allows = { λ choices seen choice. IsChosenBy (option_map (λ f. string_bytes f.promise.0) choices.filter)
+        (option_map (λ r. r.promise.0) choices.rule) seen choice };
 
     fn choose_by(&self, mut turns: Turns, view: &DeclView<'_>) -> Choice {
         Choice {

@@ -19,7 +19,7 @@ use crate::package::package_of;
 use crate::start_fault::StartFault;
 use command_line::{IndexOptions, PackageFolder};
 use index_pool::Gate;
-use scip_document::{FilePackages, RootPackage};
+use scip_model::{FilePackages, RootPackage};
 use scip_symbol::PackageId;
 use source_files::{LoadedTree, ReadFiles, Readers, load_tree, load_tree_with_paths};
 use source_tree::Tree;

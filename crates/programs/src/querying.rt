@@ -6,7 +6,7 @@ ghost use Rattle.scip_snapshot.specs.Showing.{writer};
 
 use crate::query_fault::QueryFault;
 use protoscip::answer_commands;
-use scip_model::Index;
+use scip_records::Index;
 use scip_wire::read_index;
 use source_files::ReadFiles;
 use std::alloc::Global;

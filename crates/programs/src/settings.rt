@@ -16,7 +16,7 @@ use index_pool::Workers;
 use proto_lex::Encoding;
 use proto_parse::{CustomOptions, Dialect};
 use scip_build::{Faulty, Settings};
-use scip_document::FilePackages;
+use scip_model::FilePackages;
 use sequences::OwnedText;
 use std::alloc::{AllocError, Global};
 

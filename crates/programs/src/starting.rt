@@ -44,9 +44,9 @@ pub(crate) fn start<R: Threads + Wait, F: ReadFiles + Sync>(
     ensures named { IfOk result (λ _. NamePackages options.now) }
     ensures folders { IfOk result (λ start. AreFolders (F.lists host.now.files.now) (F.gives host.now.files.now)
         options.now start.tree start.settings.package) }
-    ensures only { IfOk result (λ start. option_map (λ f. string_bytes f.0) start.choices.filter ≡ option_map
+    ensures only { IfOk result (λ start. option_map (λ f. string_bytes f.promise.0) start.choices.filter ≡ option_map
         string_bytes options.now.only) }
-    ensures doc { IfOk result (λ start. option_map (λ r. r.0) start.choices.rule ≡ option_map choice_of_word
+    ensures doc { IfOk result (λ start. option_map (λ r. r.promise.0) start.choices.rule ≡ option_map choice_of_word
         options.now.doc) }
     ensures workers { IfOk result (λ start. start.workers ≡ options.now.workers) }
     ensures settings { IfOk result (λ start. start.settings ≡ settings_in options.now start.settings.package) }

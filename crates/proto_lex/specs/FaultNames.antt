@@ -1,6 +1,5 @@
--- What a fault of a text or of its lexing is called, where it is in the bytes, and how it is printed.
-use Rattle.std.specs.Prelude.{ℕ, List, [], ◌++◌, Option, Some, None, codes}
-use Rattle.std.specs.Fmt.{decimal}
+-- What a fault of a text or of its lexing is called, and where it is in the bytes.
+use Rattle.std.specs.Prelude.{ℕ, List, Option, Some, None, codes}
 use Rattle.proto_lex.specs.declared.fault.LexFault.{LexFault}
 use Rattle.proto_lex.specs.declared.fault.LexFault.TheVariants as fault
 use Rattle.proto_lex.specs.Text.{max_text_length}
@@ -25,13 +24,3 @@ lex_offset (fault.OpenComment at) = Some at
 lex_offset (fault.BadEscape at) = Some at
 lex_offset (fault.BadNumber at) = Some at
 lex_offset fault.Memory = None
-
--- an offset in parentheses, if there is one
-abbrev pub in_parentheses : Option ℕ → List ℕ
-in_parentheses None = []
-in_parentheses (Some offset) = codes "(" ++ decimal offset ++ codes ")"
-
--- TooLong is printed without its offset
-abbrev pub lex_text : LexFault → List ℕ
-lex_text fault.TooLong = lex_name fault.TooLong
-lex_text f = lex_name f ++ in_parentheses (lex_offset f)

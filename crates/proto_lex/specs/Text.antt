@@ -1,14 +1,13 @@
 -- What a text is, and why bytes are none.
 use Rattle.std.specs.Prelude.{ℕ, ◌<◌, ◌≤◌, List, length, IsUtf8}
 use Rattle.std.specs.Str.{IsValidUpTo}
-use Rattle.proto_lex.specs.declared.text.TheConstants.{MAX_TEXT_LENGTH}
 use Rattle.proto_lex.specs.declared.fault.LexFault.{LexFault}
 use Rattle.proto_lex.specs.declared.fault.LexFault.TheVariants.{TooLong, NotUtf8, BadByte, OpenString, OpenComment}
 use Rattle.proto_lex.specs.declared.fault.LexFault.TheVariants.{BadEscape, BadNumber, Memory}
 
--- The most bytes of a text (the profile's).
+-- The most bytes of a text (the profile's): 64 MiB.
 abbrev pub max_text_length : ℕ
-max_text_length = MAX_TEXT_LENGTH
+max_text_length = 67108864
 
 -- A text is at most this many bytes of UTF-8. (Unicode Standard, section 3.9, "Unicode Encoding Forms": UTF-8)
 pub record IsText (bytes : List ℕ) : Type 0 where

@@ -3,7 +3,7 @@
 
 use crate::calls::see;
 use proto_lex::{Comment, CommentKind, LexFault, TokenKind, Tokens};
-use std::alloc::Global;
+use std::alloc::{AllocError, Global};
 use std::test::Fail;
 use test_kit::{text_of, tokens_of};
 
@@ -39,6 +39,53 @@ const FAULTS: [(&[u8], LexFault); 6] = [
 #[test]
 fn faults_and_their_offsets(rt: HostRuntime) {
     see(&rt, first_other_fault(rt.alloc(), &FAULTS));
+}
+
+/// Faults, and how they are displayed.
+const DISPLAYED: [(LexFault, &str); 8] = [
+    (LexFault::TooLong, "more than 67108864 bytes"),
+    (LexFault::NotUtf8(7), "bytes that aren't UTF-8, at byte 7"),
+    (
+        LexFault::BadByte(12),
+        "a character that can't be here, at byte 12",
+    ),
+    (
+        LexFault::OpenString(8),
+        "a string without an end on its line, at byte 8",
+    ),
+    (
+        LexFault::OpenComment(9),
+        "a comment without its `*/`, at byte 9",
+    ),
+    (
+        LexFault::BadEscape(10),
+        "a backslash that begins no escape, at byte 10",
+    ),
+    (
+        LexFault::BadNumber(11),
+        "letters and digits that are no number, at byte 11",
+    ),
+    (LexFault::Memory, "memory ran out"),
+];
+
+/// The first fault that is displayed otherwise.
+fn first_displayed_otherwise(
+    alloc: Global,
+    cases: &[(LexFault, &str)],
+) -> Result<Option<usize>, AllocError> {
+    for (index, (fault, want)) in cases.iter().enumerate() {
+        let text = format!(in alloc; "{fault}")?;
+        if text.as_str() != *want {
+            return Ok(Some(index));
+        }
+    }
+    Ok(None)
+}
+
+#[test]
+fn faults_are_displayed_as_sentences(rt: HostRuntime) -> Result<(), Fail> {
+    see(&rt, first_displayed_otherwise(rt.alloc(), &DISPLAYED)?);
+    Ok(())
 }
 
 /// A source with a token of each kind, and a comment of each.

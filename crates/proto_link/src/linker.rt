@@ -79,7 +79,7 @@ impl<'a, 't> Linker<'a, 't> {
         self.namespace.has_path(path)
     }
 
-    /// The places of the imports that have to be there and name no file: those of sources, and the public
+    /// The places of the imports that have to be there and name no file, in order: those of sources, and the public
     /// ones of included files that some source sees.
     pub fn missing_imports(&self, alloc: Global) -> Result<Vec<FilePlace>, AllocError>
         ensures { IfOk result (λ places. AreMissing self.now places.items) }

@@ -54,7 +54,7 @@ fn parts_of(
     requires count { count ≤ length (components_of name.now) }
     ensures { IfOk result (λ parts. AreNamed namespace.now file name.now count parts.items) }
 {
-    let seen = namespace.first_giving(file, name, Role::AsType).unwrap();
+    let seen = namespace.giving_file(file, name, Role::AsType).unwrap();
     let facts = namespace.facts_of(seen).unwrap();
     parts_in(alloc, namespace, seen, facts, name, count)
 }

@@ -4,6 +4,8 @@
 #[cfg(test)]
 mod answers;
 #[cfg(test)]
+mod displays;
+#[cfg(test)]
 mod facts;
 #[cfg(test)]
 mod generated;

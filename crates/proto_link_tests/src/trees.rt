@@ -129,7 +129,7 @@ fn is_answered(alloc: Global, tree: &str, due: Option<&str>) -> Made<bool> {
 }
 
 /// Ends the test, with this number, where something isn't right.
-fn see(rt: &impl Abort, number: usize, is_right: bool) {
+pub(crate) fn see(rt: &impl Abort, number: usize, is_right: bool) {
     assert!(rt; is_right, "wrong at {number}");
 }
 

@@ -1,7 +1,6 @@
 -- The profile's limit.
 use Rattle.std.specs.Prelude.{ℕ}
-use Rattle.proto_parse.specs.declared.messages.TheConstants.{MAX_MESSAGE_DEPTH}
 
--- How many messages and groups may be inside one another.
+-- How many messages and groups may be inside one another: a message has at most 63 around it.
 abbrev pub max_message_depth : ℕ
-max_message_depth = MAX_MESSAGE_DEPTH
+max_message_depth = 64

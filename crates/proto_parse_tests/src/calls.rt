@@ -94,15 +94,6 @@ pub fn offset_of(fault: SyntaxFault) -> usize {
     fault.offset().unwrap_or(0)
 }
 
-/// Whether a fault is printed by its name and its offset, where there is memory for the texts.
-fn is_printed(alloc: Global, fault: SyntaxFault, name: &str, offset: usize) -> bool {
-    let due = format!(in alloc; "{name}({offset})");
-    match (format!(in alloc; "{fault}"), due) {
-        (Ok(text), Ok(due)) => text.as_str() == due.as_str(),
-        _ => true,
-    }
-}
-
 /// Whether a source, behind a front, has the fault that it names where its `^` is.
 fn is_refused(alloc: Global, front: &str, row: &str, dialect: Dialect) -> bool {
     let (name, marked) = row.split_once(": ").unwrap_or(("", row));
@@ -111,11 +102,7 @@ fn is_refused(alloc: Global, front: &str, row: &str, dialect: Dialect) -> bool {
     };
     let offset = front.len().wrapping_add(before.len());
     match fault_of(alloc, front, before, behind, dialect) {
-        Some(fault) => {
-            fault.name() == name
-                && fault.offset() == Some(offset)
-                && is_printed(alloc, fault, name, offset)
-        }
+        Some(fault) => fault.name() == name && fault.offset() == Some(offset),
         None => false,
     }
 }

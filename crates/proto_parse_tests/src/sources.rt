@@ -41,11 +41,57 @@ fn sources_that_are_refused(rt: HostRuntime) {
     see(&rt, first_other(alloc, "", &OF_ALL, Dialect::All));
 }
 
+/// Faults, and how they are displayed.
+const DISPLAYED: [(SyntaxFault, &str); 9] = [
+    (
+        SyntaxFault::NotProto3(0),
+        "a syntax statement that is missing or isn't accepted, at byte 0",
+    ),
+    (
+        SyntaxFault::CustomOption(7),
+        "an option's name with parentheses, at byte 7",
+    ),
+    (
+        SyntaxFault::Aggregate(8),
+        "an option's value in braces, at byte 8",
+    ),
+    (SyntaxFault::Extend(9), "the word `extend`, at byte 9"),
+    (
+        SyntaxFault::TwoPackages(10),
+        "a second package statement, at byte 10",
+    ),
+    (
+        SyntaxFault::ImportEscape(11),
+        "an import's path with a backslash, at byte 11",
+    ),
+    (
+        SyntaxFault::TooDeep(12),
+        "a message or a group inside 64 others, at byte 12",
+    ),
+    (
+        SyntaxFault::Grammar(13),
+        "the grammar wants something else, at byte 13",
+    ),
+    (SyntaxFault::Memory, "memory ran out"),
+];
+
+/// The first fault that is displayed otherwise.
+fn first_displayed_otherwise(
+    alloc: Global,
+    cases: &[(SyntaxFault, &str)],
+) -> Result<Option<usize>, AllocError> {
+    for (index, (fault, want)) in cases.iter().enumerate() {
+        let text = format!(in alloc; "{fault}")?;
+        if text.as_str() != *want {
+            return Ok(Some(index));
+        }
+    }
+    Ok(None)
+}
+
 #[test]
-fn want_of_memory_is_printed_by_its_name(rt: HostRuntime) -> Result<(), Fail> {
-    let text = format!(in rt.alloc(); "{}", SyntaxFault::Memory)?;
-    let is_printed = text.as_str() == "Memory";
-    see(&rt, if is_printed { None } else { Some(0) });
+fn faults_are_displayed_as_sentences(rt: HostRuntime) -> Result<(), Fail> {
+    see(&rt, first_displayed_otherwise(rt.alloc(), &DISPLAYED)?);
     Ok(())
 }
 

@@ -2,7 +2,7 @@
 use Rattle.std.proofs.Common.{◌≡◌, ◌↔◌, ◌⊎◌, inl, inr, ℕ, ◌+◌, ◌<◌, ◌≤◌, Bool, true, false, IsTrue, not, ◌||◌, ◌&&◌}
 use Rattle.std.proofs.Common.{zero, suc, List, [], ◌∷◌, ◌++◌, if◌then◌else◌, length, get_or, map, take, Option, Some}
 use Rattle.std.proofs.Common.{None, refl, ap, sym, ◌∙◌, subst, arith}
-use Rattle.std.specs.List.{Contains, slice_get, flat_map}
+use Rattle.std.specs.List.{Contains, AllPairs, slice_get, flat_map}
 use Rattle.std.specs.List.Sorted.{IsStrictlyIncreasing}
 use Rattle.std.specs.Option.{is_none}
 use Rattle.std.proofs.lemmas.Bool.{cases_lt, cases_Bool, false≢true, and_parts, or_cases}
@@ -10,12 +10,13 @@ use Rattle.std.proofs.lemmas.Option.{slice_get_within, slice_get-get_or, slice_g
 use Rattle.std.proofs.lemmas.List.{get_or_default, take_all, flat_map_more}
 use Rattle.std.proofs.lemmas.List.Elements.{Contains-get_or, Contains-append_left, Contains-append_right}
 use Rattle.std.proofs.lemmas.List.Elements.{Contains-append_cases}
+use Rattle.std.proofs.lemmas.Map.Keys.{sorted_from_strictly_increasing, below_from_sorted}
 use Rattle.proto_lex.specs.declared.span.Span.{Span}
 use Rattle.proto_lex.specs.Lexed.{AreInOrder}
 use Rattle.proto_decl.specs.Facts.{Facts, ImportsInOrder}
 use Rattle.proto_decl.specs.declared.imported.Imported.{Imported}
 use Rattle.proto_visibility.specs.declared.place.FilePlace.{FilePlace}
-use Rattle.proto_visibility.specs.Files.{File, HasPath, is_public, HasPathAt}
+use Rattle.proto_visibility.specs.Files.{File, HasFacts, HasPath, is_public, HasPathAt}
 use Rattle.proto_visibility.specs.Sees.{Counts}
 use Rattle.proto_visibility.specs.Sees.Counts.{seen}
 use Rattle.proto_visibility.specs.Sees.SeesBy.{itself}
@@ -105,12 +106,112 @@ so : {X : Type 0} (b : Bool) (x y : X) → b ≡ true → x ≡ y → Contains (
 so true x y e same = subst (Contains (x ∷ [])) same (contained (x ∷ []) 0 x refl)
 so false x y e same = absurd (false≢true e)
 
+-- ---- each before those behind it
+
+pairs_more : {X : Type 0} (R : X → X → Type 0) (x : X) (xs : List X) → ((y : X) → Contains xs y → R x y)
+    → AllPairs R xs → AllPairs R (x ∷ xs)
+pairs_more R x xs first rest zero zero d less within = absurd (omega (arith, less))
+pairs_more R x xs first rest zero (suc j) d less within =
+    first (get_or xs j d) (Contains-get_or xs j d (omega (arith, within)))
+pairs_more R x xs first rest (suc i) zero d less within = absurd (omega (arith, less))
+pairs_more R x xs first rest (suc i) (suc j) d less within = rest i j d (omega (arith, less)) (omega (arith, within))
+
+first_of_pairs : {X : Type 0} (R : X → X → Type 0) (x : X) (xs : List X) → AllPairs R (x ∷ xs)
+    → (y : X) → Contains xs y → R x y
+first_of_pairs R x xs pairs y there =
+    subst (R x) there.2 (pairs zero (suc there.0) y (omega arith) (omega (arith, there.1)))
+
+rest_of_pairs : {X : Type 0} (R : X → X → Type 0) (x : X) (xs : List X) → AllPairs R (x ∷ xs) → AllPairs R xs
+rest_of_pairs R x xs pairs i j d less within = pairs (suc i) (suc j) d (omega (arith, less)) (omega (arith, within))
+
+pairs_both : {X : Type 0} (R : X → X → Type 0) (xs ys : List X) → AllPairs R xs → AllPairs R ys
+    → ((a b : X) → Contains xs a → Contains ys b → R a b) → AllPairs R (xs ++ ys)
+pairs_both R [] ys first second across = second
+pairs_both R (x ∷ xs) ys first second across =
+    pairs_more R x (xs ++ ys)
+    (λ y there. elim (Contains-append_cases xs ys y there) [
+      | inl here ↦ first_of_pairs R x xs first y here
+      | inr later ↦ across x y (zero, omega arith, refl) later
+    ])
+    (pairs_both R xs ys (rest_of_pairs R x xs first) second
+    (λ a b here later. across a b (Contains-append_right (x ∷ []) xs a here) later))
+
+pairs_if : {X : Type 0} (R : X → X → Type 0) (b : Bool) (x : X) → AllPairs R (if b then x ∷ [] else [])
+pairs_if R true x i j d less within = absurd (omega (arith, less, within))
+pairs_if R false x i j d less within = absurd (omega (arith, within))
+
+pairs_of : (row : List ℕ) → IsStrictlyIncreasing row → AllPairs (λ a b. a < b) row
+pairs_of row rises i j d less within =
+    below_from_sorted row i j d (sorted_from_strictly_increasing row rises) less within
+
 -- ---- what an import misses
 
 -- in the first so many files of the row no import is absent
 abbrev pub NoneUpTo : List File → (List ℕ → Option ℕ) → (row : List ℕ) → (count : ℕ) → Type 0
 NoneUpTo files number row count = (k : ℕ) (file : File) → k < count → slice_get files (get_or row k 0) ≡ Some file
     → NoneIsAbsent number file.is_included (imports_of file)
+
+-- ---- the absent imports are in order
+
+-- the imports of each file are in order
+abbrev pub AllInOrder : List File → Type 0
+AllInOrder files = (k : ℕ) (file : File) → slice_get files k ≡ Some file → ImportsInOrder (imports_of file)
+
+pub all_in_order : (files : List File)
+    → ((k : ℕ) (facts : Facts) → HasFacts files k facts → ImportsInOrder facts.imports) → AllInOrder files
+all_in_order files order k file stands = by file.facts refl
+  where
+    by : (of : Option Facts) → file.facts ≡ of → ImportsInOrder (imports_in of)
+    by None is = tt
+    by (Some facts) is = order k facts (record { file = file; numbered = stands; known = is })
+
+module _ (files : List File) (number : List ℕ → Option ℕ) (order : AllInOrder files) where
+  -- those of one file
+  along_imports : (included : Bool) (k : ℕ) (imports : List Imported) (place : ℕ)
+      → AreInOrder place (map (λ imported. imported.span) imports)
+      → AllPairs Before (flat_map (absent_at number included k) imports)
+  along_imports included k [] place rise = λ i j d less within. absurd (omega (arith, within))
+  along_imports included k (one ∷ imports) place rise =
+      pairs_both Before (absent_at number included k one) (flat_map (absent_at number included k) imports)
+      (pairs_if Before (is_absent number included one) (record { file = k; span = one.span }))
+      (along_imports included k imports one.span.end rise.2)
+      (λ a b here later. before a b
+      (if_so (is_absent number included one) (record { file = k; span = one.span }) a here).1
+      (given_by (absent_at number included k) imports b later))
+    where
+      before : (a b : FilePlace) → record { file = k; span = one.span } ≡ a
+          → IsGivenBy (absent_at number included k) imports b → Before a b
+      before a b is by =
+          let of = if_so (is_absent number included by.x) (record { file = k; span = by.x.span }) b by.given in
+          let behind = behind_place imports one.span.end by.index by.x rise.2 by.stands in
+          subst (λ p. Before p b) is (subst (Before (record { file = k; span = one.span })) of.1
+          (inr (refl, omega (arith, rise.1, behind))))
+
+  of_this_file : (k : ℕ) (of : Option File) (place : FilePlace) → Contains (absents_of number k of) place
+      → place.file ≡ k
+  of_this_file k None place there = absurd (omega (arith, there.1))
+  of_this_file k (Some file) place there =
+      let by = given_by (absent_at number file.is_included k) (imports_of file) place there in
+      let is = if_so (is_absent number file.is_included by.x) (record { file = k; span = by.x.span }) place by.given in
+      sym (ap (λ (p : FilePlace). p.file) is.1)
+
+  of_one_file : (k : ℕ) (of : Option File) → slice_get files k ≡ of → AllPairs Before (absents_of number k of)
+  of_one_file k None stands = λ i j d less within. absurd (omega (arith, within))
+  of_one_file k (Some file) stands = along_imports file.is_included k (imports_of file) 0 (order k file stands)
+
+  -- those of the files of a row
+  pub along_row : (row : List ℕ) → AllPairs (λ a b. a < b) row → AllPairs Before (flat_map (absents_at files number) row)
+  along_row [] rises = λ i j d less within. absurd (omega (arith, within))
+  along_row (k ∷ row) rises =
+      pairs_both Before (absents_at files number k) (flat_map (absents_at files number) row)
+      (of_one_file k (slice_get files k) refl)
+      (along_row row (rest_of_pairs (λ a b. a < b) k row rises))
+      (λ a b here later.
+      let by = given_by (absents_at files number) row b later in
+      let less = first_of_pairs (λ m n. m < n) k row rises by.x (contained row by.index by.x by.stands) in
+      let a_file = of_this_file k (slice_get files k) a here in
+      let b_file = of_this_file by.x (slice_get files by.x) b by.given in
+      inl (omega arith))
 
 module _ (files : List File) (number : List ℕ → Option ℕ)
     (numbered : (path : List ℕ) (k : ℕ) → (number path ≡ Some k) ↔ HasPathAt files path k) where
@@ -352,8 +453,8 @@ module _ (files : List File) (number : List ℕ → Option ℕ)
 
     -- ---- all of them
 
-    pub are_missing : AreMissing files (flat_map (absents_at files number) row)
-    are_missing place = (
+    each_missing : (place : FilePlace) → Contains (flat_map (absents_at files number) row) place ↔ IsMissing files place
+    each_missing place = (
       λ there. (
           let by = given_by (absents_at files number) row place there in
           of_file by.x ((counted by.x).0 (contained row by.index by.x by.stands)) (slice_get files by.x) refl by.given),
@@ -378,8 +479,8 @@ module _ (files : List File) (number : List ℕ → Option ℕ)
             subst (IsMissing files) is.1
             (missing_at file k by.x counts stands (contained (imports_of file) by.index by.x by.stands) is.0)
 
-    pub all_missing : (count : ℕ) (places : List FilePlace) → length row ≤ count
-        → places ≡ flat_map (absents_at files number) (take count row) → AreMissing files places
-    all_missing count places all is =
-        subst (AreMissing files)
-        (sym (is ∙ ap (flat_map (absents_at files number)) (take_all count row all))) are_missing
+    pub all_missing : IsStrictlyIncreasing row → AllInOrder files → (count : ℕ) (places : List FilePlace)
+        → length row ≤ count → places ≡ flat_map (absents_at files number) (take count row) → AreMissing files places
+    all_missing rises order count places all is =
+        subst (AreMissing files) (sym (is ∙ ap (flat_map (absents_at files number)) (take_all count row all)))
+        (record { each = each_missing; in_order = along_row files number order row (pairs_of row rises) })

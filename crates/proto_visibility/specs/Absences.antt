@@ -1,5 +1,5 @@
 -- Imports of files that aren't there, and included files that can't be read.
-use Rattle.std.specs.Prelude.{◌≡◌, ◌<◌, ◌↔◌, ℕ, true, Some, None, List, Contains}
+use Rattle.std.specs.Prelude.{◌≡◌, ◌<◌, ◌↔◌, ℕ, true, Some, None, List, Contains, AllPairs}
 use Rattle.std.specs.List.{slice_get}
 use Rattle.proto_decl.specs.Facts.{Facts}
 use Rattle.proto_decl.specs.declared.imported.Imported.{Imported}
@@ -24,9 +24,10 @@ pub record IsMissing (files : List File) (place : FilePlace) : Type 0 where
   pub stands : import.span ≡ place.span
   pub missing : HasPath files import.path → ⊥
 
--- the places of all such imports
-abbrev pub AreMissing : List File → List FilePlace → Type 0
-AreMissing files places = (place : FilePlace) → Contains places place ↔ IsMissing files place
+-- the places of all such imports: each once, in order
+pub record AreMissing (files : List File) (places : List FilePlace) : Type 0 where
+  pub each : (place : FilePlace) → Contains places place ↔ IsMissing files place
+  pub in_order : AllPairs Before places
 
 -- the least such place
 pub record Absent (files : List File) (place : FilePlace) : Type 0 where

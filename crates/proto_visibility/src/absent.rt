@@ -19,6 +19,7 @@ ghost use Rattle.proto_visibility.specs.Tables.ImportTables.{
 
 use crate::file_row::FileRow;
 use crate::link_file::LinkFile;
+use crate::origins::have_origins;
 use crate::place::FilePlace;
 use proto_decl::{Imported, facts_in_order};
 use proto_lex::Span;
@@ -99,7 +100,7 @@ pub(crate) fn is_numbered(path: &str, numbers: &HashMap<&str, usize>) -> bool
     !numbers.get(path).copied().is_none()
 }
 
-/// All imports that have to be there and name no file.
+/// The places of all imports that have to be there and name no file, in order.
 pub(crate) fn all_absent(
     alloc: Global,
     files: &[LinkFile],
@@ -110,6 +111,8 @@ pub(crate) fn all_absent(
     requires counted { (number : ℕ) → Contains counted.now number ↔ Counts files.now number }
     ensures { IfOk result (λ places. AreMissing files.now places.items) }
 {
+    have_origins(files);
+    facts_in_order();
     let mut places = Vec::new(alloc);
     for number in counted.as_slice() {
         add_absent(&mut places, *number, &files[*number], numbers)?;

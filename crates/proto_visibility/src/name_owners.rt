@@ -11,7 +11,7 @@ use crate::role::Role;
 use crate::seen_row::SeenRow;
 
 /// A file of a row that gives a name in this role, if there is one.
-pub(crate) fn first_giving(names: &Names, row: &SeenRow, name: &str, role: Role) -> Option<usize>
+pub(crate) fn giving_in(names: &Names, row: &SeenRow, name: &str, role: Role) -> Option<usize>
     requires { (other : List ℕ) → IsNonDecreasing (owned_at names.now.packages other) }
     ensures { MatchOption result ((number : ℕ) → Contains row.now number → IsListed names.now (admits role) name.now
         number → ⊥) (λ number. Contains row.now number × IsListed names.now (admits role) name.now number) }
@@ -51,7 +51,7 @@ fn shared(numbers: &[usize], row: &SeenRow) -> Option<usize>
     if numbers.len() < row.size() {
         first_seen(numbers, row)
     } else {
-        row.first_among(numbers)
+        row.one_among(numbers)
     }
 }
 

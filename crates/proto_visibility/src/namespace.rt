@@ -20,7 +20,7 @@ use crate::fault::LinkFault;
 use crate::import_table::{numbers_of, steps_of};
 use crate::link_file::LinkFile;
 use crate::listed_names::ListedNames;
-use crate::name_owners::first_giving;
+use crate::name_owners::giving_in;
 use crate::names::Names;
 use crate::origins::have_origins;
 use crate::place::FilePlace;
@@ -122,7 +122,7 @@ impl<'a, 't> Namespace<'a, 't> {
         is_numbered(path, &self.numbers)
     }
 
-    /// The places of the imports that have to be there and name no file: those of sources, and the public
+    /// The places of the imports that have to be there and name no file, in order: those of sources, and the public
     /// ones of included files that some source sees.
     pub fn missing_imports(&self, alloc: Global) -> Result<Vec<FilePlace>, AllocError>
         ensures { IfOk result (λ places. AreMissing self.now places.items) }
@@ -142,13 +142,13 @@ impl<'a, 't> Namespace<'a, 't> {
         self.seen.row(file).has(other)
     }
 
-    /// A file that a file sees and that gives a name in a role. Takes no memory.
-    pub fn first_giving(&self, file: usize, name: &str, role: Role) -> Option<usize>
+    /// Some file that a file sees and that gives a name in a role, if there is one. Takes no memory.
+    pub fn giving_file(&self, file: usize, name: &str, role: Role) -> Option<usize>
         requires { file < length self.now }
         ensures { MatchOption result (KnowsAs self.now file (admits role) name.now → ⊥)
             (SeesGiving self.now file (admits role) name.now) }
     {
-        first_giving(&self.names, &self.seen.row(file), name, role)
+        giving_in(&self.names, &self.seen.row(file), name, role)
     }
 
     /// The files that count have facts, no names clash, and the facts of each file are those of some
@@ -213,6 +213,6 @@ impl<'a, 't> Namespace<'a, 't> {
         requires { file < length self.now }
         ensures { IsTrue result ↔ KnowsAs self.now file (admits role) name.now }
     {
-        self.first_giving(file, name, role).is_some()
+        self.giving_file(file, name, role).is_some()
     }
 }

@@ -40,7 +40,7 @@ impl SeenRow<'_> {
     }
 
     /// A file that is seen and is among these numbers, which don't fall.
-    pub(crate) fn first_among(&self, numbers: &[usize]) -> Option<usize>
+    pub(crate) fn one_among(&self, numbers: &[usize]) -> Option<usize>
         requires { IsNonDecreasing numbers.now }
         ensures { MatchOption result ((number : ℕ) → Contains numbers.now number → Contains self.now number → ⊥)
             (λ number. Contains numbers.now number × Contains self.now number) }

@@ -33,21 +33,21 @@ use Rattle.proto_visibility.proofs.ImportTableLemmas.{only}
 use Rattle.proto_link.specs.Targets.{IsNamed}
 use Rattle.proto_link.specs.Targets.IsNamed.{packaged as named_package, declared as named_declared}
 use Rattle.scip_symbol.specs.Package.{Package, IsPackage}
-use Rattle.scip_document.specs.Packages.{Packages, ArePackages, package_of_path, package_of_file, package_of_part}
+use Rattle.scip_model.specs.Packages.{Packages, ArePackages, package_of_path, package_of_file, package_of_part}
 use Rattle.scip_symbol.specs.Entities.{Entity, OfFile, OfPackage, OfDeclaration, IsEntity}
 use Rattle.scip_symbol.specs.OneEntity.{declarations_of, AreWithoutClash, IsAmong}
 use Rattle.scip_symbol.proofs.ClashLemmas.{put}
-use Rattle.scip_document.specs.Chosen.{Chosen}
-use Rattle.scip_document.specs.Conditions.{HaveGoodPaths}
-use Rattle.scip_document.specs.Named.{HasDeclaration, NamesIn, text_of, package_at, declaration_at}
-use Rattle.scip_document.specs.Occurs.{Occurs}
-use Rattle.scip_document.specs.Occurs as rule
-use Rattle.scip_document.proofs.ApartLemmas.{AreIdentifiers, AreCounted, one-text}
-use Rattle.scip_document.proofs.EntityLemmas.{package-is, declaration-is}
+use Rattle.scip_model.specs.Chosen.{Chosen}
+use Rattle.scip_model.specs.Conditions.{HaveGoodPaths}
+use Rattle.scip_model.specs.Named.{HasDeclaration, NamesIn, text_of, package_at, declaration_at}
+use Rattle.scip_model.specs.Occurs.{Occurs}
+use Rattle.scip_model.specs.Occurs as rule
+use Rattle.scip_model.proofs.ApartLemmas.{AreIdentifiers, AreCounted, one-text}
+use Rattle.scip_model.proofs.EntityLemmas.{package-is, declaration-is}
 use Rattle.source_tree.proofs.OrderLemmas.{in_nothing}
-use Rattle.scip_document.proofs.LinkedLemmas.{source-counts}
-use Rattle.scip_document.proofs.PackageLemmas.{by_path, file_good}
-use Rattle.scip_model.specs.declared.records.Occurrence.{Occurrence}
+use Rattle.scip_model.proofs.LinkedLemmas.{source-counts}
+use Rattle.scip_model.proofs.PackageLemmas.{by_path, file_good}
+use Rattle.scip_records.specs.declared.records.Occurrence.{Occurrence}
 use Rattle.protoscip.specs.NameLaws.{LawsOfNames}
 use Rattle.protoscip.specs.Headline.{IsEntityOf, of_file, of_package, of_declaration, entity_of, package_of_entity}
 use Rattle.protoscip.proofs.DottedLemmas.{same_front}

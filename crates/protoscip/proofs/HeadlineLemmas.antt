@@ -14,16 +14,16 @@ use Rattle.proto_visibility.proofs.FirstLemmas.{contained}
 use Rattle.index_hooks.specs.declared.choice.Choice.{Choice}
 use Rattle.source_tree.specs.Files.{TreeFile}
 use Rattle.scip_symbol.specs.Package.{Package}
-use Rattle.scip_document.specs.Packages.{Packages, ArePackages}
+use Rattle.scip_model.specs.Packages.{Packages, ArePackages}
 use Rattle.scip_symbol.specs.Entities.{Entity}
-use Rattle.scip_document.specs.Chosen.{Chosen}
-use Rattle.scip_document.specs.Conditions.{HaveGoodPaths, IsResolved, AllResolve}
-use Rattle.scip_document.specs.Indexes.{HasDocument, IsAscendingListOf}
-use Rattle.scip_document.specs.Named.{text_of}
-use Rattle.scip_document.specs.Occurs.{Occurs}
-use Rattle.scip_document.specs.Occurs as rule
-use Rattle.scip_model.specs.declared.records.Document.{Document}
-use Rattle.scip_model.specs.declared.records.Occurrence.{Occurrence}
+use Rattle.scip_model.specs.Chosen.{Chosen}
+use Rattle.scip_model.specs.Conditions.{HaveGoodPaths, IsResolved, AllResolve}
+use Rattle.scip_model.specs.Indexes.{HasDocument, IsAscendingListOf}
+use Rattle.scip_model.specs.Named.{text_of}
+use Rattle.scip_model.specs.Occurs.{Occurs}
+use Rattle.scip_model.specs.Occurs as rule
+use Rattle.scip_records.specs.declared.records.Document.{Document}
+use Rattle.scip_records.specs.declared.records.Occurrence.{Occurrence}
 use Rattle.scip_query.specs.OccurrenceAt.{Subject, subject_at, subject_in, subject_of}
 use Rattle.scip_query.specs.References.{is_local, is_of, is_definition, references_of, definitions_of, references_at}
 use Rattle.scip_query.specs.References.{definitions_at}

@@ -15,7 +15,7 @@ use Rattle.proto_visibility.specs.Kept.{Omissions, kept_of, number_among_all}
 use Rattle.proto_visibility.proofs.KeptLemmas.{at_all}
 use Rattle.proto_visibility.proofs.FirstLemmas.{contained, item_at}
 use Rattle.scip_symbol.specs.Path.{IsGoodPath}
-use Rattle.scip_document.specs.Conditions.{HaveGoodPaths}
+use Rattle.scip_model.specs.Conditions.{HaveGoodPaths}
 use Rattle.source_tree.specs.Files.{TreeFile}
 use Rattle.scip_build.specs.declared.fault.FileFault.{FileFault}
 use Rattle.scip_build.specs.Parsed.{AreFactsIn}

@@ -11,10 +11,10 @@ use Rattle.std.specs.List.Sorted.{IsStrictlySortedBy}
 use Rattle.std.specs.Str.{bytes_eq}
 use Rattle.std.proofs.lemmas.Bool.Decides.{Decides-and, Decides-like}
 use Rattle.std.proofs.lemmas.Slice.Eq.{bytes_eq-Decides}
-use Rattle.scip_model.specs.declared.records.Index.{Index}
-use Rattle.scip_model.specs.declared.records.Document.{Document}
-use Rattle.scip_model.specs.declared.records.Occurrence.{Occurrence}
-use Rattle.scip_document.specs.Indexes.{IsAscendingListOf}
+use Rattle.scip_records.specs.declared.records.Index.{Index}
+use Rattle.scip_records.specs.declared.records.Document.{Document}
+use Rattle.scip_records.specs.declared.records.Occurrence.{Occurrence}
+use Rattle.scip_model.specs.Indexes.{IsAscendingListOf}
 use Rattle.scip_query.specs.OccurrenceAt.{Subject, subject_at, subject_in, subject_of, occurrence_in, stands_at}
 use Rattle.scip_query.specs.References.{is_local, is_of, is_definition}
 use Rattle.scip_query.specs.Sites.{Site, Numbered, numbered_documents, sites_in, sites_of, document_named}

@@ -25,8 +25,8 @@ use Rattle.proto_link.specs.Targets.{IsNamed}
 use Rattle.proto_link.specs.Targets.IsNamed.{packaged as named_package, declared as named_declared}
 use Rattle.proto_link.proofs.TargetLemmas.{used_fit, resolved_type}
 use Rattle.scip_symbol.specs.Entities.{Entity, OfPackage}
-use Rattle.scip_document.specs.Conditions.{IsResolved}
-use Rattle.scip_document.specs.Named.{NamesIn, IsNamedAs, declaration_at}
+use Rattle.scip_model.specs.Conditions.{IsResolved}
+use Rattle.scip_model.specs.Named.{NamesIn, IsNamedAs, declaration_at}
 use Rattle.protoscip.specs.UseLaws.{EachUseHasATarget}
 
 -- ---- a list of what there is for each place

@@ -1,7 +1,7 @@
 -- What becomes of commands about an index, which are answered from its bytes.
 -- The feed's and the sink's members, and the feed and the sink around the call, are named as in Sessions.
 use Rattle.std.specs.Prelude.{◌⊎◌, ℕ, ◌<◌, List, length, Option, Result, Ok, Err}
-use Rattle.scip_model.specs.declared.records.Index.{Index}
+use Rattle.scip_records.specs.declared.records.Index.{Index}
 use Rattle.scip_query.specs.declared.answer_fault.AnswerFault.{AnswerFault}
 use Rattle.scip_query.specs.declared.answer_fault.AnswerFault.TheVariants as answer
 use Rattle.scip_wire.specs.Spelling.{spelling_of, max_index_len}

@@ -12,7 +12,7 @@ use Rattle.streams.specs.WholeReads.{IsReadFault, IsReadThrough}
 use Rattle.streams.specs.WholeWrites.{IsWritten, IsCutOff}
 use Rattle.scip_build.specs.declared.settings.Settings.{Settings}
 use Rattle.scip_build.specs.declared.faulty.Faulty.TheVariants.{Refuse}
-use Rattle.scip_model.specs.declared.records.Index.{Index}
+use Rattle.scip_records.specs.declared.records.Index.{Index}
 use Rattle.scip_wire.specs.Spelling.{spelling_of}
 use Rattle.protoscip.specs.DumpText.{dump_text}
 use Rattle.protoscip.specs.Indexes.{IsIndexed, IsRefused, IsSpelled}

@@ -1,9 +1,9 @@
 -- What a dump prints of an index.
 use Rattle.std.specs.Prelude.{ℕ, List, ◌++◌, length}
 use Rattle.std.specs.List.{flat_map}
-use Rattle.scip_model.specs.declared.records.Index.{Index}
-use Rattle.scip_model.specs.declared.records.Document.{Document}
-use Rattle.scip_model.specs.declared.records.Occurrence.{Occurrence}
+use Rattle.scip_records.specs.declared.records.Index.{Index}
+use Rattle.scip_records.specs.declared.records.Document.{Document}
+use Rattle.scip_records.specs.declared.records.Occurrence.{Occurrence}
 use Rattle.scip_query.specs.AnswerText.{count_line, line_of}
 
 -- where an occurrence begins and ends, its roles and its symbol: `L C L2 E ROLE SYMBOL`

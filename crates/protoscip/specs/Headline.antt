@@ -18,16 +18,16 @@ use Rattle.source_tree.specs.Files.{TreeFile}
 use Rattle.source_tree.specs.Trees.{IsTree}
 use Rattle.scip_symbol.specs.Entities.{Entity, OfFile}
 use Rattle.scip_symbol.specs.Package.{Package}
-use Rattle.scip_document.specs.Packages.{Packages, ArePackages, package_of_file}
-use Rattle.scip_document.specs.Chosen.{Chosen}
-use Rattle.scip_document.specs.Conditions.{IsResolved}
-use Rattle.scip_document.specs.Indexes.{HasDocument, IsAscendingListOf}
-use Rattle.scip_document.specs.Named.{HasDeclaration, NamesIn, text_of, package_at, declaration_at}
-use Rattle.scip_document.specs.Occurs.{Occurs}
-use Rattle.scip_document.specs.Occurs as rule
-use Rattle.scip_model.specs.declared.records.Index.{Index}
-use Rattle.scip_model.specs.declared.records.Document.{Document}
-use Rattle.scip_model.specs.declared.records.Occurrence.{Occurrence}
+use Rattle.scip_model.specs.Packages.{Packages, ArePackages, package_of_file}
+use Rattle.scip_model.specs.Chosen.{Chosen}
+use Rattle.scip_model.specs.Conditions.{IsResolved}
+use Rattle.scip_model.specs.Indexes.{HasDocument, IsAscendingListOf}
+use Rattle.scip_model.specs.Named.{HasDeclaration, NamesIn, text_of, package_at, declaration_at}
+use Rattle.scip_model.specs.Occurs.{Occurs}
+use Rattle.scip_model.specs.Occurs as rule
+use Rattle.scip_records.specs.declared.records.Index.{Index}
+use Rattle.scip_records.specs.declared.records.Document.{Document}
+use Rattle.scip_records.specs.declared.records.Occurrence.{Occurrence}
 use Rattle.scip_build.specs.Builds.{IsBuilt}
 use Rattle.scip_build.specs.Documents.{texts_of}
 use Rattle.scip_build.specs.Linking.{linked_files}

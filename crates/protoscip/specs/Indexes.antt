@@ -4,9 +4,9 @@ use Rattle.std.specs.Prelude.{◌≡◌, ℕ, ◌<◌, ◌≤◌, ⊤, List, len
 use Rattle.proto_decl.specs.Seen.{Seen}
 use Rattle.index_hooks.specs.declared.choice.Choice.{Choice}
 use Rattle.source_tree.specs.Files.{TreeFile}
-use Rattle.scip_document.specs.Chosen.{Chosen}
+use Rattle.scip_model.specs.Chosen.{Chosen}
 use Rattle.streams.specs.WholeWrites.{IsWritten, IsCutOff}
-use Rattle.scip_model.specs.declared.records.Index.{Index}
+use Rattle.scip_records.specs.declared.records.Index.{Index}
 use Rattle.scip_build.specs.Builds.{IsBuilt, IsBuildFault}
 use Rattle.scip_build.specs.declared.built.Built.{Built}
 use Rattle.scip_build.specs.declared.fault.BuildFault.{BuildFault}

@@ -5,7 +5,7 @@ use Rattle.proto_decl.specs.Facts.{Facts, AreOfSomeFile}
 use Rattle.proto_decl.specs.Ancestors.{AreNamed, AreHeld}
 use Rattle.proto_link.specs.Laws.{OneDeclarationAName}
 use Rattle.scip_symbol.specs.OneEntity.{IsWithoutClash, declarations_of, AreWithoutClash}
-use Rattle.scip_document.specs.Laws.{SymbolsNameOne}
+use Rattle.scip_model.specs.Laws.{SymbolsNameOne}
 use Rattle.protoscip.specs.UseLaws.{EachUseHasATarget}
 
 -- Names are identifiers, and what holds a declaration is declared; a full name is that of one declaration, and a

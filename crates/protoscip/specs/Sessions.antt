@@ -6,7 +6,7 @@ use Rattle.proto_decl.specs.Seen.{Seen}
 use Rattle.index_hooks.specs.declared.choice.Choice.{Choice}
 use Rattle.source_tree.specs.Files.{TreeFile}
 use Rattle.streams.specs.WholeReads.{IsReadBriefly}
-use Rattle.scip_model.specs.declared.records.Index.{Index}
+use Rattle.scip_records.specs.declared.records.Index.{Index}
 use Rattle.scip_build.specs.declared.settings.Settings.{Settings}
 use Rattle.scip_query.specs.Conversing.{IsConversed, LeavesFeed}
 use Rattle.scip_query.specs.declared.answer_fault.AnswerFault.{AnswerFault}

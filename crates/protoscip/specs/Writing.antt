@@ -1,8 +1,8 @@
 -- What the writing of an index answers, and what it leaves of the writer.
 use Rattle.std.specs.Prelude.{◌≡◌, ℕ, ◌<◌, List, length, Option, Result, Ok, Err}
 use Rattle.streams.specs.WholeWrites.{IsWritten, IsCutOff}
-use Rattle.scip_model.specs.declared.records.Document.{Document}
-use Rattle.scip_model.specs.declared.records.Index.{Index}
+use Rattle.scip_records.specs.declared.records.Document.{Document}
+use Rattle.scip_records.specs.declared.records.Index.{Index}
 use Rattle.scip_wire.specs.Spelling.{document_record, spelling_of, max_index_len}
 use Rattle.scip_wire.specs.WellFormed.{IsFitDocument}
 use Rattle.protoscip.specs.Indexes.{IsSpelled}

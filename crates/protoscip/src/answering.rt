@@ -2,8 +2,8 @@
 
 ghost use Rattle.protoscip.specs.Sessions.{MayAnswer};
 
-use scip_model::Index;
 use scip_query::{AnswerFault, Queries};
+use scip_records::Index;
 use std::alloc::Global;
 use streams::{Feed, Sink};
 

@@ -1,7 +1,7 @@
 //! The documents of an index as its bytes have them.
 
 use scip_build::DocumentForm;
-use scip_document::DocumentPlan;
+use scip_model::DocumentPlan;
 use scip_wire::{DocumentRecord, spell_document};
 use std::alloc::{AllocError, Global};
 

@@ -3,7 +3,7 @@
 ghost use Rattle.std.specs.Prelude.{Ok, Err, IfErr, IfOk, MatchResult, string_bytes};
 ghost use Rattle.std.specs.Option.{option_map};
 ghost use Rattle.streams.specs.WholeWrites.{IsWritten};
-ghost use Rattle.scip_model.specs.declared.records.Index.{Index};
+ghost use Rattle.scip_records.specs.declared.records.Index.{Index};
 ghost use Rattle.scip_build.specs.Forms.{ArePartsOf};
 ghost use Rattle.protoscip.specs.Explanations.{explain_in};
 ghost use Rattle.protoscip.specs.FaultLines.{HasFilesOf, HaveFilesOf};

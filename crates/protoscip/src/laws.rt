@@ -13,7 +13,7 @@ use index_hooks::Chooses;
 use proto_decl::{names_are_identifiers, prefixes_are_entities, scopes_are_known};
 use proto_link::one_declaration_a_name;
 use scip_build::{Settings, built_has_no_fault, one_build_fault, one_built};
-use scip_document::symbols_name_one_entity_in_packages;
+use scip_model::symbols_name_one_entity_in_packages;
 use scip_symbol::files_are_without_clash;
 use source_tree::Tree;
 

@@ -5,8 +5,8 @@ ghost use Rattle.std.specs.List.{flat_map};
 ghost use Rattle.std.specs.String.{string_bytes};
 ghost use Rattle.protoscip.specs.DumpText.{occurrence_line, dump_text};
 
-use scip_model::{Index, Occurrence};
 use scip_query::push_line;
+use scip_records::{Index, Occurrence};
 use std::alloc::{AllocError, Global};
 
 /// Appends the lines of occurrences.

@@ -4,7 +4,7 @@ ghost use Rattle.std.specs.Prelude.{MatchResult};
 ghost use Rattle.protoscip.specs.Writing.{IsReadBack, IsNotReadBack};
 
 use crate::fault::Fault;
-use scip_model::Index;
+use scip_records::Index;
 use scip_wire::{
     WireFault, bytes_decode_to_one_index, read_index, spell_index, spelling_decodes_to_its_index,
 };

@@ -1,7 +1,7 @@
 //! What is known of an index beside its bytes.
 
 use scip_build::BuildFault;
-use scip_document::Choices;
+use scip_model::Choices;
 use sequences::Sequence;
 
 /// What the index of a tree was made by, and what has no part in it.

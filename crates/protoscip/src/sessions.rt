@@ -14,7 +14,7 @@ use crate::recorded::Recorded;
 use index_hooks::Chooses;
 use index_pool::Gate;
 use scip_build::{Built, Run, Settings, build};
-use scip_model::Index;
+use scip_records::Index;
 use source_tree::Tree;
 use std::alloc::Global;
 use std::sync::Wait;

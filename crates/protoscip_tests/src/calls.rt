@@ -7,7 +7,7 @@ use proto_lex::Encoding;
 use proto_parse::{CustomOptions, Dialect};
 use protoscip::Fault;
 use scip_build::{Faulty, Run, Settings};
-use scip_document::FilePackages;
+use scip_model::FilePackages;
 use scip_symbol::PackageId;
 use sequences::OwnedText;
 use source_tree::Tree;

@@ -45,6 +45,8 @@ fn faults_are_printed_by_their_names(rt: HostRuntime) -> Result<(), Fail> {
         FileFault::Syntax(SyntaxFault::Grammar(9)),
     );
     let text = format!(in rt.alloc(); "{lex} {syntax}")?;
-    see(&rt, text.as_str() == "BadByte(7) Grammar(9)", "of a file");
+    let want =
+        "a character that can't be here, at byte 7 the grammar wants something else, at byte 9";
+    see(&rt, text.as_str() == want, "of a file");
     Ok(())
 }

@@ -19,8 +19,8 @@ use Rattle.proto_visibility.specs.declared.place.FilePlace.{FilePlace}
 use Rattle.proto_visibility.specs.declared.fault.LinkFault.{LinkFault}
 use Rattle.proto_visibility.specs.declared.fault.LinkFault.TheVariants as link
 use Rattle.proto_visibility.proofs.FirstLemmas.{item_at}
-use Rattle.scip_document.specs.Conditions.{IsResolved, AllResolve, IsFirstUnresolved}
-use Rattle.scip_document.specs.Uses.{UsesResolve}
+use Rattle.scip_model.specs.Conditions.{IsResolved, AllResolve, IsFirstUnresolved}
+use Rattle.scip_model.specs.Uses.{UsesResolve}
 use Rattle.source_tree.specs.Files.{TreeFile}
 use Rattle.scip_build.specs.declared.faulty.Faulty.{Faulty}
 use Rattle.scip_build.specs.declared.faulty.Faulty.TheVariants.{Refuse}

@@ -11,8 +11,8 @@ use Rattle.proto_visibility.specs.Linked.{HaveClearNames}
 use Rattle.proto_visibility.specs.Kept.{Omissions, AreOmissions, kept_of, KeptFilesAreClear}
 use Rattle.proto_decl.specs.Seen.{Seen}
 use Rattle.index_hooks.specs.declared.choice.Choice.{Choice}
-use Rattle.scip_model.specs.declared.records.Document.{Document}
-use Rattle.scip_document.specs.Chosen.{Chosen}
+use Rattle.scip_records.specs.declared.records.Document.{Document}
+use Rattle.scip_model.specs.Chosen.{Chosen}
 use Rattle.source_tree.specs.Files.{TreeFile}
 use Rattle.source_tree.proofs.OrderLemmas.{in_nothing}
 use Rattle.scip_build.specs.declared.settings.Settings.{Settings}

@@ -7,14 +7,14 @@ use Rattle.std.proofs.lemmas.Option.{same_Some, slice_get-map, slice_get_within}
 use Rattle.proto_visibility.specs.Files.{File, IsSource}
 use Rattle.proto_visibility.proofs.FirstLemmas.{contained, item_at, at_contained}
 use Rattle.index_pool.specs.Phase.{AnswersEach, IsLeastFault}
-use Rattle.scip_model.specs.declared.records.Document.{Document}
-use Rattle.scip_document.specs.Chosen.{Chosen}
-use Rattle.scip_document.specs.Conditions.{IsFirstUnresolved}
-use Rattle.scip_document.specs.Indexes.{IsAscendingListOf, IsDocumentOf, HasDocument, HaveDocuments, document_cmp}
-use Rattle.scip_document.specs.Uses.{UsesResolve}
-use Rattle.scip_document.specs.declared.source_document.SourceDocument.{SourceDocument}
-use Rattle.scip_document.proofs.GapLemmas.{all_resolve}
-use Rattle.scip_document.specs.Laws.{OneDocument}
+use Rattle.scip_records.specs.declared.records.Document.{Document}
+use Rattle.scip_model.specs.Chosen.{Chosen}
+use Rattle.scip_model.specs.Conditions.{IsFirstUnresolved}
+use Rattle.scip_model.specs.Indexes.{IsAscendingListOf, IsDocumentOf, HasDocument, HaveDocuments, document_cmp}
+use Rattle.scip_model.specs.Uses.{UsesResolve}
+use Rattle.scip_model.specs.declared.source_document.SourceDocument.{SourceDocument}
+use Rattle.scip_model.proofs.GapLemmas.{all_resolve}
+use Rattle.scip_model.specs.Laws.{OneDocument}
 use Rattle.scip_build.specs.declared.faulty.Faulty.TheVariants.{Refuse}
 use Rattle.scip_build.specs.declared.settings.Settings.{Settings}
 use Rattle.scip_build.specs.declared.fault.BuildFault.{BuildFault}

@@ -12,9 +12,9 @@ use Rattle.proto_link.proofs.OneItemLemmas.{contains_map}
 use Rattle.proto_visibility.specs.declared.place.FilePlace.{FilePlace}
 use Rattle.proto_visibility.specs.Files.{File, HasFacts, IsSource}
 use Rattle.proto_visibility.proofs.FactLemmas.{one_list_of_facts}
-use Rattle.scip_document.specs.Conditions.{IsResolved}
-use Rattle.scip_document.specs.Gaps.{AreLacking, AreGaps}
-use Rattle.scip_document.specs.Gaps.AreLacking.{at_end, has, lacks}
+use Rattle.scip_model.specs.Conditions.{IsResolved}
+use Rattle.scip_model.specs.Gaps.{AreLacking, AreGaps}
+use Rattle.scip_model.specs.Gaps.AreLacking.{at_end, has, lacks}
 use Rattle.scip_build.specs.declared.made.MadeDocument.{MadeDocument}
 use Rattle.scip_build.specs.Documents.{IsUnresolvedAt}
 use Rattle.scip_build.specs.Made.{place_in, gaps_from}

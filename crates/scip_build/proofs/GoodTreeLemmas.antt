@@ -19,9 +19,9 @@ use Rattle.proto_decl.specs.Seen.{Seen}
 use Rattle.proto_visibility.specs.Sees.Counts.{seen}
 use Rattle.proto_visibility.specs.Sees.SeesBy.{itself}
 use Rattle.index_hooks.specs.declared.choice.Choice.{Choice}
-use Rattle.scip_document.specs.Packages.{Packages}
-use Rattle.scip_document.specs.Conditions.{AllResolve}
-use Rattle.scip_document.specs.Indexes.{IsIndexOf}
+use Rattle.scip_model.specs.Packages.{Packages}
+use Rattle.scip_model.specs.Conditions.{AllResolve}
+use Rattle.scip_model.specs.Indexes.{IsIndexOf}
 use Rattle.source_tree.specs.Files.{TreeFile}
 use Rattle.source_tree.proofs.OrderLemmas.{in_nothing, in_front}
 use Rattle.scip_build.specs.declared.settings.Settings.{Settings}

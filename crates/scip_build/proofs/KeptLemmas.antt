@@ -8,13 +8,13 @@ use Rattle.proto_visibility.specs.declared.place.FilePlace.{FilePlace}
 use Rattle.proto_visibility.specs.Files.{File, IsSource}
 use Rattle.proto_visibility.specs.Linked.{HaveClearNames}
 use Rattle.index_pool.specs.Phase.{AnswersEach, IsLeastFault}
-use Rattle.scip_model.specs.declared.records.Document.{Document}
-use Rattle.scip_model.specs.declared.records.Index.{Index}
-use Rattle.scip_document.specs.Chosen.{Chosen}
-use Rattle.scip_document.specs.Conditions.{AllResolve}
-use Rattle.scip_document.specs.Indexes.{metadata_of, AreExternals}
-use Rattle.scip_document.specs.Laws.{OneDocument}
-use Rattle.scip_document.specs.declared.source_document.SourceDocument.{SourceDocument}
+use Rattle.scip_records.specs.declared.records.Document.{Document}
+use Rattle.scip_records.specs.declared.records.Index.{Index}
+use Rattle.scip_model.specs.Chosen.{Chosen}
+use Rattle.scip_model.specs.Conditions.{AllResolve}
+use Rattle.scip_model.specs.Indexes.{metadata_of, AreExternals}
+use Rattle.scip_model.specs.Laws.{OneDocument}
+use Rattle.scip_model.specs.declared.source_document.SourceDocument.{SourceDocument}
 use Rattle.scip_build.specs.declared.faulty.Faulty.TheVariants.{Refuse}
 use Rattle.scip_build.specs.declared.fault.BuildFault.{BuildFault}
 use Rattle.scip_build.specs.declared.made.MadeDocument.{MadeDocument}

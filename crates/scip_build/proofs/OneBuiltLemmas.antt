@@ -23,11 +23,11 @@ use Rattle.proto_visibility.specs.Kept.{Omissions, IsOmission, AreOmissions, kep
 use Rattle.proto_visibility.proofs.FirstLemmas.{contained, item_at}
 use Rattle.proto_link.specs.Laws.{OneOmissionList}
 use Rattle.proto_link.proofs.OneItemLemmas.{contains_map}
-use Rattle.scip_document.specs.Packages.{Packages}
+use Rattle.scip_model.specs.Packages.{Packages}
 use Rattle.index_hooks.specs.declared.choice.Choice.{Choice}
-use Rattle.scip_document.specs.Chosen.{Chosen}
-use Rattle.scip_document.specs.Indexes.{IsIndexOf}
-use Rattle.scip_document.specs.Laws.{OneIndex}
+use Rattle.scip_model.specs.Chosen.{Chosen}
+use Rattle.scip_model.specs.Indexes.{IsIndexOf}
+use Rattle.scip_model.specs.Laws.{OneIndex}
 use Rattle.source_tree.specs.Files.{TreeFile}
 use Rattle.source_tree.proofs.TreeLemmas.{mapped_from}
 use Rattle.scip_build.specs.declared.settings.Settings.{Settings}
@@ -46,7 +46,7 @@ use Rattle.scip_build.specs.Kept.IsTold.{of_file, of_import, of_use}
 use Rattle.scip_build.specs.Builds.{IsBuilt}
 use Rattle.scip_build.specs.Laws.{OneListOfFacts, NoFactsWhereUnreadable, OneFileFault}
 use Rattle.scip_build.specs.BuildLaws.{SetTheSame, AllowOne, OneBuiltOfChoices, OneBuilt}
-use Rattle.scip_document.proofs.SortLemmas.{one-ascending}
+use Rattle.scip_model.proofs.SortLemmas.{one-ascending}
 use Rattle.scip_build.proofs.LinkingLemmas.{same_mapped, one_linking}
 use Rattle.scip_build.proofs.ReadyLemmas.{whole_at, have_origins}
 use Rattle.scip_build.proofs.KeptTreeLemmas.{map_kept}

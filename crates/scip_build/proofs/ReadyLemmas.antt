@@ -21,9 +21,9 @@ use Rattle.proto_visibility.specs.Sees.SeesBy.{itself}
 use Rattle.proto_visibility.specs.Linked.{HaveClearNames}
 use Rattle.proto_visibility.proofs.FirstLemmas.{item_at}
 use Rattle.scip_symbol.specs.Path.{IsGoodPath}
-use Rattle.scip_document.specs.Chosen.{HaveChoices}
-use Rattle.scip_document.specs.Conditions.{HaveGoodPaths}
-use Rattle.scip_document.specs.Texts.{AreOfText, HasText}
+use Rattle.scip_model.specs.Chosen.{HaveChoices}
+use Rattle.scip_model.specs.Conditions.{HaveGoodPaths}
+use Rattle.scip_model.specs.Texts.{AreOfText, HasText}
 use Rattle.source_tree.specs.Files.{TreeFile, file_cmp}
 use Rattle.source_tree.specs.Trees.{IsTree}
 use Rattle.scip_build.specs.declared.faulty.Faulty.{Faulty}

@@ -6,7 +6,7 @@ use Rattle.proto_decl.specs.Seen.{Seen}
 use Rattle.index_hooks.specs.declared.choice.Choice.{Choice}
 use Rattle.proto_visibility.specs.Files.{File}
 use Rattle.proto_visibility.specs.Linked.{CanBeLinked}
-use Rattle.scip_model.specs.declared.records.Document.{Document}
+use Rattle.scip_records.specs.declared.records.Document.{Document}
 use Rattle.source_tree.specs.Files.{TreeFile}
 use Rattle.scip_build.specs.declared.settings.Settings.{Settings}
 use Rattle.scip_build.specs.declared.made.Made.{Made}

@@ -36,7 +36,7 @@ use Rattle.scip_build.proofs.KeptTreeLemmas.{number_of}
 use Rattle.proto_link.proofs.OneItemLemmas.{contains_map}
 use Rattle.source_tree.proofs.OrderLemmas.{in_nothing}
 use Rattle.source_tree.proofs.TreeLemmas.{mapped_from}
-use Rattle.scip_document.proofs.OrderLemmas.{both_equal}
+use Rattle.scip_model.proofs.OrderLemmas.{both_equal}
 
 -- ---- keys
 
@@ -244,7 +244,7 @@ module _ (all : List ReadFile) (omissions : Omissions) (are : AreOmissions (link
         ]
         | inr import ↦ (
             let of = mapped_from (told_import (kept_numbers 0 omissions)) missing fault import in
-            let is = (missing_are of.0).0 of.1 in
+            let is = (missing_are.each of.0).0 of.1 in
             let at = import_at of.0 is in
             subst (IsTold all omissions) (ap MissingImport (sym (moved of.0 at.0 at.1)) ∙ of.2) (of_import of.0 is))
       ]
@@ -267,7 +267,7 @@ module _ (all : List ReadFile) (omissions : Omissions) (are : AreOmissions (link
         Contains-append_left (left ++ imports) uses fault (Contains-append_left left imports fault there)
     told_is _ (of_import p is) =
         let at = import_at p is in
-        let there = contains_map (told_import (kept_numbers 0 omissions)) missing p ((missing_are p).1 is) in
+        let there = contains_map (told_import (kept_numbers 0 omissions)) missing p ((missing_are.each p).1 is) in
         let fault : BuildFault = MissingImport (place_among_all omissions p) in
         Contains-append_left (left ++ imports) uses fault (Contains-append_right left imports fault
         (subst (Contains imports) (ap MissingImport (moved p at.0 at.1)) there))

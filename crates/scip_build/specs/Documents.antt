@@ -10,15 +10,15 @@ use Rattle.proto_decl.specs.declared.type_use.Use.{Use}
 use Rattle.proto_link.specs.Targets.{IsUnresolved}
 use Rattle.proto_visibility.specs.declared.place.FilePlace.{FilePlace}
 use Rattle.proto_visibility.specs.Files.{File, HasFacts, IsSource}
-use Rattle.scip_model.specs.declared.records.Document.{Document}
-use Rattle.scip_document.specs.Chosen.{Chosen, HaveChoices}
-use Rattle.scip_document.specs.Conditions.{HaveGoodPaths, IsResolved, AllResolve, IsFirstUnresolved}
-use Rattle.scip_document.specs.Uses.{UsesResolve}
-use Rattle.scip_document.specs.Texts.{HasText}
-use Rattle.scip_document.specs.Indexes.{IsAscendingListOf, IsDocumentOf, document_cmp, HasDocument, HaveDocuments}
+use Rattle.scip_records.specs.declared.records.Document.{Document}
+use Rattle.scip_model.specs.Chosen.{Chosen, HaveChoices}
+use Rattle.scip_model.specs.Conditions.{HaveGoodPaths, IsResolved, AllResolve, IsFirstUnresolved}
+use Rattle.scip_model.specs.Uses.{UsesResolve}
+use Rattle.scip_model.specs.Texts.{HasText}
+use Rattle.scip_model.specs.Indexes.{IsAscendingListOf, IsDocumentOf, document_cmp, HasDocument, HaveDocuments}
 use Rattle.scip_build.specs.declared.settings.Settings.{Settings}
-use Rattle.scip_document.specs.Gaps.{AreGaps}
-use Rattle.scip_document.specs.declared.source_document.SourceDocument.{SourceDocument}
+use Rattle.scip_model.specs.Gaps.{AreGaps}
+use Rattle.scip_model.specs.declared.source_document.SourceDocument.{SourceDocument}
 use Rattle.scip_build.specs.declared.faulty.Faulty.{Faulty}
 use Rattle.scip_build.specs.declared.faulty.Faulty.TheVariants.{Refuse}
 use Rattle.scip_build.specs.declared.fault.FileFault.{FileFault}

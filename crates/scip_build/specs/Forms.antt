@@ -6,10 +6,10 @@ use Rattle.proto_visibility.specs.declared.place.FilePlace.{FilePlace}
 use Rattle.proto_visibility.specs.Files.{File}
 use Rattle.proto_visibility.specs.Linked.{HaveClearNames, CanBeLinked}
 use Rattle.index_hooks.specs.declared.choice.Choice.{Choice}
-use Rattle.scip_model.specs.declared.records.Document.{Document}
-use Rattle.scip_model.specs.declared.records.Index.{Index}
-use Rattle.scip_document.specs.Chosen.{Chosen}
-use Rattle.scip_document.specs.declared.source_document.SourceDocument.{SourceDocument}
+use Rattle.scip_records.specs.declared.records.Document.{Document}
+use Rattle.scip_records.specs.declared.records.Index.{Index}
+use Rattle.scip_model.specs.Chosen.{Chosen}
+use Rattle.scip_model.specs.declared.source_document.SourceDocument.{SourceDocument}
 use Rattle.source_tree.specs.Files.{TreeFile}
 use Rattle.scip_build.specs.declared.settings.Settings.{Settings}
 use Rattle.scip_build.specs.declared.parts.Parts.{Parts}

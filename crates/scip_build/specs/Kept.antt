@@ -9,8 +9,8 @@ use Rattle.proto_visibility.specs.declared.fault.LinkFault.TheVariants as link
 use Rattle.proto_visibility.specs.Absences.{IsMissing}
 use Rattle.proto_visibility.specs.Linked.{CanBeLinked}
 use Rattle.proto_visibility.specs.Kept.{Omissions, AreOmissions, kept_of, number_among_all}
-use Rattle.scip_document.specs.Conditions.{AllResolve}
-use Rattle.scip_document.specs.Indexes.{IsAscendingListOf}
+use Rattle.scip_model.specs.Conditions.{AllResolve}
+use Rattle.scip_model.specs.Indexes.{IsAscendingListOf}
 use Rattle.scip_build.specs.declared.fault.FileFault.{FileFault}
 use Rattle.scip_build.specs.declared.fault.BuildFault.{BuildFault}
 use Rattle.scip_build.specs.declared.fault.BuildFault.TheVariants.{Spawn, Memory, File, Duplicate, MissingImport}

@@ -2,10 +2,10 @@
 use Rattle.std.specs.Prelude.{◌≡◌, ◌↔◌, ◌<◌, ℕ, ⊤, List, [], Contains}
 use Rattle.proto_visibility.specs.Files.{File}
 use Rattle.proto_visibility.specs.Linked.{CanBeLinked}
-use Rattle.scip_model.specs.declared.records.Index.{Index}
-use Rattle.scip_document.specs.Chosen.{Chosen}
-use Rattle.scip_document.specs.Conditions.{AllResolve}
-use Rattle.scip_document.specs.Indexes.{IsIndexOf}
+use Rattle.scip_records.specs.declared.records.Index.{Index}
+use Rattle.scip_model.specs.Chosen.{Chosen}
+use Rattle.scip_model.specs.Conditions.{AllResolve}
+use Rattle.scip_model.specs.Indexes.{IsIndexOf}
 use Rattle.proto_visibility.specs.declared.place.FilePlace.{FilePlace}
 use Rattle.scip_build.specs.declared.settings.Settings.{Settings}
 use Rattle.scip_build.specs.declared.faulty.Faulty.TheVariants.{Refuse}

@@ -4,7 +4,7 @@ ghost use Rattle.std.specs.Prelude.{◌≡◌, ◌≤◌, IfOk, IfErr, MatchResu
 ghost use Rattle.index_pool.specs.declared.workers.TheConstants.{MAX_INPUTS};
 ghost use Rattle.proto_visibility.specs.Absences.{AreMissing};
 ghost use Rattle.proto_visibility.specs.Linked.{HaveClearNames};
-ghost use Rattle.scip_document.specs.Indexes.{metadata_of};
+ghost use Rattle.scip_model.specs.Indexes.{metadata_of};
 ghost use Rattle.scip_build.specs.declared.faulty.Faulty.TheVariants.{Refuse, Skip};
 ghost use Rattle.scip_build.specs.Linking.{linked_files};
 ghost use Rattle.scip_build.specs.Documents.{AreReady, MayRefuseDocuments};
@@ -34,8 +34,8 @@ use crate::telling::tell;
 use index_hooks::Chooses;
 use index_pool::Gate;
 use proto_link::{FilePlace, Linker, kept_files_are_clear};
-use scip_document::{Choices, externals};
-use scip_model::{Document, Index, Metadata, ToolInfo};
+use scip_model::{Choices, externals_in_packages};
+use scip_records::{Document, Index, Metadata, ToolInfo};
 use sequences::{OwnedText, Sequence};
 use source_tree::Tree;
 use std::alloc::{AllocError, Global};
@@ -79,7 +79,7 @@ fn make_parts<R: Threads + Wait, G: Gate, F: DocumentForm + Sync>(
     let made = make_documents(run, sources, form)?;
     let gaps = gaps_of(run.alloc, made.as_slice())?;
     let documents = documents_of(run.alloc, made)?;
-    let external_symbols = externals(
+    let external_symbols = externals_in_packages(
         run.alloc,
         sources.linker,
         sources.choices,

@@ -1,8 +1,8 @@
 //! What is built from a tree.
 
 use crate::fault::BuildFault;
-use scip_document::Choices;
-use scip_model::Index;
+use scip_model::Choices;
+use scip_records::Index;
 use sequences::Sequence;
 
 /// The index of a tree, and what was chosen for each declaration of its files.

@@ -1,10 +1,10 @@
 //! In which form the documents of an index are kept.
 
 ghost use Rattle.std.specs.Prelude.{IfOk};
-ghost use Rattle.scip_model.specs.declared.records.Document.{Document};
+ghost use Rattle.scip_records.specs.declared.records.Document.{Document};
 
-use scip_document::DocumentPlan;
-use scip_model::{Document, records_of};
+use scip_model::DocumentPlan;
+use scip_records::{Document, records_of};
 use std::alloc::{AllocError, Global};
 
 /// What is kept of the documents of an index. A document is handed over as soon as it is made, on the

@@ -12,7 +12,7 @@ use proto_decl::one_list_of_facts;
 use proto_lex::{one_first_fault, one_lexing};
 use proto_link::{nothing_is_left_out_of_good_files, one_omission_list, one_refusal};
 use proto_parse::{no_fault_where_it_derives, one_syntax_fault, one_tree};
-use scip_document::one_index;
+use scip_model::one_index;
 
 /// A file has one list of facts at most.
 pub fn one_list_of_facts_a_file()

@@ -3,7 +3,7 @@
 use crate::reading::Reading;
 use crate::settings::Settings;
 use proto_link::Linker;
-use scip_document::Choices;
+use scip_model::Choices;
 use std::alloc::Global;
 
 /// Files that were read and linked, and what the documents of the sources among them are made by. The

@@ -3,7 +3,7 @@
 use crate::parts::Parts;
 use proto_lex::Span;
 use proto_link::FilePlace;
-use scip_document::Choices;
+use scip_model::Choices;
 use sequences::Sequence;
 
 /// What is kept of a source's document, and the places of its uses that name no type, in order.

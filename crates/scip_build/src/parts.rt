@@ -2,8 +2,8 @@
 
 use crate::fault::BuildFault;
 use crate::reading::Reading;
-use scip_document::Choices;
-use scip_model::{Metadata, SymbolInformation};
+use scip_model::Choices;
+use scip_records::{Metadata, SymbolInformation};
 use sequences::Sequence;
 
 /// The parts of an index, of whose documents something is kept: one of each, in their order.

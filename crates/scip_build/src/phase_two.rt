@@ -12,7 +12,7 @@ use crate::made::MadeDocument;
 use crate::run::Run;
 use crate::source_document::make_document;
 use index_pool::{Gate, Job, PoolFault, Ticket, run_phase};
-use scip_document::one_document_a_source;
+use scip_model::one_document_a_source;
 use std::marker::Model;
 use std::sync::Wait;
 use std::thread::Threads;

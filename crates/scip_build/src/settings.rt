@@ -3,7 +3,7 @@
 use crate::faulty::Faulty;
 use proto_lex::Encoding;
 use proto_parse::Dialect;
-use scip_document::FilePackages;
+use scip_model::FilePackages;
 use sequences::OwnedText;
 
 /// What an index is made by, beside the files and what is chosen for declarations.

@@ -1,9 +1,9 @@
 //! The document of a source that was read.
 
 ghost use Rattle.proto_visibility.specs.Files.{IsSource};
-ghost use Rattle.scip_document.specs.Chosen.{HaveChoices};
-ghost use Rattle.scip_document.specs.Conditions.{HaveGoodPaths};
-ghost use Rattle.scip_document.specs.Texts.{HasText};
+ghost use Rattle.scip_model.specs.Chosen.{HaveChoices};
+ghost use Rattle.scip_model.specs.Conditions.{HaveGoodPaths};
+ghost use Rattle.scip_model.specs.Texts.{HasText};
 ghost use Rattle.std.specs.Prelude.{ℕ, List, [], ◌≡◌, Some, MatchOption};
 ghost use Rattle.std.specs.List.{slice_get};
 ghost use Rattle.scip_build.specs.declared.faulty.Faulty.TheVariants.{Refuse};
@@ -15,7 +15,7 @@ use crate::linked_sources::LinkedSources;
 use crate::reading::Reading;
 use proto_lex::{Span, Text};
 use proto_link::FilePlace;
-use scip_document::{DocumentMaker, PlannedDocument, plan_document};
+use scip_model::{DocumentMaker, PlannedDocument, plan_document};
 
 /// The text of a file that was read.
 fn text_at<'a, 'r>(readings: &'a [Reading<'r>], number: usize) -> &'a Text<'r>

@@ -1,7 +1,32 @@
--- The records.
-pub mod Range
-pub mod RangeFields
--- Texts of which an empty one is left out.
+-- the records of an index
+pub use Rattle.scip_records.specs.Range
+pub use Rattle.scip_records.specs.declared.records
+pub use Rattle.scip_records.specs.declared.range
+-- what bytes are written to and read from
+pub use Rattle.streams.specs.Streams
+pub use Rattle.streams.specs.StdStreams
+-- which package a file's symbols belong to
+pub mod Packages
+-- the entities that have symbols, what was chosen for declarations, and what documents them
+pub mod Named
+pub mod Chosen
+pub mod Documentation
+-- what occurs in the document of a source, in which order, and its symbol entries
+pub mod Occurs
+pub mod OccurrenceOrder
+pub mod Entries
+-- what is asked of files, and why a document is refused
+pub mod Conditions
 pub mod Texts
--- Documents of which a part was let go.
-pub mod Documents
+pub mod Uses
+-- what has no target
+pub mod Gaps
+-- documents, external entries, and the index of a tree
+pub mod Indexes
+-- documents put together, and what is said about why they are not
+pub mod Pieces
+pub mod MergeFaults
+-- what is law of them
+pub mod Laws
+-- what the code lists and marks
+pub mod Tables

@@ -3,7 +3,7 @@ use Rattle.std.specs.Prelude.{ℕ, List, [], Option, map, Vec}
 use Rattle.std.specs.Borrow.{Bor}
 use Rattle.std.specs.List.{slice_get}
 use Rattle.std.specs.Option.{option_map_or}
-use Rattle.scip_model.specs.declared.records.Occurrence.{Occurrence}
+use Rattle.scip_records.specs.declared.records.Occurrence.{Occurrence}
 
 abbrev pub listed_or_none : {A : Type 0} → Option (Vec (Bor Occurrence) A) → List Occurrence
 listed_or_none listed = option_map_or (λ l. map (λ (o : Bor Occurrence). o.now) l.items) listed []

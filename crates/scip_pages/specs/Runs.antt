@@ -3,7 +3,7 @@ use Rattle.std.specs.Prelude.{ℕ, ◌+◌, ◌-◌, ◌==◌, Bool, true, false
 use Rattle.std.specs.Prelude.{map, Option, None, Some, fold}
 use Rattle.std.specs.List.{range_with_len}
 use Rattle.std.specs.Option.{option_map, option_and_then}
-use Rattle.scip_model.specs.Range.{RangeNumbers}
+use Rattle.scip_records.specs.Range.{RangeNumbers}
 use Rattle.scip_pages.specs.declared.columns.ColumnUnit.{ColumnUnit}
 use Rattle.scip_pages.specs.declared.runs.Span.{Span}
 use Rattle.scip_pages.specs.declared.runs.Run.{Run}

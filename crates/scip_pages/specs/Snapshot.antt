@@ -7,10 +7,10 @@ use Rattle.std.specs.Option.{option_and_then, unwrap_or}
 use Rattle.std.specs.Int.{w32, int_bit_and}
 use Rattle.std.specs.Io.BufRead.{strip_last}
 use Rattle.std.specs.Ordering.{int_eq}
-use Rattle.scip_model.specs.Range.{RangeNumbers}
-use Rattle.scip_model.specs.declared.records.Index.{Index}
-use Rattle.scip_model.specs.declared.records.Document.{Document}
-use Rattle.scip_model.specs.declared.records.Occurrence.{Occurrence}
+use Rattle.scip_records.specs.Range.{RangeNumbers}
+use Rattle.scip_records.specs.declared.records.Index.{Index}
+use Rattle.scip_records.specs.declared.records.Document.{Document}
+use Rattle.scip_records.specs.declared.records.Occurrence.{Occurrence}
 use Rattle.scip_query.specs.References.{is_definition}
 use Rattle.scip_query.specs.BySymbol.{documentation_in}
 use Rattle.scip_pages.specs.declared.columns.ColumnUnit.{ColumnUnit}

@@ -1,7 +1,7 @@
 -- Laws of snapshots: taking away what isn't the source's gives the source.
 use Rattle.std.specs.Prelude.{ℕ, ◌≡◌, ◌-◌, Bool, not, List, [], ◌∷◌, length, take, drop, map, filter, nat_eq, codes, Ok}
 use Rattle.std.specs.List.{join_with_byte, starts_with}
-use Rattle.scip_model.specs.declared.records.Index.{Index}
+use Rattle.scip_records.specs.declared.records.Index.{Index}
 use Rattle.scip_pages.specs.Snapshot.{flat_byte, lines_of, snapshot_of}
 
 -- the lines of a text each of which ends with a line feed

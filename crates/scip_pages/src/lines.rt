@@ -7,7 +7,7 @@ ghost use Rattle.scip_pages.specs.Snapshot as spec;
 ghost use Rattle.scip_pages.specs.Listed.{listed_on};
 
 use crate::columns::{ColumnUnit, offset_of};
-use scip_model::{Occurrence, Range};
+use scip_records::{Occurrence, Range};
 use std::alloc::{AllocError, Global};
 
 /// The lines of a text: what is between its `\n`, and before and behind them.

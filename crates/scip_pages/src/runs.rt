@@ -6,7 +6,7 @@ ghost use Rattle.std.specs.List.{prefix_len, range_with_len};
 ghost use Rattle.scip_pages.specs.Runs as spec;
 
 use crate::columns::{ColumnUnit, offset_of};
-use scip_model::Range;
+use scip_records::Range;
 use std::alloc::{AllocError, Global};
 
 /// A line that one span marks has so many runs at most.

@@ -4,20 +4,20 @@ ghost use Rattle.std.specs.Prelude.{◌≡◌, ◌++◌, ℕ, List, map, Some, O
 ghost use Rattle.std.specs.Borrow.{Bor};
 ghost use Rattle.std.specs.List.{flat_map, slice_get};
 ghost use Rattle.std.specs.Io.BufRead.{strip_last};
-ghost use Rattle.scip_model.specs.declared.records.Occurrence.{Occurrence};
+ghost use Rattle.scip_records.specs.declared.records.Occurrence.{Occurrence};
 ghost use Rattle.scip_query.specs.References.{is_definition};
 ghost use Rattle.scip_query.specs.BySymbol.{documentation_in};
 ghost use Rattle.scip_pages.specs.Columns.{unit_of};
 ghost use Rattle.scip_pages.specs.Snapshot as spec;
 ghost use Rattle.scip_pages.specs.Listed.{listed_on, listed_or_none};
-ghost use Rattle.scip_pages.specs.SnapshotOutcomes.{Gives};
+ghost use Rattle.scip_pages.specs.SnapshotOutcomes.{Gives, RunsOutForText};
 
 use crate::code::cut;
 use crate::columns::{ColumnUnit, is_first_byte, offset_of, unit_of};
 use crate::lines::{by_line, lines_of, misfit};
 use crate::snapshot_fault::SnapshotFault;
-use scip_model::{Document, Occurrence, Range};
 use scip_query::Queries;
+use scip_records::{Document, Occurrence, Range};
 use std::alloc::{AllocError, Global};
 
 /// The role of a definition (`scip.proto`, `SymbolRole`).
@@ -308,7 +308,10 @@ fn snapshot_of_lines(
     occurrences: &[Occurrence],
     lines: &[&str],
 ) -> Result<Vec<u8>, SnapshotFault>
-    ensures { Gives (λ text. text.items) result (spec.in_unit (Some shown.now.unit)
+    ensures gives { Gives (λ text. text.items) result (spec.in_unit (Some shown.now.unit)
+        (documentation_in shown.now.queries.now shown.now.number) occurrences.now
+        (map (λ (l : Bor (List ℕ)). l.now) lines.now)) }
+    ensures memory { RunsOutForText result (spec.in_unit (Some shown.now.unit)
         (documentation_in shown.now.queries.now shown.now.number) occurrences.now
         (map (λ (l : Bor (List ℕ)). l.now) lines.now)) }
 {

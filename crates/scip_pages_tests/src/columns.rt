@@ -1,8 +1,8 @@
 //! Columns, of `scip.proto`'s own example and of a range over several lines.
 
 use crate::see::see;
-use scip_model::Range;
 use scip_pages::{ColumnUnit, Span, offset_of, span_on, unit_of};
+use scip_records::Range;
 use std::test::Fail;
 
 #[test]

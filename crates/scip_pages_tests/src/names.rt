@@ -1,17 +1,19 @@
-//! The texts of faults: their names.
+//! The texts of faults.
 
 use crate::see::see;
 use scip_pages::SnapshotFault;
 use std::test::Fail;
 
 #[test]
-fn faults_are_printed_by_their_names(rt: HostRuntime) -> Result<(), Fail> {
+fn faults_are_printed_as_sentences(rt: HostRuntime) -> Result<(), Fail> {
     let (none, unit) = (SnapshotFault::NoDocument, SnapshotFault::NoUnit);
     let (misfit, memory) = (SnapshotFault::Misfit(7), SnapshotFault::Memory);
-    let text = format!(in rt.alloc(); "{none} {unit} {misfit} {memory}")?;
+    let text = format!(in rt.alloc(); "{none}, {unit}, {misfit}, {memory}")?;
     see(
         &rt,
-        text.as_str() == "NoDocument NoUnit Misfit(7) Memory",
+        text.as_str()
+            == "no document has this number, a document that doesn't say what its columns count, \
+a range that isn't one of the source, of occurrence 7, memory ran out",
         "texts",
     );
     Ok(())

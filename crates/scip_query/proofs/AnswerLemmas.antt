@@ -4,7 +4,7 @@ use Rattle.std.proofs.lemmas.List.{length-map}
 use Rattle.std.specs.Prelude.{Result, Some}
 use Rattle.std.specs.List.{flat_map, AllZip}
 use Rattle.std.specs.Result.{result_map_both}
-use Rattle.scip_model.specs.declared.records.Index.{Index}
+use Rattle.scip_records.specs.declared.records.Index.{Index}
 use Rattle.scip_query.specs.declared.place.Place.{Place}
 use Rattle.scip_query.specs.declared.position.Position.{Position}
 use Rattle.scip_query.specs.declared.miss.Miss.{Miss}

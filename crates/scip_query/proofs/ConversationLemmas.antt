@@ -10,7 +10,7 @@ use Rattle.std.proofs.lemmas.Grind.{flat_map-append}
 use Rattle.streams.specs.Streams.{last_count, more_by}
 use Rattle.streams.specs.WholeReads.{IsReadThrough}
 use Rattle.streams.specs.WholeWrites.{IsWritten, IsCutOff}
-use Rattle.scip_model.specs.declared.records.Index.{Index}
+use Rattle.scip_records.specs.declared.records.Index.{Index}
 use Rattle.streams.proofs.WholeWriteLemmas.{IsWritten-nil, IsWritten-trans, IsCutOff-after}
 use Rattle.scip_query.specs.Commands.{lines_of}
 use Rattle.scip_query.specs.AnswerText.{answer_to, answer_text}

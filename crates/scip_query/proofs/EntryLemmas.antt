@@ -13,9 +13,9 @@ use Rattle.std.proofs.lemmas.List.{length_push}
 use Rattle.std.proofs.lemmas.List.Elements.{filter-append}
 use Rattle.std.proofs.lemmas.Option.{slice_get_past}
 use Rattle.std.proofs.lemmas.Map.Text.{is_eq-slice_cmp}
-use Rattle.scip_model.specs.declared.records.Index.{Index}
-use Rattle.scip_model.specs.declared.records.Document.{Document}
-use Rattle.scip_model.specs.declared.records.SymbolInformation.{SymbolInformation}
+use Rattle.scip_records.specs.declared.records.Index.{Index}
+use Rattle.scip_records.specs.declared.records.Document.{Document}
+use Rattle.scip_records.specs.declared.records.SymbolInformation.{SymbolInformation}
 use Rattle.scip_query.specs.declared.place.EntryPlace.{EntryPlace}
 use Rattle.scip_query.specs.OccurrenceAt.{Subject}
 use Rattle.scip_query.specs.References.{is_local}

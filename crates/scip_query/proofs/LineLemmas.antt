@@ -6,7 +6,7 @@ use Rattle.std.specs.List.{count_by, onto_first}
 use Rattle.std.proofs.lemmas.List.{take_all, take-append-le, length-take, length-append}
 use Rattle.std.proofs.lemmas.List.Sums.{sum_by-cons}
 use Rattle.std.proofs.lemmas.Bool.Decides.{nat_tests}
-use Rattle.scip_model.specs.declared.records.Index.{Index}
+use Rattle.scip_records.specs.declared.records.Index.{Index}
 use Rattle.scip_query.specs.Commands.{lines_of, max_command_length}
 use Rattle.scip_query.specs.CommandReading.{command_of}
 use Rattle.scip_query.specs.AnswerText.{answer_or_refusal, answer_to}

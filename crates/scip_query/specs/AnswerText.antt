@@ -3,9 +3,9 @@ use Rattle.std.specs.Prelude.{ℕ, ℤ, ◌==◌, nat_le, cond, List, [], ◌∷
 use Rattle.std.specs.Prelude.{Err, codes}
 use Rattle.std.specs.List.{flat_map, slice_split}
 use Rattle.std.specs.Fmt.{decimal, signed_decimal}
-use Rattle.scip_model.specs.Range.{RangeNumbers}
-use Rattle.scip_model.specs.declared.records.Index.{Index}
-use Rattle.scip_model.specs.declared.records.SymbolInformation.{SymbolInformation}
+use Rattle.scip_records.specs.Range.{RangeNumbers}
+use Rattle.scip_records.specs.declared.records.Index.{Index}
+use Rattle.scip_records.specs.declared.records.SymbolInformation.{SymbolInformation}
 use Rattle.scip_query.specs.Sites.{Site}
 use Rattle.scip_query.specs.References.{definitions_at, references_at}
 use Rattle.scip_query.specs.Documentation.{documentation_at, symbols_of}

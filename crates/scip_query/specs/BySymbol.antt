@@ -3,8 +3,8 @@
 use Rattle.std.specs.Prelude.{ℕ, List, [], Option, map}
 use Rattle.std.specs.List.{slice_get}
 use Rattle.std.specs.Option.{option_map, unwrap_or}
-use Rattle.scip_model.specs.declared.records.Index.{Index}
-use Rattle.scip_model.specs.declared.records.Document.{Document}
+use Rattle.scip_records.specs.declared.records.Index.{Index}
+use Rattle.scip_records.specs.declared.records.Document.{Document}
 use Rattle.scip_query.specs.Sites.{Site}
 use Rattle.scip_query.specs.OccurrenceAt.{Subject}
 use Rattle.scip_query.specs.References.{references_of, definitions_of}

@@ -5,7 +5,7 @@ use Rattle.std.specs.List.{flat_map, count_by}
 use Rattle.streams.specs.Streams.{last_count}
 use Rattle.streams.specs.WholeReads.{IsReadThrough, IsReadFault}
 use Rattle.streams.specs.WholeWrites.{IsWritten, IsCutOff}
-use Rattle.scip_model.specs.declared.records.Index.{Index}
+use Rattle.scip_records.specs.declared.records.Index.{Index}
 use Rattle.scip_query.specs.Commands.{lines_of}
 use Rattle.scip_query.specs.AnswerText.{answer_to, answer_text}
 use Rattle.scip_query.specs.declared.answer_fault.AnswerFault.{AnswerFault}

@@ -3,9 +3,9 @@ use Rattle.std.specs.Prelude.{ℕ, cond, List, [], ◌++◌, Option, None, Some,
 use Rattle.std.specs.List.{flat_map, find}
 use Rattle.std.specs.Result.{result_map_both}
 use Rattle.std.specs.Str.{bytes_eq}
-use Rattle.scip_model.specs.declared.records.Index.{Index}
-use Rattle.scip_model.specs.declared.records.Document.{Document}
-use Rattle.scip_model.specs.declared.records.SymbolInformation.{SymbolInformation}
+use Rattle.scip_records.specs.declared.records.Index.{Index}
+use Rattle.scip_records.specs.declared.records.Document.{Document}
+use Rattle.scip_records.specs.declared.records.SymbolInformation.{SymbolInformation}
 use Rattle.scip_query.specs.declared.position.Position.{Position}
 use Rattle.scip_query.specs.Sites.{Numbered, document_named}
 use Rattle.scip_query.specs.OccurrenceAt.{Subject, subject_at}

@@ -6,9 +6,9 @@ use Rattle.std.specs.Str.{bytes_eq}
 use Rattle.std.specs.declared.cmp.Ordering.{Ordering}
 use Rattle.std.specs.Ordering.{nat_cmp, on, flip_args, then_cmp, is_lt}
 use Rattle.std.specs.Cmp.Lexicographic.{slice_cmp}
-use Rattle.scip_model.specs.declared.records.Index.{Index}
-use Rattle.scip_model.specs.declared.records.Document.{Document}
-use Rattle.scip_model.specs.declared.records.Occurrence.{Occurrence}
+use Rattle.scip_records.specs.declared.records.Index.{Index}
+use Rattle.scip_records.specs.declared.records.Document.{Document}
+use Rattle.scip_records.specs.declared.records.Occurrence.{Occurrence}
 use Rattle.scip_query.specs.Positions.{position_cmp, start_of, end_of, contains}
 use Rattle.scip_query.specs.declared.position.Position.{Position}
 use Rattle.scip_query.specs.Sites.{Numbered, document_named}

@@ -2,7 +2,7 @@
 use Rattle.std.specs.Prelude.{Bool, ◌&&◌, ◌||◌}
 use Rattle.std.specs.declared.cmp.Ordering.{Ordering}
 use Rattle.std.specs.Ordering.{nat_cmp, on, then_cmp, is_lt, is_le, is_eq}
-use Rattle.scip_model.specs.Range.{RangeNumbers}
+use Rattle.scip_records.specs.Range.{RangeNumbers}
 use Rattle.scip_query.specs.declared.position.Position.{Position}
 
 -- by line, then column

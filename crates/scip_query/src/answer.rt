@@ -5,7 +5,7 @@ ghost use Rattle.std.specs.Option.{option_map};
 ghost use Rattle.std.specs.Borrow.{Bor};
 ghost use Rattle.std.specs.List.{flat_map, slice_split};
 ghost use Rattle.std.specs.String.{string_bytes};
-ghost use Rattle.scip_model.specs.declared.records.SymbolInformation.{SymbolInformation};
+ghost use Rattle.scip_records.specs.declared.records.SymbolInformation.{SymbolInformation};
 ghost use Rattle.scip_query.specs.Tables.Searches.{site_listed};
 ghost use Rattle.scip_query.specs.AnswerText.{
   count_line,
@@ -35,7 +35,7 @@ use crate::place::Place;
 use crate::position::Position;
 use crate::queries::Queries;
 use crate::query_fault::QueryFault;
-use scip_model::{Document, Range, SymbolInformation};
+use scip_records::{Document, Range, SymbolInformation};
 use std::alloc::{AllocError, Global};
 use streams::{Sink, write_all};
 

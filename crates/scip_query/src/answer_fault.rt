@@ -4,18 +4,20 @@ ghost use Rattle.std.specs.Prelude.{◌≡◌};
 ghost use Rattle.scip_query.specs.AnswerFaults.{name_of};
 
 use std::alloc::AllocError;
-use std::error::Error;
-use std::fmt;
+use thiserror::Error;
 
 /// Why commands aren't answered. The answers before stay.
-#[derive(Clone, Copy, Debug, Drop, PartialEq, Eq)]
+#[derive(Clone, Copy, Debug, Drop, PartialEq, Eq, Error)]
 pub enum AnswerFault {
     /// A read failed, or `MAX_READS` reads gave no end. The lines that had ended are answered.
+    #[error("commands that can't be read to their end")]
     Read,
     /// A write failed after so many bytes of the call's answers, counted from the first. (The count stops at the last
     /// `u64`.)
+    #[error("a write that failed, after {0} bytes")]
     Write(u64),
     /// Memory ran out. Nothing of that command's answer was written.
+    #[error("memory ran out")]
     Memory,
 }
 
@@ -31,15 +33,6 @@ impl AnswerFault {
         }
     }
 }
-
-/// The variant's name, and its number in parentheses if it has one.
-impl fmt::Display for AnswerFault {
-    fn fmt<W: fmt::Write>(&self, f: &mut fmt::Formatter<W>) -> fmt::Result {
-        fmt::Debug::fmt(self, f)
-    }
-}
-
-impl Error for AnswerFault {}
 
 impl From<AllocError> for AnswerFault {
     ghost use Rattle.std.specs.Prelude.{◌≡◌};

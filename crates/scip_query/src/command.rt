@@ -17,7 +17,7 @@ ghost use Rattle.scip_query.specs.CommandReading.{
 ghost use Rattle.scip_query.specs.CommandViews.{parts_view, text_of, command_view};
 
 use crate::position::Position;
-use scip_model::MAX_RANGE_NUMBER;
+use scip_records::MAX_RANGE_NUMBER;
 
 /// The most bytes of a command, without its line's end.
 pub const MAX_COMMAND_LENGTH: usize = 65_536;

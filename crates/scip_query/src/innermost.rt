@@ -8,7 +8,7 @@ ghost use Rattle.scip_query.specs.Tables.{numbers, IsTable};
 ghost use Rattle.scip_query.specs.Tables.Searches.{starts_behind, stands_listed, inner_cmp};
 
 use crate::position::{Position, compare_start, stands_at};
-use scip_model::Occurrence;
+use scip_records::Occurrence;
 
 /// Whether the occurrence with a number starts after a position, or there is none.
 fn starts_behind(occurrences: &[Occurrence], number: usize, position: Position) -> bool

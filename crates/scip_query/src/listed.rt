@@ -12,7 +12,7 @@ ghost use Rattle.scip_query.specs.Tables.Searches.{
 
 use crate::place::{EntryPlace, Place};
 use crate::position::compare_innermost;
-use scip_model::{Document, Index, Occurrence, SymbolInformation};
+use scip_records::{Document, Index, Occurrence, SymbolInformation};
 use std::cmp::Ordering;
 
 /// The path of the document with a number; no text if there is none.

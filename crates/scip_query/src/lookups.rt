@@ -5,7 +5,7 @@ ghost use Rattle.std.specs.Borrow.{Bor};
 ghost use Rattle.std.specs.List.{find, slice_get};
 ghost use Rattle.std.specs.Option.{option_map};
 ghost use Rattle.std.specs.Str.{bytes_eq};
-ghost use Rattle.scip_model.specs.declared.records.SymbolInformation.{SymbolInformation};
+ghost use Rattle.scip_records.specs.declared.records.SymbolInformation.{SymbolInformation};
 ghost use Rattle.scip_query.specs.Sites.{Site};
 ghost use Rattle.scip_query.specs.References.{references_at, definitions_of, definitions_at, site_places};
 ghost use Rattle.scip_query.specs.Documentation.{entries_for, texts_of, documentation_at, symbols_of};
@@ -24,7 +24,7 @@ use crate::position::Position;
 use crate::queries::{Named, Queries, Subject, is_local};
 use crate::query_fault::{QueryFault, fault_of};
 use crate::search::entry_places_in;
-use scip_model::{Document, SymbolInformation};
+use scip_records::{Document, SymbolInformation};
 use sequences::OwnedText;
 use std::alloc::{AllocError, Global};
 

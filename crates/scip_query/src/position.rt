@@ -4,7 +4,7 @@ ghost use Rattle.std.specs.Prelude.{◌≡◌};
 ghost use Rattle.scip_query.specs.Positions.{position_cmp, start_of, end_of, contains};
 ghost use Rattle.scip_query.specs.OccurrenceAt.{stands_at, innermost_cmp};
 
-use scip_model::{Occurrence, Range};
+use scip_records::{Occurrence, Range};
 use std::cmp::Ordering;
 
 /// A zero-based line and column. Columns count the units of the document's position encoding.

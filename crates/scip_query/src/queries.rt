@@ -31,7 +31,7 @@ use crate::search::{
     entry_places_near, entry_places_of, number_named, places_in, places_near, places_of,
 };
 use crate::tables::{Tables, tables_of};
-use scip_model::{Document, Index, Occurrence, SymbolInformation};
+use scip_records::{Document, Index, Occurrence, SymbolInformation};
 use sequences::Sequence;
 use std::alloc::{AllocError, AllocFailed, Global};
 use std::marker::Model;
@@ -47,7 +47,7 @@ pub struct Queries {
 }
 
 impl Model for Queries {
-    ghost use Rattle.scip_model.specs.declared.records.Index.{Index};
+    ghost use Rattle.scip_records.specs.declared.records.Index.{Index};
     ghost use Rattle.scip_query.specs.Tables.Searches.{AreTables};
 
     ghost Value = { Index };

@@ -5,17 +5,19 @@ ghost use Rattle.scip_query.specs.Outcomes.{fault_of};
 
 use crate::miss::Miss;
 use std::alloc::AllocError;
-use std::error::Error;
-use std::fmt;
+use thiserror::Error;
 
 /// Why a query isn't answered. If more than one holds, the first in this order is given, but `Memory` at any time.
-#[derive(Clone, Copy, Debug, Drop, PartialEq, Eq)]
+#[derive(Clone, Copy, Debug, Drop, PartialEq, Eq, Error)]
 pub enum QueryFault {
     /// No document of the index has the path.
+    #[error("no document has this path")]
     NoDocument,
     /// No occurrence with a symbol has a range that contains the position.
+    #[error("no symbol is at this position")]
     NothingThere,
     /// Memory ran out.
+    #[error("memory ran out")]
     Memory,
 }
 
@@ -28,15 +30,6 @@ pub(crate) fn fault_of(miss: Miss) -> QueryFault
         Miss::NothingThere => QueryFault::NothingThere,
     }
 }
-
-/// The variant's name.
-impl fmt::Display for QueryFault {
-    fn fmt<W: fmt::Write>(&self, f: &mut fmt::Formatter<W>) -> fmt::Result {
-        fmt::Debug::fmt(self, f)
-    }
-}
-
-impl Error for QueryFault {}
 
 impl From<AllocError> for QueryFault {
     ghost use Rattle.std.specs.Prelude.{◌≡◌};

@@ -13,7 +13,7 @@ ghost use Rattle.scip_query.specs.declared.place.EntryPlace.{EntryPlace};
 use crate::listed::{entry_symbol_listed, path_listed, symbol_listed};
 use crate::place::{EntryPlace, Place};
 use crate::run::{run_near, run_of};
-use scip_model::{Document, Index};
+use scip_records::{Document, Index};
 
 /// The numbers of the documents with a path, in the index's order.
 fn numbers_named<'a>(documents: &[Document], by_path: &'a [usize], path: &str) -> &'a [usize]

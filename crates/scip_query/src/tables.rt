@@ -13,7 +13,7 @@ ghost use Rattle.std.specs.List.{AllZip};
 
 use crate::listed::{compare_entry_symbols, compare_inner, compare_paths, compare_symbols};
 use crate::place::{EntryPlace, Place};
-use scip_model::{Document, Index, Occurrence, SymbolInformation};
+use scip_records::{Document, Index, Occurrence, SymbolInformation};
 use sequences::Sequence;
 use std::alloc::{AllocError, Global};
 

@@ -1,7 +1,7 @@
 //! Calls that are made again after `Memory`, where the second answer counts.
 
-use scip_model::{Index, SymbolInformation};
 use scip_query::{AnswerFault, Place, Queries, QueryFault};
+use scip_records::{Index, SymbolInformation};
 use scip_wire::{WireFault, read_index};
 use std::alloc::{AllocError, Global};
 use std::process::Abort;

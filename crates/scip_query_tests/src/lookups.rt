@@ -3,8 +3,8 @@
 use crate::asked::{At, definitions, documentation, references, see, symbols};
 use crate::checks::{Check, see_bytes};
 use crate::indexes::{DOCUMENTED, FIELD_NAMED_LIKE_A_TYPE, OVERLAPPING};
-use scip_model::SymbolInformation;
 use scip_query::{Place, Queries, QueryFault};
+use scip_records::SymbolInformation;
 use std::alloc::Global;
 use std::process::Abort;
 use std::test::Fail;

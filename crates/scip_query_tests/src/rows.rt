@@ -60,7 +60,7 @@ fn worked_rows(rt: HostRuntime) -> Result<(), Fail> {
 }
 
 #[test]
-fn faults_are_printed_by_their_names(rt: HostRuntime) -> Result<(), Fail> {
+fn faults_are_printed_as_sentences(rt: HostRuntime) -> Result<(), Fail> {
     let (none, nothing, memory) = (
         QueryFault::NoDocument,
         QueryFault::NothingThere,
@@ -69,7 +69,7 @@ fn faults_are_printed_by_their_names(rt: HostRuntime) -> Result<(), Fail> {
     let text = format!(in rt.alloc(); "{none} {nothing} {memory}")?;
     see(
         &rt,
-        text.as_str() == "NoDocument NothingThere Memory",
+        text.as_str() == "no document has this path no symbol is at this position memory ran out",
         "of a query",
     );
     let (read, cut, memory) = (
@@ -78,6 +78,11 @@ fn faults_are_printed_by_their_names(rt: HostRuntime) -> Result<(), Fail> {
         AnswerFault::Memory,
     );
     let text = format!(in rt.alloc(); "{read} {cut} {memory}")?;
-    see(&rt, text.as_str() == "Read Write(7) Memory", "of an answer");
+    see(
+        &rt,
+        text.as_str()
+            == "commands that can't be read to their end a write that failed, after 7 bytes memory ran out",
+        "of an answer",
+    );
     Ok(())
 }

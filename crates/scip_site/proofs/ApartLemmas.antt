@@ -4,7 +4,7 @@ use Rattle.std.proofs.Common.{get_or, length, arith, ◌⊎◌, inl, inr}
 use Rattle.std.specs.Prelude.{codes, Option, None, Some}
 use Rattle.std.specs.List.{AllByRecursion, list_any}
 use Rattle.source_files.specs.Made.{MadeFile}
-use Rattle.scip_model.specs.declared.records.Index.{Index}
+use Rattle.scip_records.specs.declared.records.Index.{Index}
 use Rattle.scip_query.specs.Tables.{numbers, path_listed}
 use Rattle.source_page.specs.Site.{Sources, page_path}
 use Rattle.source_page.proofs.TagLemmas.{all_append}

@@ -7,8 +7,8 @@ use Rattle.std.specs.Option.{is_some, option_map_or, unwrap_or}
 use Rattle.std.specs.Fmt.{decimal}
 use Rattle.std.proofs.lemmas.Option.{slice_get_within}
 use Rattle.std.proofs.lemmas.List.Sorted.{Contains-permutation, IsPermutation-sym}
-use Rattle.scip_model.specs.declared.records.Index.{Index}
-use Rattle.scip_model.specs.declared.records.Document.{Document}
+use Rattle.scip_records.specs.declared.records.Index.{Index}
+use Rattle.scip_records.specs.declared.records.Document.{Document}
 use Rattle.scip_query.specs.Tables.{IsByPath, numbers, path_listed, path_or_none, places_in}
 use Rattle.scip_pages.specs.Snapshot.{lines_of}
 use Rattle.scip_pages.specs.Urls.{encoded, folder_of}

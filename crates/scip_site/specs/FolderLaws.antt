@@ -1,8 +1,8 @@
 -- Laws of a folder of pages.
 use Rattle.std.specs.Prelude.{ℕ, ◌≡◌, ◌≢◌, ◌<◌, true, false, List, ◌++◌, codes, Option, None, Some}
 use Rattle.std.specs.List.{AllByRecursion, flat_map, slice_get}
-use Rattle.scip_model.specs.declared.records.Index.{Index}
-use Rattle.scip_model.specs.declared.records.Document.{Document}
+use Rattle.scip_records.specs.declared.records.Index.{Index}
+use Rattle.scip_records.specs.declared.records.Document.{Document}
 use Rattle.source_files.specs.Made.{MadeFile}
 use Rattle.scip_pages.specs.Paths.{is_path_below}
 use Rattle.scip_pages.specs.Snapshot.{lines_of, misfit}

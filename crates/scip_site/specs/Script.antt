@@ -4,7 +4,7 @@ use Rattle.std.specs.Prelude.{ℕ, ◌+◌, ◌-◌, ◌*◌, ◌/◌, ◌%◌, 
 use Rattle.std.specs.Prelude.{codes}
 use Rattle.std.specs.List.{flat_map}
 use Rattle.std.specs.Fmt.{decimal}
-use Rattle.scip_model.specs.declared.records.Index.{Index}
+use Rattle.scip_records.specs.declared.records.Index.{Index}
 use Rattle.scip_query.specs.Tables.{occurrence_listed, symbol_listed}
 use Rattle.scip_query.specs.declared.place.Place.{Place}
 use Rattle.scip_pages.specs.declared.columns.ColumnUnit.{ColumnUnit}

@@ -7,8 +7,8 @@ ghost use Rattle.scip_snapshot.specs.Snapshots.{path_in};
 ghost use Rattle.scip_site.specs.Reading as spec;
 
 use crate::no_page::NoPage;
-use scip_model::Document;
 use scip_pages::{ColumnUnit, is_path_below, lines_of, misfit, unit_of};
+use scip_records::Document;
 use scip_snapshot::path_in;
 use sequences::OwnedText;
 use source_files::ReadFiles;

@@ -9,7 +9,7 @@ ghost use Rattle.scip_site.specs.Reading as spec;
 use crate::no_page::{NoPage, tell};
 use crate::outcome::{Wanted, outcome_of};
 use crate::repeats::are_repeated;
-use scip_model::Document;
+use scip_records::Document;
 use scip_snapshot::ShowFault;
 use sequences::OwnedText;
 use source_files::ReadFiles;

@@ -1,12 +1,14 @@
-//! The texts of faults: their names.
+//! The texts of faults.
 
 use crate::see::see;
 use scip_snapshot::ShowFault;
 use std::test::Fail;
 
 #[test]
-fn faults_are_printed_by_their_names(rt: HostRuntime) -> Result<(), Fail> {
+fn faults_are_printed_as_sentences(rt: HostRuntime) -> Result<(), Fail> {
     let text = format!(in rt.alloc(); "{} {}", ShowFault::Write, ShowFault::Memory)?;
-    see(&rt, text.as_str() == "Write Memory", "texts");
+    let is_printed = text.as_str()
+        == "a write that failed, or a file that can't be made memory ran out";
+    see(&rt, is_printed, "texts");
     Ok(())
 }

@@ -1,7 +1,7 @@
 //! What the tests share. A formatted assertion is proved once, here, and not in each test.
 
-use scip_model::Index;
 use scip_query::Queries;
+use scip_records::Index;
 use scip_wire::{WireFault, read_index};
 use std::alloc::{AllocError, Global};
 use std::process::Abort;

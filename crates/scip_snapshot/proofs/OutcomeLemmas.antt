@@ -3,7 +3,7 @@ use Rattle.std.proofs.Common.{◌≡◌, ◌∙◌, sym, refl, ap, ℕ, List, Bo
 use Rattle.std.specs.Prelude.{Result}
 use Rattle.std.specs.Str.{IsUtf8, is_utf8}
 use Rattle.std.proofs.lemmas.Str.{IsUtf8-from_is_utf8, is_utf8-from_IsUtf8}
-use Rattle.scip_model.specs.declared.records.Index.{Index}
+use Rattle.scip_records.specs.declared.records.Index.{Index}
 use Rattle.scip_pages.specs.Snapshot.{snapshot_of}
 use Rattle.scip_pages.specs.SnapshotOutcomes.{Gives}
 use Rattle.scip_pages.specs.declared.snapshot_fault.SnapshotFault.{SnapshotFault}

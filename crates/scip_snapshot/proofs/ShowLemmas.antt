@@ -10,8 +10,8 @@ use Rattle.streams.proofs.WholeWriteLemmas.{IsWritten-nil, IsWritten-trans, IsCu
 use Rattle.streams.specs.Streams.{one_more}
 use Rattle.streams.specs.declared.sink.CutOff.{CutOff}
 use Rattle.source_files.specs.Made.{Adds, Made, MadeFile, Makes, MakesAll, StopsBehind}
-use Rattle.scip_model.specs.declared.records.Index.{Index}
-use Rattle.scip_model.specs.declared.records.Document.{Document}
+use Rattle.scip_records.specs.declared.records.Index.{Index}
+use Rattle.scip_records.specs.declared.records.Document.{Document}
 use Rattle.scip_snapshot.specs.declared.show_fault.ShowFault.{ShowFault}
 use Rattle.scip_snapshot.specs.declared.show_fault.ShowFault.TheVariants.{Write, Memory}
 use Rattle.scip_snapshot.specs.Snapshots.{Shown, Outcome, IsOutcome, AreShown, none, next, told_by, printed_by}

@@ -4,26 +4,18 @@ ghost use Rattle.std.specs.Prelude.{◌≡◌};
 ghost use Rattle.scip_snapshot.specs.ShowFaults.{name_of};
 
 use std::alloc::AllocError;
-use std::error::Error;
-use std::fmt;
+use thiserror::Error;
 
 /// Why not all documents of an index are shown.
-#[derive(Clone, Copy, Debug, Drop, PartialEq, Eq)]
+#[derive(Clone, Copy, Debug, Drop, PartialEq, Eq, Error)]
 pub enum ShowFault {
     /// A write failed, or a file couldn't be made.
+    #[error("a write that failed, or a file that can't be made")]
     Write,
     /// Memory ran out.
+    #[error("memory ran out")]
     Memory,
 }
-
-/// Its name.
-impl fmt::Display for ShowFault {
-    fn fmt<W: fmt::Write>(&self, f: &mut fmt::Formatter<W>) -> fmt::Result {
-        f.write_str(self.name())
-    }
-}
-
-impl Error for ShowFault {}
 
 impl From<AllocError> for ShowFault {
     ghost use Rattle.scip_snapshot.specs.declared.show_fault.ShowFault.TheVariants.{Memory};

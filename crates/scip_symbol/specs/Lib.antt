@@ -12,8 +12,6 @@ pub mod EntityTexts
 pub mod OneEntity
 -- where a text that spells none stops
 pub mod LongestPrefix
--- how faults are printed
-pub mod FaultTexts
 -- what the reader's functions give
 pub mod Reading
 pub mod Gives

@@ -1,35 +1,19 @@
 //! Why a text is no symbol.
 
 use std::alloc::AllocError;
-use std::error::Error;
-use std::fmt;
+use thiserror::Error;
 
 /// Why a text gives no symbol.
-#[derive(Clone, Copy, Debug, Drop, PartialEq, Eq)]
+#[derive(Clone, Copy, Debug, Drop, PartialEq, Eq, Error)]
 pub enum SymbolFault {
     /// The text spells no symbol. The offset is the length in bytes of the longest prefix of the text that begins
     /// some symbol's spelling.
+    #[error("a text that is no symbol, from byte {0} on")]
     BadSymbol(usize),
     /// Memory ran out.
+    #[error("memory ran out")]
     Memory,
 }
-
-/// The variant's name, and its number in parentheses if it has one.
-impl fmt::Display for SymbolFault {
-    ghost use Rattle.std.specs.Prelude.{Some};
-    ghost use Rattle.scip_symbol.specs.FaultTexts.{fault_text};
-
-    ghost output = { λ fault. Some (fault_text fault) };
-
-    fn fmt<W: fmt::Write>(&self, f: &mut fmt::Formatter<W>) -> fmt::Result {
-        match self {
-            SymbolFault::BadSymbol(offset) => write!(f, "BadSymbol({offset})"),
-            SymbolFault::Memory => f.write_str("Memory"),
-        }
-    }
-}
-
-impl Error for SymbolFault {}
 
 impl From<AllocError> for SymbolFault {
     ghost use Rattle.std.specs.Prelude.{◌≡◌};

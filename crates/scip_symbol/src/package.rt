@@ -7,10 +7,12 @@ ghost use Rattle.scip_symbol.specs.Package.{IsPackage, ArePartsBelow, IsFirstBad
 
 use crate::reader::after;
 use std::marker::Model;
+use thiserror::Error;
 
 /// Why three texts name no package: the first of them that begins with a space or is `.`, and the
 /// texts as they were.
-#[derive(Debug, Drop)]
+#[derive(Debug, Drop, Error)]
+#[error("part {part} of a package (0 is the manager, 1 the name, 2 the version) begins with a space or is `.`")]
 pub struct BadPart {
     /// 0 for the manager, 1 for the name, 2 for the version.
     pub part: usize,

@@ -2,8 +2,8 @@
 //! gives by hand.
 
 use crate::calls::see;
-use scip_symbol::{Symbol, SymbolFault, print, read};
-use std::alloc::Global;
+use scip_symbol::{BadPart, PackageId, Symbol, SymbolFault, print, read};
+use std::alloc::{AllocError, Global};
 use std::test::Fail;
 
 /// The text that a symbol is printed as.
@@ -63,5 +63,52 @@ fn a_long_symbol(rt: HostRuntime) -> Result<(), Fail> {
     let text = ["scip-protobuf . . . ", name.as_str(), "#"].join(rt.alloc(), "")?;
     let printed = reprinted_again(rt.alloc(), text.as_str()).unwrap_or(name);
     see(&rt, printed.as_str() == text.as_str(), "as it was");
+    Ok(())
+}
+
+/// Faults, and how they are displayed.
+const DISPLAYED: [(SymbolFault, &str); 2] = [
+    (
+        SymbolFault::BadSymbol(7),
+        "a text that is no symbol, from byte 7 on",
+    ),
+    (SymbolFault::Memory, "memory ran out"),
+];
+
+/// Whether a fault is displayed as this sentence.
+fn is_displayed(alloc: Global, fault: SymbolFault, sentence: &str) -> Result<bool, AllocError> {
+    let text = format!(in alloc; "{fault}")?;
+    Ok(text.as_str() == sentence)
+}
+
+/// What a part is displayed as that begins with a space.
+const BAD_PART: &str =
+    "part 1 of a package (0 is the manager, 1 the name, 2 the version) begins with a space or is `.`";
+
+/// Whether a part that is no part of a package is displayed so.
+fn is_bad_part_displayed(alloc: Global) -> Result<bool, AllocError> {
+    let parts = [
+        String::new(alloc),
+        String::from_str(alloc, " b")?,
+        String::new(alloc),
+    ];
+    match PackageId::new(parts) {
+        Ok(_) => Ok(false),
+        Err(bad) => is_so_displayed(alloc, &bad),
+    }
+}
+
+/// Whether it is.
+fn is_so_displayed(alloc: Global, bad: &BadPart) -> Result<bool, AllocError> {
+    let text = format!(in alloc; "{bad}")?;
+    Ok(text.as_str() == BAD_PART)
+}
+
+#[test]
+fn faults_are_displayed_as_sentences(rt: HostRuntime) -> Result<(), Fail> {
+    for (fault, sentence) in &DISPLAYED {
+        see(&rt, is_displayed(rt.alloc(), *fault, sentence)?, sentence);
+    }
+    see(&rt, is_bad_part_displayed(rt.alloc())?, "part");
     Ok(())
 }

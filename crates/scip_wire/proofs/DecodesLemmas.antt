@@ -5,13 +5,13 @@ use Rattle.std.proofs.lemmas.Option.{same_Some}
 use Rattle.std.specs.Prelude.{SomeIff, IfOk, MatchResult}
 use Rattle.std.proofs.lemmas.Bool.{le-leb, leb-true, cond-true, cond-false}
 use Rattle.std.proofs.lemmas.List.{append-nil, append_assoc}
-use Rattle.scip_model.specs.Range.{RangeNumbers, IsRange, max_range_number}
-use Rattle.scip_model.specs.declared.records.Index.{Index}
-use Rattle.scip_model.specs.declared.records.Metadata.{Metadata}
-use Rattle.scip_model.specs.declared.records.ToolInfo.{ToolInfo}
-use Rattle.scip_model.specs.declared.records.Document.{Document}
-use Rattle.scip_model.specs.declared.records.Occurrence.{Occurrence}
-use Rattle.scip_model.specs.declared.records.SymbolInformation.{SymbolInformation}
+use Rattle.scip_records.specs.Range.{RangeNumbers, IsRange, max_range_number}
+use Rattle.scip_records.specs.declared.records.Index.{Index}
+use Rattle.scip_records.specs.declared.records.Metadata.{Metadata}
+use Rattle.scip_records.specs.declared.records.ToolInfo.{ToolInfo}
+use Rattle.scip_records.specs.declared.records.Document.{Document}
+use Rattle.scip_records.specs.declared.records.Occurrence.{Occurrence}
+use Rattle.scip_records.specs.declared.records.SymbolInformation.{SymbolInformation}
 use Rattle.scip_wire.specs.declared.wire_fault.WireFault.{WireFault}
 use Rattle.scip_wire.specs.declared.wire_fault.WireFault.TheVariants.{Memory}
 use Rattle.scip_wire.specs.declared.read.occurrence.OccurrenceParts.{OccurrenceParts}

@@ -2,7 +2,7 @@
 use Rattle.std.proofs.Common.{◌≡◌, ◌∙◌, ℕ, ◌+◌, ◌-◌, ◌^◌, ◌<◌, List, [], ◌∷◌, ◌++◌, length}
 use Rattle.std.proofs.Common.{sym, ap, arith, append_assoc, length-append}
 use Rattle.std.proofs.lemmas.Grind.{flat_map-append}
-use Rattle.scip_model.specs.declared.records.Document.{Document}
+use Rattle.scip_records.specs.declared.records.Document.{Document}
 use Rattle.scip_wire.specs.Fields.{Field}
 use Rattle.scip_wire.specs.Spelling.{field_bytes, bytes_of, bytes_field, text_fields, int_fields, info_fields}
 use Rattle.scip_wire.specs.Spelling.{repeated_message_fields, document_fields, document_record}

@@ -7,7 +7,7 @@ use Rattle.std.proofs.lemmas.List.{at_drop_more, at_drop_all}
 use Rattle.std.proofs.lemmas.Bool.{eqb-true}
 use Rattle.std.proofs.lemmas.Grind.{flat_map-append}
 use Rattle.std.specs.List.{flat_map, concat}
-use Rattle.scip_model.specs.Range.{RangeNumbers}
+use Rattle.scip_records.specs.Range.{RangeNumbers}
 use Rattle.scip_wire.specs.Fields.{Field}
 use Rattle.scip_wire.specs.Spelling.{varint, bytes_of, field_bytes, number_fields, int_fields, text_fields}
 use Rattle.scip_wire.specs.Spelling.{range_numbers}

@@ -4,8 +4,8 @@ use Rattle.std.proofs.Common.{map, get_or, refl, ap, ◌∙◌, arith, length-ap
 use Rattle.std.proofs.lemmas.List.{at_drop_more, at_drop_all}
 use Rattle.std.proofs.lemmas.Grind.{flat_map-append}
 use Rattle.std.specs.List.{concat}
-use Rattle.scip_model.specs.declared.records.Index.{Index}
-use Rattle.scip_model.specs.declared.records.Document.{Document}
+use Rattle.scip_records.specs.declared.records.Index.{Index}
+use Rattle.scip_records.specs.declared.records.Document.{Document}
 use Rattle.scip_wire.specs.Spelling.{field_bytes, bytes_of, optional_message_fields, repeated_message_fields}
 use Rattle.scip_wire.specs.Spelling.{metadata_fields, document_fields, info_fields, spelling_of, document_record}
 use Rattle.scip_wire.specs.Spelling.{joined_pieces}

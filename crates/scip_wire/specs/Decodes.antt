@@ -6,13 +6,13 @@ use Rattle.std.specs.Prelude.{◌≡◌, ℕ, ℤ, pos, ◌%◌, ◌^◌, Bool, 
 use Rattle.std.specs.Prelude.{Some, None}
 use Rattle.std.specs.Int.{w32, cast_signed}
 use Rattle.std.specs.Str.{IsUtf8}
-use Rattle.scip_model.specs.Range.{RangeNumbers, IsRange}
-use Rattle.scip_model.specs.declared.records.Index.{Index}
-use Rattle.scip_model.specs.declared.records.Metadata.{Metadata}
-use Rattle.scip_model.specs.declared.records.ToolInfo.{ToolInfo}
-use Rattle.scip_model.specs.declared.records.Document.{Document}
-use Rattle.scip_model.specs.declared.records.Occurrence.{Occurrence}
-use Rattle.scip_model.specs.declared.records.SymbolInformation.{SymbolInformation}
+use Rattle.scip_records.specs.Range.{RangeNumbers, IsRange}
+use Rattle.scip_records.specs.declared.records.Index.{Index}
+use Rattle.scip_records.specs.declared.records.Metadata.{Metadata}
+use Rattle.scip_records.specs.declared.records.ToolInfo.{ToolInfo}
+use Rattle.scip_records.specs.declared.records.Document.{Document}
+use Rattle.scip_records.specs.declared.records.Occurrence.{Occurrence}
+use Rattle.scip_records.specs.declared.records.SymbolInformation.{SymbolInformation}
 use Rattle.scip_wire.specs.Fields.{Payload, Varint, Delimited, Field, IsVarint, HasFields, max_varint_len}
 
 -- ---- the values of a field

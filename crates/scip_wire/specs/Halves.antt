@@ -1,6 +1,6 @@
 -- The fields of a document in two halves, between which its occurrences can be let go.
 use Rattle.std.specs.Prelude.{List, ◌++◌}
-use Rattle.scip_model.specs.declared.records.Document.{Document}
+use Rattle.scip_records.specs.declared.records.Document.{Document}
 use Rattle.scip_wire.specs.Fields.{Field}
 use Rattle.scip_wire.specs.Spelling.{text_fields, int_fields, repeated_message_fields, occurrence_fields, info_fields}
 

@@ -3,13 +3,13 @@
 use Rattle.std.specs.Prelude.{ℕ, zero, suc, ◌+◌, ◌-◌, ◌*◌, ◌/◌, ◌%◌, ◌^◌, ℤ, pos, negsuc, List, [], ◌∷◌, ◌++◌, length}
 use Rattle.std.specs.Prelude.{map, flat_map, nat_eq, nat_lt, Option, Some, None, if◌then◌else◌}
 use Rattle.std.specs.List.{concat}
-use Rattle.scip_model.specs.Range.{RangeNumbers}
-use Rattle.scip_model.specs.declared.records.Index.{Index}
-use Rattle.scip_model.specs.declared.records.Metadata.{Metadata}
-use Rattle.scip_model.specs.declared.records.ToolInfo.{ToolInfo}
-use Rattle.scip_model.specs.declared.records.Document.{Document}
-use Rattle.scip_model.specs.declared.records.Occurrence.{Occurrence}
-use Rattle.scip_model.specs.declared.records.SymbolInformation.{SymbolInformation}
+use Rattle.scip_records.specs.Range.{RangeNumbers}
+use Rattle.scip_records.specs.declared.records.Index.{Index}
+use Rattle.scip_records.specs.declared.records.Metadata.{Metadata}
+use Rattle.scip_records.specs.declared.records.ToolInfo.{ToolInfo}
+use Rattle.scip_records.specs.declared.records.Document.{Document}
+use Rattle.scip_records.specs.declared.records.Occurrence.{Occurrence}
+use Rattle.scip_records.specs.declared.records.SymbolInformation.{SymbolInformation}
 use Rattle.scip_wire.specs.Fields.{Payload, Varint, Fixed64, Delimited, Fixed32, Field}
 
 -- The shortest varint of a number of at most `further + 1` groups (Encoding, Base 128 Varints):

@@ -3,13 +3,13 @@
 use Rattle.std.specs.Prelude.{All, IfSome, FitsSigned}
 use Rattle.std.specs.Int.{w32}
 use Rattle.std.specs.Str.{IsUtf8}
-use Rattle.scip_model.specs.Range.{IsRange}
-use Rattle.scip_model.specs.declared.records.Index.{Index}
-use Rattle.scip_model.specs.declared.records.Metadata.{Metadata}
-use Rattle.scip_model.specs.declared.records.ToolInfo.{ToolInfo}
-use Rattle.scip_model.specs.declared.records.Document.{Document}
-use Rattle.scip_model.specs.declared.records.Occurrence.{Occurrence}
-use Rattle.scip_model.specs.declared.records.SymbolInformation.{SymbolInformation}
+use Rattle.scip_records.specs.Range.{IsRange}
+use Rattle.scip_records.specs.declared.records.Index.{Index}
+use Rattle.scip_records.specs.declared.records.Metadata.{Metadata}
+use Rattle.scip_records.specs.declared.records.ToolInfo.{ToolInfo}
+use Rattle.scip_records.specs.declared.records.Document.{Document}
+use Rattle.scip_records.specs.declared.records.Occurrence.{Occurrence}
+use Rattle.scip_records.specs.declared.records.SymbolInformation.{SymbolInformation}
 
 pub record IsFitOccurrence (o : Occurrence) : Type 0 where
   pub range : IsRange o.range

@@ -2,7 +2,7 @@
 
 ghost use Rattle.std.specs.Prelude.{◌≡◌, ◌≤◌, ◌⊎◌, ℕ, List, length, map};
 ghost use Rattle.std.specs.List.{AllByRecursion};
-ghost use Rattle.scip_model.specs.declared.records.Index.{Index};
+ghost use Rattle.scip_records.specs.declared.records.Index.{Index};
 ghost use Rattle.scip_wire.specs.Fields.{Field, HasFields, max_varint_len};
 ghost use Rattle.scip_wire.specs.Decodes.{Decodes};
 ghost use Rattle.scip_wire.specs.Refused.{NoVarint, NoIndex};

@@ -1,7 +1,7 @@
 //! Reading an index from bytes.
 
 ghost use Rattle.std.specs.Prelude.{◌≡◌, ◌⊎◌, IfErr, IfOk, MatchResult};
-ghost use Rattle.scip_model.specs.declared.records.Index.{Index};
+ghost use Rattle.scip_records.specs.declared.records.Index.{Index};
 ghost use Rattle.scip_wire.specs.Decodes.{Decodes};
 ghost use Rattle.scip_wire.specs.Gives.{Blames, Gives};
 ghost use Rattle.scip_wire.specs.Reading.{index_at};
@@ -22,7 +22,7 @@ mod varint;
 
 use crate::read::message::read_message;
 use crate::wire_fault::WireFault;
-use scip_model::Index;
+use scip_records::Index;
 use std::alloc::Global;
 
 /// The index that bytes decode to (Protocol Buffers encoding, with the field numbers of `scip.proto`).

@@ -4,35 +4,43 @@ ghost use Rattle.std.specs.Prelude.{◌≡◌};
 ghost use Rattle.scip_wire.specs.WireFaults.{name_of, offset_of};
 
 use std::alloc::AllocError;
-use std::error::Error;
-use std::fmt;
+use thiserror::Error;
 
 /// Why bytes decode to no index.
 ///
 /// An offset is that of the first byte of the innermost record that can't be read, counted in the
 /// whole input. A record's length is checked before its content is read. Within one tag the order
 /// is `Truncated`, `Varint`, `FieldZero`, `Group`, `WireType`.
-#[derive(Clone, Copy, Debug, Drop, PartialEq, Eq)]
+#[derive(Clone, Copy, Debug, Drop, PartialEq, Eq, Error)]
 pub enum WireFault {
     /// A tag, a varint or a payload runs past the end of the input, or of the message or packed
     /// range that holds it.
+    #[error("a record that is cut off, at byte {0}")]
     Truncated(usize),
     /// A varint's tenth byte is over 1, or a tag is 4,294,967,296 or more.
+    #[error("a number that is too large, at byte {0}")]
     Varint(usize),
     /// A field's number is 0.
+    #[error("a field with the number 0, at byte {0}")]
     FieldZero(usize),
     /// A record is a group: wire type 3 or 4.
+    #[error("a record that is a group, at byte {0}")]
     Group(usize),
     /// A record's wire type is 6 or 7.
+    #[error("a record of no known wire type, at byte {0}")]
     WireType(usize),
     /// A second metadata or a second tool information.
+    #[error("a record that may come only once, at byte {0}")]
     Repeated(usize),
     /// A known text isn't UTF-8.
+    #[error("a text that isn't UTF-8, at byte {0}")]
     Utf8(usize),
     /// An occurrence with one, two or more than four range numbers, or with a negative one. The offset is that of the
     /// occurrence's record. It comes after all its records were read.
+    #[error("an occurrence whose range isn't three or four numbers from 0, at byte {0}")]
     BadRange(usize),
     /// Memory ran out.
+    #[error("memory ran out")]
     Memory,
 }
 
@@ -71,15 +79,6 @@ impl WireFault {
         }
     }
 }
-
-/// The variant's name, and its number in parentheses if it has one.
-impl fmt::Display for WireFault {
-    fn fmt<W: fmt::Write>(&self, f: &mut fmt::Formatter<W>) -> fmt::Result {
-        fmt::Debug::fmt(self, f)
-    }
-}
-
-impl Error for WireFault {}
 
 impl From<AllocError> for WireFault {
     ghost use Rattle.std.specs.Prelude.{◌≡◌};

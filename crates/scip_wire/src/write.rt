@@ -8,7 +8,7 @@ ghost use Rattle.scip_wire.specs.Writing.{Leaves};
 
 use crate::spell::{Buffer, Encode};
 use crate::write_fault::{TooLarge, WriteFault};
-use scip_model::Index;
+use scip_records::Index;
 use std::alloc::{AllocError, Global};
 use streams::{CutOff, Sink};
 

@@ -5,17 +5,17 @@ use thiserror::Error;
 
 /// The spelling of an index is longer than `MAX_INDEX_LEN` bytes.
 #[derive(Clone, Copy, Debug, Drop, PartialEq, Eq, Error)]
-#[error("TooLarge")]
+#[error("an index has at most 2147483647 bytes")]
 pub struct TooLarge;
 
 /// Why an index isn't written.
 #[derive(Clone, Copy, Debug, Drop, PartialEq, Eq, Error)]
 pub enum WriteFault {
     /// The spelling is longer than `MAX_INDEX_LEN` bytes. Nothing was written.
-    #[error("TooLarge")]
+    #[error("an index has at most 2147483647 bytes")]
     TooLarge,
     /// A write failed after this many bytes of the spelling, counted from the first.
-    #[error("Write({0})")]
+    #[error("a write that failed, after {0} bytes")]
     Write(usize),
 }
 

@@ -1,6 +1,6 @@
 //! Calls of the encoding that are made again after want of memory, where the second answer counts.
 
-use scip_model::{DocumentParts, Index};
+use scip_records::{DocumentParts, Index};
 use scip_wire::{DocumentRecord, WireFault, encoded_len, read_index, spell_document, spell_index};
 use std::alloc::{AllocError, Global};
 use std::process::Abort;

@@ -3,7 +3,7 @@
 
 use crate::calls::{decoded, is_spelled, see, spelled};
 use crate::indexes::MESSAGE;
-use scip_model::Index;
+use scip_records::Index;
 use scip_wire::WireFault;
 use std::alloc::Global;
 use std::process::Abort;

@@ -5,7 +5,7 @@ ghost use Rattle.std.specs.Prelude.{◌≡◌};
 use crate::calls::{decoded, record, see};
 use crate::indexes::PREFIXED;
 use crate::pieces::see_pieces;
-use scip_model::{
+use scip_records::{
     Document, DocumentParts, Index, LentInformation, LentOccurrence, LentSymbol, Occurrence,
     SymbolInformation,
 };

@@ -3,7 +3,7 @@
 
 use crate::calls::{decoded, is_spelled, see};
 use crate::writers::written;
-use scip_model::Index;
+use scip_records::Index;
 use std::alloc::{AllocError, Global};
 use std::process::Abort;
 use std::test::Fail;

@@ -3,7 +3,7 @@
 use crate::calls::{decoded, record, see};
 use crate::indexes::{EVERYTHING, MESSAGE, NO_DOCUMENT, PREFIXED};
 use crate::writers::pieces_written;
-use scip_model::{Document, Index};
+use scip_records::{Document, Index};
 use scip_wire::DocumentRecord;
 use std::alloc::{AllocError, Global};
 use std::process::Abort;

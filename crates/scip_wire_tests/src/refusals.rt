@@ -10,11 +10,11 @@ use std::test::Fail;
 /// Bytes, and the fault that they are refused with.
 type Refusal<'a> = (&'a [u8], WireFault);
 
-/// Whether a fault is printed by its name and its offset, where there is memory for the texts.
+/// Whether a fault is printed as a sentence that ends with its offset, where there is memory for the texts.
 fn is_printed(alloc: Global, fault: WireFault) -> bool {
-    let due = format!(in alloc; "{}({})", fault.name(), fault.offset().unwrap_or(0));
+    let due = format!(in alloc; ", at byte {}", fault.offset().unwrap_or(0));
     match (format!(in alloc; "{fault}"), due) {
-        (Ok(text), Ok(due)) => text.as_str() == due.as_str(),
+        (Ok(text), Ok(due)) => text.as_str().ends_with(due.as_str()),
         _ => true,
     }
 }
@@ -144,13 +144,16 @@ fn the_first_fault_of_bytes(rt: HostRuntime) {
 }
 
 #[test]
-fn faults_are_printed_by_their_names(rt: HostRuntime) -> Result<(), Fail> {
+fn faults_are_printed_as_sentences(rt: HostRuntime) -> Result<(), Fail> {
     let (large, cut) = (WriteFault::TooLarge, WriteFault::Write(9));
     let text = format!(in rt.alloc(); "{large} {cut}")?;
-    see(&rt, text.as_str() == "TooLarge Write(9)", "writing");
-    let (length, unread) = (TooLarge, WireFault::Memory);
+    let is_printed = text.as_str()
+        == "an index has at most 2147483647 bytes a write that failed, after 9 bytes";
+    see(&rt, is_printed, "writing");
+    let (length, unread) = (TooLarge, WireFault::Truncated(12));
     let text = format!(in rt.alloc(); "{length} {unread}")?;
-    let is_printed = text.as_str() == "TooLarge Memory";
-    see(&rt, is_printed, "a length and want of memory");
+    let is_printed = text.as_str()
+        == "an index has at most 2147483647 bytes a record that is cut off, at byte 12";
+    see(&rt, is_printed, "a length and a record");
     Ok(())
 }

@@ -4,7 +4,7 @@
 use crate::calls::{decoded, is_long, is_spelled, see};
 use crate::indexes::{EVERYTHING, MESSAGE, NO_DOCUMENT, UNPACKED};
 use crate::writers::see_written;
-use scip_model::Index;
+use scip_records::Index;
 use std::alloc::Global;
 use std::process::Abort;
 

@@ -1,7 +1,7 @@
 //! What is written of an index, and by how many writes.
 
 use crate::calls::see;
-use scip_model::Index;
+use scip_records::Index;
 use scip_wire::{DocumentRecord, WriteFault, write_index, write_pieces};
 use std::io;
 use std::io::Write;

@@ -1,5 +1,6 @@
-//! A file that is made where the standard streams are closed.
+//! A file that is made where the standard streams are closed, by a system that takes a few bytes at once.
 
+use crate::numbered::{Numbered, Taken, least_free};
 use crate::outputs::holds;
 use crate::roots::see;
 use source_files::OutFile;
@@ -9,28 +10,29 @@ use std::fs::{Metadata, OpenOptions};
 use std::rt::Files;
 use std::test::Fail;
 use std::{fs, io};
-use streams::Sink;
+use streams::{Sink, write_all};
 
-/// A system whose standard streams are closed, so that the first three files that it opens take their numbers.
-/// What is written to one of these is said: it goes to the file `said`.
+/// A system that gives each file the least number that is free, and it is free again once the file is let go. What
+/// is written to a number of a standard stream is said: it goes to the file `said`.
 #[derive(Drop)]
-struct Closed<'a, S: Files> {
+struct Counting<'a, S: Files> {
     system: &'a S,
-    opened: Cell<usize>,
+    taken: &'a Taken,
 }
 
-impl<'a, S: Files> Files for Closed<'a, S> {
-    type File = S::File;
+impl<'a, S: Files> Files for Counting<'a, S> {
+    type File = Numbered<'a, S::File>;
 
     type Dir = S::Dir;
 
-    fn open_file(&self, how: &OpenOptions, path: &str) -> io::Result<S::File> {
-        let number = self.opened.get();
-        self.opened.set(number.saturating_add(1));
-        if number < 3 && path != "/dev/null" {
-            return self.system.open_file(how, "said");
-        }
-        self.system.open_file(how, path)
+    fn open_file(&self, how: &OpenOptions, path: &str) -> io::Result<Numbered<'a, S::File>> {
+        let number = least_free(self.taken);
+        let path = match number {
+            Some(_) if path != "/dev/null" => "said",
+            _ => path,
+        };
+        let file = self.system.open_file(how, path)?;
+        Ok(Numbered::new(file, number, self.taken))
     }
 
     fn open_dir(&self, path: &str) -> io::Result<S::Dir> {
@@ -72,13 +74,20 @@ impl<'a, S: Files> Files for Closed<'a, S> {
 
 #[test]
 fn made_beside_closed_streams(rt: HostRuntime) -> Result<(), Fail> {
-    let system = Closed {
+    let taken = Cell::new(0);
+    let system = Counting {
         system: &rt,
-        opened: Cell::new(0),
+        taken: &taken,
     };
     let mut out = OutFile::new(&system, "beside.scip");
     see(&rt, out.write(b"ab") == Ok(2), "first");
     see(&rt, out.write(b"c") == Ok(1), "second");
     see(&rt, holds(&rt, "beside.scip", b"abc"), "after");
+    see(
+        &rt,
+        write_all(&mut out, b"defghijk").is_ok(),
+        "in three writes",
+    );
+    see(&rt, holds(&rt, "beside.scip", b"abcdefghijk"), "all");
     Ok(fs::remove_file(&rt, "beside.scip")?)
 }

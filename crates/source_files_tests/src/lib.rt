@@ -6,6 +6,12 @@ mod closed_streams;
 #[cfg(test)]
 mod free_folders;
 #[cfg(test)]
+mod numbered;
+#[cfg(test)]
 mod outputs;
 #[cfg(test)]
 mod roots;
+#[cfg(test)]
+mod short_reads;
+#[cfg(test)]
+mod wide_folders;

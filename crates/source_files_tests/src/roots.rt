@@ -41,7 +41,7 @@ fn text_of(alloc: Global, answer: Result<Vec<Source>, LoadFault>) -> Result<Stri
 
 /// Reads the sources below a root on workers. Where memory ran out it is called again, and the second answer counts;
 /// so it is with the call below.
-fn read_again<R: Threads + Wait, F: ReadFiles + Sync>(
+pub(crate) fn read_again<R: Threads + Wait, F: ReadFiles + Sync>(
     rt: &R,
     alloc: Global,
     workers: Workers,

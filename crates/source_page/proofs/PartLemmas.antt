@@ -5,8 +5,8 @@ use Rattle.std.specs.Prelude.{codes, Option, None, Some}
 use Rattle.std.specs.List.{flat_map, range_with_len, slice_get}
 use Rattle.std.specs.Fmt.{decimal}
 use Rattle.std.proofs.lemmas.Bool.{and_parts}
-use Rattle.scip_model.specs.declared.records.Index.{Index}
-use Rattle.scip_model.specs.declared.records.Occurrence.{Occurrence}
+use Rattle.scip_records.specs.declared.records.Index.{Index}
+use Rattle.scip_records.specs.declared.records.Occurrence.{Occurrence}
 use Rattle.scip_query.specs.BySymbol.{references_in}
 use Rattle.scip_query.specs.Tables.{path_listed, symbol_listed}
 use Rattle.scip_query.specs.declared.place.Place.{Place}

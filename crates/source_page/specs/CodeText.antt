@@ -3,7 +3,7 @@ use Rattle.std.specs.Prelude.{ℕ, ◌-◌, ◌==◌, Bool, false, cond, List, [
 use Rattle.std.specs.Prelude.{Some}
 use Rattle.std.specs.List.{flat_map, slice_get, range_with_len}
 use Rattle.std.specs.Option.{unwrap_or}
-use Rattle.scip_model.specs.declared.records.Occurrence.{Occurrence}
+use Rattle.scip_records.specs.declared.records.Occurrence.{Occurrence}
 use Rattle.scip_query.specs.Tables.{numbers}
 use Rattle.scip_pages.specs.declared.columns.ColumnUnit.{ColumnUnit}
 use Rattle.scip_pages.specs.declared.runs.Span.{Span}

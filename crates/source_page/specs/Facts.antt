@@ -2,7 +2,7 @@
 use Rattle.std.specs.Prelude.{◌≡◌, ◌==◌, ℕ, Bool, true, false, cond, nat_lt, ◌&&◌, List}
 use Rattle.std.specs.List.{All}
 use Rattle.std.specs.Str.{bytes_eq}
-use Rattle.scip_model.specs.declared.records.Index.{Index}
+use Rattle.scip_records.specs.declared.records.Index.{Index}
 use Rattle.scip_query.specs.References.{is_local}
 use Rattle.scip_query.specs.BySymbol.{references_in, documentation_in}
 use Rattle.source_page.specs.declared.facts.Fact.{Fact}

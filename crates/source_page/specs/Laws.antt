@@ -2,9 +2,9 @@
 use Rattle.std.specs.Prelude.{ℕ, ◌≡◌, ◌≢◌, ◌<◌, ◌^◌, true, false, List, ◌++◌, codes, None, Some}
 use Rattle.std.specs.List.{AllByRecursion, Contains, slice_get}
 use Rattle.std.specs.Fmt.{decimal}
-use Rattle.scip_model.specs.declared.records.Index.{Index}
-use Rattle.scip_model.specs.declared.records.Document.{Document}
-use Rattle.scip_model.specs.declared.records.Occurrence.{Occurrence}
+use Rattle.scip_records.specs.declared.records.Index.{Index}
+use Rattle.scip_records.specs.declared.records.Document.{Document}
+use Rattle.scip_records.specs.declared.records.Occurrence.{Occurrence}
 use Rattle.scip_query.specs.BySymbol.{references_in}
 use Rattle.scip_query.specs.References.{is_local}
 use Rattle.scip_query.specs.Tables.{defines_listed, symbol_listed}

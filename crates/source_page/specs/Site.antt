@@ -2,8 +2,8 @@
 use Rattle.std.specs.Prelude.{ℕ, ◌+◌, ◌==◌, Bool, false, ◌&&◌, cond, List, [], ◌++◌, codes, nat_eq, Option, None, Some}
 use Rattle.std.specs.List.{ends_with, flat_map, slice_get}
 use Rattle.std.specs.Option.{is_some, option_map_or}
-use Rattle.scip_model.specs.declared.records.Document.{Document}
-use Rattle.scip_model.specs.declared.records.Occurrence.{Occurrence}
+use Rattle.scip_records.specs.declared.records.Document.{Document}
+use Rattle.scip_records.specs.declared.records.Occurrence.{Occurrence}
 use Rattle.scip_query.specs.Tables.{occurrence_listed}
 use Rattle.scip_query.specs.declared.place.Place.{Place}
 use Rattle.scip_pages.specs.Urls.{folder_of}

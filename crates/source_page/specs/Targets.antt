@@ -3,7 +3,7 @@ use Rattle.std.specs.Prelude.{ℕ, ◌==◌, Bool, false, ◌&&◌, cond, List, 
 use Rattle.std.specs.List.{find, flat_map}
 use Rattle.std.specs.Option.{option_map}
 use Rattle.std.specs.Fmt.{decimal}
-use Rattle.scip_model.specs.declared.records.Index.{Index}
+use Rattle.scip_records.specs.declared.records.Index.{Index}
 use Rattle.scip_query.specs.BySymbol.{references_in, documentation_in}
 use Rattle.scip_query.specs.Tables.{path_listed, symbol_listed, defines_listed}
 use Rattle.scip_query.specs.declared.place.Place.{Place}

@@ -8,8 +8,8 @@ ghost use Rattle.source_page.specs.CodeText as spec;
 ghost use Rattle.source_page.specs.Listed.{listed_on};
 ghost use Rattle.scip_pages.specs.Runs.{span_on};
 
-use scip_model::{Occurrence, Range};
 use scip_pages::{ColumnUnit, Link, Span, line_runs, push_line, span_on};
+use scip_records::{Occurrence, Range};
 use std::alloc::{AllocError, Global};
 
 /// What the code of a page is made of.

@@ -11,9 +11,9 @@ use crate::facts::Facts;
 use crate::links::{linked_of, places_of};
 use crate::site::{Site, page_path};
 use crate::uses::push_all_defined;
-use scip_model::Document;
 use scip_pages::ColumnUnit;
 use scip_query::Place;
+use scip_records::Document;
 use std::alloc::{AllocError, Global};
 
 /// The room for a line of a page: most pages fit that have as much for each.

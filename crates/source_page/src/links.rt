@@ -9,9 +9,9 @@ use crate::facts::{Facts, Known};
 use crate::places::symbol_listed;
 use crate::site::{Site, same_place};
 use crate::urls::{empty_url, push_place_url};
-use scip_model::Document;
 use scip_pages::{Link, push_decimal};
 use scip_query::Place;
+use scip_records::Document;
 use sequences::Sequence;
 use std::alloc::{AllocError, Global};
 

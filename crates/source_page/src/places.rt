@@ -4,9 +4,9 @@ ghost use Rattle.std.specs.Prelude.{◌≡◌, option_copied};
 ghost use Rattle.scip_query.specs.Tables.{path_listed, occurrence_listed, symbol_listed, defines_listed};
 ghost use Rattle.source_page.specs.Site.{line_listed};
 
-use scip_model::{Document, Occurrence};
 use scip_pages::is_definition;
 use scip_query::Place;
+use scip_records::{Document, Occurrence};
 
 /// The path of the document with a number; no text where there is none.
 pub fn path_listed(documents: &[Document], number: usize) -> &str

@@ -16,9 +16,9 @@ use crate::marks::push_link;
 use crate::places::{line_listed, occurrence_listed, path_listed, symbol_listed};
 use crate::site::{Site, has_page, same_place};
 use crate::urls::{place_url, push_line_place};
-use scip_model::{Document, Occurrence};
 use scip_pages::{ColumnUnit, Link, parts_of, push_attribute, push_decimal, push_escaped};
 use scip_query::Place;
+use scip_records::{Document, Occurrence};
 use std::alloc::{AllocError, Global};
 
 /// Besides the path, the room for the name of a use: most fit.

@@ -6,9 +6,8 @@ pub mod Path
 pub mod Reading
 -- what a tree is, and the tree of files handed in
 pub mod Trees
--- why files make no tree, and how that is printed
+-- why files make no tree
 pub mod Refusals
-pub mod FaultTexts
 -- the laws
 pub mod Laws
 -- what the code computes

@@ -76,3 +76,28 @@ fn bad_paths_and_two_sources_with_one_path(rt: HostRuntime) -> Result<(), Fail> 
     see(&rt, fault.is_none(), "two paths");
     Ok(())
 }
+
+/// Faults, and how they are displayed.
+const DISPLAYED: [(TreeFault, &str); 4] = [
+    (TreeFault::TooMany, "more than 65536 files"),
+    (TreeFault::BadPath(7), "the path of file 7 isn't a good one"),
+    (
+        TreeFault::SamePath(8),
+        "source 8, in the order of paths, has the path of the one before it",
+    ),
+    (TreeFault::Memory, "memory ran out"),
+];
+
+/// Whether a fault is displayed as this sentence.
+fn is_displayed(alloc: Global, fault: TreeFault, sentence: &str) -> Result<bool, AllocError> {
+    let text = format!(in alloc; "{fault}")?;
+    Ok(text.as_str() == sentence)
+}
+
+#[test]
+fn faults_are_displayed_as_sentences(rt: HostRuntime) -> Result<(), Fail> {
+    for (fault, sentence) in &DISPLAYED {
+        see(&rt, is_displayed(rt.alloc(), *fault, sentence)?, sentence);
+    }
+    Ok(())
+}

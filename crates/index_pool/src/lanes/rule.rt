@@ -1,6 +1,6 @@
 //! The rule of a lane's deque, and what each step at the deque tells the party that makes it.
 
-ghost use Rattle.std.specs.Prelude.{◌≡◌, ◌≤◌, ◌++◌, true, false, [], All, Contains, length};
+ghost use Rattle.std.specs.Prelude.{◌≡◌, ◌≤◌, List, ℕ, ◌++◌, true, false, [], All, Contains, length};
 ghost use Rattle.std.specs.List.Sorted.{IsPermutation};
 
 use crossbeam_deque::protocol::{Join, Outcome, Protocol, Split};
@@ -61,28 +61,27 @@ impl Outcome<usize, LaneView> for Gives {
     ghost then = { λ v xs w. w ≡ more_given v xs };
 }
 
-/// A pop: the numbers popped grow by one of those given. If an owner that is the thief too finds none, each number
-/// given was popped or stolen, once.
+/// A pop: the numbers popped grow by the queue's first. If none is found, the queue is empty; to an owner that is the
+/// thief too, this tells that each number given was popped or stolen, once.
 pub(crate) struct Pops;
 
 impl Outcome<usize, LaneView> for Pops {
-    ghost use Rattle.index_pool.specs.Lane.{more_popped};
+    ghost use Rattle.index_pool.specs.Lane.{more_popped, OwnerFinds};
 
     ghost then = { λ v xs w. (w ≡ more_popped v xs) × All (Contains v.given) xs
-        × (length (v.popped ++ xs) ≤ length v.given) };
+        × (length (v.popped ++ xs) ≤ length v.given) × ((rest : List ℕ) × OwnerFinds v (xs ++ rest)) };
 
-    ghost empty = { λ v. v.owns ≡ true → v.steals ≡ true → IsPermutation v.given (v.popped ++ v.stolen) };
+    ghost empty = { λ v. OwnerFinds v [] × (v.steals ≡ true → IsPermutation v.given (v.popped ++ v.stolen)) };
 }
 
-/// A steal: the numbers stolen grow by one of those given. Where none is left, those stolen are a share
-/// of those given.
+/// A steal: the numbers stolen grow by the queue's first. Where none is left, the queue is empty.
 pub(crate) struct Steals;
 
 impl Outcome<usize, LaneView> for Steals {
-    ghost use Rattle.index_pool.specs.Lane.{more_stolen, IsShare};
+    ghost use Rattle.index_pool.specs.Lane.{more_stolen, ThiefFinds};
 
     ghost then = { λ v xs w. (w ≡ more_stolen v xs) × All (Contains v.given) xs
-        × (length (v.stolen ++ xs) ≤ length v.given) };
+        × (length (v.stolen ++ xs) ≤ length v.given) × ((rest : List ℕ) × ThiefFinds v (xs ++ rest)) };
 
-    ghost empty = { IsShare };
+    ghost empty = { λ v. ThiefFinds v [] };
 }

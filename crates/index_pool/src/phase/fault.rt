@@ -2,15 +2,21 @@
 
 use crate::lanes::LaneOwner;
 use std::alloc::AllocError;
+use std::fmt::Display;
+use thiserror::Error;
 
 /// Why a phase is refused. If several hold, the first of these is answered.
-#[derive(Clone, Copy, Debug, Drop, PartialEq, Eq)]
+#[derive(Clone, Copy, Debug, Drop, PartialEq, Eq, Error)]
+#[error_bound(F: Display)]
 pub enum PoolFault<F> {
     /// A thread could not be started. Those that were have ended.
+    #[error("a thread could not be started")]
     Spawn,
     /// Room for the lanes or for results was refused.
+    #[error("memory ran out")]
     Memory,
     /// The least faulty input, with its fault. Every lesser input has an answer.
+    #[error("input {0} is faulty: {1}")]
     Job(usize, F),
 }
 

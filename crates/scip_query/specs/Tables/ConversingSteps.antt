@@ -6,7 +6,7 @@ use Rattle.std.specs.Prelude.{Err}
 use Rattle.std.specs.List.{flat_map, count_by}
 use Rattle.streams.specs.Streams.{last_count, more_by}
 use Rattle.streams.specs.WholeWrites.{IsWritten, IsCutOff}
-use Rattle.scip_model.specs.declared.records.Index.{Index}
+use Rattle.scip_records.specs.declared.records.Index.{Index}
 use Rattle.scip_query.specs.Commands.{lines_of, max_command_length}
 use Rattle.scip_query.specs.AnswerText.{answer_to, answer_text}
 use Rattle.scip_query.specs.Conversing.{is_line_end}

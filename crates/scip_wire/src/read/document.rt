@@ -8,7 +8,7 @@ use crate::read::message::{Decode, add_message};
 use crate::read::occurrence::add_occurrence;
 use crate::read::text::{number_of, take_text};
 use crate::wire_fault::WireFault;
-use scip_model::Document;
+use scip_records::Document;
 use sequences::{OwnedText, Sequence};
 use std::alloc::Global;
 

@@ -7,7 +7,7 @@ use crate::read::field::{Field, Payload};
 use crate::read::message::{Decode, take_only};
 use crate::read::text::{number_of, take_text};
 use crate::wire_fault::WireFault;
-use scip_model::Metadata;
+use scip_records::Metadata;
 use sequences::OwnedText;
 use std::alloc::Global;
 

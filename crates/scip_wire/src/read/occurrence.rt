@@ -10,7 +10,7 @@ use crate::read::message::{Decode, read_message};
 use crate::read::range::{add_packed, range_of};
 use crate::read::text::{add, low_bits, number_of, take_text};
 use crate::wire_fault::WireFault;
-use scip_model::Occurrence;
+use scip_records::Occurrence;
 use sequences::{OwnedText, Sequence};
 use std::alloc::Global;
 

@@ -7,7 +7,7 @@ use crate::read::field::{Field, Payload};
 use crate::read::message::Decode;
 use crate::read::text::{add_text, take_text};
 use crate::wire_fault::WireFault;
-use scip_model::SymbolInformation;
+use scip_records::SymbolInformation;
 use sequences::{OwnedText, Sequence};
 use std::alloc::Global;
 

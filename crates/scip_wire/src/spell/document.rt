@@ -1,7 +1,7 @@
 //! The record of a document whose parts are lent one at a time.
 
 ghost use Rattle.std.specs.Prelude.{◌≡◌, ◌<◌, ◌^◌, All};
-ghost use Rattle.scip_model.specs.Documents.{without_occurrences};
+ghost use Rattle.scip_records.specs.Documents.{without_occurrences};
 ghost use Rattle.scip_wire.specs.Spelling.{
   bytes_of,
   document_fields,
@@ -19,7 +19,7 @@ use super::fields::{encode_int, encode_lent, int_len, lent_len};
 use super::message::{Encode, encode_message, message_len};
 use super::output::Output;
 use super::varint::encode_varint;
-use scip_model::DocumentParts;
+use scip_records::DocumentParts;
 use std::alloc::Global;
 
 /// The length of the records of a document's occurrences.

@@ -15,7 +15,7 @@ ghost use Rattle.scip_wire.specs.Outputs.{IsPut};
 
 use super::output::Output;
 use super::varint::{encode_varint, varint_len};
-use scip_model::LentTexts;
+use scip_records::LentTexts;
 use sequences::{OwnedText, Sequence};
 
 /// The length of a record with so many bytes, with its tag and length.

@@ -3,7 +3,7 @@
 ghost use Rattle.std.specs.Prelude.{◌≡◌, ◌≤◌, length, All, IfOk, IfSome, OnErr, OnOk};
 ghost use Rattle.std.specs.List.{concat};
 ghost use Rattle.scip_wire.specs.Outputs.{IsPut};
-ghost use Rattle.scip_model.specs.Documents.{without_occurrences};
+ghost use Rattle.scip_records.specs.Documents.{without_occurrences};
 ghost use Rattle.scip_wire.specs.Saturated.{saturated};
 ghost use Rattle.scip_wire.specs.Shortened.{IsBegun};
 ghost use Rattle.scip_wire.specs.Spelling.{document_record, joined_pieces, max_index_len};
@@ -17,7 +17,7 @@ use super::message::{
 };
 use super::output::Output;
 use super::shortened::Shortened;
-use scip_model::{DocumentParts, Metadata, SymbolInformation};
+use scip_records::{DocumentParts, Metadata, SymbolInformation};
 use sequences::Sequence;
 use std::alloc::{AllocError, Global};
 

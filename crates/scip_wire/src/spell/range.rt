@@ -1,7 +1,7 @@
 //! The record of a range (`scip.proto`, `Occurrence.range`): its numbers, packed.
 
 ghost use Rattle.std.specs.Prelude.{◌≡◌, ◌≤◌, [], ◌∷◌, cond, flat_map, length, nat_eq};
-ghost use Rattle.scip_model.specs.Range.{IsRange};
+ghost use Rattle.scip_records.specs.Range.{IsRange};
 ghost use Rattle.scip_wire.specs.Fields.{max_field_number};
 ghost use Rattle.scip_wire.specs.Spelling.{bytes_of, bytes_field, varint, range_numbers};
 ghost use Rattle.scip_wire.specs.Saturated.{saturated, fields_len};
@@ -10,7 +10,7 @@ ghost use Rattle.scip_wire.specs.Outputs.{IsPut};
 use super::fields::record_len;
 use super::output::Output;
 use super::varint::{encode_varint, varint_len};
-use scip_model::Range;
+use scip_records::Range;
 
 /// The length of a range's record.
 pub(super) fn range_len(number: u64, range: &Range) -> u64

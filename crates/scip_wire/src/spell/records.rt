@@ -11,7 +11,7 @@ use super::message::{
 use super::output::Output;
 use super::range::{encode_range, range_len};
 use super::symbols::{encode_symbol, symbol_len};
-use scip_model::{
+use scip_records::{
     Document, Index, LentInformation, LentOccurrence, Metadata, Occurrence, SymbolInformation,
     ToolInfo,
 };

@@ -9,7 +9,7 @@ ghost use Rattle.scip_wire.specs.Outputs.{IsPut};
 use super::fields::record_len;
 use super::output::Output;
 use super::varint::encode_varint;
-use scip_model::LentSymbol;
+use scip_records::LentSymbol;
 
 /// How many bytes two parts of a text have together, up to `u64::MAX`.
 fn parts_len(front: &str, rest: &str) -> u64

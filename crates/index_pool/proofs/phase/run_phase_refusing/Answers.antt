@@ -3,7 +3,7 @@ use Rattle.std.proofs.lemmas.Result.{IfOk-weaker, IfErr-weaker}
 use Rattle.index_pool.specs.Phase.{AnswersEach, MayRefuse}
 use Rattle.index_pool.specs.Tables.PhaseSteps.{IsAmong}
 use Rattle.index_pool.proofs.ResultsLemmas.{given_among}
-use Rattle.index_pool.proofs.InOrderLemmas.{answers_weaker, refusal_weaker, of_runs}
+use Rattle.index_pool.proofs.InOrderLemmas.{answers_weaker, refusal_weaker, each_is_run}
 use Rattle.index_pool.proofs.phase.run_phase_refusing.Goals as goal
 
 pub returns-in-Ok-clause-answers : goal.returns-in-Ok-clause-answers
@@ -25,8 +25,8 @@ returns-in-Ok-clause-refused g c =
 
 pub returns-in-Ok-clause-ran : goal.returns-in-Ok-clause-ran
 returns-in-Ok-clause-ran g c =
-    of_runs (g.J.Job.gives c.args.task.now.job.now) c.args.inputs c.in-Ok.results.items c.in-Ok.ensures.ran
-    (λ outs. outs.items) c.in_order.result c.in_order.ensures.answers c.in_order.ensures.refused
+    each_is_run (g.J.Job.gives c.args.task.now.job.now) c.args.inputs c.in-Ok.results.items c.in-Ok.ensures.ran
+    c.in_order.result
 
 pub returns-in-Ok-clause-spawn : goal.returns-in-Ok-clause-spawn
 returns-in-Ok-clause-spawn g c = λ due.

@@ -1,7 +1,7 @@
 use Rattle.std.proofs.Common.{◌∙◌, List, [], ap, length, sym, subst}
 use Rattle.command_line.specs.declared.options.PackageFolder.{PackageFolder}
 use Rattle.scip_symbol.specs.Package.{Package}
-use Rattle.scip_document.specs.Packages.{Packages}
+use Rattle.scip_model.specs.Packages.{Packages}
 use Rattle.programs.specs.Folders.{AreFolders}
 use Rattle.programs.proofs.FolderLemmas.{folders_of_run}
 use Rattle.programs.proofs.folders.load_folders.Goals as goal

@@ -1,7 +1,7 @@
 use Rattle.std.proofs.Common.{◌∙◌, [], ◌∷◌, List, ap, map, subst}
 use Rattle.std.specs.String.{string_bytes}
 use Rattle.scip_symbol.specs.Package.{Package}
-use Rattle.scip_document.specs.Packages.{Packages}
+use Rattle.scip_model.specs.Packages.{Packages}
 use Rattle.programs.specs.Folders.{AddsRoots, roots_of}
 use Rattle.programs.proofs.FolderLemmas.{by_folder}
 use Rattle.programs.proofs.folders.packages_by.Goals as goal

@@ -17,7 +17,7 @@ unwrap-facts-requires c =
     let seen = c.unwrap-seen.result in
     let sees : SeesGiving files file is_type name seen =
     subst (λ (o : Option ℕ). MatchOption o (KnowsAs files file is_type name → ⊥)
-    (SeesGiving files file is_type name)) c.unwrap-seen.ensures c.first_giving.ensures in
+    (SeesGiving files file is_type name)) c.unwrap-seen.ensures c.giving_file.ensures in
     some_facts (λ (facts : Bor Facts). HasFacts files seen facts.now) files seen sees.giving.gives.facts
     c.facts_of.result (facts_known files file is_type name seen sees) c.facts_of.ensures
 
@@ -35,7 +35,7 @@ returns c =
     let seen = c.unwrap-seen.result in
     let sees : SeesGiving files file is_type name seen =
     subst (λ (o : Option ℕ). MatchOption o (KnowsAs files file is_type name → ⊥)
-    (SeesGiving files file is_type name)) c.unwrap-seen.ensures c.first_giving.ensures in
+    (SeesGiving files file is_type name)) c.unwrap-seen.ensures c.giving_file.ensures in
     let has : HasFacts files seen c.unwrap-facts.result.now =
     subst (λ (o : Option (Bor Facts)). MatchOption o ((facts : Facts) → HasFacts files seen facts → ⊥)
     (λ facts. HasFacts files seen facts.now)) c.unwrap-facts.ensures c.facts_of.ensures in

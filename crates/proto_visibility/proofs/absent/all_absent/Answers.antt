@@ -5,7 +5,7 @@ use Rattle.std.proofs.lemmas.Option.{slice_get_read, slice_get-get_or}
 use Rattle.proto_visibility.specs.Files.{File}
 use Rattle.proto_visibility.specs.Tables.ImportTables.{number_in, absents_of, absents_at}
 use Rattle.proto_visibility.proofs.CountingLemmas.{counted_at}
-use Rattle.proto_visibility.proofs.AbsentLemmas.{given_next, all_missing}
+use Rattle.proto_visibility.proofs.AbsentLemmas.{given_next, all_in_order, all_missing}
 use Rattle.proto_visibility.proofs.absent.all_absent.Goals as goal
 
 pub offset_bounds-files-number : goal.offset_bounds-files-number
@@ -44,6 +44,9 @@ pub returns : goal.returns
 returns c =
     all_missing c.args.files.now
     (number_in c.args.numbers.now) c.requires.numbers c.args.counted.now c.requires.counted
+    c.as_slice-number-items.ensures.rising
+    (all_in_order c.args.files.now
+    (λ k facts has. c.facts_in_order.ensures.imports facts (c.have_origins.ensures k facts has)))
     c.loop-number.number-index c.loop-number.places.items
     (subst (λ (xs : List ℕ). length xs ≤ c.loop-number.number-index) c.as_slice-number-items.ensures.value
     (omega arith)) c.loop-number.invariant

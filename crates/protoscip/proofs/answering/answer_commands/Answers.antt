@@ -1,5 +1,5 @@
 use Rattle.std.proofs.Common.{subst}
-use Rattle.scip_model.specs.declared.records.Index.{Index}
+use Rattle.scip_records.specs.declared.records.Index.{Index}
 use Rattle.protoscip.specs.Sessions.{AreAnswered}
 use Rattle.protoscip.proofs.SessionLemmas.{may_answer}
 use Rattle.protoscip.proofs.answering.answer_commands.Goals as goal

@@ -1,5 +1,5 @@
 use Rattle.std.proofs.Common.{◌∙◌, subst, sym}
-use Rattle.scip_model.specs.declared.records.Index.{Index}
+use Rattle.scip_records.specs.declared.records.Index.{Index}
 use Rattle.scip_build.specs.Builds.{IsBuilt}
 use Rattle.scip_build.proofs.KeptLemmas.{whole}
 use Rattle.scip_build.proofs.building.build.Goals as goal

@@ -1,6 +1,6 @@
 use Rattle.std.proofs.Common.{not, ℕ, List, map}
 use Rattle.std.specs.Borrow.{Bor}
-use Rattle.scip_model.specs.declared.records.Occurrence.{Occurrence}
+use Rattle.scip_records.specs.declared.records.Occurrence.{Occurrence}
 use Rattle.scip_pages.specs.Snapshot.{fits}
 use Rattle.scip_pages.proofs.SnapshotLemmas.{position_is}
 use Rattle.scip_pages.proofs.lines.misfit.Goals as goal

@@ -1,7 +1,7 @@
 use Rattle.std.proofs.Common.{◌≡◌, not, ℕ, List, map, drop}
 use Rattle.std.specs.Borrow.{Bor}
 use Rattle.std.specs.List.{position_from}
-use Rattle.scip_model.specs.declared.records.Occurrence.{Occurrence}
+use Rattle.scip_records.specs.declared.records.Occurrence.{Occurrence}
 use Rattle.scip_pages.specs.Snapshot.{fits, misfit}
 use Rattle.scip_pages.proofs.lines.misfit.Given as goal
 

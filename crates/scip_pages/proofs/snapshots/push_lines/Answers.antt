@@ -2,7 +2,7 @@ use Rattle.std.proofs.Common.{◌≡◌, ◌∙◌, ◌+◌, ◌++◌, sym, ap, 
 use Rattle.std.specs.Borrow.{Bor}
 use Rattle.std.specs.List.{flat_map, enumerate_from}
 use Rattle.scip_query.specs.BySymbol.{documentation_in}
-use Rattle.scip_model.specs.declared.records.Occurrence.{Occurrence}
+use Rattle.scip_records.specs.declared.records.Occurrence.{Occurrence}
 use Rattle.scip_pages.specs.Listed.{listed_on, listed_or_none}
 use Rattle.scip_pages.specs.Snapshot.{line_text}
 use Rattle.scip_pages.proofs.SnapshotLemmas.{lines_next}

@@ -12,4 +12,4 @@ returns c =
     (ap (in_unit (Some c.args.shown.now.unit)
     (documentation_in c.args.shown.now.queries.now c.args.shown.now.number) c.args.occurrences.now)
     (ap (map (λ (line : Bor (List ℕ)). line.now)) c.as_slice.ensures.value ∙ c.in_ok-lines.ensures))
-    c.snapshot_of_lines.ensures
+    c.snapshot_of_lines.ensures.gives

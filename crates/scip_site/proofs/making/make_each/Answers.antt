@@ -1,7 +1,7 @@
 use Rattle.std.proofs.Common.{◌≡◌, ◌∙◌, ◌<◌, ap, sym, subst, refl, ℕ, List, ◌++◌, map, length, Err, Ok, append_assoc}
 use Rattle.std.proofs.Common.{append-nil, arith}
 use Rattle.std.proofs.lemmas.Result.{err_from_is_err_and}
-use Rattle.scip_model.specs.declared.records.Document.{Document}
+use Rattle.scip_records.specs.declared.records.Document.{Document}
 use Rattle.scip_query.specs.Tables.{numbers}
 use Rattle.scip_snapshot.specs.Showing.{maker}
 use Rattle.scip_snapshot.proofs.ShowLemmas.{makes_none}

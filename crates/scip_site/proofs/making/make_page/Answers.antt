@@ -1,7 +1,7 @@
 use Rattle.std.proofs.Common.{◌∙◌, subst, ap, List, ℕ, map, ◌∷◌, [], Option}
 use Rattle.std.specs.Option.{option_map}
 use Rattle.std.proofs.lemmas.Result.{err_from_is_err_and}
-use Rattle.scip_model.specs.declared.records.Document.{Document}
+use Rattle.scip_records.specs.declared.records.Document.{Document}
 use Rattle.scip_query.specs.Tables.{path_listed}
 use Rattle.scip_snapshot.specs.Showing.{maker}
 use Rattle.scip_site.specs.Making.{MakesFiles, in_folder, page_file}

@@ -1,6 +1,6 @@
 use Rattle.std.proofs.Common.{◌≡◌, ◌∙◌, ◌<◌, ◌≤◌, ℕ, ap, sym, subst, List, ◌++◌, [], get_or, length, Err, arith}
 use Rattle.std.proofs.lemmas.Result.{err_from_is_err_and}
-use Rattle.scip_model.specs.declared.records.Document.{Document}
+use Rattle.scip_records.specs.declared.records.Document.{Document}
 use Rattle.scip_snapshot.specs.Showing.{AreFiled, AreFiledButOne, maker}
 use Rattle.scip_snapshot.proofs.ShowLemmas.{makes_none, filed_more, filed_still, filed_but_one}
 use Rattle.scip_snapshot.proofs.ShowLemmas.{none_yet, goes_on, stops, all_are}

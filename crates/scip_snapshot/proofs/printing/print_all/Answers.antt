@@ -2,7 +2,7 @@ use Rattle.std.proofs.Common.{◌≡◌, ◌∙◌, ◌<◌, ◌≤◌, ℕ, ap,
 use Rattle.std.proofs.lemmas.Result.{err_from_is_err_and}
 use Rattle.streams.proofs.WholeWriteLemmas.{IsWritten-nil}
 use Rattle.streams.specs.WholeWrites.{IsWritten}
-use Rattle.scip_model.specs.declared.records.Document.{Document}
+use Rattle.scip_records.specs.declared.records.Document.{Document}
 use Rattle.scip_snapshot.specs.Snapshots.{printed}
 use Rattle.scip_snapshot.specs.Showing.{writer, ArePrinted, AreCutOff}
 use Rattle.scip_snapshot.proofs.ShowLemmas.{printed_more, cut_off_more, none_yet, goes_on, stops, all_are}

@@ -1,7 +1,7 @@
 use Rattle.std.proofs.Common.{◌∙◌, ◌++◌, ap, sym, append-nil}
 use Rattle.std.specs.Prelude.{Option}
 use Rattle.std.proofs.lemmas.Option.{slice_get_past}
-use Rattle.scip_model.specs.declared.records.Occurrence.{Occurrence}
+use Rattle.scip_records.specs.declared.records.Occurrence.{Occurrence}
 use Rattle.source_page.specs.CodeText.{spans_or_none}
 use Rattle.source_page.proofs.code.push_span.Goals as goal
 

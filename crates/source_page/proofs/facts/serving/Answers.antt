@@ -1,5 +1,5 @@
 use Rattle.std.proofs.Common.{◌∙◌, sym, ap, List, length}
-use Rattle.scip_model.specs.declared.records.Document.{Document}
+use Rattle.scip_records.specs.declared.records.Document.{Document}
 use Rattle.source_page.specs.Facts.{serves}
 use Rattle.source_page.proofs.FactLemmas.{served_tells}
 use Rattle.source_page.proofs.facts.serving.Goals as goal

@@ -9,4 +9,4 @@ returns c =
     subst (λ r. IsTrue r ↔ KnowsAs c.args.self.now c.args.file (admits c.args.role) c.args.name.now)
     (sym c.is_some.ensures)
     (knows_iff c.args.self.now c.args.file
-    (admits c.args.role) c.args.name.now c.first_giving.result c.first_giving.ensures)
+    (admits c.args.role) c.args.name.now c.giving_file.result c.giving_file.ensures)

@@ -3,7 +3,7 @@ use Rattle.std.specs.List.{find}
 use Rattle.std.specs.Option.{option_and_then}
 use Rattle.std.specs.Ordering.{nat_cmp, is_eq}
 use Rattle.std.specs.Cmp.Lexicographic.{slice_cmp}
-use Rattle.scip_model.specs.declared.records.Document.{Document}
+use Rattle.scip_records.specs.declared.records.Document.{Document}
 use Rattle.scip_query.specs.Tables.{numbers, path_listed}
 use Rattle.scip_query.specs.Tables.Searches.{numbered_listed}
 use Rattle.scip_query.proofs.SiteLemmas.{named_by_number}

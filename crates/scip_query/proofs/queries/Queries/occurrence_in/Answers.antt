@@ -1,7 +1,7 @@
 use Rattle.std.proofs.Common.{◌∙◌, sym, subst, ap, ℕ, List, []}
 use Rattle.std.specs.List.{slice_get, AllZip}
 use Rattle.std.specs.Option.{unwrap_or}
-use Rattle.scip_model.specs.declared.records.Index.{Index}
+use Rattle.scip_records.specs.declared.records.Index.{Index}
 use Rattle.scip_query.specs.Tables.Searches.{IsInnermostFirst}
 use Rattle.scip_query.proofs.TableLemmas.{table_at}
 use Rattle.scip_query.proofs.queries.Queries.occurrence_in.Goals as goal

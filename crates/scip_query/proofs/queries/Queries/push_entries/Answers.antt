@@ -3,7 +3,7 @@ use Rattle.std.specs.Borrow.{Bor}
 use Rattle.std.specs.List.{flat_map}
 use Rattle.std.specs.String.{string_bytes}
 use Rattle.std.proofs.lemmas.Result.{on_ok_weaker}
-use Rattle.scip_model.specs.declared.records.SymbolInformation.{SymbolInformation}
+use Rattle.scip_records.specs.declared.records.SymbolInformation.{SymbolInformation}
 use Rattle.scip_query.specs.Documentation.{symbols_of}
 use Rattle.scip_query.specs.AnswerText.{count_line, symbol_line}
 use Rattle.scip_query.proofs.AnswerLemmas.{listing_found}

@@ -1,5 +1,5 @@
 use Rattle.std.proofs.Common.{◌<◌, ◌^◌, ap, subst, sym}
-use Rattle.scip_model.specs.declared.records.Document.{Document}
+use Rattle.scip_records.specs.declared.records.Document.{Document}
 use Rattle.scip_wire.specs.Spelling.{bytes_of, varint}
 use Rattle.scip_wire.specs.Halves.{back_fields}
 use Rattle.scip_wire.specs.Saturated.{fields_len}

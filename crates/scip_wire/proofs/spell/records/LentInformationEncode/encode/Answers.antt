@@ -1,5 +1,5 @@
 use Rattle.std.proofs.Common.{◌<◌, ◌^◌, length, subst, sym}
-use Rattle.scip_model.specs.declared.records.SymbolInformation.{SymbolInformation}
+use Rattle.scip_records.specs.declared.records.SymbolInformation.{SymbolInformation}
 use Rattle.scip_wire.specs.Outputs.{IsPut}
 use Rattle.scip_wire.specs.Spelling.{bytes_of, info_fields}
 use Rattle.scip_wire.proofs.LentLemmas.{info_symbol}

@@ -1,6 +1,6 @@
 use Rattle.std.proofs.Common.{◌≡◌, ◌<◌, ◌^◌, ◌++◌, ◌∷◌, [], length, rules, subst, sym, to_z, of_z, w32}
 use Rattle.std.specs.List.{flat_map}
-use Rattle.scip_model.specs.declared.records.Occurrence.{Occurrence}
+use Rattle.scip_records.specs.declared.records.Occurrence.{Occurrence}
 use Rattle.scip_wire.specs.Outputs.{IsPut}
 use Rattle.scip_wire.specs.Spelling.{bytes_of, bytes_field, text_fields, occurrence_fields, varint, range_numbers}
 use Rattle.scip_wire.proofs.LentLemmas.{occurrence_symbol}

@@ -1,7 +1,0 @@
-use Rattle.std.proofs.Common.{◌≡◌}
-use Rattle.scip_document.specs.Tables.EntryNumbers.{package_names_up_to}
-use Rattle.scip_document.proofs.entries.package_names.Given as goal
-
--- those so far
-abbrev pub invariant-loop-index : goal.invariant-loop-index
-invariant-loop-index l = l.names.items ≡ package_names_up_to l.components l.index

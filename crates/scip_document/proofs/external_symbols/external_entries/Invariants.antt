@@ -1,8 +1,0 @@
-use Rattle.std.proofs.Common.{take}
-use Rattle.std.specs.List.{AllZip}
-use Rattle.scip_document.specs.Tables.ExternalLists.{IsEntryOf}
-use Rattle.scip_document.proofs.external_symbols.external_entries.Given as goal
-
--- one for each so far
-abbrev pub invariant-loop-pair : goal.invariant-loop-pair
-invariant-loop-pair l = AllZip (IsEntryOf l.linker l.choices l.packages) (take l.pair-index l.pairs) l.entries.items

@@ -1,6 +1,0 @@
-use Rattle.scip_document.specs.Tables.ExternalLists.{NoneIncluded}
-use Rattle.scip_document.proofs.external_symbols.has_included.Given as goal
-
--- none so far
-abbrev pub invariant-loop-number : goal.invariant-loop-number
-invariant-loop-number l = NoneIncluded l.linker l.number

@@ -1,5 +1,0 @@
-use Rattle.scip_document.proofs.OneListLemmas.{one-document}
-use Rattle.scip_document.proofs.laws.one_document_a_source.Goals as goal
-
-pub returns : goal.returns
-returns c = one-document

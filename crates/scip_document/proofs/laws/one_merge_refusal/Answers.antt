@@ -1,5 +1,0 @@
-use Rattle.scip_document.proofs.RefusalLemmas.{one-refusal}
-use Rattle.scip_document.proofs.laws.one_merge_refusal.Goals as goal
-
-pub returns : goal.returns
-returns c = one-refusal

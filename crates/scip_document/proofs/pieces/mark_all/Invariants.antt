@@ -1,6 +1,0 @@
-use Rattle.scip_document.specs.Tables.TakenPaths.{AreMarked}
-use Rattle.scip_document.specs.Pieces.{texts}
-use Rattle.scip_document.proofs.pieces.mark_all.Given as goal
-
-abbrev pub invariant-loop-piece : goal.invariant-loop-piece
-invariant-loop-piece l = AreMarked (texts l.paths) l.pieces l.piece l.marks.items

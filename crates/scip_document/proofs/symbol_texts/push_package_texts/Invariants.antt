@@ -1,7 +1,0 @@
-use Rattle.std.proofs.Common.{◌≡◌, ◌++◌}
-use Rattle.scip_document.specs.Tables.Plans.{package_texts_up_to}
-use Rattle.scip_document.proofs.symbol_texts.push_package_texts.Given as goal
-
--- those so far
-abbrev pub invariant-loop-index : goal.invariant-loop-index
-invariant-loop-index l = l.texts.items ≡ l.fn.texts.items ++ package_texts_up_to l.id l.facts l.index

@@ -1,0 +1,139 @@
+-- The lists of entries: what they have.
+use Rattle.std.proofs.Common.{◌≡◌, ◌∙◌, inl, inr, ℕ, zero, suc, ◌+◌, ◌<◌, Bool, true, false, cond, Some, List, [], ◌∷◌}
+use Rattle.std.proofs.Common.{◌++◌, take, sym, ap, refl, subst, append_assoc, add-one, arith}
+use Rattle.std.specs.List.{slice_get, Contains}
+use Rattle.std.proofs.lemmas.Bool.{false≢true}
+use Rattle.std.proofs.lemmas.List.{append-nil}
+use Rattle.std.proofs.lemmas.List.FromFn.{length-map-range_with_len, get_or-map-range_with_len}
+use Rattle.std.proofs.lemmas.List.Elements.{Contains-get_or, Contains-append_left, Contains-append_right}
+use Rattle.std.proofs.lemmas.List.Elements.{Contains-append_cases, Contains-push}
+use Rattle.std.proofs.lemmas.Option.{same_Some, none-some}
+use Rattle.index_hooks.specs.declared.choice.Choice.{Choice}
+use Rattle.proto_decl.specs.Facts.{Facts}
+use Rattle.proto_decl.specs.declared.declaration.Declaration.{Declaration}
+use Rattle.scip_records.specs.declared.records.SymbolInformation.{SymbolInformation}
+use Rattle.scip_symbol.specs.Package.{Package}
+use Rattle.scip_symbol.proofs.ClashLemmas.{in_nothing}
+use Rattle.scip_model.specs.Chosen.{Chosen, IsChosen}
+use Rattle.scip_model.specs.Entries.{package_entry, declaration_entry}
+use Rattle.scip_model.specs.Tables.EntryLists.{package_entries_up_to, entry_if_kept, kept_entries, choices_for}
+use Rattle.proto_visibility.proofs.ImportTableLemmas.{only}
+
+-- ---- packages
+
+module _ (id : Package) (facts : Facts) where
+  pub in-packages : (count : ℕ) (x : SymbolInformation) → Contains (package_entries_up_to id facts count) x
+      → (index : ℕ) × (index < count) × (x ≡ package_entry id facts (index + 1))
+  in-packages count x there =
+      let entry = λ (i : ℕ). package_entry id facts (i + 1) in
+      let within : there.0 < count = omega (arith, there.1, length-map-range_with_len entry 0 count) in
+      (there.0, within, sym there.2 ∙ get_or-map-range_with_len entry 0 count there.0 there.0 x within (omega arith))
+
+  pub package-in : (count index : ℕ) → index < count
+      → Contains (package_entries_up_to id facts count) (package_entry id facts (index + 1))
+  package-in count index within =
+      let entry = λ (i : ℕ). package_entry id facts (i + 1) in
+      let size = length-map-range_with_len entry 0 count in
+      subst (Contains (package_entries_up_to id facts count))
+      (get_or-map-range_with_len entry 0 count index index (entry index) within (omega arith))
+      (Contains-get_or (package_entries_up_to id facts count) index (entry index) (omega (arith, size, within)))
+
+-- ---- declarations that are kept
+
+-- the entry of one of these declarations, which is kept
+pub record IsOfKept (id : Package) (facts : Facts) (ds : List Declaration) (cs : List Choice)
+    (entry : SymbolInformation) : Type 0 where
+  pub index : ℕ
+  pub declared : Declaration
+  pub choice : Choice
+  pub stands : slice_get ds index ≡ Some declared
+  pub chosen : slice_get cs index ≡ Some choice
+  pub keeps : choice.keep ≡ true
+  pub is : entry ≡ declaration_entry id facts declared choice
+
+module _ (id : Package) (facts : Facts) where
+  -- one declaration more
+  more-kept : (ds : List Declaration) (cs : List Choice) (i : ℕ) (d : Declaration) (c : Choice)
+      → slice_get ds i ≡ Some d → slice_get cs i ≡ Some c
+      → kept_entries id facts (take (suc i) ds) cs ≡ kept_entries id facts (take i ds) cs ++ entry_if_kept id facts d c
+  more-kept [] cs i d c at chosen = absurd (none-some d at)
+  more-kept (x ∷ ds) [] i d c at chosen = absurd (none-some c chosen)
+  more-kept (x ∷ ds) (y ∷ cs) zero d c at chosen =
+      append-nil (entry_if_kept id facts x y)
+      ∙ (ap (λ (e : Declaration). entry_if_kept id facts e y) (same_Some x d at)
+      ∙ ap (entry_if_kept id facts d) (same_Some y c chosen))
+  more-kept (x ∷ ds) (y ∷ cs) (suc i) d c at chosen =
+      ap (λ (l : List SymbolInformation). entry_if_kept id facts x y ++ l) (more-kept ds cs i d c at chosen)
+      ∙ sym (append_assoc (entry_if_kept id facts x y) (kept_entries id facts (take i ds) cs)
+      (entry_if_kept id facts d c))
+
+  pub kept-more : (ds : List Declaration) (cs : List Choice) (i : ℕ) (d : Declaration) (c : Choice)
+      → slice_get ds i ≡ Some d → slice_get cs i ≡ Some c
+      → kept_entries id facts (take (i + 1) ds) cs ≡ kept_entries id facts (take i ds) cs ++ entry_if_kept id facts d c
+  kept-more ds cs i d c at chosen = rw add-one (more-kept ds cs i d c at chosen)
+
+  -- that of one declaration
+  pub in-one : (b : Bool) (y x : SymbolInformation) → Contains (cond b (y ∷ []) []) x → (b ≡ true) × (x ≡ y)
+  in-one true y x there = (refl, sym (only y x there))
+  in-one false y x there = absurd (in_nothing x there)
+
+  one-in : (b : Bool) (y : SymbolInformation) → b ≡ true → Contains (cond b (y ∷ []) []) y
+  one-in true y kept = Contains-push [] y
+  one-in false y kept = absurd (false≢true kept)
+
+  pub in-kept : (ds : List Declaration) (cs : List Choice) (x : SymbolInformation)
+      → Contains (kept_entries id facts ds cs) x → IsOfKept id facts ds cs x
+  in-kept [] cs x there = absurd (in_nothing x there)
+  in-kept (d ∷ ds) [] x there = absurd (in_nothing x there)
+  in-kept (d ∷ ds) (c ∷ cs) x there =
+      elim (Contains-append_cases (entry_if_kept id facts d c) (kept_entries id facts ds cs) x there) [
+        | inl here ↦ (
+            let one = in-one c.keep (declaration_entry id facts d c) x here in
+            record { index = 0; declared = d; choice = c; stands = refl; chosen = refl; keeps = one.0; is = one.1 })
+        | inr later ↦ (
+            let rest = in-kept ds cs x later in
+            record {
+              index = suc rest.index;
+              declared = rest.declared;
+              choice = rest.choice;
+              stands = rest.stands;
+              chosen = rest.chosen;
+              keeps = rest.keeps;
+              is = rest.is;
+            })
+      ]
+
+  pub kept-in : (ds : List Declaration) (cs : List Choice) (i : ℕ) (d : Declaration) (c : Choice)
+      → slice_get ds i ≡ Some d → slice_get cs i ≡ Some c → c.keep ≡ true
+      → Contains (kept_entries id facts ds cs) (declaration_entry id facts d c)
+  kept-in [] cs i d c at chosen kept = absurd (none-some d at)
+  kept-in (x ∷ ds) [] i d c at chosen kept = absurd (none-some c chosen)
+  kept-in (x ∷ ds) (y ∷ cs) zero d c at chosen kept =
+      Contains-append_left (entry_if_kept id facts x y) (kept_entries id facts ds cs) (declaration_entry id facts d c)
+      (subst (λ (e : Declaration). Contains (entry_if_kept id facts e y) (declaration_entry id facts d c))
+      (sym (same_Some x d at))
+      (subst (λ (e : Choice). Contains (entry_if_kept id facts d e) (declaration_entry id facts d c))
+      (sym (same_Some y c chosen)) (one-in c.keep (declaration_entry id facts d c) kept)))
+  kept-in (x ∷ ds) (y ∷ cs) (suc i) d c at chosen kept =
+      Contains-append_right (entry_if_kept id facts x y) (kept_entries id facts ds cs) (declaration_entry id facts d c)
+      (kept-in ds cs i d c at chosen kept)
+
+-- ---- choices
+
+pub chosen-for : (chosen : Chosen) (file index : ℕ) (choice : Choice) → IsChosen chosen file index choice
+    → slice_get (choices_for chosen file) index ≡ Some choice
+chosen-for chosen file index choice is = go chosen file is.of_file is.file_is is.declaration_is
+  where
+    go : (chosen : Chosen) (file : ℕ) (own : List Choice) → slice_get chosen file ≡ Some own
+        → slice_get own index ≡ Some choice → slice_get (choices_for chosen file) index ≡ Some choice
+    go [] file own at is = absurd (none-some own at)
+    go (first ∷ others) zero own at is = ap (λ (l : List Choice). slice_get l index) (same_Some first own at) ∙ is
+    go (first ∷ others) (suc file) own at is = go others file own at is
+
+pub is-chosen : (chosen : Chosen) (file index : ℕ) (choice : Choice)
+    → slice_get (choices_for chosen file) index ≡ Some choice → IsChosen chosen file index choice
+is-chosen [] file index choice at = absurd (none-some choice at)
+is-chosen (first ∷ others) zero index choice at = record { of_file = first; file_is = refl; declaration_is = at }
+is-chosen (first ∷ others) (suc file) index choice at =
+    let rest = is-chosen others file index choice at in
+    record { of_file = rest.of_file; file_is = rest.file_is; declaration_is = rest.declaration_is }

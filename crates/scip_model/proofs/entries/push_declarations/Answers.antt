@@ -1,0 +1,42 @@
+use Rattle.std.proofs.Common.{◌≡◌, ◌∙◌, ◌++◌, ◌<◌, ◌∷◌, [], List, Some, cond, length, map, take, ap, sym, subst}
+use Rattle.std.proofs.Common.{append_assoc}
+use Rattle.std.specs.List.{slice_get}
+use Rattle.std.proofs.lemmas.List.{map-append}
+use Rattle.std.proofs.lemmas.Option.{get_or_from_slice_get}
+use Rattle.scip_records.specs.declared.records.SymbolInformation.{SymbolInformation}
+use Rattle.index_hooks.specs.declared.choice.Choice.{Choice}
+use Rattle.proto_decl.specs.declared.declaration.Declaration.{Declaration}
+use Rattle.scip_model.specs.Entries.{declaration_entry}
+use Rattle.scip_model.specs.Tables.EntryLists.{kept_entries, entry_if_kept, choices_for}
+use Rattle.scip_model.proofs.EntryLemmas.{kept-more}
+use Rattle.scip_model.proofs.EntryNumberLemmas.{kept_one}
+use Rattle.scip_model.proofs.entries.push_declarations.Goals as goal
+use Rattle.proto_visibility.proofs.FirstLemmas.{item_at}
+
+pub loop-index-preserved : goal.loop-index-preserved
+loop-index-preserved c = λ id entry numbered.
+    let facts = c.args.facts.now in
+    let index = c.loop-index.index in
+    let choices = choices_for c.args.maker.now.choices.now c.args.maker.now.source in
+    let choice = c.of-choice.result in
+    let number = c.in_ok-number.number in
+    let old = map entry c.args.numbers.now.items in
+    let within = subst (λ (ds : List Declaration). index < length ds) c.declarations-index-end.ensures
+    c.loop-index-test.true in
+    let declared = item_at facts.declarations index within in
+    let chosen : slice_get choices index ≡ Some choice =
+    ap (λ (l : List Choice). slice_get l index)
+    (get_or_from_slice_get c.args.maker.now.choices.now c.args.maker.now.source c.of-choice.ensures.of_file []
+    c.of-choice.ensures.file_is) ∙ c.of-choice.ensures.declaration_is in
+    let so_far = kept_entries id facts (take index facts.declarations) choices in
+    let is : entry number ≡ declaration_entry id facts declared.0 choice =
+    ap entry c.in_ok-number.ensures ∙ numbered index declared.0 choice declared.1 chosen in
+    ap (map entry) c.in_ok-push_if_kept.ensures
+    ∙ (map-append entry c.loop-index.numbers.items (cond choice.keep (number ∷ []) [])
+    ∙ (ap (λ (l : List SymbolInformation). map entry c.loop-index.numbers.items ++ l)
+    (kept_one entry choice.keep number (declaration_entry id facts declared.0 choice) is)
+    ∙ (ap (λ (l : List SymbolInformation). l ++ entry_if_kept id facts declared.0 choice)
+    (c.loop-index.invariant id entry numbered)
+    ∙ (append_assoc old so_far (entry_if_kept id facts declared.0 choice)
+    ∙ ap (λ (l : List SymbolInformation). old ++ l)
+    (sym (kept-more id facts facts.declarations choices index declared.0 choice declared.1 chosen))))))

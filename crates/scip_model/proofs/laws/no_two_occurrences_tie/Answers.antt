@@ -1,0 +1,11 @@
+use Rattle.scip_model.proofs.ConditionLemmas.{stand_there}
+use Rattle.scip_model.proofs.TieLemmas.{no_ties}
+use Rattle.scip_model.proofs.laws.no_two_occurrences_tie.Goals as goal
+
+pub returns : goal.returns
+returns c = λ files chosen ids encoding source text has.
+    no_ties files chosen ids encoding source text c.positions_rise.ensures.characters
+    (λ facts known. (
+      stand_there text facts (has facts known) c.facts_stand_in_text.ensures,
+      c.facts_stand_apart.ensures facts (has facts known).origin,
+    ))

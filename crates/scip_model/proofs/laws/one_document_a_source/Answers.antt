@@ -1,0 +1,5 @@
+use Rattle.scip_model.proofs.OneListLemmas.{one-document}
+use Rattle.scip_model.proofs.laws.one_document_a_source.Goals as goal
+
+pub returns : goal.returns
+returns c = one-document

@@ -1,0 +1,5 @@
+use Rattle.scip_model.proofs.RefusalLemmas.{one-refusal}
+use Rattle.scip_model.proofs.laws.one_merge_refusal.Goals as goal
+
+pub returns : goal.returns
+returns c = one-refusal

@@ -1,0 +1,38 @@
+use Rattle.std.proofs.Common.{◌∙◌, subst, [], ◌∷◌}
+use Rattle.std.proofs.lemmas.Bool.{not-true, not-false}
+use Rattle.scip_model.specs.Named.{text_of, declaration_at}
+use Rattle.scip_model.specs.Occurs.{definition_role}
+use Rattle.scip_model.specs.Tables.Listing.{keeps}
+use Rattle.proto_lex.specs.declared.span.Span.{Span}
+use Rattle.scip_model.specs.Tables.OwnTexts.{occurrence_with}
+use Rattle.scip_model.specs.Tables.Plans.{own_texts, AreAdded}
+use Rattle.scip_model.proofs.PlanLemmas.{none_if, some_if, planned_added, declared_number, kept_by}
+use Rattle.scip_model.proofs.occurrences.add_declaration.Goals as goal
+
+pub returns-then-not-choice : goal.returns-then-not-choice
+returns-then-not-choice c = λ id run path.
+    let maker = c.args.maker.now in
+    none_if (keeps maker.choices.now maker.source c.args.index) (own_texts id run path c.args.facts.now)
+    c.args.list.now.items _
+    (kept_by maker.choices.now maker.source c.args.index c.of-choice.result c.of-choice.ensures
+    ∙ not-true c.of-choice.result.keep c.if-not-choice.true)
+
+pub returns : goal.returns
+returns c = λ id run path.
+    let maker = c.args.maker.now in
+    let facts = c.args.facts.now in
+    let declared = c.args.declaration.now in
+    let index = c.args.index in
+    let texts = own_texts id run path facts in
+    let old = c.args.list.now.items in
+    let new = c.push.new.self.items in
+    let text = text_of id (declaration_at facts declared) in
+    some_if (keeps maker.choices.now maker.source index) texts old new _
+    (kept_by maker.choices.now maker.source index c.of-choice.result c.of-choice.ensures
+    ∙ not-false c.of-choice.result.keep c.if-not-choice.false)
+    (subst (λ (span : Span).
+    AreAdded texts old new (occurrence_with maker.encoding maker.text.now span text definition_role ∷ []))
+    c.name.ensures
+    (planned_added maker.encoding maker.text.now c.name.result definition_role texts old new c.planned_over.result text
+    c.in_ok-number.number c.in_ok-push.ensures.items c.planned_over.ensures
+    (declared_number id run path facts index c.in_ok-number.number declared c.requires.there c.in_ok-number.ensures)))

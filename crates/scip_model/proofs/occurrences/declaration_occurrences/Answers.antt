@@ -1,0 +1,39 @@
+use Rattle.std.proofs.Common.{◌≡◌, ◌∙◌, List, Some, length, map, refl, subst, ap, arith}
+use Rattle.std.specs.List.{slice_get}
+use Rattle.std.proofs.lemmas.Option.{slice_get_read}
+use Rattle.proto_decl.specs.declared.declaration.Declaration.{Declaration}
+use Rattle.scip_model.specs.Tables.Listing.{each_from, at_declaration}
+use Rattle.scip_model.specs.Tables.Plans.{occurrence_of}
+use Rattle.scip_model.proofs.ListingLemmas.{each_added, each_done}
+use Rattle.scip_model.proofs.occurrences.declaration_occurrences.Goals as goal
+
+pub add_declaration-requires-clause-there : goal.add_declaration-requires-clause-there
+add_declaration-requires-clause-there c =
+    let items = c.declarations-declaration-items.result.now in
+    let index = c.loop-index.index in
+    let declaration = c.declaration-item.result in
+    subst (λ (ds : List Declaration). slice_get ds index ≡ Some declaration) c.declarations-declaration-items.ensures
+    (slice_get_read items (length items) index declaration refl c.loop-index-test.true c.declaration-item.is)
+
+pub loop-index-preserved : goal.loop-index-preserved
+loop-index-preserved c = λ id run path later more.
+    let facts = c.args.facts.now in
+    let maker = c.args.maker.now in
+    let items = c.declarations-declaration-items.result.now in
+    let index = c.loop-index.index in
+    let declaration = c.declaration-item.result in
+    let gives = at_declaration id maker.encoding maker.text.now maker.choices.now maker.source facts in
+    let there : slice_get items index ≡ Some declaration =
+    slice_get_read items (length items) index declaration refl c.loop-index-test.true c.declaration-item.is in
+    each_added gives items index declaration (map (occurrence_of later) c.loop-index.list.items)
+    (map (occurrence_of later) c.add_declaration.new.list.items) (each_from gives 0 items) there
+    (c.in_ok-add_declaration.ensures id run path later more) (c.loop-index.invariant id run path later more)
+
+pub returns : goal.returns
+returns c = λ id run path later more.
+    let maker = c.args.maker.now in
+    let gives = at_declaration id maker.encoding maker.text.now maker.choices.now maker.source c.args.facts.now in
+    let items = c.declarations-declaration-items.result.now in
+    each_done gives items c.loop-index.index (map (occurrence_of later) c.loop-index.list.items)
+    (each_from gives 0 items) (omega (arith, c.loop-index-test.false)) (c.loop-index.invariant id run path later more)
+    ∙ ap (λ (declarations : List Declaration). each_from gives 0 declarations) c.declarations-declaration-items.ensures

@@ -1,0 +1,76 @@
+-- The symbol entries of the document of a source, and those of included files (`scip.proto`, SymbolInformation; which
+-- symbols have one, and the names that they are shown by, is the profile's).
+use Rattle.std.specs.Prelude.{◌≡◌, ℕ, ◌+◌, true, Some, List, []}
+use Rattle.std.specs.List.{slice_get}
+use Rattle.scip_records.specs.declared.records.SymbolInformation.{SymbolInformation}
+use Rattle.index_hooks.specs.declared.choice.Choice.{Choice}
+use Rattle.proto_decl.specs.Declares.{simple_name}
+use Rattle.proto_decl.specs.Names.{package_of}
+use Rattle.proto_decl.specs.Facts.{Facts}
+use Rattle.proto_decl.specs.declared.declaration.Declaration.{Declaration}
+use Rattle.proto_decl.specs.declared.type_use.Component.{Component}
+use Rattle.scip_symbol.specs.Entities.{OfFile}
+use Rattle.scip_symbol.specs.Entities as symbols
+use Rattle.scip_symbol.specs.Package.{Package}
+use Rattle.proto_visibility.specs.Files.{File, HasFacts, IsSource}
+use Rattle.proto_visibility.specs.declared.entities.Entity.TheVariants as link
+use Rattle.scip_model.specs.Packages.{Packages, package_of_file}
+use Rattle.scip_model.specs.Chosen.{Chosen, IsChosen}
+use Rattle.scip_model.specs.Documentation.{documentation_of}
+use Rattle.scip_model.specs.Named.{HasDeclaration, NamesIn, text_of, package_at, declaration_at}
+
+-- of a file, shown by its path
+abbrev pub file_entry : Package → (path : List ℕ) → SymbolInformation
+file_entry id path = record { symbol = text_of id (OfFile path); documentation = []; display_name = path }
+
+-- of the package of the first components of a file's package name, shown by its full name
+abbrev pub package_entry : Package → Facts → (count : ℕ) → SymbolInformation
+package_entry id facts count = record {
+  symbol = text_of id (package_at facts count);
+  documentation = [];
+  display_name = package_of facts.package_name count;
+}
+
+-- of a declaration, with the texts chosen for it, shown by its simple name
+abbrev pub declaration_entry : Package → Facts → Declaration → Choice → SymbolInformation
+declaration_entry id facts declared choice = record {
+  symbol = text_of id (declaration_at facts declared);
+  documentation = documentation_of choice.doc declared;
+  display_name = simple_name declared.path;
+}
+
+-- the entry of a declaration that is kept, by its file's number and its own
+pub record IsKeptEntry (files : List File) (chosen : Chosen) (ids : Packages) (file index : ℕ)
+    (entry : SymbolInformation) : Type 0 where
+  pub facts : Facts
+  pub declaration : Declaration
+  pub choice : Choice
+  pub has : HasDeclaration files file index facts declaration
+  pub is_chosen : IsChosen chosen file index choice
+  pub keeps : choice.keep ≡ true
+  pub is : entry ≡ declaration_entry (package_of_file files ids file) facts declaration choice
+
+-- The entries of a source: the file, each component of its package's name, and each declaration that is kept.
+pub data HasEntry (files : List File) (chosen : Chosen) (ids : Packages) (source : ℕ) : SymbolInformation → Type 0 where
+  of_file : {file : File} → slice_get files source ≡ Some file
+      → HasEntry files chosen ids source (file_entry (package_of_file files ids source) file.path)
+  of_package : {facts : Facts} (index : ℕ) {component : Component} → HasFacts files source facts
+      → slice_get facts.package_name index ≡ Some component
+      → HasEntry files chosen ids source (package_entry ids.run facts (index + 1))
+  of_declaration : (index : ℕ) {entry : SymbolInformation} → IsKeptEntry files chosen ids source index entry
+      → HasEntry files chosen ids source entry
+
+-- The external entries (`scip.proto`, Index.external_symbols): each declaration of an included file that is kept, and
+-- that a component of a use in a source names.
+pub record HasExternal (files : List File) (chosen : Chosen) (ids : Packages) (entry : SymbolInformation) : Type 0 where
+  pub source : ℕ
+  pub is_source : IsSource files source
+  pub component : Component
+  pub entity : symbols.Entity
+  pub number : ℕ
+  pub index : ℕ
+  pub names : NamesIn files source component (link.Declared number index) entity
+  pub file : File
+  pub numbered : slice_get files number ≡ Some file
+  pub included : file.is_included ≡ true
+  pub kept : IsKeptEntry files chosen ids number index entry

@@ -1,0 +1,94 @@
+-- What the definitions say about documents, external entries and indexes, whatever the code does: there is one of
+-- each at most, and no two occurrences of a document tie.
+use Rattle.std.specs.Prelude.{◌≡◌, ℕ, Some, List}
+use Rattle.std.specs.List.{slice_get}
+use Rattle.proto_decl.specs.Facts.{Facts}
+use Rattle.proto_decl.specs.declared.declaration.Declaration.{Declaration}
+use Rattle.proto_decl.specs.declared.type_use.Component.{Component}
+use Rattle.proto_lex.specs.declared.position.Encoding.{Encoding}
+use Rattle.proto_visibility.specs.Files.{File}
+use Rattle.proto_visibility.specs.declared.entities.Entity.TheVariants as link
+use Rattle.scip_records.specs.declared.records.Document.{Document}
+use Rattle.scip_records.specs.declared.records.Occurrence.{Occurrence}
+use Rattle.scip_records.specs.declared.records.Index.{Index}
+use Rattle.scip_records.specs.declared.records.SymbolInformation.{SymbolInformation}
+use Rattle.scip_symbol.specs.Package.{Package, IsPackage}
+use Rattle.scip_symbol.specs.Entities.{Entity, OfFile, IsEntity, symbol_in}
+use Rattle.scip_symbol.specs.SymbolText.{symbol_text}
+use Rattle.scip_symbol.specs.OneEntity.{IsWithoutClash, IsAmong}
+use Rattle.scip_model.specs.Packages.{Packages, package_of_path, package_of_file, package_of_part}
+use Rattle.scip_model.specs.Chosen.{Chosen}
+use Rattle.scip_model.specs.Named.{HasDeclaration, NamesIn, text_of, declaration_at}
+use Rattle.scip_model.specs.Entries.{IsKeptEntry}
+use Rattle.scip_model.specs.Indexes.{AreExternals, IsDocumentOf, IsIndexOf}
+use Rattle.scip_model.specs.Occurs.{Occurs}
+use Rattle.scip_model.specs.Texts.{HasText}
+
+-- a source with a text has one document at most
+abbrev pub OneDocument : Type 0
+OneDocument =
+    (files : List File) (chosen : Chosen) (ids : Packages) (encoding : Encoding) (source : ℕ) (text : List ℕ)
+    (document other : Document)
+    → IsDocumentOf files chosen ids encoding source text document
+    → IsDocumentOf files chosen ids encoding source text other → document ≡ other
+
+-- files have one list of external entries at most
+abbrev pub OneListOfExternals : Type 0
+OneListOfExternals = (files : List File) (chosen : Chosen) (ids : Packages) (entries others : List SymbolInformation)
+    → AreExternals files chosen ids entries → AreExternals files chosen ids others → entries ≡ others
+
+-- files with texts have one index at most
+abbrev pub OneIndex : Type 0
+OneIndex = (files : List File) (texts : List (List ℕ)) (chosen : Chosen) (ids : Packages) (encoding : Encoding)
+    (project_root : List ℕ) (index other : Index)
+    → IsIndexOf files texts chosen ids encoding project_root index
+    → IsIndexOf files texts chosen ids encoding project_root other → index ≡ other
+
+-- occurrences of a document with one range and one symbol are one occurrence: none tie in the order of its list
+abbrev pub NoTies : Type 0
+NoTies =
+    (files : List File) (chosen : Chosen) (ids : Packages) (encoding : Encoding) (source : ℕ) (text : List ℕ)
+    → HasText files source text
+    → (occurrence other : Occurrence) → Occurs files chosen ids encoding source text occurrence
+    → Occurs files chosen ids encoding source text other
+    → occurrence.range ≡ other.range → occurrence.symbol ≡ other.symbol → occurrence ≡ other
+
+-- in declarations without a clash, entities whose symbols have one text are one entity, in whatever packages
+abbrev pub SymbolsNameOne : Type 0
+SymbolsNameOne =
+    (id its : Package) (declarations : List Entity) → IsPackage id → IsPackage its → IsWithoutClash declarations
+    → (entity other : Entity) → IsEntity entity → IsEntity other → IsAmong declarations entity
+    → IsAmong declarations other
+    → symbol_text (symbol_in id entity) ≡ symbol_text (symbol_in its other) → entity ≡ other
+
+-- Two trees share a file: it has one path in both, the same facts, and one package.
+pub record IsShared (files others : List File) (ids theirs : Packages) (number other : ℕ) : Type 0 where
+  pub path : List ℕ
+  pub here : File
+  pub there : File
+  pub numbered_here : slice_get files number ≡ Some here
+  pub numbered_there : slice_get others other ≡ Some there
+  pub path_here : here.path ≡ path
+  pub path_there : there.path ≡ path
+  pub facts : here.facts ≡ there.facts
+  pub one_package : package_of_path ids path ≡ package_of_path theirs path
+
+-- What trees share has one symbol in both. The file has: where it is defined, and where the other tree imports it. Each
+-- of its declarations has: where it is defined, where a use in the other tree names it, and in the entry that the other
+-- tree has for it. (`scip.proto`, Symbol: a symbol identifies its entity across indexes.)
+pub record SymbolsMeet : Type 0 where
+  pub files : (files others : List File) (ids theirs : Packages) (number other : ℕ)
+      → (shared : IsShared files others ids theirs number other)
+      → text_of (package_of_file files ids number) (OfFile shared.here.path)
+      ≡ text_of (package_of_path theirs shared.there.path) (OfFile shared.there.path)
+  pub uses : (files others : List File) (ids theirs : Packages) (number other index source : ℕ) (facts : Facts)
+      (declared : Declaration) (component : Component) (entity : Entity)
+      → IsShared files others ids theirs number other → HasDeclaration files number index facts declared
+      → NamesIn others source component (link.Declared other index) entity
+      → text_of (package_of_file files ids number) (declaration_at facts declared)
+      ≡ text_of (package_of_part others theirs (link.Declared other index)) entity
+  pub entries : (files others : List File) (chosen : Chosen) (ids theirs : Packages) (number other index : ℕ)
+      (facts : Facts) (declared : Declaration) (entry : SymbolInformation)
+      → IsShared files others ids theirs number other → HasDeclaration files number index facts declared
+      → IsKeptEntry others chosen theirs other index entry
+      → text_of (package_of_file files ids number) (declaration_at facts declared) ≡ entry.symbol

@@ -1,0 +1,36 @@
+-- The entries of a source, as the code lists them: its packages', and those of its declarations that are kept.
+use Rattle.std.specs.Prelude.{ℕ, ◌+◌, List, [], ◌∷◌, ◌++◌, length, map, if◌then◌else◌, slice_index_or}
+use Rattle.std.specs.List.{range_with_len}
+use Rattle.scip_records.specs.declared.records.SymbolInformation.{SymbolInformation}
+use Rattle.index_hooks.specs.declared.choice.Choice.{Choice}
+use Rattle.proto_decl.specs.Facts.{Facts}
+use Rattle.proto_decl.specs.declared.declaration.Declaration.{Declaration}
+use Rattle.scip_symbol.specs.Package.{Package}
+use Rattle.scip_model.specs.Chosen.{Chosen}
+use Rattle.scip_model.specs.Entries.{file_entry, package_entry, declaration_entry}
+
+-- of the first component, the first two, and so on
+abbrev pub package_entries_up_to : Package → Facts → (count : ℕ) → List SymbolInformation
+package_entries_up_to id facts count = map (λ index. package_entry id facts (index + 1)) (range_with_len 0 count)
+
+abbrev pub package_entries : Package → Facts → List SymbolInformation
+package_entries id facts = package_entries_up_to id facts (length facts.package_name)
+
+abbrev pub entry_if_kept : Package → Facts → Declaration → Choice → List SymbolInformation
+entry_if_kept id facts declared choice = if choice.keep then declaration_entry id facts declared choice ∷ [] else []
+
+-- of declarations, with the choice for each
+abbrev pub kept_entries : Package → Facts → List Declaration → List Choice → List SymbolInformation
+kept_entries id facts [] choices = []
+kept_entries id facts (declared ∷ others) [] = []
+kept_entries id facts (declared ∷ others) (choice ∷ choices) =
+    entry_if_kept id facts declared choice ++ kept_entries id facts others choices
+
+-- the file's, its packages', which belong to the run, and its declarations'
+abbrev pub source_entries : (id run : Package) → (path : List ℕ) → Facts → List Choice → List SymbolInformation
+source_entries id run path facts choices =
+    file_entry id path ∷ (package_entries run facts ++ kept_entries id facts facts.declarations choices)
+
+-- the choices for a file's declarations
+abbrev pub choices_for : Chosen → (file : ℕ) → List Choice
+choices_for chosen file = slice_index_or chosen file []

@@ -1,0 +1,91 @@
+-- The declarations of included files that uses in sources name, as the code gathers them: each by its file's number and
+-- its own.
+use Rattle.std.specs.Prelude.{◌≡◌, ◌<◌, ◌⊎◌, ◌↔◌, ⊤, ℕ, true, false, Some, List, length, Contains}
+use Rattle.std.specs.declared.cmp.Ordering.{Ordering}
+use Rattle.std.specs.Ordering.{nat_cmp, ordering_then}
+use Rattle.std.specs.List.{slice_get}
+use Rattle.proto_decl.specs.Facts.{Facts}
+use Rattle.proto_decl.specs.declared.declaration.Declaration.{Declaration}
+use Rattle.proto_decl.specs.declared.type_use.Use.{Use}
+use Rattle.index_hooks.specs.declared.choice.Choice.{Choice}
+use Rattle.scip_records.specs.declared.records.SymbolInformation.{SymbolInformation}
+use Rattle.scip_symbol.specs.Package.{Package}
+use Rattle.proto_visibility.specs.Files.{File, HasFacts, IsSource, IsIncludedAt}
+use Rattle.proto_link.specs.Targets.{IsTarget}
+use Rattle.proto_visibility.specs.declared.entities.Entity.{Entity}
+use Rattle.proto_visibility.specs.declared.entities.Entity.TheVariants as link
+use Rattle.proto_link.specs.declared.target.Target.{Target}
+use Rattle.scip_model.specs.Packages.{Packages}
+use Rattle.scip_model.specs.Chosen.{Chosen, HasChoice, IsChosen, IsKept}
+use Rattle.scip_model.specs.Entries.{declaration_entry, IsKeptEntry}
+
+abbrev pub Pair : Type 0
+Pair = ℕ × ℕ
+
+-- by file, then by place there
+abbrev pub pair_cmp : Pair → Pair → Ordering
+pair_cmp x y = ordering_then (nat_cmp x.0 y.0) (nat_cmp x.1 y.1)
+
+-- the list has what it had, and besides just these
+abbrev pub Adds : (Pair → Type 0) → (old new : List Pair) → Type 0
+Adds IsNew old new = (x : Pair) → Contains new x ↔ (Contains old x ⊎ IsNew x)
+
+-- one of the first so many elements is of this kind
+pub record FromFront {X : Type 0} (IsOf : X → Pair → Type 0) (xs : List X) (count : ℕ) (x : Pair) : Type 0 where
+  pub index : ℕ
+  pub element : X
+  pub within : index < count
+  pub stands : slice_get xs index ≡ Some element
+  pub is : IsOf element x
+
+module _ (files : List File) (chosen : Chosen) where
+  -- a part is a declaration that can be looked up
+  abbrev pub IsKnownPart : Entity → Type 0
+  IsKnownPart (link.Package count) = ⊤
+  IsKnownPart (link.Declared file index) = (file < length files) × HasChoice chosen file index
+
+  -- it is this one, of an included file, and is kept
+  pub record IsOfPart (part : Entity) (x : Pair) : Type 0 where
+    pub is : part ≡ link.Declared x.0 x.1
+    pub file : File
+    pub numbered : slice_get files x.0 ≡ Some file
+    pub included : file.is_included ≡ true
+    pub kept : IsKept chosen x.0 x.1
+
+  pub record IsOfUse (source : ℕ) (type_use : Use) (x : Pair) : Type 0 where
+    pub target : Target
+    pub is_target : IsTarget files source type_use target
+    pub of_parts : FromFront IsOfPart target.parts (length target.parts) x
+
+  pub record IsOfSource (source : ℕ) (x : Pair) : Type 0 where
+    pub is_source : IsSource files source
+    pub facts : Facts
+    pub known : HasFacts files source facts
+    pub of_uses : FromFront (IsOfUse source) facts.uses (length facts.uses) x
+
+  -- a use in one of the first so many files names it
+  pub record IsExternal (count : ℕ) (x : Pair) : Type 0 where
+    pub source : ℕ
+    pub within : source < count
+    pub of_source : IsOfSource source x
+
+-- the entry of a declaration of these facts, with the choice for it
+pub record IsEntryAt (chosen : Chosen) (id : Package) (facts : Facts) (file index : ℕ)
+    (entry : SymbolInformation) : Type 0 where
+  pub declaration : Declaration
+  pub choice : Choice
+  pub stands : slice_get facts.declarations index ≡ Some declaration
+  pub is_chosen : IsChosen chosen file index choice
+  pub is : entry ≡ declaration_entry id facts declaration choice
+
+-- the entry of a declaration that is kept
+abbrev pub IsEntryOf : List File → Chosen → Packages → Pair → SymbolInformation → Type 0
+IsEntryOf files chosen ids x = IsKeptEntry files chosen ids x.0 x.1
+
+-- some file is included
+abbrev pub HasIncluded : List File → Type 0
+HasIncluded files = (number : ℕ) × IsIncludedAt files number true
+
+-- none of the first so many is
+abbrev pub NoneIncluded : List File → (count : ℕ) → Type 0
+NoneIncluded files count = (number : ℕ) → number < count → IsIncludedAt files number false

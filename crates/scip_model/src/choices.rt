@@ -1,0 +1,51 @@
+//! What was chosen for the declarations of files.
+
+ghost use Rattle.std.specs.Prelude.{◌≡◌, map};
+ghost use Rattle.scip_model.specs.Chosen.{IsChosen, HasChoice};
+ghost use Rattle.scip_model.specs.Tables.EntryLists.{choices_for};
+
+use index_hooks::Choice;
+use std::marker::Model;
+
+/// What was chosen for the declarations of files: for each file, by its number, a list, in the
+/// order of its declarations.
+#[derive(Debug, Drop)]
+pub struct Choices {
+    lists: Vec<Vec<Choice>>,
+}
+
+impl Model for Choices {
+    ghost use Rattle.scip_model.specs.Chosen.{Chosen};
+    ghost use Rattle.std.specs.Prelude.{map};
+
+    ghost Value = { Chosen };
+
+    ghost view = { λ choices. map (λ list. list.items) choices.lists.items };
+}
+
+impl Choices {
+    /// The choices of these lists. Takes no memory.
+    pub fn new(lists: Vec<Vec<Choice>>) -> Choices
+        ensures { result ≡ map (λ list. list.items) lists.items }
+    {
+        Choices { lists }
+    }
+
+    /// The choice for a declaration, by its file's number and its own, which has one.
+    pub fn of(&self, file: usize, declaration: usize) -> Choice
+        requires { HasChoice self.now file declaration }
+        ensures { IsChosen self.now file declaration result }
+    {
+        self.lists[file][declaration]
+    }
+
+    /// The choices for a file's declarations.
+    pub(crate) fn of_file(&self, file: usize) -> &[Choice]
+        ensures { result.now ≡ choices_for self.now file }
+    {
+        match self.lists.get(file) {
+            Some(list) => list.as_slice(),
+            None => &[],
+        }
+    }
+}

@@ -1,0 +1,197 @@
+//! The symbol entries of the document of a source, and one of a declaration.
+
+ghost use Rattle.std.specs.Prelude.{ℕ, ◌≡◌, ◌+◌, ◌<◌, ◌≤◌, ◌∷◌, [], ◌++◌, IfOk, OnOk, Contains, length, map};
+ghost use Rattle.std.specs.Prelude.{if◌then◌else◌};
+ghost use Rattle.std.specs.List.{range_with_len};
+ghost use Rattle.proto_decl.specs.Names.{dotted, package_of};
+ghost use Rattle.proto_decl.specs.Ancestors.{component_names};
+ghost use Rattle.proto_visibility.specs.Files.{HasFacts, HasPathAt, IsSource};
+ghost use Rattle.scip_records.specs.declared.records.SymbolInformation.{SymbolInformation};
+ghost use Rattle.scip_symbol.specs.Package.{Package};
+ghost use Rattle.scip_model.specs.Packages.{package_of_file};
+ghost use Rattle.scip_model.specs.Chosen.{HasChoice, HaveChoices};
+ghost use Rattle.scip_model.specs.Conditions.{HaveGoodPaths};
+ghost use Rattle.scip_model.specs.Entries.{declaration_entry, HasEntry};
+ghost use Rattle.scip_model.specs.Tables.EntryLists.{kept_entries, choices_for};
+ghost use Rattle.scip_model.specs.Tables.OwnTexts.{entry_with};
+ghost use Rattle.scip_model.specs.Tables.EntryNumbers.{package_names, AreNumbered};
+ghost use Rattle.scip_model.specs.Tables.Plans.{Grown, own_texts, entry_of};
+ghost use Rattle.scip_model.specs.Indexes.{info_cmp, IsAscendingListOf};
+
+use crate::document_maker::DocumentMaker;
+use crate::documentation::documentation_of;
+use crate::entry_order::{compare_texts, put_near};
+use crate::known_facts::symbols_stand_apart;
+use crate::symbol_table::{SymbolTable, declaration_number, number_at};
+use crate::symbol_texts::declaration_text;
+use index_hooks::Choice;
+use proto_decl::{Component, Declaration, FileFacts};
+use scip_records::{LentInformation, LentSymbol, SymbolInformation};
+use scip_symbol::PackageId;
+use sequences::OwnedText;
+use std::alloc::{AllocError, Global};
+use std::cmp::Ordering;
+
+/// The components joined by dots.
+fn joined(alloc: Global, components: &[Component]) -> Result<OwnedText, AllocError>
+    ensures { IfOk result (λ name. name ≡ dotted (component_names components.now)) }
+{
+    match components {
+        [] => Ok(OwnedText::new(alloc)),
+        [first, others @ ..] => joined_behind(alloc, first, others),
+    }
+}
+
+/// A package's name: its components, with dots between them.
+fn joined_behind(
+    alloc: Global,
+    first: &Component,
+    others: &[Component],
+) -> Result<OwnedText, AllocError>
+    ensures { IfOk result (λ name. name ≡ dotted (component_names (first.now ∷ others.now))) }
+{
+    let mut name = String::from_str(alloc, first.name.as_str())?;
+    for component in others {
+        name.push_str(".")?;
+        name.push_str(component.name.as_str())?;
+    }
+    Ok(OwnedText::from_string(name))
+}
+
+/// The full name of the package that the first components make, so many.
+fn package_name(
+    alloc: Global,
+    components: &[Component],
+    count: usize,
+) -> Result<OwnedText, AllocError>
+    requires { count ≤ length components.now }
+    ensures { IfOk result (λ name. name ≡ package_of components.now count) }
+{
+    let (front, _) = components.split_at(count);
+    joined(alloc, front)
+}
+
+/// The full names of a file's packages: of the first component, the first two, and so on.
+pub(crate) fn package_names(
+    alloc: Global,
+    components: &[Component],
+) -> Result<Vec<OwnedText>, AllocError>
+    ensures { IfOk result (λ names. names.items ≡ package_names components.now) }
+{
+    let mut names = Vec::with_capacity(alloc, components.len())?;
+    for index in 0..components.len() {
+        let name = package_name(alloc, components, index + 1)?;
+        names.push(name)?;
+    }
+    Ok(names)
+}
+
+/// The entry of a declaration whose symbol has this text.
+pub(crate) fn lent_entry<'a>(
+    symbol: LentSymbol<'a>,
+    declaration: &'a Declaration,
+    choice: Choice,
+) -> LentInformation<'a>
+    ensures { result ≡ entry_with symbol.entry declaration.now choice }
+{
+    LentInformation {
+        symbol,
+        documentation: documentation_of(choice.doc, declaration),
+        display_name: declaration.simple_name(),
+    }
+}
+
+/// That of a declaration, with the texts that were chosen.
+pub(crate) fn declaration_entry(
+    alloc: Global,
+    id: &PackageId,
+    facts: &FileFacts,
+    declaration: &Declaration,
+    choice: Choice,
+) -> Result<SymbolInformation, AllocError>
+    requires { Contains facts.now.declarations declaration.now }
+    ensures { IfOk result (λ entry. entry ≡ declaration_entry id.now facts.now declaration.now choice) }
+{
+    let symbol = declaration_text(alloc, id, facts, declaration)?;
+    let entry = lent_entry(LentSymbol::whole(symbol.as_str()), declaration, choice);
+    entry.to_record(alloc)
+}
+
+/// The numbers of a file's own text and those of its packages, with room for those of its declarations.
+fn first_numbers(alloc: Global, facts: &FileFacts) -> Result<Vec<u32>, AllocError>
+    ensures { IfOk result (λ numbers. (entry : ℕ → SymbolInformation)
+        → map entry numbers.items ≡ map entry (range_with_len 0 (1 + length facts.now.package_name))) }
+{
+    let first = 1 + facts.package_name().len();
+    let mut numbers = Vec::with_capacity(alloc, first + facts.declarations().len())?;
+    for index in 0..first {
+        let number = number_at(index)?;
+        numbers.push(number)?;
+    }
+    Ok(numbers)
+}
+
+/// Appends a number that is kept.
+fn push_if_kept(numbers: &mut Vec<u32>, number: u32, keep: bool) -> Result<(), AllocError>
+    ensures { OnOk result (numbers.new.items ≡ numbers.old.items ++ (if keep then number ∷ [] else [])) }
+{
+    if keep {
+        numbers.push(number)?;
+    }
+    Ok(())
+}
+
+/// Appends the numbers of the source's declarations that are kept.
+fn push_declarations(
+    numbers: &mut Vec<u32>,
+    maker: &DocumentMaker<'_, '_, '_, '_>,
+    facts: &FileFacts,
+) -> Result<(), AllocError>
+    requires { (index : ℕ) → index < length facts.now.declarations
+        → HasChoice maker.now.choices.now maker.now.source index }
+    ensures { OnOk result ((id : Package) (entry : ℕ → SymbolInformation)
+        → AreNumbered id facts.now (choices_for maker.now.choices.now maker.now.source) entry
+        → map entry numbers.new.items ≡ map entry numbers.old.items
+        ++ kept_entries id facts.now facts.now.declarations (choices_for maker.now.choices.now maker.now.source)) }
+{
+    for index in 0..facts.declarations().len() {
+        let choice = maker.choices.of(maker.source, index);
+        let number = declaration_number(facts, index)?;
+        push_if_kept(numbers, number, choice.keep)?;
+    }
+    Ok(())
+}
+
+/// By symbol.
+pub(crate) fn compare_symbols(a: &SymbolInformation, b: &SymbolInformation) -> Ordering
+    ensures { result ≡ info_cmp a.now b.now }
+{
+    a.symbol.as_str().cmp(b.symbol.as_str())
+}
+
+/// The numbers of the entries of the source, by symbol: the texts begin with those of what the source has itself.
+pub(crate) fn entry_numbers(
+    maker: &DocumentMaker<'_, '_, '_, '_>,
+    path: &str,
+    texts: &SymbolTable,
+    facts: &FileFacts,
+) -> Result<Vec<u32>, AllocError>
+    requires source { IsSource maker.now.linker.now maker.now.source }
+    requires path { HasPathAt maker.now.linker.now path.now maker.now.source }
+    requires known { HasFacts maker.now.linker.now maker.now.source facts.now }
+    requires paths { HaveGoodPaths maker.now.linker.now }
+    requires choices { HaveChoices maker.now.linker.now maker.now.choices.now }
+    requires texts { Grown (own_texts (package_of_file maker.now.linker.now maker.now.package.now maker.now.source)
+        maker.now.package.now.run path.now facts.now) texts.now }
+    ensures { IfOk result (λ numbers. IsAscendingListOf info_cmp
+        (HasEntry maker.now.linker.now maker.now.choices.now maker.now.package.now maker.now.source)
+        (map (entry_of texts.now path.now (package_names facts.now.package_name) facts.now
+        (choices_for maker.now.choices.now maker.now.source)) numbers.items)) }
+{
+    symbols_stand_apart(maker.linker, maker.package);
+    let mut numbers = first_numbers(maker.alloc, facts)?;
+    push_declarations(&mut numbers, maker, facts)?;
+    put_near(maker.alloc, &mut numbers, texts, facts)?;
+    numbers.sort_unstable_by(|a, b| compare_texts(texts, *a, *b));
+    Ok(numbers)
+}

@@ -1,0 +1,261 @@
+//! The symbol entries of declarations of included files that sources name.
+
+ghost use Rattle.std.specs.Prelude.{◌<◌, ◌↔◌, [], OnOk, IfOk, MatchBool, All, Contains, length};
+ghost use Rattle.std.specs.List.{AllZip};
+ghost use Rattle.std.specs.List.Sorted.{IsStrictlySortedBy};
+ghost use Rattle.proto_visibility.specs.Files.{IsSource};
+ghost use Rattle.proto_visibility.specs.declared.entities.Entity.TheVariants.{Declared};
+ghost use Rattle.scip_model.specs.Chosen.{HasChoice, HaveChoices};
+ghost use Rattle.scip_model.specs.Entries.{IsKeptEntry};
+ghost use Rattle.scip_model.specs.Tables.ExternalLists.{Pair, pair_cmp, IsEntryAt, IsEntryOf, Adds, FromFront};
+ghost use Rattle.scip_model.specs.Tables.ExternalLists.{IsKnownPart, IsOfPart, IsOfUse, IsOfSource, IsExternal};
+ghost use Rattle.scip_model.specs.Tables.ExternalLists.{HasIncluded, NoneIncluded};
+ghost use Rattle.scip_model.specs.Indexes.{AreExternals};
+
+use crate::choices::Choices;
+use crate::entries::{compare_symbols, declaration_entry};
+use crate::known_facts::symbols_stand_apart;
+use crate::packages::{FilePackages, package_of_file};
+use crate::targets::{parts_of, target_of};
+use proto_decl::{FileFacts, Use};
+use proto_link::{Entity, Linker, one_target_a_use};
+use scip_records::SymbolInformation;
+use scip_symbol::PackageId;
+use sequences::Sequence;
+use std::alloc::{AllocError, Global};
+
+/// Adds a declaration, if its file is included and it is kept.
+fn push_declared(
+    named: &mut Vec<(usize, usize)>,
+    linker: &Linker<'_, '_>,
+    choices: &Choices,
+    file: usize,
+    index: usize,
+) -> Result<(), AllocError>
+    requires within { file < length linker.now }
+    requires chosen { HasChoice choices.now file index }
+    ensures { OnOk result
+        (Adds (IsOfPart linker.now choices.now (Declared file index)) named.old.items named.new.items) }
+{
+    if !linker.is_included(file) {
+        return Ok(());
+    }
+    let choice = choices.of(file, index);
+    if !choice.keep {
+        return Ok(());
+    }
+    named.push((file, index))?;
+    Ok(())
+}
+
+/// Adds what a component of a use names, if it is such a declaration.
+fn push_part(
+    named: &mut Vec<(usize, usize)>,
+    linker: &Linker<'_, '_>,
+    choices: &Choices,
+    part: Entity,
+) -> Result<(), AllocError>
+    requires { IsKnownPart linker.now choices.now part }
+    ensures { OnOk result (Adds (IsOfPart linker.now choices.now part) named.old.items named.new.items) }
+{
+    match part {
+        Entity::Package(_) => Ok(()),
+        Entity::Declared(file, index) => push_declared(named, linker, choices, file, index),
+    }
+}
+
+/// Appends those of the parts of a name.
+fn push_parts(
+    named: &mut Vec<(usize, usize)>,
+    linker: &Linker<'_, '_>,
+    choices: &Choices,
+    parts: &[Entity],
+) -> Result<(), AllocError>
+    requires { All (IsKnownPart linker.now choices.now) parts.now }
+    ensures { OnOk result (Adds
+        (FromFront (IsOfPart linker.now choices.now) parts.now (length parts.now)) named.old.items named.new.items) }
+{
+    for part in parts {
+        push_part(named, linker, choices, *part)?;
+    }
+    Ok(())
+}
+
+/// Adds those that a use in a source names.
+fn push_use(
+    alloc: Global,
+    named: &mut Vec<(usize, usize)>,
+    linker: &Linker<'_, '_>,
+    choices: &Choices,
+    source: usize,
+    type_use: &Use,
+) -> Result<(), AllocError>
+    requires source { IsSource linker.now source }
+    requires choices { HaveChoices linker.now choices.now }
+    ensures { OnOk result (Adds (IsOfUse linker.now choices.now source type_use.now) named.old.items named.new.items) }
+{
+    linker.linked();
+    one_target_a_use();
+    let found = target_of(alloc, linker, source, type_use)?;
+    push_parts(named, linker, choices, parts_of(&found))
+}
+
+/// Appends those of a source's uses.
+fn push_uses(
+    alloc: Global,
+    named: &mut Vec<(usize, usize)>,
+    linker: &Linker<'_, '_>,
+    choices: &Choices,
+    source: usize,
+    uses: &[Use],
+) -> Result<(), AllocError>
+    requires source { IsSource linker.now source }
+    requires choices { HaveChoices linker.now choices.now }
+    ensures { OnOk result (Adds
+        (FromFront (IsOfUse linker.now choices.now source) uses.now (length uses.now))
+        named.old.items named.new.items) }
+{
+    for type_use in uses {
+        push_use(alloc, named, linker, choices, source, type_use)?;
+    }
+    Ok(())
+}
+
+/// Adds those that the uses of a source name.
+fn push_source(
+    alloc: Global,
+    named: &mut Vec<(usize, usize)>,
+    linker: &Linker<'_, '_>,
+    choices: &Choices,
+    source: usize,
+) -> Result<(), AllocError>
+    requires within { source < length linker.now }
+    requires choices { HaveChoices linker.now choices.now }
+    ensures { OnOk result (Adds (IsOfSource linker.now choices.now source) named.old.items named.new.items) }
+{
+    linker.linked();
+    if linker.is_included(source) {
+        return Ok(());
+    }
+    let facts = linker.facts_of(source).unwrap();
+    push_uses(alloc, named, linker, choices, source, facts.uses())
+}
+
+/// Those that the uses of all sources name.
+fn named_externals(
+    alloc: Global,
+    linker: &Linker<'_, '_>,
+    choices: &Choices,
+) -> Result<Vec<(usize, usize)>, AllocError>
+    requires choices { HaveChoices linker.now choices.now }
+    ensures { IfOk result (λ named. Adds (IsExternal linker.now choices.now (length linker.now)) [] named.items) }
+{
+    let mut named = Vec::new(alloc);
+    for source in 0..linker.count() {
+        push_source(alloc, &mut named, linker, choices, source)?;
+    }
+    Ok(named)
+}
+
+/// The same, rising and each once.
+fn without_doubles(named: Vec<(usize, usize)>) -> Result<Vec<(usize, usize)>, AllocError>
+    ensures same { IfOk result (λ once. (x : Pair) → Contains once.items x ↔ Contains named.items x) }
+    ensures rising { IfOk result (λ once. IsStrictlySortedBy pair_cmp once.items) }
+{
+    let mut named = named;
+    named.sort()?;
+    named.dedup();
+    Ok(named)
+}
+
+/// The entry of a declaration that is kept.
+fn external_entry(
+    alloc: Global,
+    id: &PackageId,
+    choices: &Choices,
+    facts: &FileFacts,
+    file: usize,
+    index: usize,
+) -> Result<SymbolInformation, AllocError>
+    requires within { index < length facts.now.declarations }
+    requires chosen { HasChoice choices.now file index }
+    ensures { IfOk result (λ entry. IsEntryAt choices.now id.now facts.now file index entry) }
+{
+    let declarations = facts.declarations();
+    let declaration = &declarations[index];
+    let choice = choices.of(file, index);
+    declaration_entry(alloc, id, facts, declaration, choice)
+}
+
+/// The entry of a declaration that a use in a source names, of an included file, and that is kept.
+fn entry_of(
+    alloc: Global,
+    linker: &Linker<'_, '_>,
+    choices: &Choices,
+    packages: &FilePackages,
+    pair: (usize, usize),
+) -> Result<SymbolInformation, AllocError>
+    requires choices { HaveChoices linker.now choices.now }
+    requires named { IsExternal linker.now choices.now (length linker.now) pair }
+    ensures { IfOk result (IsKeptEntry linker.now choices.now packages.now pair.0 pair.1) }
+{
+    let facts = linker.facts_of(pair.0).unwrap();
+    let id = package_of_file(linker, packages, pair.0);
+    external_entry(alloc, id, choices, facts, pair.0, pair.1)
+}
+
+/// The entry of each such declaration, in their order.
+fn external_entries(
+    alloc: Global,
+    linker: &Linker<'_, '_>,
+    choices: &Choices,
+    packages: &FilePackages,
+    pairs: &[(usize, usize)],
+) -> Result<Vec<SymbolInformation>, AllocError>
+    requires choices { HaveChoices linker.now choices.now }
+    requires named { All (IsExternal linker.now choices.now (length linker.now)) pairs.now }
+    ensures { IfOk result (λ entries. AllZip (IsEntryOf linker.now choices.now packages.now) pairs.now entries.items) }
+{
+    let mut entries = Vec::new(alloc);
+    for pair in pairs {
+        let entry = entry_of(alloc, linker, choices, packages, *pair)?;
+        entries.push(entry)?;
+    }
+    Ok(entries)
+}
+
+/// Whether a file is included.
+fn has_included(linker: &Linker<'_, '_>) -> bool
+    ensures { MatchBool result (HasIncluded linker.now) (NoneIncluded linker.now (length linker.now)) }
+{
+    for number in 0..linker.count() {
+        if linker.is_included(number) {
+            return true;
+        }
+    }
+    false
+}
+
+/// The external symbol entries of linked files, by symbol: one for each declaration of an included
+/// file that is kept by these choices and that a component of a use in a source names.
+///
+/// A use that names no type names none of them. If no file is included, no use is looked at, and no memory is taken.
+pub fn externals_in_packages(
+    alloc: Global,
+    linker: &Linker<'_, '_>,
+    choices: &Choices,
+    packages: &FilePackages,
+) -> Result<Sequence<SymbolInformation>, AllocError>
+    requires choices { HaveChoices linker.now choices.now }
+    ensures { IfOk result (AreExternals linker.now choices.now packages.now) }
+{
+    if !has_included(linker) {
+        return Ok(Sequence::new(alloc));
+    }
+    symbols_stand_apart(linker, packages);
+    let named = named_externals(alloc, linker, choices)?;
+    let once = without_doubles(named)?;
+    let mut entries = external_entries(alloc, linker, choices, packages, once.as_slice())?;
+    entries.sort_by(|a, b| compare_symbols(a, b))?;
+    Ok(Sequence::from_vec(entries))
+}

@@ -1,0 +1,57 @@
+//! Laws of documents and indexes, each the contract of an empty function.
+
+ghost use Rattle.scip_model.specs.Laws.{NoTies, OneDocument, OneListOfExternals, OneIndex};
+ghost use Rattle.scip_model.specs.Laws.{SymbolsNameOne, SymbolsMeet};
+ghost use Rattle.scip_model.specs.Pieces.{OneMergeRefusal, OneMergedList};
+
+use proto_decl::{facts_stand_apart, facts_stand_in_text};
+use proto_lex::positions_rise;
+use scip_symbol::{symbols_have_spellings, symbols_name_one_entity, text_spells_one_symbol};
+
+/// Pieces are refused for one reason, unless memory is refused.
+pub fn one_merge_refusal()
+    ensures { OneMergeRefusal }
+{}
+
+/// Pieces that are put together make one list.
+pub fn one_merged_list()
+    ensures { OneMergedList }
+{}
+
+/// A source has one document at most, by its text and what was chosen.
+pub fn one_document_a_source()
+    ensures { OneDocument }
+{}
+
+/// Files have one list of external entries and one index at most, by what was chosen.
+pub fn one_index()
+    ensures externals { OneListOfExternals }
+    ensures indexes { OneIndex }
+{}
+
+/// No two occurrences of a document tie in the order of its list: of two with one range and one symbol
+/// the roles are the same too.
+pub fn no_two_occurrences_tie()
+    ensures { NoTies }
+{
+    facts_stand_apart();
+    facts_stand_in_text();
+    positions_rise();
+}
+
+/// In facts without a clash, entities whose symbols have one text are one entity, whatever packages the two belong
+/// to.
+pub fn symbols_name_one_entity_in_packages()
+    ensures { SymbolsNameOne }
+{
+    symbols_name_one_entity();
+    symbols_have_spellings();
+    text_spells_one_symbol();
+}
+
+/// A file that two trees have, with the same facts and in one package, has one symbol in both, and so has
+/// each of its declarations: where it is defined in the one, where the other names it, and in the entry
+/// that the other has for it.
+pub fn symbols_meet()
+    ensures { SymbolsMeet }
+{}

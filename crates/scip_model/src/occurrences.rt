@@ -1,0 +1,229 @@
+//! The occurrences of a document that don't come of its uses.
+
+ghost use Rattle.std.specs.Prelude.{◌≡◌, ◌<◌, ◌∷◌, [], ℕ, List, Some, length, All, IsTrue, IfOk, OnOk};
+ghost use Rattle.std.specs.List.{slice_get};
+ghost use Rattle.proto_lex.specs.Lexed.{IsPart};
+ghost use Rattle.proto_decl.specs.Facts.{Facts};
+ghost use Rattle.proto_decl.specs.declared.type_use.Component.{Component};
+ghost use Rattle.proto_decl.specs.declared.declaration.Declaration.{Declaration};
+ghost use Rattle.proto_decl.specs.declared.imported.Imported.{Imported};
+ghost use Rattle.scip_symbol.specs.Entities.{OfFile};
+ghost use Rattle.scip_symbol.specs.Package.{Package};
+ghost use Rattle.scip_symbol.specs.Path.{IsGoodPath};
+ghost use Rattle.scip_model.specs.Chosen.{HasChoice};
+ghost use Rattle.scip_model.specs.Conditions.{HaveGoodPaths};
+ghost use Rattle.scip_model.specs.Named.{text_of};
+ghost use Rattle.scip_model.specs.Occurs.{range_over, start_of_text};
+ghost use Rattle.scip_model.specs.Packages.{package_of_path};
+ghost use Rattle.scip_model.specs.Tables.Listing.{
+  own_occurrence,
+  each_from,
+  has_path,
+  at_import,
+  at_package,
+  at_declaration,
+};
+ghost use Rattle.scip_model.specs.Tables.Plans.{own_texts, Grown, IsNumberOf, ArePlanned, AreAdded};
+
+use crate::document_maker::DocumentMaker;
+use crate::planned::PlannedOccurrence;
+use crate::symbol_table::{SymbolTable, declaration_number, number_at};
+use crate::symbol_texts::file_text;
+use proto_decl::{Declaration, FileFacts, Imported};
+use proto_lex::{Encoding, Span, Text, positions_fit};
+use proto_link::Linker;
+use scip_records::Range;
+use std::alloc::{AllocError, Global};
+
+/// The role of a definition.
+const DEFINITION: i32 = 1;
+
+/// The role of an import.
+const IMPORT: i32 = 2;
+
+/// The number of the text of the source's own file.
+const FILE: usize = 0;
+
+/// The range from where a span begins to where it ends.
+fn range_over(text: &Text<'_>, encoding: Encoding, span: Span) -> Range
+    requires { IsPart text.now span }
+    ensures { result ≡ range_over encoding text.now span }
+{
+    text.as_str();
+    positions_fit();
+    let start = text.position(span.start as usize, encoding);
+    let end = text.position(span.end as usize, encoding);
+    Range::new(start.line, start.column, end.line, end.column).unwrap()
+}
+
+/// A symbol over a span, by the number of its text.
+pub(crate) fn planned_over(
+    maker: &DocumentMaker<'_, '_, '_, '_>,
+    span: Span,
+    symbol: u32,
+    symbol_roles: i32,
+) -> PlannedOccurrence
+    requires { IsPart maker.now.text.now span }
+    ensures { result ≡ record {
+      range = range_over maker.now.encoding maker.now.text.now span;
+      symbol = symbol;
+      symbol_roles = symbol_roles;
+    } }
+{
+    PlannedOccurrence {
+        range: range_over(maker.text, maker.encoding, span),
+        symbol,
+        symbol_roles,
+    }
+}
+
+/// The start of a text.
+fn start_of_text() -> Range
+    ensures { result ≡ start_of_text }
+{
+    Range::new(0, 0, 0, 0).unwrap()
+}
+
+/// Only the file's own occurrence, at its start.
+pub(crate) fn own_occurrences(alloc: Global) -> Result<Vec<PlannedOccurrence>, AllocError>
+    ensures { IfOk result (λ list. (id run : Package) (path : List ℕ) (facts : Facts)
+        → ArePlanned (own_texts id run path facts) list.items (own_occurrence id path ∷ [])) }
+{
+    let mut list = Vec::with_capacity(alloc, 1)?;
+    list.push(PlannedOccurrence {
+        range: start_of_text(),
+        symbol: 0,
+        symbol_roles: DEFINITION,
+    })?;
+    Ok(list)
+}
+
+/// Whether some file has the path of an import. Such a path is good.
+fn has_file(linker: &Linker<'_, '_>, imported: &Imported) -> bool
+    requires { HaveGoodPaths linker.now }
+    ensures found { result ≡ has_path linker.now imported.now.path }
+    ensures good { IsTrue result → IsGoodPath imported.now.path }
+{
+    linker.has_path(imported.path.as_str())
+}
+
+/// The number of the text of a file's symbol. A file that imports itself has its text already.
+fn file_number(
+    maker: &DocumentMaker<'_, '_, '_, '_>,
+    path: &str,
+    texts: &mut SymbolTable,
+) -> Result<u32, AllocError>
+    requires { IsGoodPath path.now }
+    ensures grown { OnOk result (Grown texts.old texts.new) }
+    ensures number { IfOk result (IsNumberOf texts.new
+        (text_of (package_of_path maker.now.package.now path.now) (OfFile path.now))) }
+{
+    let text = file_text(maker.alloc, maker.package.of_path(path), path)?;
+    let number = texts.number_of(maker.alloc, FILE, text.as_str())?;
+    Ok(number)
+}
+
+/// Adds the occurrence of an import, over its literals, if some file has its path.
+fn add_import(
+    list: &mut Vec<PlannedOccurrence>,
+    maker: &DocumentMaker<'_, '_, '_, '_>,
+    imported: &Imported,
+    texts: &mut SymbolTable,
+) -> Result<(), AllocError>
+    requires part { IsPart maker.now.text.now imported.now.span }
+    requires paths { HaveGoodPaths maker.now.linker.now }
+    ensures grown { OnOk result (Grown texts.old texts.new) }
+    ensures added { OnOk result (AreAdded texts.new list.old.items list.new.items (at_import maker.now.package.now
+        maker.now.encoding maker.now.text.now maker.now.linker.now 0 imported.now)) }
+{
+    if !has_file(maker.linker, imported) {
+        return Ok(());
+    }
+    let number = file_number(maker, imported.path.as_str(), texts)?;
+    list.push(planned_over(maker, imported.span, number, IMPORT))?;
+    Ok(())
+}
+
+/// Each import of a file that is there, over its literals.
+pub(crate) fn import_occurrences(
+    maker: &DocumentMaker<'_, '_, '_, '_>,
+    imports: &[Imported],
+    texts: &mut SymbolTable,
+) -> Result<Vec<PlannedOccurrence>, AllocError>
+    requires parts { All (λ (imported : Imported). IsPart maker.now.text.now imported.span) imports.now }
+    requires paths { HaveGoodPaths maker.now.linker.now }
+    ensures grown { OnOk result (Grown texts.old texts.new) }
+    ensures planned { IfOk result (λ list. ArePlanned texts.new list.items (each_from
+        (at_import maker.now.package.now maker.now.encoding maker.now.text.now maker.now.linker.now) 0 imports.now)) }
+{
+    let mut list = Vec::with_capacity(maker.alloc, imports.len())?;
+    for imported in imports {
+        add_import(&mut list, maker, imported, texts)?;
+    }
+    Ok(list)
+}
+
+/// Each component of the package's name: the package up to it.
+pub(crate) fn package_occurrences(
+    maker: &DocumentMaker<'_, '_, '_, '_>,
+    facts: &FileFacts,
+) -> Result<Vec<PlannedOccurrence>, AllocError>
+    requires { All (λ (component : Component). IsPart maker.now.text.now component.span) facts.now.package_name }
+    ensures { IfOk result (λ list. (id : Package) (path : List ℕ)
+        → ArePlanned (own_texts id maker.now.package.now.run path facts.now) list.items (each_from
+        (at_package maker.now.package.now.run maker.now.encoding maker.now.text.now facts.now)
+        0 facts.now.package_name)) }
+{
+    let mut list = Vec::with_capacity(maker.alloc, facts.package_name().len())?;
+    for (index, component) in facts.package_name().iter().enumerate() {
+        let number = number_at(index + 1)?;
+        list.push(planned_over(maker, component.span, number, DEFINITION))?;
+    }
+    Ok(list)
+}
+
+/// Adds the occurrence of a declaration, where it is kept, over its name.
+fn add_declaration(
+    list: &mut Vec<PlannedOccurrence>,
+    maker: &DocumentMaker<'_, '_, '_, '_>,
+    facts: &FileFacts,
+    index: usize,
+    declaration: &Declaration,
+) -> Result<(), AllocError>
+    requires there { slice_get facts.now.declarations index ≡ Some declaration.now }
+    requires part { IsPart maker.now.text.now declaration.now.name }
+    requires chosen { HasChoice maker.now.choices.now maker.now.source index }
+    ensures { OnOk result ((id run : Package) (path : List ℕ)
+        → AreAdded (own_texts id run path facts.now) list.old.items list.new.items
+        (at_declaration id maker.now.encoding maker.now.text.now maker.now.choices.now maker.now.source facts.now
+        index declaration.now)) }
+{
+    let choice = maker.choices.of(maker.source, index);
+    if !choice.keep {
+        return Ok(());
+    }
+    let number = declaration_number(facts, index)?;
+    list.push(planned_over(maker, declaration.name(), number, DEFINITION))?;
+    Ok(())
+}
+
+/// Each declaration that is kept, over its name.
+pub(crate) fn declaration_occurrences(
+    maker: &DocumentMaker<'_, '_, '_, '_>,
+    facts: &FileFacts,
+) -> Result<Vec<PlannedOccurrence>, AllocError>
+    requires parts { All (λ (declared : Declaration). IsPart maker.now.text.now declared.name) facts.now.declarations }
+    requires chosen { (index : ℕ) → index < length facts.now.declarations
+        → HasChoice maker.now.choices.now maker.now.source index }
+    ensures { IfOk result (λ list. (id run : Package) (path : List ℕ)
+        → ArePlanned (own_texts id run path facts.now) list.items (each_from
+        (at_declaration id maker.now.encoding maker.now.text.now
+        maker.now.choices.now maker.now.source facts.now)
+        0 facts.now.declarations)) }
+{
+    let mut list = Vec::with_capacity(maker.alloc, facts.declarations().len())?;
+    for (index, declaration) in facts.declarations().iter().enumerate() {
+        add_declaration(&mut list, maker, facts, index, declaration)?;
+    }
+    Ok(list)
+}

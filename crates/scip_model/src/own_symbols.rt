@@ -1,0 +1,121 @@
+//! The texts of what a source has itself.
+
+ghost use Rattle.std.specs.Prelude.{ℕ, ◌≡◌, ◌++◌, ◌↔◌, List, None, Some, IfSome, IsTrue, MatchOption, length};
+ghost use Rattle.std.specs.List.{slice_get};
+ghost use Rattle.std.specs.Ordering.{nat_cmp};
+ghost use Rattle.std.specs.Cmp.Lexicographic.{slice_cmp};
+ghost use Rattle.scip_model.specs.Tables.JoinedTexts.{behind};
+ghost use Rattle.scip_model.specs.Tables.Plans.{text_at};
+
+use crate::joined_texts::JoinedTexts;
+use crate::symbol_order::is_joined;
+use scip_records::LentSymbol;
+use sequences::OwnedText;
+use std::cmp::Ordering;
+use std::marker::Model;
+
+/// The texts of the symbols of what a source has itself: first some that are kept whole, then those of its
+/// declarations, which begin alike. What they begin with is kept once.
+///
+/// Contracts see the list of the texts.
+#[derive(Debug, Drop)]
+pub(crate) struct OwnSymbols {
+    first: Vec<OwnedText>,
+    front: OwnedText,
+    rests: JoinedTexts,
+}
+
+impl Model for OwnSymbols {
+    ghost use Rattle.std.specs.Prelude.{List, ℕ, ◌++◌};
+    ghost use Rattle.scip_model.specs.Tables.JoinedTexts.{behind};
+
+    ghost Value = { List (List ℕ) };
+
+    ghost view = { λ texts. texts.first.items ++ behind texts.front texts.rests };
+}
+
+/// Whether the text with a number is this one.
+fn has_at(texts: &[OwnedText], number: usize, text: &str) -> bool
+    ensures { IsTrue result ↔ (slice_get texts.now number ≡ Some text.now) }
+{
+    match texts.get(number) {
+        Some(its) => its.as_str() == text,
+        None => false,
+    }
+}
+
+/// What the text with a number has behind the front, if it isn't one of the first.
+fn rest_at<'a>(first: &[OwnedText], rests: &'a JoinedTexts, number: usize) -> Option<&'a str>
+    ensures { MatchOption result
+        ((front : List ℕ) → slice_get (first.now ++ behind front rests.now) number ≡ slice_get first.now number)
+        (λ rest. (front : List ℕ) → slice_get (first.now ++ behind front rests.now) number ≡ Some (front ++ rest.now)) }
+{
+    if number < first.len() {
+        return None;
+    }
+    rests.get(number - first.len())
+}
+
+impl OwnSymbols {
+    /// These first, and behind them each rest behind the front.
+    pub(crate) fn new(first: Vec<OwnedText>, front: OwnedText, rests: JoinedTexts) -> OwnSymbols
+        ensures { result ≡ first.items ++ behind front rests }
+    {
+        OwnSymbols {
+            first,
+            front,
+            rests,
+        }
+    }
+
+    /// How many there are.
+    pub(crate) fn len(&self) -> usize
+        ensures { result ≡ length self.now }
+    {
+        self.first.len() + self.rests.len()
+    }
+
+    /// Whether the text with a number is this one.
+    pub(crate) fn has(&self, number: usize, text: &str) -> bool
+        ensures { IsTrue result ↔ (slice_get self.now number ≡ Some text.now) }
+    {
+        match rest_at(self.first.as_slice(), &self.rests, number) {
+            Some(rest) => is_joined(self.front.as_str(), rest, text),
+            None => has_at(self.first.as_slice(), number, text),
+        }
+    }
+
+    /// The text with a number.
+    pub(crate) fn get(&self, number: usize) -> Option<LentSymbol<'_>>
+        ensures { MatchOption result (slice_get self.now number ≡ None)
+            (λ text. slice_get self.now number ≡ Some text) }
+    {
+        match rest_at(self.first.as_slice(), &self.rests, number) {
+            Some(rest) => Some(LentSymbol {
+                front: self.front.as_str(),
+                rest,
+            }),
+            None => first_at(self.first.as_slice(), number),
+        }
+    }
+
+    /// The order of two texts, if both have the front: that of what is behind it.
+    pub(crate) fn compare_rests(&self, a: usize, b: usize) -> Option<Ordering>
+        ensures { IfSome result (λ order. (more : List (List ℕ))
+            → order ≡ slice_cmp nat_cmp (text_at (self.now ++ more) a) (text_at (self.now ++ more) b)) }
+    {
+        let rest_a = rest_at(self.first.as_slice(), &self.rests, a)?;
+        let rest_b = rest_at(self.first.as_slice(), &self.rests, b)?;
+        Some(rest_a.cmp(rest_b))
+    }
+}
+
+/// One of the texts that are kept whole.
+fn first_at(texts: &[OwnedText], number: usize) -> Option<LentSymbol<'_>>
+    ensures { MatchOption result (slice_get texts.now number ≡ None) (λ text. slice_get texts.now number ≡ Some text) }
+{
+    match texts.get(number) {
+        Some(text) => Some(LentSymbol::whole(text.as_str())),
+        None => None,
+    }
+}

@@ -1,0 +1,158 @@
+//! Documents, put together to an index.
+
+ghost use Rattle.std.specs.Prelude.{◌≡◌, not, Some, IfOk, IfErr, OnOk, OnErr, MatchOption, Contains};
+ghost use Rattle.std.specs.Prelude.{length, map, position};
+ghost use Rattle.std.specs.String.{string_bytes};
+ghost use Rattle.std.specs.List.{slice_get};
+ghost use Rattle.scip_model.specs.Indexes.{document_cmp};
+ghost use Rattle.scip_model.specs.Pieces.{IsRising, AreMerged, MayRefuseMerge, texts};
+ghost use Rattle.scip_model.specs.Tables.TakenPaths.{AreClear, IsMarked, IsNotMarked, AreMarked};
+
+use crate::merge_fault::{MergeFault, Unmerged};
+use scip_records::{Document, Index, Metadata, SymbolInformation};
+use sequences::Sequence;
+use std::alloc::{AllocError, Global};
+use std::cmp::Ordering;
+
+/// The number of a path, if it is one of these.
+fn number_of(paths: &[&str], path: &str) -> Option<usize>
+    requires { IsRising (texts paths.now) }
+    ensures { MatchOption result (Contains (texts paths.now) path.now → ⊥)
+        (λ number. slice_get (texts paths.now) number ≡ Some path.now) }
+{
+    paths.binary_search(&path).ok()
+}
+
+/// So many marks, none of them set.
+fn clear_marks(alloc: Global, count: usize) -> Result<Vec<bool>, AllocError>
+    ensures { IfOk result (λ marks. AreClear count marks.items) }
+{
+    let mut marks = Vec::with_capacity(alloc, count)?;
+    for _ in 0..count {
+        marks.push_reserved(false);
+    }
+    Ok(marks)
+}
+
+/// Marks the path of a piece.
+fn mark(paths: &[&str], marks: &mut Vec<bool>, piece: usize, path: &str) -> Result<(), MergeFault>
+    requires rising { IsRising (texts paths.now) }
+    requires size { length marks.old.items ≡ length (texts paths.now) }
+    ensures marked { OnOk result (IsMarked (texts paths.now) path.now marks.old.items marks.new.items) }
+    ensures refused { IfErr result (IsNotMarked (texts paths.now) path.now marks.old.items piece) }
+{
+    let Some(number) = number_of(paths, path) else {
+        return Err(MergeFault::Stranger(piece));
+    };
+    if marks[number] {
+        return Err(MergeFault::Twice(piece));
+    }
+    marks[number] = true;
+    Ok(())
+}
+
+/// Marks the paths of all pieces.
+fn mark_all(paths: &[&str], marks: &mut Vec<bool>, pieces: &[Document]) -> Result<(), MergeFault>
+    requires rising { IsRising (texts paths.now) }
+    requires clear { AreClear (length (texts paths.now)) marks.old.items }
+    ensures marked { OnOk result (AreMarked (texts paths.now) pieces.now (length pieces.now) marks.new.items) }
+    ensures refused { IfErr result (MayRefuseMerge (texts paths.now) pieces.now) }
+{
+    for (piece, document) in pieces.iter().enumerate() {
+        mark(paths, marks, piece, document.relative_path.as_str())?;
+    }
+    Ok(())
+}
+
+/// The first mark that is clear.
+fn first_clear(marks: &[bool]) -> Option<usize>
+    ensures { result ≡ position (λ mark. not mark) marks.now }
+{
+    marks.iter().position(|mark| !*mark)
+}
+
+/// The order of documents: by path.
+fn compare_paths(a: &Document, b: &Document) -> Ordering
+    ensures { result ≡ document_cmp a.now b.now }
+{
+    a.relative_path.as_str().cmp(b.relative_path.as_str())
+}
+
+/// Puts the pieces in the order of the paths, if each path has one.
+fn put_in_order(alloc: Global, paths: &[&str], pieces: &mut Vec<Document>) -> Result<(), MergeFault>
+    requires { IsRising (texts paths.now) }
+    ensures merged { OnOk result (AreMerged (texts paths.now) pieces.old.items pieces.new.items) }
+    ensures kept { OnErr result (pieces.new.items ≡ pieces.old.items) }
+    ensures refused { IfErr result (MayRefuseMerge (texts paths.now) pieces.old.items) }
+{
+    let mut marks = clear_marks(alloc, paths.len())?;
+    mark_all(paths, &mut marks, pieces.as_slice())?;
+    match first_clear(marks.as_slice()) {
+        Some(number) => Err(MergeFault::Missing(number)),
+        None => {
+            pieces.sort_by(|a, b| compare_paths(a, b))?;
+            Ok(())
+        }
+    }
+}
+
+/// The texts of paths.
+fn lent(alloc: Global, paths: &[String]) -> Result<Vec<&str>, AllocError>
+    ensures { IfOk result (λ list. texts list.items ≡ map string_bytes paths.now) }
+{
+    let mut list = Vec::new(alloc);
+    'paths: for path in paths {
+        list.push(path.as_str())?;
+    }
+    Ok(list)
+}
+
+/// Puts the pieces in the order of the paths, if each path has one.
+fn put_in_order_of(
+    alloc: Global,
+    paths: &[String],
+    pieces: &mut Vec<Document>,
+) -> Result<(), MergeFault>
+    requires { IsRising (map string_bytes paths.now) }
+    ensures merged { OnOk result (AreMerged (map string_bytes paths.now) pieces.old.items pieces.new.items) }
+    ensures kept { OnErr result (pieces.new.items ≡ pieces.old.items) }
+    ensures refused { IfErr result (MayRefuseMerge (map string_bytes paths.now) pieces.old.items) }
+{
+    let lent = lent(alloc, paths)?;
+    put_in_order(alloc, lent.as_slice(), pieces)
+}
+
+/// Puts pieces together: an index with a document for each path, in the order of the paths, which
+/// have to rise.
+///
+/// If they aren't put together, the pieces and the external entries come back as they were.
+pub fn merge(
+    alloc: Global,
+    paths: &[String],
+    pieces: Vec<Document>,
+    metadata: Metadata,
+    externals: Vec<SymbolInformation>,
+) -> Result<Index, Unmerged>
+    requires { IsRising (map string_bytes paths.now) }
+    ensures merged { IfOk result (λ index. AreMerged (map string_bytes paths.now) pieces.items index.documents) }
+    ensures metadata { IfOk result (λ index. index.metadata ≡ Some metadata) }
+    ensures externals { IfOk result (λ index. index.external_symbols ≡ externals.items) }
+    ensures refused { IfErr result (λ unmerged.
+        MayRefuseMerge (map string_bytes paths.now) pieces.items unmerged.fault) }
+    ensures pieces_back { IfErr result (λ unmerged. unmerged.pieces.items ≡ pieces.items) }
+    ensures externals_back { IfErr result (λ unmerged. unmerged.externals ≡ externals) }
+{
+    let mut pieces = pieces;
+    match put_in_order_of(alloc, paths, &mut pieces) {
+        Ok(()) => Ok(Index {
+            metadata: Some(metadata),
+            documents: Sequence::from_vec(pieces),
+            external_symbols: Sequence::from_vec(externals),
+        }),
+        Err(fault) => Err(Unmerged {
+            pieces,
+            externals,
+            fault,
+        }),
+    }
+}

@@ -1,0 +1,181 @@
+//! The document of a source.
+
+ghost use Rattle.std.specs.Prelude.{◌≡◌, [], IfOk, IfErr, OnOk, map};
+ghost use Rattle.std.specs.List.{slice_get};
+ghost use Rattle.proto_visibility.specs.Files.{HasFacts, HasPathAt, IsSource};
+ghost use Rattle.proto_visibility.specs.declared.fault.LinkFault.TheVariants.{Memory};
+ghost use Rattle.scip_model.specs.Gaps.{AreGaps};
+ghost use Rattle.scip_model.specs.Chosen.{HaveChoices};
+ghost use Rattle.scip_model.specs.Conditions.{HaveGoodPaths};
+ghost use Rattle.scip_model.specs.Uses.{UsesResolve};
+ghost use Rattle.scip_model.specs.Texts.{AreOfText, HasText, MayRefuseDocument};
+ghost use Rattle.scip_model.specs.Occurs.{Occurs};
+ghost use Rattle.scip_model.specs.Indexes.{IsAscendingListOf, IsDocumentOf};
+ghost use Rattle.scip_model.specs.OccurrenceOrder.{occurrence_cmp};
+ghost use Rattle.scip_model.specs.Packages.{package_of_file};
+ghost use Rattle.scip_model.specs.Tables.Plans.{own_texts, Grown, occurrence_of};
+
+use crate::document_maker::DocumentMaker;
+use crate::document_plan::{DocumentPlan, PlannedDocument};
+use crate::entries::{entry_numbers, package_names};
+use crate::known_facts::facts_occur_in_order;
+use crate::merging::merged;
+use crate::occurrences::{
+    declaration_occurrences, import_occurrences, own_occurrences, package_occurrences,
+};
+use crate::packages::package_of_file;
+use crate::planned::PlannedOccurrence;
+use crate::symbol_table::SymbolTable;
+use crate::symbol_texts::own_texts;
+use crate::use_occurrences::use_occurrences;
+use proto_decl::FileFacts;
+use proto_lex::Span;
+use proto_link::{FilePlace, LinkFault};
+use scip_records::{Document, records_of};
+use sequences::Sequence;
+
+/// What occurs in the source, which has this path. The places of its uses that name no type are added to `gaps`, in
+/// order. `Memory` is the only fault.
+fn occurrences(
+    maker: &DocumentMaker<'_, '_, '_, '_>,
+    path: &str,
+    facts: &FileFacts,
+    gaps: &mut Vec<Span>,
+    texts: &mut SymbolTable,
+) -> Result<Vec<PlannedOccurrence>, LinkFault>
+    requires source { IsSource maker.now.linker.now maker.now.source }
+    requires path { HasPathAt maker.now.linker.now path.now maker.now.source }
+    requires known { HasFacts maker.now.linker.now maker.now.source facts.now }
+    requires empty { gaps.old.items ≡ [] }
+    requires text { AreOfText maker.now.text.now facts.now }
+    requires paths { HaveGoodPaths maker.now.linker.now }
+    requires choices { HaveChoices maker.now.linker.now maker.now.choices.now }
+    requires texts { Grown (own_texts (package_of_file maker.now.linker.now maker.now.package.now maker.now.source)
+        maker.now.package.now.run path.now facts.now) texts.old }
+    ensures grown { OnOk result (Grown texts.old texts.new) }
+    ensures planned { IfOk result (λ list. IsAscendingListOf occurrence_cmp (Occurs
+        maker.now.linker.now maker.now.choices.now maker.now.package.now maker.now.encoding maker.now.source
+        maker.now.text.now) (map (occurrence_of texts.new) list.items)) }
+    ensures gaps { OnOk result (AreGaps maker.now.linker.now maker.now.source gaps.new.items) }
+    ensures refused { IfErr result (λ fault. fault ≡ Memory) }
+{
+    facts_occur_in_order(maker.linker);
+    let alloc = maker.alloc;
+    let own = own_occurrences(alloc)?;
+    let imports = import_occurrences(maker, facts.imports(), texts)?;
+    let uses = use_occurrences(maker, facts.uses(), gaps, texts)?;
+    let packages = package_occurrences(maker, facts)?;
+    let names = declaration_occurrences(maker, facts)?;
+    let with_imports = merged(alloc, texts, own, imports)?;
+    let with_packages = merged(alloc, texts, with_imports, packages)?;
+    let with_names = merged(alloc, texts, with_packages, names)?;
+    let list = merged(alloc, texts, with_names, uses)?;
+    Ok(list)
+}
+
+/// The document of a source, and the places of its uses that name no type, in order.
+#[derive(Debug, Drop)]
+pub struct SourceDocument {
+    pub document: Document,
+    pub unresolved: Sequence<Span>,
+}
+
+/// The plan of the document of a source of linked files, which has this text, by what was chosen for each
+/// declaration: what occurs in it and its symbol entries, in order. A use that names no type doesn't
+/// occur; its place is told beside the document. `Memory` is the only fault.
+pub fn plan_document<'a, 'f>(
+    maker: &DocumentMaker<'a, '_, 'f, '_>,
+) -> Result<PlannedDocument<'a, 'f>, LinkFault>
+    requires source { IsSource maker.now.linker.now maker.now.source }
+    requires text { HasText maker.now.linker.now maker.now.source maker.now.text.now }
+    requires paths { HaveGoodPaths maker.now.linker.now }
+    requires choices { HaveChoices maker.now.linker.now maker.now.choices.now }
+    ensures document { IfOk result (λ made. IsDocumentOf
+        maker.now.linker.now maker.now.choices.now maker.now.package.now maker.now.encoding maker.now.source
+        maker.now.text.now made.document) }
+    ensures gaps { IfOk result (λ made. AreGaps maker.now.linker.now maker.now.source made.unresolved) }
+    ensures refused { IfErr result (λ fault. fault ≡ Memory) }
+{
+    maker.linker.linked();
+    let alloc = maker.alloc;
+    let facts = maker.linker.facts_of(maker.source).unwrap();
+    let path = maker.linker.path_of(maker.source);
+    let id = package_of_file(maker.linker, maker.package, maker.source);
+    let own = own_texts(alloc, id, maker.package.run(), path, facts)?;
+    let mut texts = SymbolTable::new(alloc, own);
+    let mut unresolved = Vec::new(alloc);
+    let occurrences = occurrences(maker, path, facts, &mut unresolved, &mut texts)?;
+    let packages = package_names(alloc, facts.package_name())?;
+    let entries = entry_numbers(maker, path, &texts, facts)?;
+    let document = DocumentPlan {
+        path,
+        facts,
+        choices: maker.choices.of_file(maker.source),
+        packages,
+        texts,
+        occurrences,
+        entries,
+        language: "Protobuf",
+        encoding: maker.encoding,
+    };
+    Ok(PlannedDocument {
+        document,
+        unresolved: Sequence::from_vec(unresolved),
+    })
+}
+
+/// The document of a source of linked files, which has this text, by what was chosen for each
+/// declaration: what occurs in it and its symbol entries, in order. A use that names no type doesn't
+/// occur; its place is told beside the document. `Memory` is the only fault.
+pub fn document_and_gaps(maker: &DocumentMaker<'_, '_, '_, '_>) -> Result<SourceDocument, LinkFault>
+    requires source { IsSource maker.now.linker.now maker.now.source }
+    requires text { HasText maker.now.linker.now maker.now.source maker.now.text.now }
+    requires paths { HaveGoodPaths maker.now.linker.now }
+    requires choices { HaveChoices maker.now.linker.now maker.now.choices.now }
+    ensures document { IfOk result (λ made. IsDocumentOf
+        maker.now.linker.now maker.now.choices.now maker.now.package.now maker.now.encoding maker.now.source
+        maker.now.text.now made.document) }
+    ensures gaps { IfOk result (λ made. AreGaps maker.now.linker.now maker.now.source made.unresolved) }
+    ensures refused { IfErr result (λ fault. fault ≡ Memory) }
+{
+    let planned = plan_document(maker)?;
+    let (plan, unresolved) = planned.into_parts();
+    let document = records_of(maker.alloc, &plan)?;
+    Ok(SourceDocument {
+        document,
+        unresolved,
+    })
+}
+
+/// The first of some spans.
+fn first_of(spans: &[Span]) -> Option<Span>
+    ensures { result ≡ slice_get spans.now 0 }
+{
+    spans.get(0).copied()
+}
+
+/// The document of a source, where each use names a type. `Unresolved` at the first that doesn't, kept
+/// or not: there is a document only where all do.
+pub fn make_document(maker: &DocumentMaker<'_, '_, '_, '_>) -> Result<Document, LinkFault>
+    requires source { IsSource maker.now.linker.now maker.now.source }
+    requires text { HasText maker.now.linker.now maker.now.source maker.now.text.now }
+    requires paths { HaveGoodPaths maker.now.linker.now }
+    requires choices { HaveChoices maker.now.linker.now maker.now.choices.now }
+    ensures document { IfOk result (IsDocumentOf
+        maker.now.linker.now maker.now.choices.now maker.now.package.now maker.now.encoding maker.now.source
+        maker.now.text.now) }
+    ensures resolved { IfOk result (λ _. UsesResolve maker.now.linker.now maker.now.source) }
+    ensures refused { IfErr result (MayRefuseDocument maker.now.linker.now maker.now.source) }
+{
+    let SourceDocument {
+        document,
+        unresolved,
+    } = document_and_gaps(maker)?;
+    match first_of(unresolved.as_slice()) {
+        None => Ok(document),
+        Some(span) => Err(LinkFault::Unresolved(FilePlace {
+            file: maker.source,
+            span,
+        })),
+    }
+}

@@ -1,0 +1,58 @@
+//! What a use of a source names.
+
+ghost use Rattle.std.specs.Prelude.{◌≡◌, ◌<◌, ◌++◌, length, IfOk, OnOk};
+ghost use Rattle.scip_model.specs.Gaps.{IsFound};
+ghost use Rattle.scip_model.specs.Tables.Listing.{Finds, parts_of, unless_found};
+
+use proto_decl::Use;
+use proto_lex::Span;
+use proto_link::{Entity, LinkFault, Linker, Target};
+use std::alloc::{AllocError, Global};
+
+/// What is found by the linker's answer about a use: nothing if it is `Unresolved`.
+fn found_by(answer: Result<Target, LinkFault>) -> Result<Option<Target>, AllocError>
+    ensures { Finds answer result }
+{
+    match answer {
+        Ok(target) => Ok(Some(target)),
+        Err(LinkFault::Unresolved(_)) => Ok(None),
+        Err(_) => Err(AllocError),
+    }
+}
+
+/// What a use of a file names, if it names a type.
+pub(crate) fn target_of(
+    alloc: Global,
+    linker: &Linker<'_, '_>,
+    file: usize,
+    type_use: &Use,
+) -> Result<Option<Target>, AllocError>
+    requires { file < length linker.now }
+    ensures { IfOk result (IsFound linker.now file type_use.now) }
+{
+    found_by(linker.resolve(alloc, file, type_use))
+}
+
+/// What the components of a use name for which this was found.
+pub(crate) fn parts_of(found: &Option<Target>) -> &[Entity]
+    ensures { result.now ≡ parts_of found.now }
+{
+    match found {
+        Some(target) => target.parts.as_slice(),
+        None => &[],
+    }
+}
+
+/// Adds the place of a use for which nothing was found.
+pub(crate) fn add_gap(
+    spans: &mut Vec<Span>,
+    found: &Option<Target>,
+    span: Span,
+) -> Result<(), AllocError>
+    ensures { OnOk result (spans.new.items ≡ spans.old.items ++ unless_found found.now span) }
+{
+    if found.is_none() {
+        spans.push(span)?;
+    }
+    Ok(())
+}

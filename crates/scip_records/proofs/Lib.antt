@@ -1,0 +1,2 @@
+-- Lists that are made from the front.
+pub mod FrontLemmas

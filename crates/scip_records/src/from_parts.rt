@@ -1,0 +1,152 @@
+//! Records that are made of what is lent.
+
+ghost use Rattle.std.specs.Prelude.{◌≡◌, ◌<◌, ◌++◌, IfOk, OnOk};
+ghost use Rattle.scip_records.specs.Texts.{unless_empty};
+
+use crate::document_parts::DocumentParts;
+use crate::lent::{LentInformation, LentOccurrence, LentSymbol, LentTexts};
+use crate::records::{Document, Occurrence, SymbolInformation};
+use sequences::{OwnedText, Sequence};
+use std::alloc::{AllocError, Global};
+
+/// How many texts a text is: none if it is empty.
+fn count_of(text: &str) -> usize
+    ensures { result < 2 }
+{
+    match text.len() {
+        0 => 0,
+        _ => 1,
+    }
+}
+
+/// Appends a copy of a text that isn't empty.
+fn push_text(alloc: Global, texts: &mut Vec<OwnedText>, text: &str) -> Result<(), AllocError>
+    ensures { OnOk result (texts.new.items ≡ texts.old.items ++ unless_empty text.now) }
+{
+    if text.is_empty() {
+        return Ok(());
+    }
+    let text = OwnedText::copy_of(alloc, text)?;
+    texts.push(text)?;
+    Ok(())
+}
+
+/// Appends copies of texts.
+fn push_listed(
+    alloc: Global,
+    texts: &mut Vec<OwnedText>,
+    listed: &[OwnedText],
+) -> Result<(), AllocError>
+    ensures { OnOk result (texts.new.items ≡ texts.old.items ++ listed.now) }
+{
+    'texts: for text in listed {
+        let copy = OwnedText::copy_of(alloc, text.as_str())?;
+        texts.push(copy)?;
+    }
+    Ok(())
+}
+
+/// Copies of texts that are lent.
+fn texts_of(alloc: Global, lent: &LentTexts<'_>) -> Result<Sequence<OwnedText>, AllocError>
+    ensures { IfOk result (λ texts. texts ≡ lent.now) }
+{
+    let (listed, first, second) = lent.parts();
+    let room = listed
+        .len()
+        .saturating_add(count_of(first) + count_of(second));
+    let mut texts = Vec::with_capacity(alloc, room)?;
+    push_listed(alloc, &mut texts, listed)?;
+    push_text(alloc, &mut texts, first)?;
+    push_text(alloc, &mut texts, second)?;
+    Ok(Sequence::from_vec(texts))
+}
+
+impl<'a> LentSymbol<'a> {
+    /// A copy of the text.
+    fn to_text(&self, alloc: Global) -> Result<OwnedText, AllocError>
+        ensures { IfOk result (λ made. made ≡ self.now) }
+    {
+        let room = self.front.len().saturating_add(self.rest.len());
+        let mut text = String::with_capacity(alloc, room)?;
+        text.push_str(self.front)?;
+        text.push_str(self.rest)?;
+        Ok(OwnedText::from_string(text))
+    }
+}
+
+impl<'a> LentOccurrence<'a> {
+    /// An occurrence with a copy of the symbol.
+    pub fn to_record(&self, alloc: Global) -> Result<Occurrence, AllocError>
+        ensures { IfOk result (λ made. made ≡ self.now) }
+    {
+        let symbol = self.symbol.to_text(alloc)?;
+        Ok(Occurrence {
+            range: self.range,
+            symbol,
+            symbol_roles: self.symbol_roles,
+        })
+    }
+}
+
+impl<'a> LentInformation<'a> {
+    /// An entry with copies of the texts.
+    pub fn to_record(&self, alloc: Global) -> Result<SymbolInformation, AllocError>
+        ensures { IfOk result (λ made. made ≡ self.now) }
+    {
+        let symbol = self.symbol.to_text(alloc)?;
+        let documentation = texts_of(alloc, &self.documentation)?;
+        let display_name = OwnedText::copy_of(alloc, self.display_name)?;
+        Ok(SymbolInformation {
+            symbol,
+            documentation,
+            display_name,
+        })
+    }
+}
+
+/// The occurrences of a document whose parts are lent.
+fn occurrences_of<D: DocumentParts>(
+    alloc: Global,
+    document: &D,
+) -> Result<Vec<Occurrence>, AllocError>
+    ensures { IfOk result (λ list. list.items ≡ (D.document document.now).occurrences) }
+{
+    let mut list = Vec::with_capacity(alloc, document.occurrence_count())?;
+    'numbers: for number in 0..document.occurrence_count() {
+        let made = document.occurrence(number).to_record(alloc)?;
+        list.push(made)?;
+    }
+    Ok(list)
+}
+
+/// The entries of a document whose parts are lent.
+fn entries_of<D: DocumentParts>(
+    alloc: Global,
+    document: &D,
+) -> Result<Vec<SymbolInformation>, AllocError>
+    ensures { IfOk result (λ list. list.items ≡ (D.document document.now).symbols) }
+{
+    let mut list = Vec::with_capacity(alloc, document.entry_count())?;
+    'numbers: for number in 0..document.entry_count() {
+        let made = document.entry(number).to_record(alloc)?;
+        list.push(made)?;
+    }
+    Ok(list)
+}
+
+/// The record of a document whose parts are lent, with copies of all texts.
+pub fn records_of<D: DocumentParts>(alloc: Global, document: &D) -> Result<Document, AllocError>
+    ensures { IfOk result (λ made. made ≡ D.document document.now) }
+{
+    let relative_path = OwnedText::copy_of(alloc, document.relative_path())?;
+    let occurrences = occurrences_of(alloc, document)?;
+    let symbols = entries_of(alloc, document)?;
+    let language = OwnedText::copy_of(alloc, document.language())?;
+    Ok(Document {
+        relative_path,
+        occurrences: Sequence::from_vec(occurrences),
+        symbols: Sequence::from_vec(symbols),
+        language,
+        position_encoding: document.position_encoding(),
+    })
+}

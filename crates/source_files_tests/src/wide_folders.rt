@@ -1,0 +1,40 @@
+//! A folder whose names take more room than is read at once.
+
+use crate::roots::{read_again, remove_again, see};
+use index_pool::Workers;
+use source_files::SystemFiles;
+use std::alloc::Global;
+use std::fs;
+use std::rt::Files;
+use std::test::Fail;
+
+/// So many sources are made, with names of 206 bytes each: 20 KiB of them.
+const SOURCES: usize = 100;
+
+/// Makes the sources.
+fn make_sources<S: Files>(system: &S, alloc: Global) -> Result<(), Fail> {
+    for number in 0..SOURCES {
+        let path = format!(in alloc; "wide/{number:0>200}.proto")?;
+        fs::write(system, path.as_str(), "")?;
+    }
+    Ok(())
+}
+
+#[test]
+fn all_of_a_wide_folder(rt: HostRuntime) -> Result<(), Fail> {
+    // What an earlier run has left that didn't come to its end.
+    let _ = remove_again(&rt, "wide");
+    fs::create_dir(&rt, "wide")?;
+    make_sources(&rt, rt.alloc())?;
+    let files = SystemFiles::new(&rt);
+    for count in &[1usize, 3] {
+        if let Some(workers) = Workers::new(*count) {
+            let found = match read_again(&rt, rt.alloc(), workers, &files, "wide") {
+                Ok(sources) => sources.len(),
+                Err(_) => 0,
+            };
+            see(&rt, found == SOURCES, "all sources");
+        }
+    }
+    Ok(remove_again(&rt, "wide")?)
+}

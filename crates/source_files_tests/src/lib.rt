@@ -4,6 +4,8 @@
 #[cfg(test)]
 mod closed_streams;
 #[cfg(test)]
+mod displays;
+#[cfg(test)]
 mod free_folders;
 #[cfg(test)]
 mod numbered;

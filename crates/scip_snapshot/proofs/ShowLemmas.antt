@@ -266,7 +266,7 @@ module _ {M : Type 0} (heard : M → Option (List ℕ)) (unheard : M → ℕ) (g
         (Err fault)
         → Shows gives root index whole cut (writer heard unheard start end) (Err fault)
     stops Write one = (many + 1, become one_cut cut cut_more one)
-    stops Memory one = (many, stays one.0 one.1)
+    stops Memory one = (many, within, stays one.0 one.1)
 
 -- all of them are shown
 pub all_are : {M : Type 0} (heard : M → Option (List ℕ)) (unheard : M → ℕ) (gives : List ℕ → Option (List ℕ) → Type 0)

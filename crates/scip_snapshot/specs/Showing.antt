@@ -1,6 +1,6 @@
 -- What is done with the snapshots of the documents of an index.
 -- `gives` is what reading a file may give, and `messages` the stream of messages.
-use Rattle.std.specs.Prelude.{◌≡◌, ◌≤◌, ℕ, List, [], ◌∷◌, ◌++◌, length, take, Option, Result, Ok, Err, codes}
+use Rattle.std.specs.Prelude.{◌≡◌, ◌<◌, ◌≤◌, ℕ, List, [], ◌∷◌, ◌++◌, length, take, Option, Result, Ok, Err, codes}
 use Rattle.streams.specs.WholeWrites.{IsWritten, IsCutOff}
 use Rattle.source_files.specs.Made.{Made, MakesAll, StopsBehind}
 use Rattle.scip_records.specs.declared.records.Index.{Index}
@@ -121,12 +121,13 @@ pub record AreShownBy {M : Type 0} (gives : List ℕ → Option (List ℕ) → T
   pub gone : goes shown
   pub told_are : AreTold messages (told shown)
 
--- all of them are shown; or a first part of them, the last of which is cut off; or after a first part of them memory
--- ran out
+-- all of them are shown; or a first part of them, the last of which is cut off; or after a first part of them, behind
+-- which there are others, memory ran out
 abbrev pub Shows : {M : Type 0} → (gives : List ℕ → Option (List ℕ) → Type 0) → (root : List ℕ) → Index
     → (whole cut : List Shown → Type 0) → Writer M → Result (Unit {0}) ShowFault → Type 0
 Shows gives root index whole cut messages (Ok done) = AreShownBy gives root index index.documents whole messages
 Shows gives root index whole cut messages (Err Write) =
     (many : ℕ) × AreShownBy gives root index (take many index.documents) cut messages
 Shows gives root index whole cut messages (Err Memory) =
-    (many : ℕ) × AreShownBy gives root index (take many index.documents) whole messages
+    (many : ℕ) × (many < length index.documents)
+    × AreShownBy gives root index (take many index.documents) whole messages

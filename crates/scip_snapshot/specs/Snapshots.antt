@@ -41,7 +41,7 @@ abbrev pub path_in : (folder path : List ℕ) → List ℕ
 path_in [] path = path
 path_in (byte ∷ folder) path = path_below (byte ∷ folder) path
 
--- Its source is the file with its path below the root. If the path isn't that of a page, nothing is read.
+-- Its source is the file with its path below the root, if the path is that of a page.
 abbrev pub IsRead : (gives : List ℕ → Option (List ℕ) → Type 0) → (root : List ℕ) → Index → ℕ → (path : List ℕ)
     → (is_below : Bool) → Outcome → Type 0
 IsRead gives root index number path false outcome = outcome ≡ Err BadPath

@@ -115,7 +115,8 @@ fn add_folder(
     for path in paths {
         folder.add(path)?;
     }
-    packages.add(folder)
+    packages.add(folder)?;
+    Ok(())
 }
 
 /// Adds folders of these packages, with the paths of the files below each.

@@ -2,15 +2,17 @@
 use Rattle.std.proofs.Common.{◌≡◌, ◌∙◌, sym, ap, ℕ, List}
 use Rattle.std.specs.List.{slice_get}
 use Rattle.std.proofs.lemmas.Option.{same_Some}
+use Rattle.proto_decl.specs.Ancestors.{component_names}
 use Rattle.proto_decl.specs.Facts.{Facts}
+use Rattle.proto_decl.specs.declared.type_use.Component.{Component}
 use Rattle.proto_decl.specs.declared.declaration.Declaration.{Declaration}
 use Rattle.scip_records.specs.declared.records.SymbolInformation.{SymbolInformation}
-use Rattle.scip_symbol.specs.Entities.{OfFile}
+use Rattle.scip_symbol.specs.Entities.{OfFile, OfDeclaration}
 use Rattle.scip_symbol.specs.Package.{Package}
 use Rattle.proto_visibility.specs.Files.{File, HasFacts}
 use Rattle.scip_model.specs.Packages.{Packages, package_of_path, package_of_file}
 use Rattle.scip_model.specs.Named.{HasDeclaration, text_of, declaration_at}
-use Rattle.scip_model.specs.Laws.{IsShared, SymbolsMeet}
+use Rattle.scip_model.specs.Laws.{DeclareTheSame, IsShared, SymbolsMeet}
 use Rattle.scip_model.proofs.PackageLemmas.{by_path}
 
 module _ (files others : List File) (ids theirs : Packages) (number other : ℕ)
@@ -34,27 +36,25 @@ module _ (files others : List File) (ids theirs : Packages) (number other : ℕ)
       ∙ ap (λ (path : List ℕ). text_of (package_of_path theirs shared.there.path) (OfFile path))
       (shared.path_here ∙ sym shared.path_there)
 
-  -- a declaration of the file is one there, too
-  facts_are : (here there : Facts) → HasFacts files number here → HasFacts others other there → here ≡ there
-  facts_are here there a b =
-      same_Some here there
-      (sym a.known
-      ∙ (ap (λ (f : File). f.facts) (same_Some a.file shared.here (sym a.numbered ∙ shared.numbered_here))
-      ∙ (shared.facts
-      ∙ (ap (λ (f : File). f.facts) (same_Some shared.there b.file (sym shared.numbered_there ∙ b.numbered))
-      ∙ b.known))))
+  -- the file declares the same there
+  same_facts : (here there : Facts) → HasFacts files number here → HasFacts others other there → DeclareTheSame here there
+  same_facts here there a b =
+      shared.facts here there
+      (ap (λ (f : File). f.facts) (same_Some shared.here a.file (sym shared.numbered_here ∙ a.numbered)) ∙ a.known)
+      (ap (λ (f : File). f.facts) (same_Some shared.there b.file (sym shared.numbered_there ∙ b.numbered)) ∙ b.known)
 
   pub declaration_meets : (index : ℕ) (facts more : Facts) (declared its : Declaration)
       → HasDeclaration files number index facts declared → HasDeclaration others other index more its
       → text_of (package_of_file files ids number) (declaration_at facts declared)
       ≡ text_of (package_of_file others theirs other) (declaration_at more its)
   declaration_meets index facts more declared its a b =
-      let same : facts ≡ more = facts_are facts more a.has_facts b.has_facts in
+      let same : DeclareTheSame facts more = same_facts facts more a.has_facts b.has_facts in
       let one : declared ≡ its =
       same_Some declared its
-      (sym a.numbered ∙ (ap (λ (f : Facts). slice_get f.declarations index) same ∙ b.numbered)) in
+      (sym a.numbered ∙ (ap (λ (ds : List Declaration). slice_get ds index) same.declarations ∙ b.numbered)) in
       ap (λ (p : Package). text_of p (declaration_at facts declared)) one_package
-      ∙ (ap (λ (f : Facts). text_of (package_of_file others theirs other) (declaration_at f declared)) same
+      ∙ (ap (λ (name : List Component). text_of (package_of_file others theirs other)
+      (OfDeclaration (component_names name) declared.path)) same.package_name
       ∙ ap (λ (d : Declaration). text_of (package_of_file others theirs other) (declaration_at more d)) one)
 
 pub meet : SymbolsMeet

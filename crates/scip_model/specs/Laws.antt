@@ -61,7 +61,12 @@ SymbolsNameOne =
     → IsAmong declarations other
     → symbol_text (symbol_in id entity) ≡ symbol_text (symbol_in its other) → entity ≡ other
 
--- Two trees share a file: it has one path in both, the same facts, and one package.
+-- Two files declare the same, whatever number each has in its tree: the name of the package, and the declarations.
+pub record DeclareTheSame (here there : Facts) : Type 0 where
+  pub package_name : here.package_name ≡ there.package_name
+  pub declarations : here.declarations ≡ there.declarations
+
+-- Two trees share a file: it has one path in both, declares the same, and has one package.
 pub record IsShared (files others : List File) (ids theirs : Packages) (number other : ℕ) : Type 0 where
   pub path : List ℕ
   pub here : File
@@ -70,7 +75,7 @@ pub record IsShared (files others : List File) (ids theirs : Packages) (number o
   pub numbered_there : slice_get others other ≡ Some there
   pub path_here : here.path ≡ path
   pub path_there : there.path ≡ path
-  pub facts : here.facts ≡ there.facts
+  pub facts : (one its : Facts) → here.facts ≡ Some one → there.facts ≡ Some its → DeclareTheSame one its
   pub one_package : package_of_path ids path ≡ package_of_path theirs path
 
 -- What trees share has one symbol in both. The file has: where it is defined, and where the other tree imports it. Each

@@ -49,9 +49,9 @@ pub fn symbols_name_one_entity_in_packages()
     text_spells_one_symbol();
 }
 
-/// A file that two trees have, with the same facts and in one package, has one symbol in both, and so has
-/// each of its declarations: where it is defined in the one, where the other names it, and in the entry
-/// that the other has for it.
+/// A file that two trees have, with one path, the same declarations and one package, has one symbol in both, and so
+/// has each of its declarations: where it is defined in the one, where the other names it, and in the entry that the
+/// other has for it. The file's number in each tree doesn't matter.
 pub fn symbols_meet()
     ensures { SymbolsMeet }
 {}

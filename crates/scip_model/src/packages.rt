@@ -1,6 +1,6 @@
 //! Which package the symbols of a file belong to.
 
-ghost use Rattle.std.specs.Prelude.{◌≡◌, ◌<◌, ◌++◌, ◌∷◌, [], OnOk, OnErr, length};
+ghost use Rattle.std.specs.Prelude.{◌≡◌, ◌<◌, ◌++◌, ◌∷◌, [], OnOk, OnErr, IfErr, length};
 ghost use Rattle.std.specs.Str.{bytes_eq};
 ghost use Rattle.std.specs.String.{string_bytes};
 ghost use Rattle.std.specs.List.{list_any};
@@ -11,7 +11,7 @@ ghost use Rattle.scip_model.specs.Packages.{package_of_file};
 use indexmap::IndexSet;
 use proto_link::Linker;
 use scip_symbol::PackageId;
-use std::alloc::{AllocError, Global};
+use std::alloc::{AllocFailed, Global};
 use std::marker::Model;
 
 /// An included root with a package of its own, and the paths of its files.
@@ -48,11 +48,12 @@ impl RootPackage {
         }
     }
 
-    /// Adds the path of a file, unless it is there. If memory runs out, nothing changes.
-    pub fn add(&mut self, path: String) -> Result<(), AllocError>
+    /// Adds the path of a file, unless it is there. If memory runs out, nothing changes, and the path is handed back.
+    pub fn add(&mut self, path: String) -> Result<(), AllocFailed<String>>
         ensures id { self.new.id ≡ self.old.id }
         ensures paths { OnOk result (self.new.paths ≡ with_path self.old.paths (string_bytes path)) }
         ensures err { OnErr result (self.new ≡ self.old) }
+        ensures handed_back { IfErr result (λ e. e.value ≡ path) }
     {
         self.paths.insert(path)?;
         Ok(())
@@ -106,11 +107,12 @@ impl FilePackages {
     }
 
     /// Adds a root after those that are there: of the roots that have a file with one path the first counts. If
-    /// memory runs out, nothing changes.
-    pub fn add(&mut self, root: RootPackage) -> Result<(), AllocError>
+    /// memory runs out, nothing changes, and the root is handed back.
+    pub fn add(&mut self, root: RootPackage) -> Result<(), AllocFailed<RootPackage>>
         ensures run { self.new.run ≡ self.old.run }
         ensures roots { OnOk result (self.new.roots ≡ self.old.roots ++ root ∷ []) }
         ensures err { OnErr result (self.new ≡ self.old) }
+        ensures handed_back { IfErr result (λ e. e.value ≡ root) }
     {
         root.id();
         self.roots.push(root)?;

@@ -1,7 +1,7 @@
 -- Files that are made one after another.
-use Rattle.std.proofs.Common.{◌≡◌, ◌∙◌, sym, refl, ap, subst, ℕ, zero, suc, ◌+◌, ◌<◌, ◌≤◌, ◌-◌, List, [], ◌∷◌, ◌++◌}
+use Rattle.std.proofs.Common.{◌≡◌, ◌≢◌, ◌∙◌, sym, refl, ap, subst, ℕ, zero, suc, ◌+◌, ◌<◌, ◌≤◌, ◌-◌, List, [], ◌∷◌, ◌++◌}
 use Rattle.std.proofs.Common.{map, append-nil, append_assoc, arith, Ok, Err, inl, inr}
-use Rattle.std.specs.Prelude.{Result, Option, length}
+use Rattle.std.specs.Prelude.{Result, Option, Some, None, length, codes}
 use Rattle.std.specs.List.{flat_map, range_with_len}
 use Rattle.std.proofs.lemmas.Grind.{flat_map-append}
 use Rattle.std.proofs.lemmas.List.{map-append}
@@ -12,11 +12,12 @@ use Rattle.scip_snapshot.specs.declared.show_fault.ShowFault.{ShowFault}
 use Rattle.scip_snapshot.specs.declared.show_fault.ShowFault.TheVariants.{Write, Memory}
 use Rattle.scip_snapshot.specs.Showing.{maker, writer, silent}
 use Rattle.scip_snapshot.proofs.ShowLemmas.{makes_both, makes_none, stops_behind_both}
-use Rattle.source_page.specs.Site.{Sources}
+use Rattle.source_page.specs.Site.{Sources, page_path}
 use Rattle.scip_site.specs.Tree.{first_page}
 use Rattle.scip_site.specs.Reading.{ReadsInto, AllAreKept, none}
 use Rattle.scip_site.specs.Making.{AllOf, AllThenNone, PartOf, MakesFiles, MakesSite, file, in_folder, pages, shared}
-use Rattle.scip_site.specs.Making.{script_text, paths_in, site_files}
+use Rattle.scip_site.specs.Making.{script_text, paths_in, site_files, page_file}
+use Rattle.scip_site.specs.declared.styles.TheConstants.{STYLE, SEARCH}
 use Rattle.source_page.proofs.CodeLemmas.{range_more}
 
 -- ---- some files, and others behind them
@@ -40,11 +41,24 @@ part_before holds files more others before = record {
 
 module _ {O : Type 0} (made : O → Made) where
   -- none is made where memory runs out
-  pub none_made : (files : List MadeFile) (now : O) → MakesFiles (maker made now now) files (Err Memory)
-  none_made files now = record {
-    others = files;
+  pub none_made : (next : MadeFile) (others : List MadeFile) (now : O)
+      → MakesFiles (maker made now now) (next ∷ others) (Err Memory)
+  none_made next others now = record {
+    next = next;
+    others = others;
     made = record { part = []; is_part = refl; holds = makes_none (made now) };
   }
+
+  none_before : (files : List MadeFile) (next : MadeFile) (others : List MadeFile) (now : O)
+      → MakesFiles (maker made now now) (files ++ next ∷ others) (Err Memory)
+  none_before [] next others now = none_made next others now
+  none_before (first ∷ files) next others now = none_made first (files ++ next ∷ others) now
+
+  -- nor is a page that there is
+  pub page_left : (folder path : List ℕ) (page : Option (List ℕ)) (now : O) → page ≢ None
+      → MakesFiles (maker made now now) (map (in_folder folder) (page_file path page)) (Err Memory)
+  page_left folder path None now is = absurd (is refl)
+  page_left folder path (Some page) now is = none_made (in_folder folder (file (page_path path) page)) [] now
 
   module _ (first now after : O) (files more : List MadeFile) where
     -- the first are made, and what becomes of the others
@@ -59,8 +73,10 @@ module _ {O : Type 0} (made : O → Made) where
           (λ part holds. stops_behind_both (made first) (made now) (made after) files part before holds) behind.made;
     }
     both before (Err Memory) behind = record {
+      next = behind.next;
       others = behind.others;
-      made = part_behind (AllOf (maker made now after)) (AllOf (maker made first after)) files more behind.others
+      made = part_behind (AllOf (maker made now after)) (AllOf (maker made first after)) files more
+          (behind.next ∷ behind.others)
           (λ part holds. makes_both (made first) (made now) (made after) files part before holds) behind.made;
     }
 
@@ -74,14 +90,16 @@ module _ {O : Type 0} (made : O → Made) where
       made = part_before (AllThenNone (maker made first after)) files more (before.refused ∷ before.others) before.made;
     }
     stops Memory before = record {
+      next = before.next;
       others = before.others ++ more;
-      made = part_before (AllOf (maker made first after)) files more before.others before.made;
+      made = part_before (AllOf (maker made first after)) files more (before.next ∷ before.others) before.made;
     }
 
   -- memory runs out behind the first
-  pub stops_behind : (first now : O) (files more : List MadeFile) → AllOf (maker made first now) files
-      → MakesFiles (maker made first now) (files ++ more) (Err Memory)
-  stops_behind first now files more before = both first now now files more before (Err Memory) (none_made more now)
+  pub stops_behind : (first now : O) (files : List MadeFile) (next : MadeFile) (others : List MadeFile)
+      → AllOf (maker made first now) files → MakesFiles (maker made first now) (files ++ next ∷ others) (Err Memory)
+  stops_behind first now files next others before =
+      both first now now files (next ∷ others) before (Err Memory) (none_made next others now)
 
 -- a file in a folder, and what is known of its text
 abbrev pub one : (folder path bytes : List ℕ) → List MadeFile
@@ -184,6 +202,12 @@ pages_in folder index sources = map (in_folder folder) (pages index sources (num
 abbrev pub shared_in : (folder script first : List ℕ) → List MadeFile
 shared_in folder script first = map (in_folder folder) (shared script first)
 
+-- of which the style sheet is the first
+abbrev behind_style : (folder script first : List ℕ) → List MadeFile
+behind_style folder script first =
+    map (in_folder folder) (file (codes "search.js") SEARCH.now
+    ∷ (file (codes "symbols.js") script ∷ (file (codes "index.html") first ∷ [])))
+
 abbrev pub all_in : (folder : List ℕ) → Index → Sources → List ℕ → List MadeFile
 all_in folder index sources order = map (in_folder folder) (site_files index sources order)
 
@@ -209,6 +233,12 @@ module _ {O : Type 0} (made : O → Made) (folder : List ℕ) (index : Index) (s
   with_pages after done makes = subst (λ (files : List MadeFile). MakesFiles (maker made first after) files done)
       (sym (all_are folder index sources order)) makes
 
+  -- none is made
+  pub nothing_yet : Behind first (Err Memory)
+  nothing_yet = with_pages first (Err Memory)
+      (none_before made (pages_in folder index sources) (in_folder folder (file (codes "pages.css") STYLE.now))
+      (behind_style folder (script_text index sources) (due_first index sources order)) first)
+
   -- the pages aren't all made
   pub pages_stop : (after : O) (fault : ShowFault)
       → MakesFiles (maker made first after) (pages_in folder index sources) (Err fault) → Behind after (Err fault)
@@ -221,7 +251,8 @@ module _ {O : Type 0} (made : O → Made) (folder : List ℕ) (index : Index) (s
     pub nothing_shared : Behind now (Err Memory)
     nothing_shared = with_pages now (Err Memory)
         (stops_behind made first now (pages_in folder index sources)
-        (shared_in folder (script_text index sources) (due_first index sources order)) before)
+        (in_folder folder (file (codes "pages.css") STYLE.now))
+        (behind_style folder (script_text index sources) (due_first index sources order)) before)
 
     -- or what they share is made
     pub all_shared : (after : O) (script page : List ℕ) → script ≡ script_text index sources

@@ -124,12 +124,13 @@ pub record AllBut {O : Type 0} (maker : Maker O) (files : List MadeFile) : Type 
   pub others : List MadeFile
   pub made : PartOf (AllThenNone maker) files (refused ∷ others)
 
--- a first part is made
+-- a first part is made, and the next file isn't
 pub record SomeOf {O : Type 0} (maker : Maker O) (files : List MadeFile) : Type 0 where
+  pub next : MadeFile
   pub others : List MadeFile
-  pub made : PartOf (AllOf maker) files others
+  pub made : PartOf (AllOf maker) files (next ∷ others)
 
--- Ok: all are made; Write: those before the first that is refused; Memory: a first part.
+-- Ok: all are made; Write: those before the first that is refused; Memory: a first part, but not all.
 abbrev pub MakesFiles : {O : Type 0} → Maker O → List MadeFile → Result (Unit {0}) ShowFault → Type 0
 MakesFiles maker files (Ok done) = AllOf maker files
 MakesFiles maker files (Err Write) = AllBut maker files

@@ -1,6 +1,6 @@
 //! A folder of pages.
 
-ghost use Rattle.std.specs.Prelude.{◌≡◌, ◌++◌, [], ◌∷◌, ℕ, List, IfOk, OnOk, length, map};
+ghost use Rattle.std.specs.Prelude.{◌≡◌, ◌≢◌, ◌++◌, [], ◌∷◌, ℕ, List, IfErr, IfOk, None, OnOk, length, map};
 ghost use Rattle.std.specs.Borrow.{Bor};
 ghost use Rattle.std.specs.Option.{option_map};
 ghost use Rattle.scip_query.specs.Tables.{numbers};
@@ -95,6 +95,7 @@ fn page_at<'a>(
         site.now.sources.now number) }
     ensures listed { IfOk result (λ page. listed.new.script.items ≡ listed.old.script.items ++ spec.listing_at
         site.now.queries.now site.now.sources.now number) }
+    ensures due { IfErr result (λ _. spec.page_at site.now.queries.now site.now.sources.now number ≢ None) }
 {
     let Some(document) = site.queries.documents().get(number) else {
         return Ok(None);

@@ -21,13 +21,14 @@ returns g c =
 pub returns-in_err-file : goal.returns-in_err-file
 returns-in_err-file g c =
     let p = err_from_is_err_and c.from_residual.result c.from_residual.ensures.1 in
-    rw (p.1, p.2) (none_made g.O.MakeFiles.made _ c.args.made.now)
+    rw (p.1, p.2) (none_made g.O.MakeFiles.made _ [] c.args.made.now)
 
 pub returns-in_err-make_file : goal.returns-in_err-make_file
 returns-in_err-make_file g c =
     let p = err_from_is_err_and c.from_residual-in_err-make_file.result
     c.from_residual-in_err-make_file.ensures.1 in
     rw (p.1, p.2) record {
-      others = _;
+      next = _;
+      others = [];
       made = record { part = []; is_part = refl; holds = c.in_err-make_file.ensures };
     }

@@ -2,19 +2,23 @@ use Rattle.std.proofs.Common.{◌≡◌, ◌∙◌, ap, List, ℕ, ◌++◌, len
 use Rattle.std.proofs.lemmas.Result.{err_from_is_err_and}
 use Rattle.scip_query.specs.Tables.{numbers}
 use Rattle.scip_site.specs.Making.{listings, script_start, script_end, script_text}
-use Rattle.scip_site.proofs.MakeLemmas.{none_made, pages_stop, nothing_shared, all_shared}
+use Rattle.scip_site.proofs.MakeLemmas.{nothing_yet, pages_stop, nothing_shared, all_shared}
 use Rattle.scip_site.proofs.making.make_all.Goals as goal
 
 pub returns-in_err-first : goal.returns-in_err-first
 returns-in_err-first g c =
     let p = err_from_is_err_and c.from_residual.result c.from_residual.ensures.1 in
-    rw (p.1, p.2) (none_made g.O.MakeFiles.made _ c.args.made.now)
+    let site = c.args.site.now in
+    rw (p.1, p.2) (nothing_yet g.O.MakeFiles.made c.args.folder.now site.queries.now site.sources.now c.args.order.now
+    c.args.made.now)
 
 pub returns-in_err-listed : goal.returns-in_err-listed
 returns-in_err-listed g c =
     let p = err_from_is_err_and c.from_residual-in_err-listed.result
     c.from_residual-in_err-listed.ensures.1 in
-    rw (p.1, p.2) (none_made g.O.MakeFiles.made _ c.args.made.now)
+    let site = c.args.site.now in
+    rw (p.1, p.2) (nothing_yet g.O.MakeFiles.made c.args.folder.now site.queries.now site.sources.now c.args.order.now
+    c.args.made.now)
 
 pub returns-in_err-make_each : goal.returns-in_err-make_each
 returns-in_err-make_each g c =

@@ -4,8 +4,8 @@ use Rattle.std.proofs.lemmas.Result.{err_from_is_err_and}
 use Rattle.scip_records.specs.declared.records.Document.{Document}
 use Rattle.scip_query.specs.Tables.{path_listed}
 use Rattle.scip_snapshot.specs.Showing.{maker}
-use Rattle.scip_site.specs.Making.{MakesFiles, in_folder, page_file}
-use Rattle.scip_site.proofs.MakeLemmas.{none_made}
+use Rattle.scip_site.specs.Making.{MakesFiles, in_folder, page_at, page_file}
+use Rattle.scip_site.proofs.MakeLemmas.{page_left}
 use Rattle.scip_site.proofs.making.make_page.Goals as goal
 
 pub returns-clause-files : goal.returns-clause-files
@@ -23,4 +23,7 @@ returns-clause-files g c =
 pub returns-in_err-page-clause-files : goal.returns-in_err-page-clause-files
 returns-in_err-page-clause-files g c =
     let p = err_from_is_err_and c.from_residual.result c.from_residual.ensures.1 in
-    rw (p.1, p.2) (none_made g.O.MakeFiles.made _ c.args.made.now)
+    let site = c.args.site.now in
+    rw (p.1, p.2) (page_left g.O.MakeFiles.made c.args.folder.now
+    (path_listed site.queries.now.documents c.args.number) (page_at site.queries.now site.sources.now c.args.number)
+    c.args.made.now c.in_err-page.ensures.due)

@@ -10,4 +10,6 @@ mod gates;
 #[cfg(test)]
 mod hooks;
 #[cfg(test)]
+mod names;
+#[cfg(test)]
 mod plans;

@@ -1,0 +1,80 @@
+//! Syntax trees.
+
+use crate::shared::see;
+use proto_lex::{Text, lex};
+use proto_parse::{SyntaxFault, parse};
+use std::alloc::{AllocError, Global};
+use std::test::Fail;
+
+/// Sources that have no tree, and why.
+static FAULTS: [(&str, SyntaxFault); 8] = [
+    (
+        "syntax = \"proto3\";\nmessage {}\n",
+        SyntaxFault::Grammar(27),
+    ),
+    ("syntax = \"proto2\";\n", SyntaxFault::NotProto3(9)),
+    ("", SyntaxFault::NotProto3(0)),
+    (
+        "syntax = \"proto3\";\noption (x) = 1;\n",
+        SyntaxFault::CustomOption(26),
+    ),
+    (
+        "syntax = \"proto3\";\noption a = {};\n",
+        SyntaxFault::Aggregate(30),
+    ),
+    (
+        "syntax = \"proto3\";\nextend A {}\n",
+        SyntaxFault::Extend(19),
+    ),
+    (
+        "syntax = \"proto3\";\npackage a;package b;\n",
+        SyntaxFault::TwoPackages(29),
+    ),
+    (
+        "syntax = \"proto3\";\nimport \"\\x61\";\n",
+        SyntaxFault::ImportEscape(26),
+    ),
+];
+
+#[test]
+fn parse_refuses_by_name(rt: HostRuntime) -> Result<(), Fail> {
+    for (source, due) in &FAULTS {
+        let fault = fault_of(rt.alloc(), source)?;
+        see(&rt, fault == Some(*due), source);
+    }
+    Ok(())
+}
+
+/// Why a source has no tree, if it has none.
+fn fault_of(alloc: Global, source: &str) -> Result<Option<SyntaxFault>, Fail> {
+    let text = Text::new(alloc, source.as_bytes())?;
+    let tokens = lex(alloc, &text)?;
+    Ok(parse(alloc, &tokens).err())
+}
+
+/// A message inside a message, to this depth.
+fn nested(alloc: Global, depth: usize) -> Result<String, AllocError> {
+    let opened = "message A{".repeat(alloc, depth)?;
+    let closed = "}".repeat(alloc, depth)?;
+    ["syntax = \"proto3\";\n", opened.as_str(), closed.as_str()].join(alloc, "")
+}
+
+#[test]
+fn parse_takes_64_messages_in_one_another(rt: HostRuntime) -> Result<(), Fail> {
+    let source = nested(rt.alloc(), 64)?;
+    let fault = fault_of(rt.alloc(), source.as_str())?;
+    see(&rt, fault == None, "a depth of 64");
+    Ok(())
+}
+
+#[test]
+fn parse_refuses_a_65th_message(rt: HostRuntime) -> Result<(), Fail> {
+    let source = nested(rt.alloc(), 65)?;
+    let fault = fault_of(rt.alloc(), source.as_str())?;
+    see(
+        &rt,
+        fault == Some(SyntaxFault::TooDeep(659)),
+        "a depth of 65",
+    );
+    Ok(())
+}

@@ -1,0 +1,3 @@
+pub mod EntityConditions
+pub mod OneSourceLemmas
+pub mod RisingLemmas

@@ -1,0 +1,29 @@
+use Rattle.std.proofs.Common.{rules, refl}
+use Rattle.std.proofs.lemmas.Result.{IfOk-weaker}
+use Rattle.proto_decl.specs.Facts.{AreFactsOf}
+use Rattle.proto_parse.specs.tree.CustomOptions.TheVariants.{Refuse}
+use Rattle.proto_parse.specs.tree.Dialect.TheVariants.{Proto3}
+use Rattle.scip_model.specs.Texts.{AreOfText}
+use Rattle.surface_tests.proofs.document_calls.facts_of.Goals as goal
+
+pub returns : goal.returns
+returns c =
+    IfOk-weaker c.declare.result (AreFactsOf 0 c.in-Ok.lexed c.in-Ok-parse.tree) (AreOfText c.args.text.now)
+    (λ facts of_tree. record {
+      origin = record {
+        lexed = c.in-Ok.lexed;
+        file = c.in-Ok-parse.tree;
+        dialect = Proto3 Refuse;
+        is_lexed = search rules;
+        derives = c.in-Ok-parse.ensures.found;
+        of_file = record {
+          numbered = refl;
+          package_name = of_tree.package_name;
+          imports = of_tree.imports;
+          declarations = of_tree.declarations;
+          uses = of_tree.uses;
+        };
+      };
+      text_is = c.in-Ok.ensures.text;
+    })
+    c.declare.ensures

@@ -1,0 +1,2 @@
+-- the source that a test links
+pub mod OneSource

@@ -1,0 +1,250 @@
+//! The records of an index, the documents of sources, and writers and readers.
+
+ghost use Rattle.std.specs.Prelude.{◌≡◌, ◌∷◌, [], map, IfOk};
+ghost use Rattle.std.specs.String.{string_bytes};
+ghost use Rattle.scip_model.specs.Chosen.{HasChoice};
+ghost use Rattle.scip_model.specs.Pieces.{IsRising};
+
+use crate::broken::Broken;
+use crate::shared::see;
+use index_hooks::{Choice, DocChoice};
+use scip_model::{
+    Choices, Document, Failed, Feed, Index, Info, MergeFault, Metadata, Occurrence, Range, Sink,
+    Std, ToolInfo, Unmerged, merge,
+};
+use scip_wire::write_index;
+use sequences::{OwnedText, Sequence};
+use std::alloc::{AllocError, Global};
+use std::test::Fail;
+
+/// A document with this path and nothing in it.
+fn piece(alloc: Global, path: &str) -> Result<Document, AllocError> {
+    Ok(Document {
+        relative_path: OwnedText::copy_of(alloc, path)?,
+        occurrences: Sequence::new(alloc),
+        symbols: Sequence::new(alloc),
+        language: OwnedText::new(alloc),
+        position_encoding: 1,
+    })
+}
+
+/// The tool of an index.
+fn tool_of(alloc: Global) -> Result<ToolInfo, AllocError> {
+    Ok(ToolInfo {
+        name: OwnedText::copy_of(alloc, "protoscip")?,
+        version: OwnedText::copy_of(alloc, "1")?,
+        arguments: Sequence::new(alloc),
+    })
+}
+
+/// The metadata of an index.
+fn metadata_of(alloc: Global) -> Result<Metadata, AllocError> {
+    let tool = tool_of(alloc)?;
+    Ok(Metadata {
+        version: 0,
+        tool_info: Some(tool),
+        project_root: OwnedText::copy_of(alloc, "file:///")?,
+        text_document_encoding: 1,
+    })
+}
+
+/// An occurrence of `x`.
+fn occurrence_of(alloc: Global, range: Range) -> Result<Occurrence, AllocError> {
+    Ok(Occurrence {
+        range,
+        symbol: OwnedText::copy_of(alloc, "x")?,
+        symbol_roles: 1,
+    })
+}
+
+/// The entry of `x`.
+fn entry_of(alloc: Global) -> Result<Info, AllocError> {
+    Ok(Info {
+        symbol: OwnedText::copy_of(alloc, "x")?,
+        documentation: Sequence::new(alloc),
+        display_name: OwnedText::copy_of(alloc, "X")?,
+    })
+}
+
+/// An index with the document `a`, in which `x` is defined.
+fn index_of(alloc: Global, range: Range) -> Result<Index, Fail> {
+    let mut document = piece(alloc, "a")?;
+    document.occurrences.push(occurrence_of(alloc, range)?)?;
+    document.symbols.push(entry_of(alloc)?)?;
+    let mut documents = Sequence::new(alloc);
+    documents.push(document)?;
+    Ok(Index {
+        metadata: Some(metadata_of(alloc)?),
+        documents,
+        external_symbols: Sequence::new(alloc),
+    })
+}
+
+/// The bytes of that index.
+const BYTES: &[u8] = b"\x0A\x1C\x12\x0E\x0A\x09protoscip\x12\x011\x1A\x08file:///\x20\x01\
+\x12\x19\x0A\x01a\x12\x0A\x0A\x03\x01\x08\x09\x12\x01x\x18\x01\x1A\x06\x0A\x01x\x32\x01X\x30\x01";
+
+#[test]
+fn records_have_the_fields_of_the_format(rt: HostRuntime) -> Result<(), Fail> {
+    let range = Range::new(1, 8, 1, 9).ok_or("a range")?;
+    let index = index_of(rt.alloc(), range)?;
+    let mut out = Std::new(Vec::new(rt.alloc()));
+    let answer = write_index(&index, &mut out);
+    see(&rt, answer == Ok(()), "the index is written");
+    see(&rt, out.into_inner().as_slice() == BYTES, "its fields");
+    Ok(())
+}
+
+/// A choice that keeps a declaration with the text before it, and one that doesn't keep it.
+const KEPT: Choice = Choice {
+    keep: true,
+    doc: DocChoice::Leading,
+};
+
+const DROPPED: Choice = Choice {
+    keep: false,
+    doc: DocChoice::Both,
+};
+
+/// The choice for a file's only declaration.
+fn listed(alloc: Global, choice: Choice) -> Result<Vec<Choice>, AllocError>
+    ensures { IfOk result (λ list. list.items ≡ choice ∷ []) }
+{
+    Ok(Vec::from_array(alloc, [choice])?)
+}
+
+/// The choices for two files with a declaration each.
+fn two_choices(alloc: Global) -> Result<Choices, AllocError>
+    ensures { IfOk result (λ choices. HasChoice choices 0 0 × HasChoice choices 1 0) }
+{
+    let kept = listed(alloc, KEPT)?;
+    let dropped = listed(alloc, DROPPED)?;
+    let lists = Vec::from_array(alloc, [kept, dropped])?;
+    Ok(Choices::new(lists))
+}
+
+#[test]
+fn choices_keep_their_lists(rt: HostRuntime) -> Result<(), Fail> {
+    let choices = two_choices(rt.alloc())?;
+    see(
+        &rt,
+        choices.of(0, 0) == KEPT,
+        "the choice of the first file",
+    );
+    see(
+        &rt,
+        choices.of(1, 0) == DROPPED,
+        "the choice of the second file",
+    );
+    Ok(())
+}
+
+/// Adds a document with this path and nothing in it.
+fn add_piece(alloc: Global, pieces: &mut Vec<Document>, path: &str) -> Result<(), AllocError> {
+    let piece = piece(alloc, path)?;
+    pieces.push(piece)?;
+    Ok(())
+}
+
+/// Documents with these paths, in order.
+fn pieces_of(alloc: Global, paths: &str) -> Result<Vec<Document>, AllocError> {
+    let mut pieces = Vec::new(alloc);
+    for path in paths.split_terminator(' ') {
+        add_piece(alloc, &mut pieces, path)?;
+    }
+    Ok(pieces)
+}
+
+/// The paths `a.proto` and `b.proto`.
+fn two_paths(alloc: Global) -> Result<[String; 2], AllocError>
+    ensures { IfOk result (λ paths. IsRising (map string_bytes paths)) }
+{
+    let first = String::from_str(alloc, "a.proto")?;
+    let second = String::from_str(alloc, "b.proto")?;
+    Ok([first, second])
+}
+
+/// What `merge` answers of pieces with these paths.
+fn merged(alloc: Global, paths: &str) -> Result<Result<Index, Unmerged>, AllocError> {
+    let pieces = pieces_of(alloc, paths)?;
+    let metadata = metadata_of(alloc)?;
+    let due = two_paths(alloc)?;
+    Ok(merge(alloc, &due, pieces, metadata, Vec::new(alloc)))
+}
+
+/// Whether an index has the documents of `a.proto` and `b.proto`, in order.
+fn is_in_order(index: &Index) -> bool {
+    match index.documents.as_slice() {
+        [a, b] => a.relative_path.as_str() == "a.proto" && b.relative_path.as_str() == "b.proto",
+        _ => false,
+    }
+}
+
+#[test]
+fn merge_orders_by_path(rt: HostRuntime) -> Result<(), Fail> {
+    let is_so = match merged(rt.alloc(), "b.proto a.proto")? {
+        Ok(index) => is_in_order(&index),
+        Err(_) => false,
+    };
+    see(&rt, is_so, "the first and the second document");
+    Ok(())
+}
+
+/// Pieces by path, and why they are refused.
+const REFUSED: [(&str, MergeFault); 3] = [
+    ("a.proto a.proto", MergeFault::Twice(1)),
+    ("a.proto", MergeFault::Missing(1)),
+    ("a.proto c.proto", MergeFault::Stranger(1)),
+];
+
+/// Whether pieces with these paths are refused so.
+fn is_refused(alloc: Global, paths: &str, due: MergeFault) -> Result<bool, AllocError> {
+    match merged(alloc, paths)? {
+        Ok(_) => Ok(false),
+        Err(unmerged) => Ok(unmerged.fault == due),
+    }
+}
+
+#[test]
+fn merge_refuses_by_name(rt: HostRuntime) -> Result<(), Fail> {
+    for (paths, due) in &REFUSED {
+        see(&rt, is_refused(rt.alloc(), paths, *due)?, paths);
+    }
+    Ok(())
+}
+
+#[test]
+fn std_writes_and_reads(rt: HostRuntime) {
+    let mut out = Std::new(Vec::new(rt.alloc()));
+    see(&rt, out.write(b"abc") == Ok(3), "three bytes are taken");
+    see(
+        &rt,
+        out.into_inner().as_slice() == b"abc".as_slice(),
+        "the bytes",
+    );
+    let mut source = Std::new(b"abc".as_slice());
+    let mut room = [0u8; 8];
+    see(
+        &rt,
+        source.read(&mut room) == Ok(3),
+        "three bytes are given",
+    );
+    see(&rt, room == *b"abc\0\0\0\0\0", "the bytes that were given");
+}
+
+#[test]
+fn own_writers_and_readers_are_called(rt: HostRuntime) {
+    let mut broken = Broken::new();
+    see(&rt, broken.write(b"abc") == Err(Failed), "nothing is taken");
+    let mut room = [0u8; 8];
+    see(
+        &rt,
+        broken.read(&mut room) == Err(Failed),
+        "nothing is given",
+    );
+    see(
+        &rt,
+        broken.failures == 2 && broken.reads == 1,
+        "each failed",
+    );
+}

@@ -2,7 +2,9 @@
 -- `failures`, `reads` and `ends` are the feed's, `contents` the sink's; `before` and `after` are it around the call.
 use Rattle.std.specs.Prelude.{◌≡◌, ℕ, false, List, [], ◌∷◌, Option, Some, Result, Ok, Err, codes}
 use Rattle.proto_lex.specs.declared.position.Encoding.TheVariants.{Utf8}
+use Rattle.proto_parse.specs.tree.CustomOptions.TheVariants as custom
 use Rattle.proto_parse.specs.tree.Dialect.{Dialect}
+use Rattle.proto_parse.specs.tree.Dialect.TheVariants.{Proto3}
 use Rattle.proto_decl.specs.Seen.{Seen}
 use Rattle.index_hooks.specs.declared.choice.Choice.{Choice}
 use Rattle.index_hooks.specs.MayChoose.{IsDefaultChoice}
@@ -27,6 +29,10 @@ source_path = codes "input.proto"
 -- its tree: only this source
 abbrev pub dump_tree : List ℕ → List TreeFile
 dump_tree bytes = record { path = source_path; bytes = bytes; is_included = false } ∷ []
+
+-- what it accepts if nothing else is said: proto3 without custom options
+abbrev pub plain_dialect : Dialect
+plain_dialect = Proto3 custom.Refuse
 
 -- its settings: the package without manager, name and version; columns in UTF-8
 abbrev pub dump_settings : Dialect → Settings

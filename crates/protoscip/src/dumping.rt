@@ -12,6 +12,7 @@ ghost use Rattle.protoscip.specs.Dump.{
   IsRefusal,
   IsTreeOfFault,
   LeavesReader,
+  plain_dialect,
 };
 ghost use Rattle.protoscip.specs.FaultLines.{HasFilesOf};
 ghost use Rattle.protoscip.specs.Writing.{IsNotReadBack};
@@ -25,7 +26,7 @@ use index_hooks::{Choice, Chooses, DocChoice, Turns};
 use index_pool::{NoGate, Workers};
 use proto_decl::DeclView;
 use proto_lex::Encoding;
-use proto_parse::Dialect;
+use proto_parse::{CustomOptions, Dialect};
 use scip_build::{Faulty, Run, Settings, build};
 use scip_model::FilePackages;
 use scip_records::Index;
@@ -179,7 +180,7 @@ pub fn dump_and_keep<R: Threads + Wait, F: Feed, W: Sink>(
 /// - `Lex`, `Syntax`, `Duplicate`, `MissingImport`, `Unresolved`, `TooLarge`: the first reason why the source has no
 ///   listing.
 /// - `Write`: a write failed before the whole listing was written.
-pub fn dump<R: Threads + Wait, F: Feed, W: Sink>(
+pub fn dump_with<R: Threads + Wait, F: Feed, W: Sink>(
     rt: &R,
     alloc: Global,
     dialect: Dialect,
@@ -193,4 +194,25 @@ pub fn dump<R: Threads + Wait, F: Feed, W: Sink>(
 {
     let mut tree = dump_tree(alloc, Vec::new(alloc))?;
     dump_and_keep(rt, alloc, dialect, source, &mut tree, out)
+}
+
+/// Dumps a source of proto3 without custom options, as `dump_with` does.
+pub fn dump<R: Threads + Wait, F: Feed, W: Sink>(
+    rt: &R,
+    alloc: Global,
+    source: &mut F,
+    out: &mut W,
+) -> Result<(), Fault>
+    ensures dumped { IsDumped F.remaining W.contents W.failures plain_dialect source.old out.old out.new result }
+    ensures files { IfErr result (HasFilesOf (dump_tree [])) }
+    ensures reader { LeavesReader F.failures F.reads F.ends source.old source.new result }
+    ensures briefly { IsReadBriefly F.reads source.old source.new }
+{
+    dump_with(
+        rt,
+        alloc,
+        Dialect::Proto3(CustomOptions::Refuse),
+        source,
+        out,
+    )
 }

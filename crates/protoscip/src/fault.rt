@@ -10,50 +10,51 @@ use proto_link::FilePlace;
 use proto_parse::SyntaxFault;
 use scip_build::{BuildFault, FileFault};
 use scip_query::AnswerFault;
-use scip_wire::WriteFault;
+use scip_wire::{MAX_INDEX_LEN, WriteFault};
 use std::alloc::AllocError;
-use std::error::Error;
-use std::fmt;
+use thiserror::Error;
 
 /// Why a run stops short of its answer. If several of these hold, the first in this order is answered; but `Spawn`
 /// and `Memory` may also come later, before what the same step would answer.
 ///
 /// A file is named by its number in the tree.
-#[derive(Clone, Copy, Debug, Drop, PartialEq, Eq)]
+#[derive(Clone, Copy, Debug, Drop, PartialEq, Eq, Error)]
 pub enum Fault {
     /// A thread could not be started.
+    #[error("a thread could not be started")]
     Spawn,
     /// Memory ran out.
+    #[error("memory ran out")]
     Memory,
     /// The number of a file, and why its bytes are no text, or a text without a lexing. It is the first source that
     /// can't be read; if all can, the first included file that some source sees and that can't.
+    #[error("in file {0}: {1}")]
     Lex(usize, LexFault),
     /// The number of that file, and why the tokens of its text derive no tree.
+    #[error("in file {0}: {1}")]
     Syntax(usize, SyntaxFault),
     /// Two places that give one full name.
+    #[error("one full name is given twice, {0} and {1}")]
     Duplicate(FilePlace, FilePlace),
     /// The first import of a path that no file has.
+    #[error("an import of a file that isn't there, {0}")]
     MissingImport(FilePlace),
     /// The first use of the first source in which a use names no type.
+    #[error("a use that names no type, {0}")]
     Unresolved(FilePlace),
     /// The index would have more than `MAX_INDEX_LEN` bytes.
+    #[error("an index has at most {most} bytes", most = MAX_INDEX_LEN)]
     TooLarge,
     /// A write failed after this many bytes.
+    #[error("a write that failed, after {0} bytes")]
     Write(u64),
     /// A read failed, or `MAX_READS` reads gave no end.
+    #[error("an input that can't be read to its end")]
     Read,
     /// In a session, a write of answers failed after this many bytes of them.
+    #[error("a write of answers that failed, after {0} bytes")]
     Answer(u64),
 }
-
-/// Its name.
-impl fmt::Display for Fault {
-    fn fmt<W: fmt::Write>(&self, f: &mut fmt::Formatter<W>) -> fmt::Result {
-        f.write_str(self.name())
-    }
-}
-
-impl Error for Fault {}
 
 impl From<AllocError> for Fault {
     ghost use Rattle.protoscip.specs.declared.fault.Fault.TheVariants.{Memory};

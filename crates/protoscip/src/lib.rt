@@ -31,7 +31,7 @@ mod telling;
 mod told_lines;
 
 pub use answering::answer_commands;
-pub use dumping::{SOURCE_PATH, dump, dump_and_keep, dump_tree};
+pub use dumping::{SOURCE_PATH, dump, dump_and_keep, dump_tree, dump_with};
 pub use explaining::{explain_in, fault_text};
 pub use fault::Fault;
 pub use fault_lines::fault_line;
@@ -47,3 +47,30 @@ pub use sessions::session;
 pub use statuses::{MEMORY_STATUS, SOURCES_STATUS, STREAM_STATUS};
 pub use telling::told_text;
 pub use told_lines::told_line;
+
+// What is made below, so that whoever embeds the indexer needs this crate alone: sources and settings,
+pub use proto_lex::Encoding;
+pub use proto_parse::{CustomOptions, Dialect};
+pub use scip_build::{Built, Faulty, Run, Settings, build};
+pub use scip_model::{Choices, FilePackages, RootPackage};
+pub use scip_symbol::{BadPart, PackageId};
+pub use sequences::{OwnedText, Sequence};
+pub use source_tree::{Source, Tree, TreeFault};
+
+// callbacks and their promises,
+pub use index_hooks::{
+    AnyAnswer, BoxedFilter, BoxedRule, Choice, Chooses, DocAlways, DocCallback, DocChoice, DocHook,
+    DocOneOf, DocPromise, DocRule, Filter, FilterCallback, FilterHook, FilterPromise, HookFault,
+    KindIn, Kinds, NamePrefix, Registry, Ticket, WithComment,
+};
+pub use proto_decl::{DeclView, DeclarationKind};
+
+// threads and streams,
+pub use index_pool::{Gate, NoGate, Workers};
+pub use streams::{Failed, Feed, Sink, Std};
+
+// and what a fault holds.
+pub use proto_lex::{LexFault, Span};
+pub use proto_link::FilePlace;
+pub use proto_parse::SyntaxFault;
+pub use scip_build::{BuildFault, FileFault};

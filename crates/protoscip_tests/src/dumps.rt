@@ -3,7 +3,7 @@
 use crate::calls::{Desk, Due, Told, dues_of, is_due, paced_writer, see, whole, writer};
 use crate::faulty_streams::{AT_ONCE, Endless, drip, resting};
 use proto_parse::{CustomOptions, Dialect, SyntaxFault};
-use protoscip::{Fault, dump};
+use protoscip::{Fault, dump, dump_with};
 use std::alloc::AllocError;
 use std::io::Read;
 use std::process::Abort;
@@ -20,7 +20,7 @@ impl<'a, R: Threads + Wait + Abort> Desk<'a, R> {
     fn is_dumped<S: Read + Drop>(&self, dialect: Dialect, reader: S, due: Due<'_>) -> Told {
         let mut input = Std::new(reader);
         let mut output = paced_writer(self.alloc, due.room, due.pace)?;
-        let answer = dump(self.rt, self.alloc, dialect, &mut input, &mut output).err();
+        let answer = dump_with(self.rt, self.alloc, dialect, &mut input, &mut output).err();
         Ok(is_due(answer, output, &due))
     }
 
@@ -184,7 +184,7 @@ impl<'a, R: Threads + Wait + Abort> Desk<'a, R> {
     fn is_listed(&self, source: &[u8]) -> Told {
         let mut input = Std::new(source);
         let mut output = writer(self.alloc, 512)?;
-        let answer = dump(self.rt, self.alloc, PROTO3, &mut input, &mut output).err();
+        let answer = dump(self.rt, self.alloc, &mut input, &mut output).err();
         let bytes = output.into_inner().bytes;
         Ok(match answer {
             None if bytes.as_slice().ends_with(b"\n") => Some(true),

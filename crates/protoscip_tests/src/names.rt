@@ -1,11 +1,10 @@
-//! The texts of faults: their names.
+//! The names and the texts of faults.
 
 use crate::calls::see;
 use proto_lex::{LexFault, Span};
 use proto_link::FilePlace;
 use proto_parse::SyntaxFault;
 use protoscip::Fault;
-use scip_build::FileFault;
 use std::alloc::{AllocError, Global};
 use std::test::Fail;
 
@@ -15,38 +14,73 @@ const PLACE: FilePlace = FilePlace {
     span: Span { start: 2, end: 3 },
 };
 
-/// Faults, and their texts.
-const FAULTS: [(Fault, &str); 11] = [
-    (Fault::Spawn, "Spawn"),
-    (Fault::Memory, "Memory"),
-    (Fault::Lex(0, LexFault::TooLong), "TooLong"),
-    (Fault::Syntax(0, SyntaxFault::Extend(7)), "Extend"),
-    (Fault::Duplicate(PLACE, PLACE), "Duplicate"),
-    (Fault::MissingImport(PLACE), "MissingImport"),
-    (Fault::Unresolved(PLACE), "Unresolved"),
-    (Fault::TooLarge, "TooLarge"),
-    (Fault::Write(7), "Write"),
-    (Fault::Read, "Read"),
-    (Fault::Answer(7), "Answer"),
+/// One in another.
+const OTHER: FilePlace = FilePlace {
+    file: 4,
+    span: Span { start: 5, end: 6 },
+};
+
+/// Faults, their names and their texts.
+const FAULTS: [(Fault, &str, &str); 11] = [
+    (Fault::Spawn, "Spawn", "a thread could not be started"),
+    (Fault::Memory, "Memory", "memory ran out"),
+    (
+        Fault::Lex(3, LexFault::BadByte(7)),
+        "BadByte",
+        "in file 3: a character that can't be here, at byte 7",
+    ),
+    (
+        Fault::Syntax(4, SyntaxFault::Extend(9)),
+        "Extend",
+        "in file 4: the word `extend`, at byte 9",
+    ),
+    (
+        Fault::Duplicate(PLACE, OTHER),
+        "Duplicate",
+        "one full name is given twice, at byte 2 of file 1 and at byte 5 of file 4",
+    ),
+    (
+        Fault::MissingImport(PLACE),
+        "MissingImport",
+        "an import of a file that isn't there, at byte 2 of file 1",
+    ),
+    (
+        Fault::Unresolved(OTHER),
+        "Unresolved",
+        "a use that names no type, at byte 5 of file 4",
+    ),
+    (
+        Fault::TooLarge,
+        "TooLarge",
+        "an index has at most 2147483647 bytes",
+    ),
+    (
+        Fault::Write(7),
+        "Write",
+        "a write that failed, after 7 bytes",
+    ),
+    (
+        Fault::Read,
+        "Read",
+        "an input that can't be read to its end",
+    ),
+    (
+        Fault::Answer(8),
+        "Answer",
+        "a write of answers that failed, after 8 bytes",
+    ),
 ];
 
-/// Whether a fault is printed as this text.
-fn is_printed(alloc: Global, fault: Fault, text: &str) -> Result<bool, AllocError> {
-    Ok(format!(in alloc; "{fault}")?.as_str() == text)
+/// Whether a fault has this name, and is printed as this text.
+fn is_told(alloc: Global, fault: Fault, name: &str, text: &str) -> Result<bool, AllocError> {
+    let printed = format!(in alloc; "{fault}")?;
+    Ok(fault.name() == name && printed.as_str() == text)
 }
 
 #[test]
-fn faults_are_printed_by_their_names(rt: HostRuntime) -> Result<(), Fail> {
-    for (fault, text) in &FAULTS {
-        see(&rt, is_printed(rt.alloc(), *fault, text)?, text);
+fn faults_have_names_and_texts(rt: HostRuntime) -> Result<(), Fail> {
+    for (fault, name, text) in &FAULTS {
+        see(&rt, is_told(rt.alloc(), *fault, name, text)?, name);
     }
-    let (lex, syntax) = (
-        FileFault::Lex(LexFault::BadByte(7)),
-        FileFault::Syntax(SyntaxFault::Grammar(9)),
-    );
-    let text = format!(in rt.alloc(); "{lex} {syntax}")?;
-    let want =
-        "a character that can't be here, at byte 7 the grammar wants something else, at byte 9";
-    see(&rt, text.as_str() == want, "of a file");
     Ok(())
 }

@@ -1,6 +1,6 @@
 use Rattle.std.proofs.lemmas.Result.{err_from_is_err_and}
 use Rattle.protoscip.proofs.DumpLemmas.{starved_dumped}
-use Rattle.protoscip.proofs.dumping.dump.Goals as goal
+use Rattle.protoscip.proofs.dumping.dump_with.Goals as goal
 
 pub returns-in_err-tree-clause-dumped : goal.returns-in_err-tree-clause-dumped
 returns-in_err-tree-clause-dumped g c =

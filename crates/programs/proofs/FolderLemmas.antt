@@ -11,7 +11,7 @@ use Rattle.std.proofs.lemmas.List.Elements.{All-nil, All-cons, All-head, All-tai
 use Rattle.std.proofs.lemmas.List.Folds.{list_any-append}
 use Rattle.std.proofs.lemmas.Slice.Eq.{bytes_eq-Decides}
 use Rattle.scip_symbol.specs.Package.{Package, IsPackage}
-use Rattle.scip_model.specs.Packages.{Root, Packages, with_path, package_among, package_of_path}
+use Rattle.scip_model.specs.Packages.{Root, Packages, ArePackages, with_path, package_among, package_of_path}
 use Rattle.command_line.specs.declared.options.IndexOptions.{IndexOptions}
 use Rattle.command_line.specs.declared.options.PackageFolder.{PackageFolder}
 use Rattle.source_tree.specs.Files.{SourceFile, TreeFile, paths_of}
@@ -155,15 +155,17 @@ among_alike run path (one ∷ wanted) (root ∷ roots) all =
 pub by_folder : (options : IndexOptions) (own : List (List ℕ)) (others : List (List (List ℕ)))
     (first second third : Packages) → first ≡ record { run = package_in options; roots = [] }
     → AddsRoots (record { id = package_in options; paths = own } ∷ []) first second
-    → AddsRoots (roots_of (included_packages options) others) second third → AreByFolder options own others third
+    → AddsRoots (roots_of (included_packages options) others) second third → ArePackages third
+    → AreByFolder options own others third
 unfolding package_of_path
-by_folder options own others first second third is one two =
+by_folder options own others first second third is one two good =
     let all = roots_more (record { id = package_in options; paths = own } ∷ [])
     (roots_of (included_packages options) others) first second third one two in
     let run : third.run ≡ package_in options = all.run ∙ ap (λ (p : Packages). p.run) is in
     let roots : third.roots ≡ all.added =
     all.roots ∙ ap (λ (p : Packages). p.roots ++ all.added) is in
     record {
+      good = good;
       run = run;
       each = λ path.
           ap (λ (id : Package). package_among id path third.roots) run
@@ -190,10 +192,11 @@ all_of_run run [] = All-nil (λ id. id ≡ run)
 all_of_run run (x ∷ xs) = All-cons (λ id. id ≡ run) run (map (λ _. run) xs ++ []) refl (all_of_run run xs)
 
 pub by_no_folder : (options : IndexOptions) (own : List (List ℕ)) (others : List (List (List ℕ)))
-    → options.include_packages.items ≡ []
+    → options.include_packages.items ≡ [] → IsPackage (package_in options)
     → AreByFolder options own others (record { run = package_in options; roots = [] })
 unfolding package_of_path
-by_no_folder options own others none = record {
+by_no_folder options own others none good = record {
+  good = record { run = good; roots = All-nil (λ (root : Root). IsPackage root.id) };
   run = refl;
   each = λ path.
       sym (among_one (package_in options) path (packages_in options) (own ∷ others)
@@ -293,9 +296,10 @@ folders_each lists gives (next_root {here = here} below each) =
 pub folders_of_run : (lists : List ℕ → List ℕ → Option (List Entry) → Type 0)
     (gives : List ℕ → Option (List ℕ) → Type 0)
     (options : IndexOptions) (tree : List TreeFile) → options.include_packages.items ≡ []
+    → IsPackage (package_in options)
     → IsTreeBelow lists gives (string_bytes options.root) (map string_bytes options.include.items) tree
     → AreFoldersOf lists gives options tree (record { run = package_in options; roots = [] })
-folders_of_run lists gives options tree none of =
+folders_of_run lists gives options tree none good of =
     let each = folders_each lists gives of.below_included in
     let roots : included_in options ≡ map string_bytes options.include.items =
     ap (λ (folders : List PackageFolder). map string_bytes options.include.items
@@ -312,5 +316,5 @@ folders_of_run lists gives options tree none of =
         tree_is = of.holds;
         own_are = refl;
       };
-      by = by_no_folder options (paths_of of.sources) each.0 none;
+      by = by_no_folder options (paths_of of.sources) each.0 none good;
     }

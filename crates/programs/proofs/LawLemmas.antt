@@ -11,6 +11,6 @@ use Rattle.source_files.specs.Entries.{Entry}
 pub headline_of_files : (lists : List ℕ → List ℕ → Option (List Entry) → Type 0)
     (gives : List ℕ → Option (List ℕ) → Type 0)
     (options : IndexOptions) → LawsOfNames → HeadlineOfFiles lists gives options
-headline_of_files lists gives options laws tree ids folders are =
+headline_of_files lists gives options laws tree ids folders =
     headline (allowed_by options) laws (settings_in options ids) tree
-    (tree_of_files folders.below.sources folders.below.included tree folders.below.tree_is) are
+    (tree_of_files folders.below.sources folders.below.included tree folders.below.tree_is) folders.by.good

@@ -6,3 +6,4 @@ mod TreeRunLemmas
 mod DumpEndLemmas
 mod QueryLemmas
 mod LawLemmas
+mod NavigableLemmas

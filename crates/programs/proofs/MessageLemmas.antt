@@ -1,6 +1,8 @@
 -- What is said of a line that is there, or isn't.
-use Rattle.std.proofs.Common.{◌≡◌, inl, inr, ℕ, List, Ok, Err, subst}
-use Rattle.std.specs.Prelude.{Result, IfOk, MatchResult}
+use Rattle.std.proofs.Common.{◌≡◌, ◌⊎◌, inl, inr, ℕ, List, Ok, Err, subst}
+use Rattle.std.specs.Prelude.{Option, Result, IfErr, IfOk, MatchResult, OnOk}
+use Rattle.streams.specs.WholeWrites.{IsWritten, IsCutOff}
+use Rattle.streams.specs.declared.sink.CutOff.{CutOff}
 use Rattle.scip_snapshot.specs.Showing.{Writer}
 use Rattle.programs.specs.Messages.{Says, Tells, TellsOne, memory_line, memory_status}
 
@@ -32,3 +34,12 @@ pub tells_other : {M : Type 0} (messages : Writer M) (status due : ℕ) (Due Oth
     → TellsOne Due due messages status → TellsOne Other due messages status
 tells_other messages status due Due Other holds (inl one) = inl (one.0, holds one.0 one.1, one.2)
 tells_other messages status due Due Other holds (inr said) = inr said
+
+-- a text is written, all of it or a first part
+pub written_or_cut : {W : Type 0} (contents : W → Option (List ℕ)) (failures : W → ℕ) (text : List ℕ) (before after : W)
+    (done : Result (Unit {0}) CutOff) → OnOk done (IsWritten contents failures before after text)
+    → IfErr done (λ (e : CutOff). IsCutOff contents failures before after text e.written)
+    → IsWritten contents failures before after text
+    ⊎ ((count : ℕ) × IsCutOff contents failures before after text count)
+written_or_cut contents failures text before after (Ok done) ok err = inl ok
+written_or_cut contents failures text before after (Err e) ok err = inr (e.written, err)

@@ -7,7 +7,7 @@ use Rattle.source_tree.specs.Files.{TreeFile}
 use Rattle.source_files.specs.Entries.{Entry}
 use Rattle.source_files.specs.Loads.{IsLoadedBelow}
 use Rattle.scip_symbol.specs.Package.{Package, IsPackage}
-use Rattle.scip_model.specs.Packages.{Root, Packages, package_among, package_of_path}
+use Rattle.scip_model.specs.Packages.{Root, Packages, ArePackages, package_among, package_of_path}
 use Rattle.command_line.specs.declared.options.IndexOptions.{IndexOptions}
 use Rattle.command_line.specs.declared.options.PackageFolder.{PackageFolder}
 use Rattle.programs.specs.Settings.{package_in}
@@ -54,9 +54,10 @@ pub record AddsRoots (wanted : List Root) (before after : Packages) : Type 0 whe
   pub roots : after.roots ≡ before.roots ++ added
 
 -- by the paths of the sources, and of the files below each included folder: a file has the package of the first folder
--- that has a file with its path, since that is the file which counts
+-- that has a file with its path, since that is the file which counts. Each is made of good parts.
 pub record AreByFolder (options : IndexOptions) (own : List (List ℕ)) (others : List (List (List ℕ))) (ids : Packages)
     : Type 0 where
+  pub good : ArePackages ids
   pub run : ids.run ≡ package_in options
   pub each : (path : List ℕ) → package_of_path ids path
       ≡ package_among (package_in options) path (roots_of (packages_in options) (own ∷ others))

@@ -1,12 +1,8 @@
 -- What a program says on standard error, and the status that it ends with.
-use Rattle.std.specs.Prelude.{◌≡◌, ◌<◌, ◌-◌, ◌^◌, ◌⊎◌, ℕ, List, Option, Some, None, codes}
+use Rattle.std.specs.Prelude.{◌≡◌, ◌⊎◌, ℕ, List, Option, Some, None, codes}
 use Rattle.scip_snapshot.specs.Showing.{Writer, IsSaid, IsUntouched}
 use Rattle.protoscip.specs.Lines.{plain_line}
 use Rattle.protoscip.specs.declared.statuses.TheConstants.{MEMORY_STATUS}
-
--- P holds if no write failed, which the writer's counts of failures show as long as they are below their limit
-abbrev pub Heard : ℕ → ℕ → Type 0 → Type 0
-Heard before after P = before < 2 ^ 64 - 1 → after ≡ before → P
 
 -- the stream of messages around a call, and the exit status: this line is said, with its end, or cut off by a write
 -- that fails; and the status is the one that is due

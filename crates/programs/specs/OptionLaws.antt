@@ -2,7 +2,7 @@
 -- `lists` and `gives` are what the system of files gives.
 use Rattle.std.specs.Prelude.{ℕ, List, Option}
 use Rattle.source_tree.specs.Files.{TreeFile}
-use Rattle.scip_model.specs.Packages.{Packages, ArePackages}
+use Rattle.scip_model.specs.Packages.{Packages}
 use Rattle.protoscip.specs.Headline.{Navigates}
 use Rattle.protoscip.specs.Indexes.{IsIndexed}
 use Rattle.protoscip.specs.declared.recorded.Recorded.{Recorded}
@@ -16,7 +16,7 @@ use Rattle.source_files.specs.Entries.{Entry}
 abbrev pub HeadlineOfFiles : (lists : List ℕ → List ℕ → Option (List Entry) → Type 0)
     → (gives : List ℕ → Option (List ℕ) → Type 0) → IndexOptions → Type 0
 HeadlineOfFiles lists gives options =
-    (tree : List TreeFile) (ids : Packages) → AreFolders lists gives options tree ids → ArePackages ids
+    (tree : List TreeFile) (ids : Packages) → AreFolders lists gives options tree ids
     → (recorded : Recorded) (bytes : List ℕ)
     → (indexed : IsIndexed (allowed_by options) (settings_in options ids) tree recorded bytes)
     → Navigates (allowed_by options) (settings_in options ids) tree recorded bytes indexed.index

@@ -6,17 +6,19 @@ use Rattle.source_tree.specs.Files.{TreeFile}
 use Rattle.source_tree.specs.Trees.{IsSourceCount}
 use Rattle.scip_model.specs.Packages.{Packages}
 use Rattle.scip_build.specs.declared.fault.BuildFault.{BuildFault}
+use Rattle.scip_records.specs.declared.records.Index.{Index}
 use Rattle.scip_snapshot.specs.Showing.{Writer}
 use Rattle.protoscip.specs.declared.fault.Fault.{Fault}
 use Rattle.protoscip.specs.declared.recorded.Recorded.{Recorded}
 use Rattle.protoscip.specs.Explanations.{IsFaultText, explain_in}
+use Rattle.protoscip.specs.Headline.{IsNavigable}
 use Rattle.protoscip.specs.Statuses.{status_of}
 use Rattle.protoscip.specs.ToldLines.{IsToldText}
 use Rattle.command_line.specs.declared.options.IndexOptions.{IndexOptions}
 use Rattle.programs.specs.declared.start_fault.StartFault.{StartFault}
 use Rattle.programs.specs.Messages.{IsSilent, Tells, TellsOne}
 use Rattle.programs.specs.Folders.{AreFolders, NamePackages}
-use Rattle.programs.specs.Settings.{settings_in}
+use Rattle.programs.specs.Settings.{allowed_by, settings_in}
 use Rattle.programs.specs.StartExplanations.{told as start_told}
 use Rattle.programs.specs.StartFaults.{status_of as start_status}
 use Rattle.programs.specs.Starting.{MayNotStart}
@@ -56,3 +58,14 @@ pub data IsRun {M : Type 0} (lists : List ℕ → List ℕ → Option (List Entr
       → Ends says (explain_in options.explain (settings_in options ids).dialect) tree
       (λ recorded. recorded.told) done messages status
       → IsRun lists gives says options untouched runs messages status
+
+-- There is a tree of the files that the options name, and an index of it by what they allow and say navigates it;
+-- `goes` says what becomes of its bytes and of it.
+pub record AreNavigable (lists : List ℕ → List ℕ → Option (List Entry) → Type 0)
+    (gives : List ℕ → Option (List ℕ) → Type 0)
+    (options : IndexOptions) (goes : (bytes : List ℕ) → Index → Type 0) : Type 0 where
+  pub tree : List TreeFile
+  pub ids : Packages
+  pub recorded : Recorded
+  pub folders : AreFolders lists gives options tree ids
+  pub navigable : IsNavigable goes (allowed_by options) (settings_in options ids) tree recorded

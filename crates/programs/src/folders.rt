@@ -160,6 +160,7 @@ fn packages_by(
     add_folder(alloc, &mut packages, package_of(alloc, options)?, own)?;
     let all = packages_of_included(alloc, options, ids)?;
     add_folders(alloc, &mut packages, all, others)?;
+    packages.run();
     Ok(packages)
 }
 

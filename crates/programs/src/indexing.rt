@@ -4,20 +4,20 @@ ghost use Rattle.std.specs.Prelude.{IfErr, IfOk, string_bytes};
 ghost use Rattle.std.specs.Option.{option_map};
 ghost use Rattle.protoscip.specs.FaultLines.{HasFilesOf};
 ghost use Rattle.protoscip.specs.ToldLines.{IsTextOfLacks};
-ghost use Rattle.programs.specs.Indexing.{Indexed};
+ghost use Rattle.programs.specs.Indexing.{Indexed, WritesNavigable};
 ghost use Rattle.programs.specs.Messages.{SaysOfSuccess};
 ghost use Rattle.scip_snapshot.specs.Showing.{writer};
 ghost use Rattle.programs.specs.TreeRuns.{Ends};
 
 use crate::ending::{say_text, stop};
 use crate::host::Host;
-use crate::progress::Progress;
+use crate::laws::headline_of_options;
+use crate::progress::{LineWiped, Progress};
 use crate::start_explanations::report_start;
 use crate::starting::start;
 use command_line::IndexOptions;
 use proto_parse::Dialect;
 use protoscip::{Fault, KeptIndex, explain_in, index_and_keep};
-use scip_build::Run;
 use source_files::ReadFiles;
 use source_tree::Tree;
 use std::alloc::Global;
@@ -27,9 +27,10 @@ use std::thread::Threads;
 use std::time::{Clock, Instant};
 use streams::Sink;
 
-/// Says what an index that is written lacks, or why there is none, and gives the exit status. The memory of what
-/// was made isn't given back.
+/// Says what an index that is written lacks, or why there is none, and gives the exit status. It is said once the line
+/// of the progress is wiped. The memory of what was made isn't given back.
 fn end<M: Sink>(
+    _wiped: LineWiped,
     alloc: Global,
     tree: &Tree,
     done: Result<KeptIndex<'_>, Fault>,
@@ -80,32 +81,29 @@ pub(crate) fn index<R, F: ReadFiles + Sync, W: Sink, M: Sink>(
 ) -> u8
 where
     R: Threads + Wait + Clock + Eprint + Sync,
-    ensures { Indexed (F.lists host.now.files.now) (F.gives host.now.files.now) options.now (writer W.contents
+    ensures indexed { Indexed (F.lists host.now.files.now) (F.gives host.now.files.now) options.now (writer W.contents
         W.failures out.old out.new) (writer M.contents M.failures messages.old messages.new) result }
+    ensures navigable { WritesNavigable (F.lists host.now.files.now) (F.gives host.now.files.now) options.now
+        (writer W.contents W.failures out.old out.new) result }
 {
+    headline_of_options(host.files, options);
     let begun = beginning(host, quiet);
     let run = match start(host, options) {
         Ok(start) => start,
         Err(fault) => return report_start(host.alloc, &fault, options.explain, messages),
     };
-    let gate = Progress::new(host.alloc, host.rt, begun, run.tree.file_count());
-    let work = Run {
-        rt: host.rt,
-        alloc: host.alloc,
-        workers: run.workers,
-        gate: &gate,
-    };
+    let gate = Progress::over(host.alloc, host.rt, begun, &run.tree);
     let done = index_and_keep(
-        &work,
+        &run.over(host.rt, host.alloc, &gate),
         &run.tree,
         &run.choices,
         &run.settings,
         options.explain,
         out,
     );
-    gate.wipe();
+    let wiped = gate.wipe();
     let explain = explain_in(options.explain, run.settings.dialect);
-    let status = end(host.alloc, &run.tree, done, explain, messages);
+    let status = end(wiped, host.alloc, &run.tree, done, explain, messages);
     forget(run);
     status
 }

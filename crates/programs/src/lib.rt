@@ -50,5 +50,5 @@ pub use choices::OptionChoices;
 pub use host::Host;
 pub use laws::headline_of_options;
 pub use messages::report;
-pub use progress::Progress;
+pub use progress::{LineWiped, Progress};
 pub use running::{out_path, run};

@@ -1,7 +1,10 @@
 //! How far a run is, on one line of a terminal.
 
+ghost use Rattle.std.specs.Prelude.{◌≡◌, length};
+
 use crate::asking_ahead::AskingAhead;
 use index_pool::Gate;
+use source_tree::Tree;
 use std::alloc::Global;
 use std::sync::atomic::{AtomicU64, Ordering};
 use std::time::{Clock, Duration, Instant};
@@ -33,6 +36,12 @@ pub struct Progress<'a, T: Clock + Eprint> {
     due: AtomicU64,
 }
 
+/// That the line is wiped, as `Progress::wipe` alone can say. What is said on the terminal then isn't spoiled.
+#[derive(Drop)]
+pub struct LineWiped {
+    _after: (),
+}
+
 /// A time in milliseconds.
 fn millis_of(time: Duration) -> u64 {
     let millis = u64::from(time.subsec_millis());
@@ -46,7 +55,9 @@ impl<'a, T: Clock + Eprint> Progress<'a, T> {
         terminal: &'a T,
         begun: Option<Instant>,
         files: usize,
-    ) -> Progress<'a, T> {
+    ) -> Progress<'a, T>
+        ensures { result.files ≡ files }
+    {
         Progress {
             ahead: AskingAhead::new(alloc),
             alloc,
@@ -56,6 +67,18 @@ impl<'a, T: Clock + Eprint> Progress<'a, T> {
             runs: AtomicU64::new(0),
             due: AtomicU64::new(PATIENCE),
         }
+    }
+
+    /// That of a run over a tree: its sources are read, and its included files.
+    pub(crate) fn over(
+        alloc: Global,
+        terminal: &'a T,
+        begun: Option<Instant>,
+        tree: &Tree,
+    ) -> Progress<'a, T>
+        ensures { result.files ≡ length tree.now }
+    {
+        Progress::new(alloc, terminal, begun, tree.file_count())
     }
 
     /// Shows how many files were read, and sources made.
@@ -88,11 +111,12 @@ impl<'a, T: Clock + Eprint> Progress<'a, T> {
         }
     }
 
-    /// Wipes the line, if one was shown.
-    pub fn wipe(&self) {
+    /// Wipes the line, if one was shown. No other is shown then.
+    pub fn wipe(self) -> LineWiped {
         if self.due.load(Ordering::SeqCst) != PATIENCE {
             let _ = self.terminal.eprint(WIPED);
         }
+        LineWiped { _after: () }
     }
 }
 

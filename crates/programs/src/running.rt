@@ -1,7 +1,6 @@
 //! What the program does with its files and streams, and the exit status that it ends with.
 
 ghost use Rattle.std.specs.Prelude.{◌≡◌, Result, IfSome, IfOk, IfErr};
-ghost use Rattle.std.specs.Io.KnownBytes.{Appends};
 ghost use Rattle.scip_snapshot.specs.Showing.{maker, writer};
 ghost use Rattle.command_line.specs.Requests.{
   dump_options,
@@ -20,15 +19,14 @@ ghost use Rattle.protoscip.specs.declared.fault.Fault.{Fault};
 ghost use Rattle.protoscip.specs.Dump.{IsDumped, LeavesReader};
 ghost use Rattle.protoscip.specs.Explanations.{explain_in};
 ghost use Rattle.programs.specs.declared.query_fault.QueryFault.{QueryFault};
-ghost use Rattle.programs.specs.declared.statuses.TheConstants.{COMMAND_LINE_STATUS};
 ghost use Rattle.programs.specs.Answering.{Answers};
 ghost use Rattle.programs.specs.Dumping.{EndsDump};
-ghost use Rattle.programs.specs.Indexing.{Indexed};
-ghost use Rattle.programs.specs.Messages.{Heard, Tells, memory_line, memory_status};
+ghost use Rattle.programs.specs.Indexing.{Indexed, WritesNavigable};
+ghost use Rattle.programs.specs.Messages.{Tells, memory_line, memory_status};
 ghost use Rattle.programs.specs.Paging.{RunsPages};
-ghost use Rattle.programs.specs.Printing.{Prints};
+ghost use Rattle.programs.specs.Printing.{Prints, Refuses};
 ghost use Rattle.programs.specs.Queries.{Queried};
-ghost use Rattle.programs.specs.Serving.{Served};
+ghost use Rattle.programs.specs.Serving.{AnswersNavigable, Served};
 ghost use Rattle.programs.specs.Settings.{dialect_of};
 ghost use Rattle.programs.specs.Snapshotting.{RunsSnapshot};
 ghost use Rattle.programs.specs.Streams.{reader};
@@ -55,9 +53,7 @@ use streams::{Feed, Sink, write_all};
 
 /// Says why a command line is refused. What the stream of messages doesn't take is lost.
 fn refuse<M: Sink>(text: &str, messages: &mut M) -> u8
-    ensures status { result ≡ COMMAND_LINE_STATUS }
-    ensures said { Heard (M.failures messages.old) (M.failures messages.new)
-        (Appends (M.contents messages.old) (M.contents messages.new) text.now) }
+    ensures { Refuses text.now (writer M.contents M.failures messages.old messages.new) result }
 {
     let _ = write_all(messages, text.as_bytes());
     COMMAND_LINE_STATUS
@@ -114,9 +110,8 @@ where
         (writer M.contents M.failures messages.old messages.new) result
         × (input.new ≡ input.old) × (file.new ≡ file.old))) }
     // It says why a command line is refused.
-    ensures refused { IfOk asked.now (λ request. IfSome (refused_text request) (λ text. (result ≡ COMMAND_LINE_STATUS)
-        × Heard (M.failures messages.old) (M.failures messages.new)
-        (Appends (M.contents messages.old) (M.contents messages.new) text)
+    ensures refused { IfOk asked.now (λ request. IfSome (refused_text request) (λ text.
+        Refuses text (writer M.contents M.failures messages.old messages.new) result
         × (input.new ≡ input.old) × (out.new ≡ out.old) × (file.new ≡ file.old))) }
     // What `dump` promises of its answer, and what becomes of that.
     ensures dumped { IfOk asked.now (λ request. IfSome (dump_options request) (λ options.
@@ -146,6 +141,14 @@ where
         (reader I.remaining I.failures I.reads I.ends input.old input.new)
         (writer W.contents W.failures out.old out.new) (writer M.contents M.failures messages.old messages.new) result
         × (file.new ≡ file.old))) }
+    // After a success of either, queries over what is written, or answered from, are exact.
+    ensures navigable { IfOk asked.now (λ request. IfSome (index_options request) (λ options.
+        WritesNavigable (F.lists host.now.files.now) (F.gives host.now.files.now) options
+        (writer O.contents O.failures file.old file.new) result)
+        × IfSome (shell_options request) (λ options.
+        AnswersNavigable (F.lists host.now.files.now) (F.gives host.now.files.now) options
+        (reader I.remaining I.failures I.reads I.ends input.old input.new)
+        (writer W.contents W.failures out.old out.new) result)) }
     // What `snapshot` does.
     ensures snapshotted { IfOk asked.now (λ request. IfSome (snapshot_options request) (λ options.
         RunsSnapshot (F.gives host.now.files.now) options (writer W.contents W.failures out.old out.new)

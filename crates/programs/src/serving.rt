@@ -3,20 +3,20 @@
 ghost use Rattle.std.specs.Prelude.{IfErr, IfOk};
 ghost use Rattle.protoscip.specs.FaultLines.{HasFilesOf, HaveFilesOf};
 ghost use Rattle.programs.specs.Messages.{TellsOfSuccess};
-ghost use Rattle.programs.specs.Serving.{Served};
+ghost use Rattle.programs.specs.Serving.{AnswersNavigable, Served};
 ghost use Rattle.programs.specs.Streams.{reader};
 ghost use Rattle.scip_snapshot.specs.Showing.{writer};
 ghost use Rattle.programs.specs.TreeRuns.{Ends};
 
 use crate::ending::{stop, tell};
 use crate::host::Host;
+use crate::laws::headline_of_options;
 use crate::start_explanations::report_start;
 use crate::starting::start;
 use command_line::IndexOptions;
 use index_pool::NoGate;
 use proto_parse::Dialect;
 use protoscip::{Fault, Recorded, explain_in, session};
-use scip_build::Run;
 use source_files::ReadFiles;
 use source_tree::Tree;
 use std::alloc::Global;
@@ -56,20 +56,19 @@ pub(crate) fn shell<R: Threads + Wait, F: ReadFiles + Sync, I: Feed, W: Sink, M:
     answers: &mut W,
     messages: &mut M,
 ) -> u8
-    ensures { Served (F.lists host.now.files.now) (F.gives host.now.files.now) options.now (reader I.remaining
+    ensures served { Served (F.lists host.now.files.now) (F.gives host.now.files.now) options.now (reader I.remaining
         I.failures I.reads I.ends commands.old commands.new) (writer W.contents W.failures answers.old answers.new)
         (writer M.contents M.failures messages.old messages.new) result }
+    ensures navigable { AnswersNavigable (F.lists host.now.files.now) (F.gives host.now.files.now) options.now
+        (reader I.remaining I.failures I.reads I.ends commands.old commands.new) (writer W.contents W.failures
+        answers.old answers.new) result }
 {
+    headline_of_options(host.files, options);
     let run = match start(host, options) {
         Ok(start) => start,
         Err(fault) => return report_start(host.alloc, &fault, options.explain, messages),
     };
-    let work = Run {
-        rt: host.rt,
-        alloc: host.alloc,
-        workers: run.workers,
-        gate: &NoGate,
-    };
+    let work = run.over(host.rt, host.alloc, &NoGate);
     let done = session(
         &work,
         &run.tree,

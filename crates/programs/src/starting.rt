@@ -16,9 +16,10 @@ use crate::settings::{only_of, settings_of, workers_of};
 use crate::start_fault::StartFault;
 use command_line::IndexOptions;
 use index_pool::Workers;
-use scip_build::Settings;
+use scip_build::{Run, Settings};
 use source_files::{ReadFiles, Readers};
 use source_tree::Tree;
+use std::alloc::Global;
 use std::sync::Wait;
 use std::thread::Threads;
 
@@ -33,6 +34,20 @@ pub(crate) struct TreeRun {
     pub(crate) workers: Workers,
     /// What the index says about the package and columns.
     pub(crate) settings: Settings,
+}
+
+impl TreeRun {
+    /// The run over the tree, on these threads, with this memory and this gate, by as many workers as the options say.
+    pub(crate) fn over<'r, R, G>(&self, rt: &'r R, alloc: Global, gate: &'r G) -> Run<'r, R, G>
+        ensures { result.workers ≡ self.now.workers }
+    {
+        Run {
+            rt,
+            alloc,
+            workers: self.workers,
+            gate,
+        }
+    }
 }
 
 /// The tree of the sources below the root of the options and of the files below their included roots, and what the

@@ -19,5 +19,5 @@ returns-then-is_empty-clause-folders g c =
     let Of : Package → Packages = λ id. record { run = id; roots = [] } in
     let Here : Packages → Type 0 = λ packages. AreFolders lists gives options tree packages in
     subst Here (sym (c.of_run.ensures ∙ ap Of c.in_ok-run.ensures.named.0))
-    (folders_of_run lists gives options tree none
+    (folders_of_run lists gives options tree none c.in_ok-run.ensures.named.1
     (rw (c.as_str-root.ensures.value, c.deref-then-is_empty.ensures.value) at c.in_ok-tree.ensures.tree))

@@ -19,4 +19,4 @@ returns-clause-by c =
     by_folder c.args.options.now own others first second third
     (c.of_run-packages.ensures ∙ ap Of c.in_ok-package_of.ensures.named.0)
     (subst Own c.in_ok-package_of-2.ensures.named.0 c.in_ok-add_folder.ensures)
-    (subst Each c.in_ok-all.ensures.all c.in_ok-add_folders.ensures)
+    (subst Each c.in_ok-all.ensures.all c.in_ok-add_folders.ensures) c.run.ensures.known

@@ -3,13 +3,14 @@ use Rattle.std.proofs.Common.{◌≡◌, refl, subst, sym, ℕ, List}
 use Rattle.std.specs.Prelude.{IfOk, IfSome, Result}
 use Rattle.std.specs.declared.alloc.AllocError.{AllocError}
 use Rattle.scip_snapshot.specs.Showing.{maker, writer}
-use Rattle.command_line.specs.Requests.{index_options, pages_options, printed_text, shell_options, snapshot_options}
+use Rattle.command_line.specs.Requests.{index_options, pages_options, printed_text, refused_text}
+use Rattle.command_line.specs.Requests.{shell_options, snapshot_options}
 use Rattle.command_line.specs.declared.request.Request.{Request}
-use Rattle.programs.specs.Indexing.{Indexed}
+use Rattle.programs.specs.Indexing.{Indexed, WritesNavigable}
 use Rattle.programs.specs.Messages.{memory_line}
 use Rattle.programs.specs.Paging.{RunsPages}
-use Rattle.programs.specs.Printing.{Prints}
-use Rattle.programs.specs.Serving.{Served}
+use Rattle.programs.specs.Printing.{Prints, Refuses}
+use Rattle.programs.specs.Serving.{AnswersNavigable, Served}
 use Rattle.programs.specs.Snapshotting.{RunsSnapshot}
 use Rattle.programs.specs.Streams.{reader}
 use Rattle.programs.proofs.MessageLemmas.{told}
@@ -25,6 +26,17 @@ returns-in-Print-clause-printed g c =
     subst (λ (asked : Result Request AllocError). IfOk asked Here) (sym c.in-Ok.is)
     (subst Here (sym c.in-Print.is) (subst Printed c.as_str-in-Print.ensures.value c.print.ensures, refl, refl))
 
+pub returns-in-Refuse-clause-refused : goal.returns-in-Refuse-clause-refused
+returns-in-Refuse-clause-refused g c =
+    let Refused : List ℕ → Type 0 = λ text.
+    Refuses text (writer g.M.Sink.contents g.M.Sink.failures c.args.messages.now c.refuse.new.messages) c.refuse.result
+    in
+    let Here : Request → Type 0 = λ request. IfSome (refused_text request) (λ text. Refused text
+    × (c.args.input.now ≡ c.args.input.now) × (c.args.out.now ≡ c.args.out.now)
+    × (c.args.file.now ≡ c.args.file.now)) in
+    subst (λ (asked : Result Request AllocError). IfOk asked Here) (sym c.in-Ok.is)
+    (subst Here (sym c.in-Refuse.is) (subst Refused c.as_str-in-Refuse.ensures.value c.refuse.ensures, refl, refl, refl))
+
 pub returns-in-Index-clause-indexed : goal.returns-in-Index-clause-indexed
 returns-in-Index-clause-indexed g c =
     let Here : Request → Type 0 = λ request. IfSome (index_options request) (λ options.
@@ -33,7 +45,7 @@ returns-in-Index-clause-indexed g c =
     (writer g.M.Sink.contents g.M.Sink.failures c.args.messages.now c.index.new.messages) c.index.result
     × (c.args.input.now ≡ c.args.input.now) × (c.args.out.now ≡ c.args.out.now)) in
     subst (λ (asked : Result Request AllocError). IfOk asked Here) (sym c.in-Ok.is)
-    (subst Here (sym c.in-Index.is) (c.index.ensures, refl, refl))
+    (subst Here (sym c.in-Index.is) (c.index.ensures.indexed, refl, refl))
 
 pub returns-in-Shell-clause-served : goal.returns-in-Shell-clause-served
 returns-in-Shell-clause-served g c =
@@ -44,7 +56,33 @@ returns-in-Shell-clause-served g c =
     (writer g.M.Sink.contents g.M.Sink.failures c.args.messages.now c.shell.new.messages) c.shell.result
     × (c.args.file.now ≡ c.args.file.now)) in
     subst (λ (asked : Result Request AllocError). IfOk asked Here) (sym c.in-Ok.is)
-    (subst Here (sym c.in-Shell.is) (c.shell.ensures, refl))
+    (subst Here (sym c.in-Shell.is) (c.shell.ensures.served, refl))
+
+pub returns-in-Index-clause-navigable : goal.returns-in-Index-clause-navigable
+returns-in-Index-clause-navigable g c =
+    let lists = g.F.ReadFiles.lists c.args.host.now.files.now in
+    let gives = g.F.ReadFiles.gives c.args.host.now.files.now in
+    let Here : Request → Type 0 = λ request.
+    IfSome (index_options request) (λ options. WritesNavigable lists gives options
+    (writer g.O.Sink.contents g.O.Sink.failures c.args.file.now c.index.new.out) c.index.result)
+    × IfSome (shell_options request) (λ options. AnswersNavigable lists gives options
+    (reader g.I.Feed.remaining g.I.Feed.failures g.I.Feed.reads g.I.Feed.ends c.args.input.now c.args.input.now)
+    (writer g.W.Sink.contents g.W.Sink.failures c.args.out.now c.args.out.now) c.index.result) in
+    subst (λ (asked : Result Request AllocError). IfOk asked Here) (sym c.in-Ok.is)
+    (subst Here (sym c.in-Index.is) (c.index.ensures.navigable, tt))
+
+pub returns-in-Shell-clause-navigable : goal.returns-in-Shell-clause-navigable
+returns-in-Shell-clause-navigable g c =
+    let lists = g.F.ReadFiles.lists c.args.host.now.files.now in
+    let gives = g.F.ReadFiles.gives c.args.host.now.files.now in
+    let Here : Request → Type 0 = λ request.
+    IfSome (index_options request) (λ options. WritesNavigable lists gives options
+    (writer g.O.Sink.contents g.O.Sink.failures c.args.file.now c.args.file.now) c.shell.result)
+    × IfSome (shell_options request) (λ options. AnswersNavigable lists gives options
+    (reader g.I.Feed.remaining g.I.Feed.failures g.I.Feed.reads g.I.Feed.ends c.args.input.now c.shell.new.commands)
+    (writer g.W.Sink.contents g.W.Sink.failures c.args.out.now c.shell.new.answers) c.shell.result) in
+    subst (λ (asked : Result Request AllocError). IfOk asked Here) (sym c.in-Ok.is)
+    (subst Here (sym c.in-Shell.is) (tt, c.shell.ensures.navigable))
 
 pub returns-in-Snapshot-clause-snapshotted : goal.returns-in-Snapshot-clause-snapshotted
 returns-in-Snapshot-clause-snapshotted g c =

@@ -1,0 +1,119 @@
+-- A run about a tree that ends with the status 0 made an index that navigates the tree.
+use Rattle.std.proofs.Common.{◌≡◌, ◌∙◌, inl, inr, sym, subst, ℕ, zero, suc, List, Option, Ok, Err}
+use Rattle.proto_lex.specs.declared.fault.LexFault.{LexFault}
+use Rattle.proto_lex.specs.declared.fault.LexFault.TheVariants as lexing
+use Rattle.proto_parse.specs.fault.SyntaxFault.{SyntaxFault}
+use Rattle.proto_parse.specs.fault.SyntaxFault.TheVariants as parsing
+use Rattle.command_line.specs.declared.options.IndexOptions.{IndexOptions}
+use Rattle.source_files.specs.Entries.{Entry}
+use Rattle.source_files.specs.declared.load_fault.LoadFault.TheVariants.{Unreadable, TooMany, BadPath, SamePath}
+use Rattle.source_files.specs.declared.load_fault.LoadFault.TheVariants as load
+use Rattle.scip_snapshot.specs.Showing.{Writer}
+use Rattle.protoscip.specs.Statuses.{lex_status, syntax_status, status_of}
+use Rattle.protoscip.specs.declared.fault.Fault.{Fault}
+use Rattle.protoscip.specs.declared.fault.Fault.TheVariants.{Spawn, Memory, Lex, Syntax, Duplicate, MissingImport}
+use Rattle.protoscip.specs.declared.fault.Fault.TheVariants.{Unresolved, TooLarge, Write, Read, Answer}
+use Rattle.programs.specs.Indexing.{Indexed, WritesNavigable}
+use Rattle.programs.specs.Messages.{Tells, TellsOne}
+use Rattle.programs.specs.OptionLaws.{HeadlineOfFiles}
+use Rattle.programs.specs.Serving.{AnswersNavigable, Served}
+use Rattle.programs.specs.StartFaults.{status_of as start_status}
+use Rattle.programs.specs.Streams.{Reader}
+use Rattle.programs.specs.TreeRuns.{not_started, over_tree}
+use Rattle.programs.specs.declared.start_fault.StartFault.{StartFault}
+use Rattle.programs.specs.declared.start_fault.StartFault.TheVariants.{BadPart, BadFolder, Load}
+
+-- ---- no fault has the status of a success
+
+abbrev IsFailure : ℕ → Type 0
+IsFailure zero = ⊥
+IsFailure (suc status) = Unit {0}
+
+no_success : {status due : ℕ} → IsFailure due → status ≡ due → status ≡ 0 → ⊥
+no_success failure is none = subst IsFailure (sym is ∙ none) failure
+
+lex_fails : (fault : LexFault) → IsFailure (lex_status fault)
+lex_fails lexing.TooLong = tt
+lex_fails (lexing.NotUtf8 at) = tt
+lex_fails (lexing.BadByte at) = tt
+lex_fails (lexing.OpenString at) = tt
+lex_fails (lexing.OpenComment at) = tt
+lex_fails (lexing.BadEscape at) = tt
+lex_fails (lexing.BadNumber at) = tt
+lex_fails lexing.Memory = tt
+
+syntax_fails : (fault : SyntaxFault) → IsFailure (syntax_status fault)
+syntax_fails (parsing.NotProto3 at) = tt
+syntax_fails (parsing.CustomOption at) = tt
+syntax_fails (parsing.Aggregate at) = tt
+syntax_fails (parsing.Extend at) = tt
+syntax_fails (parsing.TwoPackages at) = tt
+syntax_fails (parsing.ImportEscape at) = tt
+syntax_fails (parsing.TooDeep at) = tt
+syntax_fails (parsing.Grammar at) = tt
+syntax_fails parsing.Memory = tt
+
+fails : (fault : Fault) → IsFailure (status_of fault)
+fails Spawn = tt
+fails Memory = tt
+fails (Lex number fault) = lex_fails fault
+fails (Syntax number fault) = syntax_fails fault
+fails (Duplicate first second) = tt
+fails (MissingImport place) = tt
+fails (Unresolved place) = tt
+fails TooLarge = tt
+fails (Write count) = tt
+fails Read = tt
+fails (Answer count) = tt
+
+start_fails : (fault : StartFault) → IsFailure (start_status fault)
+start_fails BadPart = tt
+start_fails (BadFolder path) = tt
+start_fails (Load (Unreadable name)) = tt
+start_fails (Load TooMany) = tt
+start_fails (Load (BadPath path)) = tt
+start_fails (Load (SamePath path)) = tt
+start_fails (Load load.Memory) = tt
+
+told_no_success : {M : Type 0} (line : List ℕ) (due : ℕ) (messages : Writer M) (status : ℕ) → IsFailure due
+    → Tells line due messages status → status ≡ 0 → ⊥
+told_no_success line due messages status failure (inl said) none = no_success failure said.0 none
+told_no_success line due messages status failure (inr said) none = no_success (fails Memory) said.0 none
+
+told_one_no_success : {M : Type 0} (Due : List ℕ → Type 0) (due : ℕ) (messages : Writer M) (status : ℕ)
+    → IsFailure due → TellsOne Due due messages status → status ≡ 0 → ⊥
+told_one_no_success Due due messages status failure (inl one) none = no_success failure one.2.0 none
+told_one_no_success Due due messages status failure (inr said) none = no_success (fails Memory) said.0 none
+
+-- ---- so after a success there is an index
+
+module _ (lists : List ℕ → List ℕ → Option (List Entry) → Type 0) (gives : List ℕ → Option (List ℕ) → Type 0)
+    (options : IndexOptions) (headline : HeadlineOfFiles lists gives options) where
+  pub writes : {W M : Type 0} (out : Writer W) (messages : Writer M) (status : ℕ)
+      → Indexed lists gives options out messages status → WritesNavigable lists gives options out status
+  writes out messages status (not_started fault may untouched tells) none =
+      absurd (told_no_success _ (start_status fault) messages status (start_fails fault) tells none)
+  writes out messages status (over_tree tree ids (Ok recorded) named folders runs ends) none = record {
+    tree = tree;
+    ids = ids;
+    recorded = recorded;
+    folders = folders;
+    navigable = (runs.0, runs.1.index, headline tree ids folders recorded runs.0 runs.1, runs.2);
+  }
+  writes out messages status (over_tree tree ids (Err fault) named folders runs ends) none =
+      absurd (told_one_no_success _ (status_of fault) messages status (fails fault) ends none)
+
+  pub answers : {R W M : Type 0} (commands : Reader R) (written : Writer W) (messages : Writer M) (status : ℕ)
+      → Served lists gives options commands written messages status
+      → AnswersNavigable lists gives options commands written status
+  answers commands written messages status (not_started fault may untouched tells) none =
+      absurd (told_no_success _ (start_status fault) messages status (start_fails fault) tells none)
+  answers commands written messages status (over_tree tree ids (Ok recorded) named folders runs ends) none = record {
+    tree = tree;
+    ids = ids;
+    recorded = recorded;
+    folders = folders;
+    navigable = (runs.bytes, runs.indexed.index, headline tree ids folders recorded runs.bytes runs.indexed, runs.are);
+  }
+  answers commands written messages status (over_tree tree ids (Err fault) named folders runs ends) none =
+      absurd (told_one_no_success _ (status_of fault) messages status (fails fault) ends none)

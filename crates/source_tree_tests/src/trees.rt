@@ -1,10 +1,10 @@
 //! A tree of sources and included files, and what is refused.
 
-use crate::calls::{fault_of, see};
+use crate::calls::{fault_of, see, tree_of};
 use source_tree::{Tree, TreeFault};
 use std::alloc::{AllocError, Global};
 use std::test::Fail;
-use test_kit::{sources_of, tree_of};
+use test_kit::sources_of;
 
 // The first file: of the sources `z.proto` and `y.proto` comes `y.proto` first, which holds a 2. The last
 // two are included; one with a source's path doesn't count, and of two with one path the first listed does.
@@ -29,12 +29,17 @@ fn is_due(tree: &Tree) -> bool {
     tree.file_count() == 4 && tree.source_count() == 2
 }
 
-/// The files, in the form of `test_kit`.
-const FILES: &str = "z.proto\n1|y.proto\n2|+b.proto\n3|+a.proto\n4|+y.proto\n5|+b.proto\n6";
+/// The sources, in the form of `test_kit`, and the included files.
+const SOURCES: &str = "z.proto\n1|y.proto\n2";
+
+const INCLUDED: &str = "b.proto\n3|a.proto\n4|y.proto\n5|b.proto\n6";
 
 #[test]
 fn sources_and_included_files(rt: HostRuntime) -> Result<(), Fail> {
-    let is = match tree_of(rt.alloc(), FILES)? {
+    let alloc = rt.alloc();
+    let sources = sources_of(alloc, SOURCES)?;
+    let included = sources_of(alloc, INCLUDED)?;
+    let is = match tree_of(alloc, sources, included) {
         Some(tree) => is_due(&tree),
         None => false,
     };

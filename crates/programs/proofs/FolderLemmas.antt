@@ -24,7 +24,7 @@ use Rattle.programs.specs.Folders.{AddsRoots, AreByFolder, IsRootOf, folder_pack
 use Rattle.programs.specs.Folders.{HasBadFolder, included_in, roots_of}
 use Rattle.programs.specs.Starting.{HasNoPackage, IsBadFolder}
 use Rattle.programs.specs.declared.start_fault.StartFault.{StartFault}
-use Rattle.programs.specs.declared.start_fault.StartFault.TheVariants.{BadPart, BadFolder, Load}
+use Rattle.programs.specs.declared.start_fault.StartFault.TheVariants.{BadPart, BadFolder, Load, IsSource}
 use Rattle.source_files.specs.declared.load_fault.LoadFault.TheVariants as load
 
 -- ---- the paths of one folder
@@ -264,6 +264,7 @@ bad_one folders before folder behind (Load (load.Unreadable name)) split good ba
 bad_one folders before folder behind (Load load.TooMany) split good bad = absurd bad
 bad_one folders before folder behind (Load (load.BadPath path)) split good bad = absurd bad
 bad_one folders before folder behind (Load (load.SamePath path)) split good bad = absurd bad
+bad_one folders before folder behind (IsSource path) split good bad = absurd bad
 
 pub bad_at : (folders : List PackageFolder) (number : ℕ) (folder : PackageFolder) (fault : StartFault)
     → number < length folders → folder ≡ get_or folders number folder

@@ -6,4 +6,5 @@ mod TreeRunLemmas
 mod DumpEndLemmas
 mod QueryLemmas
 mod LawLemmas
+mod PlacingLemmas
 mod NavigableLemmas

@@ -1,5 +1,5 @@
 -- A run about a tree that ends with the status 0 made an index that navigates the tree.
-use Rattle.std.proofs.Common.{◌≡◌, ◌∙◌, inl, inr, sym, subst, ℕ, zero, suc, List, Option, Ok, Err}
+use Rattle.std.proofs.Common.{◌≡◌, ◌∙◌, inl, inr, sym, subst, ℕ, zero, suc, Bool, List, Option, Ok, Err}
 use Rattle.proto_lex.specs.declared.fault.LexFault.{LexFault}
 use Rattle.proto_lex.specs.declared.fault.LexFault.TheVariants as lexing
 use Rattle.proto_parse.specs.fault.SyntaxFault.{SyntaxFault}
@@ -13,15 +13,18 @@ use Rattle.protoscip.specs.Statuses.{lex_status, syntax_status, status_of}
 use Rattle.protoscip.specs.declared.fault.Fault.{Fault}
 use Rattle.protoscip.specs.declared.fault.Fault.TheVariants.{Spawn, Memory, Lex, Syntax, Duplicate, MissingImport}
 use Rattle.protoscip.specs.declared.fault.Fault.TheVariants.{Unresolved, TooLarge, Write, Read, Answer}
-use Rattle.programs.specs.Indexing.{Indexed, WritesNavigable}
+use Rattle.programs.specs.Indexing.{Indexed, WritesNavigable, not_begun, into_part}
+use Rattle.programs.specs.Indexing as indexing
 use Rattle.programs.specs.Messages.{Tells, TellsOne}
 use Rattle.programs.specs.OptionLaws.{HeadlineOfFiles}
+use Rattle.programs.specs.Placing.{Place, filled}
+use Rattle.programs.proofs.PlacingLemmas.{held_now}
 use Rattle.programs.specs.Serving.{AnswersNavigable, Served}
 use Rattle.programs.specs.StartFaults.{status_of as start_status}
 use Rattle.programs.specs.Streams.{Reader}
 use Rattle.programs.specs.TreeRuns.{not_started, over_tree}
 use Rattle.programs.specs.declared.start_fault.StartFault.{StartFault}
-use Rattle.programs.specs.declared.start_fault.StartFault.TheVariants.{BadPart, BadFolder, Load}
+use Rattle.programs.specs.declared.start_fault.StartFault.TheVariants.{BadPart, BadFolder, Load, IsSource}
 
 -- ---- no fault has the status of a success
 
@@ -74,6 +77,7 @@ start_fails (Load TooMany) = tt
 start_fails (Load (BadPath path)) = tt
 start_fails (Load (SamePath path)) = tt
 start_fails (Load load.Memory) = tt
+start_fails (IsSource path) = tt
 
 told_no_success : {M : Type 0} (line : List ℕ) (due : ℕ) (messages : Writer M) (status : ℕ) → IsFailure due
     → Tells line due messages status → status ≡ 0 → ⊥
@@ -89,18 +93,38 @@ told_one_no_success Due due messages status failure (inr said) none = no_success
 
 module _ (lists : List ℕ → List ℕ → Option (List Entry) → Type 0) (gives : List ℕ → Option (List ℕ) → Type 0)
     (options : IndexOptions) (headline : HeadlineOfFiles lists gives options) where
-  pub writes : {W M : Type 0} (out : Writer W) (messages : Writer M) (status : ℕ)
-      → Indexed lists gives options out messages status → WritesNavigable lists gives options out status
-  writes out messages status (not_started fault may untouched tells) none =
+  pub writes : {P W M : Type 0} (same : List ℕ → Bool → Type 0) (path : List ℕ) (at : Place P W) (messages : Writer M)
+      (status : ℕ)
+      → Indexed lists gives same options path at messages status → WritesNavigable lists gives options at status
+  writes same path at messages status (indexing.not_started fault may left tells) none =
       absurd (told_no_success _ (start_status fault) messages status (start_fails fault) tells none)
-  writes out messages status (over_tree tree ids (Ok recorded) named folders runs ends) none = record {
-    tree = tree;
-    ids = ids;
-    recorded = recorded;
-    folders = folders;
-    navigable = (runs.0, runs.1.index, headline tree ids folders recorded runs.0 runs.1, runs.2);
-  }
-  writes out messages status (over_tree tree ids (Err fault) named folders runs ends) none =
+  writes same path at messages status (indexing.over_tree tree ids named folders (not_begun fault may left tells)) none =
+      absurd (told_no_success _ (start_status fault) messages status (start_fails fault) tells none)
+  writes same path at messages status
+      (indexing.over_tree tree ids named folders
+      (into_part (Ok recorded) apart (filled begun whole nothing runs put) ends)) none =
+      record {
+        tree = tree;
+        ids = ids;
+        recorded = recorded;
+        folders = folders;
+        navigable = (
+          runs.0,
+          runs.1.index,
+          headline tree ids folders recorded runs.0 runs.1,
+          record {
+            begun = begun;
+            whole = whole;
+            nothing = nothing;
+            written = runs.2;
+            put = put;
+            held = λ known. held_now (at.contents begun) (at.contents whole) (at.holds at.after) runs.0 known
+                runs.2.written put;
+          },
+        );
+      }
+  writes same path at messages status
+      (indexing.over_tree tree ids named folders (into_part (Err fault) apart fills ends)) none =
       absurd (told_one_no_success _ (status_of fault) messages status (fails fault) ends none)
 
   pub answers : {R W M : Type 0} (commands : Reader R) (written : Writer W) (messages : Writer M) (status : ℕ)

@@ -22,6 +22,7 @@ pub mod StartExplanations
 pub mod Starting
 pub mod TreeRuns
 pub mod Dumping
+pub mod Placing
 pub mod Indexing
 pub mod Serving
 -- the laws

@@ -3,7 +3,7 @@ use Rattle.std.specs.Prelude.{ℕ, List, codes, string_bytes}
 use Rattle.source_files.specs.LoadFaults.{name_of as load_name}
 use Rattle.source_files.specs.declared.load_fault.LoadFault.TheVariants.{Unreadable, TooMany, BadPath, SamePath, Memory}
 use Rattle.programs.specs.declared.start_fault.StartFault.{StartFault}
-use Rattle.programs.specs.declared.start_fault.StartFault.TheVariants.{BadPart, BadFolder, Load}
+use Rattle.programs.specs.declared.start_fault.StartFault.TheVariants.{BadPart, BadFolder, Load, IsSource}
 use Rattle.programs.specs.declared.statuses.TheConstants.{COMMAND_LINE_STATUS}
 use Rattle.protoscip.specs.Lines.{path_line, plain_line}
 use Rattle.protoscip.specs.declared.statuses.TheConstants.{MEMORY_STATUS, SOURCES_STATUS, STREAM_STATUS}
@@ -13,6 +13,7 @@ abbrev pub name_of : StartFault → List ℕ
 name_of BadPart = codes "BadPart"
 name_of (BadFolder path) = codes "BadPart"
 name_of (Load fault) = load_name fault
+name_of (IsSource path) = codes "IsSource"
 
 abbrev pub line_of : StartFault → List ℕ
 line_of BadPart = plain_line (name_of BadPart)
@@ -22,6 +23,7 @@ line_of (Load TooMany) = plain_line (load_name TooMany)
 line_of (Load (BadPath path)) = path_line (string_bytes path) (load_name (BadPath path))
 line_of (Load (SamePath path)) = path_line (string_bytes path) (load_name (SamePath path))
 line_of (Load Memory) = plain_line (load_name Memory)
+line_of (IsSource path) = path_line (string_bytes path) (name_of (IsSource path))
 
 abbrev pub status_of : StartFault → ℕ
 status_of BadPart = COMMAND_LINE_STATUS
@@ -31,3 +33,4 @@ status_of (Load TooMany) = SOURCES_STATUS
 status_of (Load (BadPath path)) = SOURCES_STATUS
 status_of (Load (SamePath path)) = SOURCES_STATUS
 status_of (Load Memory) = MEMORY_STATUS
+status_of (IsSource path) = STREAM_STATUS

@@ -8,7 +8,7 @@ use Rattle.scip_symbol.specs.Package.{IsPackage}
 use Rattle.command_line.specs.declared.options.IndexOptions.{IndexOptions}
 use Rattle.command_line.specs.declared.options.PackageFolder.{PackageFolder}
 use Rattle.programs.specs.declared.start_fault.StartFault.{StartFault}
-use Rattle.programs.specs.declared.start_fault.StartFault.TheVariants.{BadPart, BadFolder, Load}
+use Rattle.programs.specs.declared.start_fault.StartFault.TheVariants.{BadPart, BadFolder, Load, IsSource}
 use Rattle.programs.specs.Settings.{package_in}
 use Rattle.programs.specs.Folders.{folder_package, included_in, NamePackages, HasBadFolder}
 
@@ -18,6 +18,7 @@ NamesNone options BadPart = IsPackage (package_in options) → ⊥
 NamesNone options (BadFolder path) = ⊥
 NamesNone options (Load load.Memory) = Unit {0}
 NamesNone options (Load fault) = ⊥
+NamesNone options (IsSource path) = ⊥
 
 -- the folder's package isn't one, or memory ran out
 abbrev pub IsBadFolder : PackageFolder → StartFault → Type 0
@@ -26,6 +27,7 @@ IsBadFolder folder (BadFolder path) =
     (IsPackage (folder_package folder) → ⊥) × (string_bytes path ≡ string_bytes folder.folder)
 IsBadFolder folder (Load load.Memory) = Unit {0}
 IsBadFolder folder (Load fault) = ⊥
+IsBadFolder folder (IsSource path) = ⊥
 
 -- the first of the folders whose package isn't one is named; or memory ran out
 abbrev pub HasNoPackage : List PackageFolder → StartFault → Type 0
@@ -33,6 +35,7 @@ HasNoPackage folders BadPart = ⊥
 HasNoPackage folders (BadFolder path) = HasBadFolder folders (string_bytes path)
 HasNoPackage folders (Load load.Memory) = Unit {0}
 HasNoPackage folders (Load fault) = ⊥
+HasNoPackage folders (IsSource path) = ⊥
 
 -- the options name no package of the run, or none of a folder; or memory ran out; or they name packages, and there is
 -- no tree of the files
@@ -44,3 +47,4 @@ MayNotStart lists gives options (BadFolder path) =
 MayNotStart lists gives options (Load load.Memory) = Unit {0}
 MayNotStart lists gives options (Load fault) = NamePackages options
     × MayNotLoad lists gives (string_bytes options.root) (included_in options) fault
+MayNotStart lists gives options (IsSource path) = ⊥

@@ -13,6 +13,7 @@ ghost use Rattle.programs.specs.Folders.{
   included_packages,
   roots_of,
 };
+ghost use Rattle.programs.specs.Placing.{roots_in};
 ghost use Rattle.programs.specs.Starting.{HasNoPackage, IsBadFolder, MayNotStart, NamesNone};
 
 use crate::package::package_of;
@@ -98,6 +99,17 @@ fn included_folders(alloc: Global, options: &IndexOptions) -> Result<Vec<String>
     for folder in &options.include_packages {
         folders.push(String::from_str(alloc, folder.folder.as_str())?)?;
     }
+    Ok(folders)
+}
+
+/// The folders whose files are read: the root, and then those with included files.
+pub(crate) fn folders_read(alloc: Global, options: &IndexOptions) -> Result<Vec<String>, AllocError>
+    ensures { IfOk result (λ folders. map string_bytes folders.items ≡ roots_in options.now) }
+{
+    let mut folders = Vec::new(alloc);
+    folders.push(String::from_str(alloc, options.root.as_str())?)?;
+    let mut others = included_folders(alloc, options)?;
+    folders.append(&mut others)?;
     Ok(folders)
 }
 

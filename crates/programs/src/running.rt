@@ -24,6 +24,7 @@ ghost use Rattle.programs.specs.Dumping.{EndsDump};
 ghost use Rattle.programs.specs.Indexing.{Indexed, WritesNavigable};
 ghost use Rattle.programs.specs.Messages.{Tells, memory_line, memory_status};
 ghost use Rattle.programs.specs.Paging.{RunsPages};
+ghost use Rattle.programs.specs.Placing.{place};
 ghost use Rattle.programs.specs.Printing.{Prints, Refuses};
 ghost use Rattle.programs.specs.Queries.{Queried};
 ghost use Rattle.programs.specs.Serving.{AnswersNavigable, Served};
@@ -33,7 +34,7 @@ ghost use Rattle.programs.specs.Streams.{reader};
 
 use crate::dumping::dump_source;
 use crate::host::Host;
-use crate::indexing::index;
+use crate::indexing::{IndexRequest, index};
 use crate::messages::report;
 use crate::output::print;
 use crate::paging::pages;
@@ -44,7 +45,7 @@ use crate::snapshotting::snapshot;
 use crate::statuses::COMMAND_LINE_STATUS;
 use command_line::Request;
 use protoscip::{MEMORY_STATUS, plain_line};
-use source_files::{EmptyFolders, MakeFiles, ReadFiles};
+use source_files::{EmptyFolders, MakeFiles, OutPlace, ReadFiles};
 use std::alloc::AllocError;
 use std::sync::Wait;
 use std::thread::Threads;
@@ -90,10 +91,10 @@ pub fn out_path(asked: &Result<Request, AllocError>) -> &str
     }
 }
 
-/// Does what was asked for, and gives the exit status. An index goes to `file`, which makes the files
+/// Does what was asked for, and gives the exit status. An index goes to the place `file`, which makes the files
 /// of snapshots and of pages too; everything else goes to `out`. Where memory ran out while the command
 /// line was read, it says so.
-pub fn run<R, F, I: Feed, W: Sink, O: Sink + MakeFiles, M: Sink>(
+pub fn run<R, F, I: Feed, W: Sink, O: OutPlace + MakeFiles, M: Sink>(
     host: &Host<'_, R, F>,
     asked: &Result<Request, AllocError>,
     input: &mut I,
@@ -132,8 +133,10 @@ where
         × (file.new ≡ file.old))) }
     // What `index` does.
     ensures indexed { IfOk asked.now (λ request. IfSome (index_options request) (λ options.
-        Indexed (F.lists host.now.files.now) (F.gives host.now.files.now) options
-        (writer O.contents O.failures file.old file.new) (writer M.contents M.failures messages.old messages.new) result
+        IfSome (out_path request) (λ path.
+        Indexed (F.lists host.now.files.now) (F.gives host.now.files.now) (O.same file.old) options path
+        (place O.holds O.Part.contents O.Part.failures file.old file.new)
+        (writer M.contents M.failures messages.old messages.new) result)
         × (input.new ≡ input.old) × (out.new ≡ out.old))) }
     // What `shell` does.
     ensures served { IfOk asked.now (λ request. IfSome (shell_options request) (λ options.
@@ -144,7 +147,7 @@ where
     // After a success of either, queries over what is written, or answered from, are exact.
     ensures navigable { IfOk asked.now (λ request. IfSome (index_options request) (λ options.
         WritesNavigable (F.lists host.now.files.now) (F.gives host.now.files.now) options
-        (writer O.contents O.failures file.old file.new) result)
+        (place O.holds O.Part.contents O.Part.failures file.old file.new) result)
         × IfSome (shell_options request) (λ options.
         AnswersNavigable (F.lists host.now.files.now) (F.gives host.now.files.now) options
         (reader I.remaining I.failures I.reads I.ends input.old input.new)
@@ -172,7 +175,14 @@ where
             }
             Request::Snapshot(options) => snapshot(host, options, out, file, messages),
             Request::Pages(options) => pages(host, options, file, messages),
-            Request::Index(options, _, quiet) => index(host, options, *quiet, file, messages),
+            Request::Index(options, path, quiet) => {
+                let index_request = IndexRequest {
+                    options,
+                    path: path.as_str(),
+                    quiet: *quiet,
+                };
+                index(host, &index_request, file, messages)
+            }
             Request::Shell(options) => shell(host, options, input, out, messages),
             Request::Print(text) => print(host.alloc, text.as_str(), out, messages),
             Request::Refuse(text) => refuse(text.as_str(), messages),

@@ -33,6 +33,9 @@ fn explanation_of(fault: &StartFault) -> &'static str
             LoadFault::SamePath(_) => "\ntwo sources have this path",
             LoadFault::Memory => "",
         },
+        StartFault::IsSource(_) => {
+            "\nit is a source that was read, or a link to one; the index would replace it"
+        }
     }
 }
 

@@ -17,6 +17,8 @@ pub(crate) enum StartFault {
     BadFolder(String),
     /// There is no tree of the files, or memory ran out.
     Load(LoadFault),
+    /// The file with this path, which the index would go to, is one of those that were read (`index` alone).
+    IsSource(String),
 }
 
 impl From<AllocError> for StartFault {
@@ -48,6 +50,7 @@ impl StartFault {
         match self {
             StartFault::BadPart | StartFault::BadFolder(_) => "BadPart",
             StartFault::Load(fault) => fault.name(),
+            StartFault::IsSource(_) => "IsSource",
         }
     }
 
@@ -65,6 +68,7 @@ impl StartFault {
                 LoadFault::SamePath(path) => path_line(alloc, path.as_str(), name),
                 LoadFault::TooMany | LoadFault::Memory => plain_line(alloc, name),
             },
+            StartFault::IsSource(path) => path_line(alloc, path.as_str(), name),
         }
     }
 
@@ -80,6 +84,7 @@ impl StartFault {
                     SOURCES_STATUS,
                 LoadFault::Memory => MEMORY_STATUS,
             },
+            StartFault::IsSource(_) => STREAM_STATUS,
         }
     }
 }

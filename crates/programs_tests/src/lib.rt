@@ -15,3 +15,5 @@ mod report;
 mod runs;
 #[cfg(test)]
 mod shared;
+#[cfg(test)]
+mod written;

@@ -1,28 +1,31 @@
 //! The program over streams and files in memory.
 //!
-//! Each writer is a part of an array, which takes no memory.
+//! Each stream is a part of an array, which takes no memory.
 
 use crate::files::Files;
 use crate::shared::{see, words_of};
+use crate::written::Written;
 use command_line::{Request, request_of};
-use programs::{Host, run};
-use source_files::MakeFiles;
+use programs::{Host, out_path, run};
 use std::alloc::{AllocError, Global};
 use std::process::Abort;
 use std::sync::Wait;
 use std::test::Fail;
 use std::thread::Threads;
 use std::time::Clock;
-use streams::{Failed, Sink, Std, write_all};
+use streams::Std;
 
 /// The most bytes that a run prints, writes to a file or says in these tests.
-const ROOM: usize = 512;
+pub(crate) const ROOM: usize = 512;
 
-/// A command line and an input; and what the run ends with. The output and the file have room for what is
-/// printed and written alone: a `\0` is room for a byte that doesn't come.
+/// A command line and an input; how many bytes of an index are taken, and whether its place then is refused; and what
+/// the run ends with. The output and the file have room for what is printed and written alone: a `\0` is room for a
+/// byte that doesn't come.
 pub(crate) struct Row {
     pub words: &'static str,
     pub input: &'static str,
+    pub fits: usize,
+    pub is_refused: bool,
     pub printed: &'static str,
     pub written: &'static [u8],
     pub status: u8,
@@ -32,6 +35,8 @@ pub(crate) struct Row {
 pub(crate) const SILENT: Row = Row {
     words: "",
     input: "",
+    fits: ROOM,
+    is_refused: false,
     printed: "\0",
     written: b"\0",
     status: 0,
@@ -39,7 +44,7 @@ pub(crate) const SILENT: Row = Row {
 };
 
 // The second row reads: there is no program `nothing`, which is said, with status 2.
-static ROWS: [Row; 23] = [
+static ROWS: [Row; 28] = [
     Row {
         words: "--version",
         printed: "protoscip 1\n\0",
@@ -154,6 +159,40 @@ b/c.txt
         ..SILENT
     },
     Row {
+        words: "index api out",
+        fits: 30,
+        status: 3,
+        said: "protoscip: Write\n",
+        ..SILENT
+    },
+    Row {
+        words: "index api out",
+        is_refused: true,
+        status: 3,
+        said: "protoscip: Write\n",
+        ..SILENT
+    },
+    Row {
+        words: "index api ./api/a.proto",
+        status: 3,
+        said: "protoscip: ./api/a.proto: IsSource\n",
+        ..SILENT
+    },
+    Row {
+        words: "index api ././api/a.proto --explain",
+        status: 3,
+        said: "protoscip: ././api/a.proto: IsSource
+it is a source that was read, or a link to one; the index would replace it\n",
+        ..SILENT
+    },
+    // of `base`, which is read, though the `a.proto` of `own` counts
+    Row {
+        words: "index own base/a.proto --include-package m n r base",
+        status: 3,
+        said: "protoscip: base/a.proto: IsSource\n",
+        ..SILENT
+    },
+    Row {
         words: "index --package . nowhere out",
         status: 2,
         said: "protoscip: BadPart\n",
@@ -230,61 +269,6 @@ protoscip: 1 sources indexed, 1 skipped, 1 imports and 0 uses without a target\n
     },
 ];
 
-/// Room that an index is written to, and also the files that are made, each behind its path in brackets; of the files
-/// of pages the path alone.
-#[derive(Drop)]
-struct Written<'a> {
-    room: Std<&'a mut [u8]>,
-    /// How many files were refused.
-    refusals: u64,
-}
-
-impl<'a> Sink for Written<'a> {
-    ghost use Rattle.std.specs.Prelude.{None};
-    ghost use Rattle.streams.specs.StdStreams.{failures_of};
-
-    ghost contents = { λ _. None };
-
-    ghost failures = { λ w. failures_of w.room };
-
-    fn write(&mut self, bytes: &[u8]) -> Result<usize, Failed> {
-        self.room.write(bytes)
-    }
-}
-
-/// What is kept of a file.
-fn kept<'a>(path: &str, bytes: &'a [u8]) -> &'a [u8] {
-    if path.ends_with(".txt") { bytes } else { b"" }
-}
-
-/// Writes what is kept of a file behind its path. Whether there was room for it.
-fn keep(room: &mut Std<&mut [u8]>, path: &str, bytes: &[u8]) -> bool {
-    let mut is_kept = true;
-    for part in [
-        b"[".as_slice(),
-        path.as_bytes(),
-        b"]".as_slice(),
-        kept(path, bytes),
-    ] {
-        is_kept = is_kept && write_all(room, part).is_ok();
-    }
-    is_kept
-}
-
-impl<'a> MakeFiles for Written<'a> {
-    ghost use Rattle.std.specs.Prelude.{None};
-
-    ghost made = { λ w. record { files = None; refusals = w.refusals } };
-
-    fn make_file(&mut self, path: &str, bytes: &[u8]) -> Result<bool, AllocError> {
-        if keep(&mut self.room, path, bytes) {
-            return Ok(true);
-        }
-        self.refusals = self.refusals.saturating_add(1);
-        Ok(false)
-    }
-}
-
 /// Runs what was asked for. Gives the status, and whether what is due is said.
 fn ended<R: Threads + Wait + Clock + Eprint + Sync>(
     rt: &R,
@@ -298,6 +282,9 @@ fn ended<R: Threads + Wait + Clock + Eprint + Sync>(
     let mut out = Std::new(printed);
     let mut file = Written {
         room: Std::new(written),
+        path: out_path(asked),
+        fits: row.fits,
+        is_refused: row.is_refused,
         refusals: 0,
     };
     let mut told = [0u8; ROOM];

@@ -7,3 +7,4 @@ pub mod OneListingLemmas
 pub mod ReadingLemmas
 pub mod LoadLemmas
 pub mod FolderLemmas
+pub mod PlaceLemmas

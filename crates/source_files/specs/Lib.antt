@@ -15,3 +15,5 @@ pub mod Loads
 pub mod LoadFaults
 -- files that are made
 pub mod Made
+-- where a file is to be
+pub mod Places

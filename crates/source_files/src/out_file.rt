@@ -1,92 +1,99 @@
-//! A file that is made at its first write, and files that are made whole.
+//! The file that an index goes to, and files that are made whole.
 
-ghost use Rattle.std.specs.Prelude.{◌≡◌, ◌≤◌, None, length, IfOk};
+ghost use Rattle.std.specs.Prelude.{◌≡◌};
 
 use crate::make_files::MakeFiles;
+use crate::out_part::OutPart;
+use crate::out_place::OutPlace;
+use crate::out_way::Way;
 use crate::system_files::given;
-use std::alloc::AllocError;
-use std::fs::File;
-use std::io::{ErrorKind, Write};
+use std::alloc::{AllocError, Global};
+use std::fs::Metadata;
+use std::io::ErrorKind;
+use std::os::unix::fs::MetadataExt;
 use std::rt::Files;
 use std::{fs, io};
-use streams::{Failed, Sink};
+use streams::Failed;
 
-/// A file that is made at the first write to it, in place of one that is there. What it holds isn't
-/// known, nor what is made by other paths. It is none of the standard streams, even where these are closed.
+/// The place of the file with a path. What it holds isn't known, nor what is made by other paths.
+///
+/// A regular file, and one that isn't there, is written beside its place and then moved there. A link to a regular
+/// file stays a link. What is there keeps its owner, its group and its mode. In place are written: what is no regular
+/// file; what can't be moved there, for want of rights to its folder, or since it is a file system of its own.
 #[derive(Drop)]
 pub struct OutFile<'a, S: Files> {
     system: &'a S,
     path: &'a str,
-    held: [Option<S::File>; 3],
-    file: Option<S::File>,
-    failures: u64,
     refusals: u64,
 }
 
 impl<'a, S: Files> OutFile<'a, S> {
-    /// The file with a path, which isn't made yet.
+    /// The place of the file with a path.
     pub fn new(system: &'a S, path: &'a str) -> OutFile<'a, S>
-        ensures failures { result.failures ≡ 0 }
-        ensures refusals { result.refusals ≡ 0 }
-        ensures unmade { result.file ≡ None }
+        ensures { result.refusals ≡ 0 }
     {
         OutFile {
             system,
             path,
-            held: [None, None, None],
-            file: None,
-            failures: 0,
             refusals: 0,
-        }
-    }
-
-    /// A file that holds nothing, if the system has it.
-    fn nothing(&self) -> Option<S::File> {
-        File::open(self.system, "/dev/null").ok()
-    }
-
-    /// Makes the file. The system gives it the least number that is free, which is that of a standard stream if one is
-    /// closed: so what is said would be written to it. Other files take these numbers before.
-    fn make(&mut self) -> io::Result<()>
-        ensures failures { self.new.failures ≡ self.old.failures }
-    {
-        self.held = [self.nothing(), self.nothing(), self.nothing()];
-        self.file = Some(fs::create(self.system, self.path)?);
-        Ok(())
-    }
-
-    /// Makes the file if it isn't made yet, and writes to it.
-    fn write_to_file(&mut self, bytes: &[u8]) -> io::Result<usize>
-        ensures bound { IfOk result (λ count. count ≤ length bytes.now) }
-        ensures failures { self.new.failures ≡ self.old.failures }
-    {
-        if self.file.is_none() {
-            self.make()?;
-        }
-        match &mut self.file {
-            Some(file) => file.write(bytes),
-            None => Ok(0),
         }
     }
 }
 
-impl<'a, S: Files> Sink for OutFile<'a, S> {
-    ghost use Rattle.std.specs.Prelude.{None};
+/// Whether a path may be that of a source, also in a file system to which small and capital letters are alike.
+fn may_name_source(path: &str) -> bool {
+    let bytes = path.as_bytes();
+    match bytes.split_last_chunk::<6>() {
+        Some((_, ending)) => ending.eq_ignore_ascii_case(b".proto"),
+        None => false,
+    }
+}
 
-    ghost contents = { λ _. None };
+/// Whether two are one file.
+fn are_one(one: &Metadata, other: &Metadata) -> bool {
+    one.dev() == other.dev() && one.ino() == other.ino()
+}
 
-    ghost failures = { λ s. s.failures };
+impl<'a, S: Files> OutPlace for OutFile<'a, S> {
+    ghost use Rattle.std.specs.Prelude.{None, ⊤};
 
-    fn write(&mut self, bytes: &[u8]) -> Result<usize, Failed> {
-        let result = self.write_to_file(bytes);
-        let failed = match &result {
-            Ok(count) => *count == 0 && !bytes.is_empty(),
-            Err(_) => true,
-        };
-        if failed {
-            self.failures = self.failures.saturating_add(1);
+    type Part = OutPart<'a, S>;
+
+    ghost holds = { λ _. None };
+
+    ghost same = { λ _ _ _. ⊤ };
+
+    fn may_be_source(&self) -> bool {
+        match self.system.symlink_metadata(self.path) {
+            Ok(there) if there.is_file() => there.nlink() > 1 || may_name_source(self.path),
+            Ok(there) => there.is_symlink(),
+            Err(_) => false,
         }
-        result.map_err(|_| Failed)
+    }
+
+    fn is_file(&self, path: &str) -> bool {
+        match (self.system.metadata(self.path), self.system.metadata(path)) {
+            (Ok(there), Ok(file)) => are_one(&there, &file),
+            _ => false,
+        }
+    }
+
+    fn begin(&self, alloc: Global) -> Result<OutPart<'a, S>, AllocError> {
+        let way = Way::to(self.system, alloc, self.path)?;
+        Ok(OutPart::new(self.system, self.path, way))
+    }
+
+    fn put(&mut self, part: OutPart<'a, S>) -> Result<(), Failed> {
+        let mut part = part;
+        let done = part.finish();
+        if done.is_err() {
+            part.leave();
+        }
+        done.map_err(|_| Failed)
+    }
+
+    fn leave(&self, part: OutPart<'a, S>) {
+        part.leave();
     }
 }
 

@@ -18,7 +18,7 @@ use std::sync::Wait;
 use std::thread::Threads;
 
 /// A path below a root, for the system.
-fn path_below(alloc: Global, root: &str, path: &str) -> Result<String, AllocError>
+pub(crate) fn path_below(alloc: Global, root: &str, path: &str) -> Result<String, AllocError>
     ensures { IfOk result (λ below. string_bytes below ≡ path_below root.now path.now) }
 {
     let mut below = String::from_str(alloc, root)?;

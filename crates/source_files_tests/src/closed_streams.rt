@@ -1,12 +1,14 @@
-//! A file that is made where the standard streams are closed, by a system that takes a few bytes at once.
+//! A file that is made where the standard streams are closed, by a system that takes a few bytes at once, and that
+//! may refuse another file in a folder, or its move.
 
 use crate::numbered::{Numbered, Taken, least_free};
-use crate::outputs::holds;
+use crate::outputs::{holds, part_of};
 use crate::roots::see;
-use source_files::OutFile;
-use std::alloc::Allocator;
+use source_files::{OutFile, OutPlace};
+use std::alloc::{Allocator, Global};
 use std::cell::Cell;
 use std::fs::{Metadata, OpenOptions};
+use std::io::{Error, ErrorKind};
 use std::rt::Files;
 use std::test::Fail;
 use std::{fs, io};
@@ -18,6 +20,10 @@ use streams::{Sink, write_all};
 struct Counting<'a, S: Files> {
     system: &'a S,
     taken: &'a Taken,
+    /// Whether it makes no other file.
+    is_closed: bool,
+    /// How it refuses to move one.
+    stays: Option<ErrorKind>,
 }
 
 impl<'a, S: Files> Files for Counting<'a, S> {
@@ -26,6 +32,9 @@ impl<'a, S: Files> Files for Counting<'a, S> {
     type Dir = S::Dir;
 
     fn open_file(&self, how: &OpenOptions, path: &str) -> io::Result<Numbered<'a, S::File>> {
+        if self.is_closed && how.asks_create_new() {
+            return Err(Error::from(ErrorKind::PermissionDenied));
+        }
         let number = least_free(self.taken);
         let path = match number {
             Some(_) if path != "/dev/null" => "said",
@@ -52,7 +61,10 @@ impl<'a, S: Files> Files for Counting<'a, S> {
     }
 
     fn rename(&self, from: &str, to: &str) -> io::Result<()> {
-        self.system.rename(from, to)
+        match self.stays {
+            Some(kind) => Err(Error::from(kind)),
+            None => self.system.rename(from, to),
+        }
     }
 
     fn remove_file(&self, path: &str) -> io::Result<()> {
@@ -72,22 +84,47 @@ impl<'a, S: Files> Files for Counting<'a, S> {
     }
 }
 
+/// Whether eleven bytes are written to a part, the last ones in three writes.
+fn is_written<W: Sink>(part: &mut W) -> bool {
+    part.write(b"ab") == Ok(2) && part.write(b"c") == Ok(1) && write_all(part, b"defghijk").is_ok()
+}
+
+/// Whether eleven bytes are put at the place `beside.scip`. None after want of memory.
+fn is_put<S: Files>(system: &S, alloc: Global) -> Option<bool> {
+    let mut place = OutFile::new(system, "beside.scip");
+    let mut part = part_of(alloc, &place)?;
+    Some(is_written(&mut part) && place.put(part).is_ok())
+}
+
+/// What a system refuses: another file, and how a move; and whether the bytes are put at the place all the same.
+const SYSTEMS: [(bool, Option<ErrorKind>, bool); 5] = [
+    (false, None, true),
+    (true, None, true),
+    (false, Some(ErrorKind::ResourceBusy), true),
+    (false, Some(ErrorKind::PermissionDenied), true),
+    (false, Some(ErrorKind::StorageFull), false),
+];
+
 #[test]
 fn made_beside_closed_streams(rt: HostRuntime) -> Result<(), Fail> {
     let taken = Cell::new(0);
-    let system = Counting {
-        system: &rt,
-        taken: &taken,
-    };
-    let mut out = OutFile::new(&system, "beside.scip");
-    see(&rt, out.write(b"ab") == Ok(2), "first");
-    see(&rt, out.write(b"c") == Ok(1), "second");
-    see(&rt, holds(&rt, "beside.scip", b"abc"), "after");
-    see(
-        &rt,
-        write_all(&mut out, b"defghijk").is_ok(),
-        "in three writes",
-    );
-    see(&rt, holds(&rt, "beside.scip", b"abcdefghijk"), "all");
+    for (is_closed, stays, due) in &SYSTEMS {
+        fs::write(&rt, "beside.scip", "what was there")?;
+        let system = Counting {
+            system: &rt,
+            taken: &taken,
+            is_closed: *is_closed,
+            stays: *stays,
+        };
+        let held = match is_put(&system, rt.alloc()) {
+            None => continue,
+            Some(is) if is != *due => b"".as_slice(),
+            Some(true) => b"abcdefghijk".as_slice(),
+            Some(false) => b"what was there".as_slice(),
+        };
+        see(&rt, holds(&rt, "beside.scip", held), "what is there");
+        let is_left = holds(&rt, ".beside.scip.protoscip-0", b"abcdefghijk");
+        see(&rt, !is_left, "what is left");
+    }
     Ok(fs::remove_file(&rt, "beside.scip")?)
 }

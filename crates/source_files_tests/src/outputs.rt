@@ -1,10 +1,11 @@
-//! Files that are made at their first write.
+//! Files that are written beside their places, and put there.
 
 use crate::roots::{remove_again, see};
-use source_files::{MakeFiles, OutFile};
-use std::alloc::AllocError;
-use std::fs::File;
+use source_files::{MakeFiles, OutFile, OutPart, OutPlace};
+use std::alloc::{AllocError, Global};
+use std::fs::{File, Permissions};
 use std::io::Read;
+use std::os::unix::fs::{MetadataExt, PermissionsExt};
 use std::rt::Files;
 use std::test::Fail;
 use std::{fs, io};
@@ -26,26 +27,153 @@ pub(crate) fn holds<S: Files>(system: &S, path: &str, due: &[u8]) -> bool {
     }
 }
 
+/// A part of a place. None after want of memory, twice.
+pub(crate) fn part_of<P: OutPlace>(alloc: Global, place: &P) -> Option<P::Part> {
+    match place.begin(alloc) {
+        Ok(part) => Some(part),
+        Err(AllocError) => place.begin(alloc).ok(),
+    }
+}
+
+/// Whether three bytes can be written to the part of a place, in two writes, and the place holds `due` then, as before.
+fn is_written<S: Files>(system: &S, part: &mut OutPart<'_, S>, path: &str, due: &[u8]) -> bool {
+    let is_taken = part.write(b"ab") == Ok(2) && part.write(b"c") == Ok(1);
+    is_taken && holds(system, path, due)
+}
+
+/// The other file, in which a part of `made.scip` is until it is put there.
+const BESIDE: &str = ".made.scip.protoscip-0";
+
 #[test]
-fn made_at_the_first_write(rt: HostRuntime) -> Result<(), Fail> {
+fn put_when_it_is_whole(rt: HostRuntime) -> Result<(), Fail> {
     fs::write(&rt, "made.scip", "what was there")?;
-    let mut out = OutFile::new(&rt, "made.scip");
-    see(&rt, holds(&rt, "made.scip", b"what was there"), "before");
-    see(&rt, out.write(b"ab") == Ok(2), "first");
-    see(&rt, out.write(b"c") == Ok(1), "second");
-    see(&rt, holds(&rt, "made.scip", b"abc"), "after");
+    let mut place = OutFile::new(&rt, "made.scip");
+    if let Some(mut part) = part_of(rt.alloc(), &place) {
+        see(&rt, !holds(&rt, BESIDE, b""), "nothing is made yet");
+        see(
+            &rt,
+            is_written(&rt, &mut part, "made.scip", b"what was there"),
+            "written",
+        );
+        see(&rt, holds(&rt, BESIDE, b"abc"), "beside");
+        see(&rt, place.put(part) == Ok(()), "put");
+        see(&rt, holds(&rt, "made.scip", b"abc"), "there");
+        see(&rt, !holds(&rt, BESIDE, b"abc"), "moved");
+    }
     Ok(fs::remove_file(&rt, "made.scip")?)
+}
+
+#[test]
+fn given_up(rt: HostRuntime) -> Result<(), Fail> {
+    fs::write(&rt, "kept.scip", "what was there")?;
+    let place = OutFile::new(&rt, "kept.scip");
+    if let Some(mut part) = part_of(rt.alloc(), &place) {
+        see(
+            &rt,
+            is_written(&rt, &mut part, "kept.scip", b"what was there"),
+            "written",
+        );
+        place.leave(part);
+        see(&rt, holds(&rt, "kept.scip", b"what was there"), "kept");
+        see(
+            &rt,
+            !holds(&rt, ".kept.scip.protoscip-0", b"abc"),
+            "removed",
+        );
+    }
+    Ok(fs::remove_file(&rt, "kept.scip")?)
+}
+
+/// Whether three bytes are put at a place.
+fn is_put<S: Files>(system: &S, alloc: Global, path: &str) -> Option<bool> {
+    let mut place = OutFile::new(system, path);
+    let mut part = part_of(alloc, &place)?;
+    let is_taken = part.write(b"ab") == Ok(2) && part.write(b"c") == Ok(1);
+    Some(is_taken && place.put(part) == Ok(()) && holds(system, path, b"abc"))
+}
+
+#[test]
+fn a_link_stays_and_its_file_has_its_mode(rt: HostRuntime) -> Result<(), Fail> {
+    fs::write(&rt, "linked.scip", "what was there")?;
+    fs::set_permissions(&rt, "linked.scip", Permissions::from_mode(0o604))?;
+    rt.symlink("linked.scip", "link.scip")?;
+    let is = is_put(&rt, rt.alloc(), "link.scip");
+    see(&rt, is != Some(false), "put");
+    if is == Some(true) {
+        see(&rt, holds(&rt, "linked.scip", b"abc"), "its file");
+    }
+    let link = fs::symlink_metadata(&rt, "link.scip")?;
+    see(&rt, link.is_symlink(), "a link");
+    let there = fs::metadata(&rt, "linked.scip")?;
+    see(&rt, there.mode() & 0o777 == 0o604, "its mode");
+    fs::remove_file(&rt, "link.scip")?;
+    Ok(fs::remove_file(&rt, "linked.scip")?)
+}
+
+/// Two runs that write to one place at once don't meet.
+#[test]
+fn two_at_once(rt: HostRuntime) -> Result<(), Fail> {
+    let mut first = OutFile::new(&rt, "both.scip");
+    let mut second = OutFile::new(&rt, "both.scip");
+    let parts = (part_of(rt.alloc(), &first), part_of(rt.alloc(), &second));
+    if let (Some(mut one), Some(mut other)) = parts {
+        see(&rt, one.write(b"one") == Ok(3), "the first");
+        see(&rt, other.write(b"other") == Ok(5), "the second");
+        see(&rt, second.put(other) == Ok(()), "the second is put");
+        see(&rt, holds(&rt, "both.scip", b"other"), "and is there");
+        see(&rt, first.put(one) == Ok(()), "the first is put");
+        see(&rt, holds(&rt, "both.scip", b"one"), "and is there");
+        fs::remove_file(&rt, "both.scip")?;
+    }
+    Ok(())
 }
 
 /// A folder, a file in no folder, and no name.
 const REFUSED: [&str; 3] = [".", "nowhere/out", ""];
 
+/// Whether nothing can be written to the part of a place.
+fn is_refused<P: OutPlace>(alloc: Global, place: &P) -> bool {
+    match part_of(alloc, place) {
+        Some(mut part) => part.write(b"ab") == Err(Failed),
+        None => true,
+    }
+}
+
 #[test]
 fn what_the_system_does_not_make(rt: HostRuntime) {
     for path in &REFUSED {
-        let mut out = OutFile::new(&rt, path);
-        see(&rt, out.write(b"ab") == Err(Failed), path);
+        let place = OutFile::new(&rt, path);
+        see(&rt, is_refused(rt.alloc(), &place), path);
     }
+}
+
+/// Paths, and whether the file `same.proto` has them: as it is spelled, by a folder, a link and another name of it; and
+/// of another file, a folder and nothing.
+const NAMES: [(&str, bool); 7] = [
+    ("same.proto", true),
+    (".//./same.proto", true),
+    ("link.proto", true),
+    ("other.proto", true),
+    ("same.scip", false),
+    (".", false),
+    ("none.proto", false),
+];
+
+#[test]
+fn one_file_by_several_names(rt: HostRuntime) -> Result<(), Fail> {
+    fs::write(&rt, "same.proto", "ab")?;
+    fs::write(&rt, "same.scip", "ab")?;
+    rt.symlink("same.proto", "link.proto")?;
+    rt.hard_link("same.proto", "other.proto")?;
+    for (path, due) in &NAMES {
+        let place = OutFile::new(&rt, path);
+        see(&rt, place.is_file("same.proto") == *due, path);
+        see(&rt, place.may_be_source() || !*due, path);
+    }
+    for name in &["same.proto", "same.scip", "link.proto", "other.proto"] {
+        fs::remove_file(&rt, *name)?;
+    }
+    Ok(())
 }
 
 /// Makes a file. None after want of memory.

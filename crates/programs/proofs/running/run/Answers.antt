@@ -3,12 +3,14 @@ use Rattle.std.proofs.Common.{◌≡◌, refl, subst, sym, ℕ, List}
 use Rattle.std.specs.Prelude.{IfOk, IfSome, Result}
 use Rattle.std.specs.declared.alloc.AllocError.{AllocError}
 use Rattle.scip_snapshot.specs.Showing.{maker, writer}
-use Rattle.command_line.specs.Requests.{index_options, pages_options, printed_text, refused_text}
+use Rattle.command_line.specs.Requests.{index_options, out_path, pages_options, printed_text, refused_text}
 use Rattle.command_line.specs.Requests.{shell_options, snapshot_options}
+use Rattle.command_line.specs.declared.options.IndexOptions.{IndexOptions}
 use Rattle.command_line.specs.declared.request.Request.{Request}
 use Rattle.programs.specs.Indexing.{Indexed, WritesNavigable}
 use Rattle.programs.specs.Messages.{memory_line}
 use Rattle.programs.specs.Paging.{RunsPages}
+use Rattle.programs.specs.Placing.{Place, place}
 use Rattle.programs.specs.Printing.{Prints, Refuses}
 use Rattle.programs.specs.Serving.{AnswersNavigable, Served}
 use Rattle.programs.specs.Snapshotting.{RunsSnapshot}
@@ -39,13 +41,19 @@ returns-in-Refuse-clause-refused g c =
 
 pub returns-in-Index-clause-indexed : goal.returns-in-Index-clause-indexed
 returns-in-Index-clause-indexed g c =
+    let lists = g.F.ReadFiles.lists c.args.host.now.files.now in
+    let gives = g.F.ReadFiles.gives c.args.host.now.files.now in
+    let there : Place _ _ = place g.O.OutPlace.holds g.O.Part.Sink.contents g.O.Part.Sink.failures c.args.file.now
+    c.index.new.out in
+    let By : IndexOptions → List ℕ → Type 0 = λ options path.
+    Indexed lists gives (g.O.OutPlace.same c.args.file.now) options path there
+    (writer g.M.Sink.contents g.M.Sink.failures c.args.messages.now c.index.new.messages) c.index.result in
     let Here : Request → Type 0 = λ request. IfSome (index_options request) (λ options.
-    Indexed (g.F.ReadFiles.lists c.args.host.now.files.now) (g.F.ReadFiles.gives c.args.host.now.files.now) options
-    (writer g.O.Sink.contents g.O.Sink.failures c.args.file.now c.index.new.out)
-    (writer g.M.Sink.contents g.M.Sink.failures c.args.messages.now c.index.new.messages) c.index.result
+    IfSome (out_path request) (λ path. By options path)
     × (c.args.input.now ≡ c.args.input.now) × (c.args.out.now ≡ c.args.out.now)) in
     subst (λ (asked : Result Request AllocError). IfOk asked Here) (sym c.in-Ok.is)
-    (subst Here (sym c.in-Index.is) (c.index.ensures.indexed, refl, refl))
+    (subst Here (sym c.in-Index.is)
+    (subst (By c.in-Index.options) c.as_str-in-Index.ensures.value c.index.ensures.indexed, refl, refl))
 
 pub returns-in-Shell-clause-served : goal.returns-in-Shell-clause-served
 returns-in-Shell-clause-served g c =
@@ -64,7 +72,8 @@ returns-in-Index-clause-navigable g c =
     let gives = g.F.ReadFiles.gives c.args.host.now.files.now in
     let Here : Request → Type 0 = λ request.
     IfSome (index_options request) (λ options. WritesNavigable lists gives options
-    (writer g.O.Sink.contents g.O.Sink.failures c.args.file.now c.index.new.out) c.index.result)
+    (place g.O.OutPlace.holds g.O.Part.Sink.contents g.O.Part.Sink.failures c.args.file.now c.index.new.out)
+    c.index.result)
     × IfSome (shell_options request) (λ options. AnswersNavigable lists gives options
     (reader g.I.Feed.remaining g.I.Feed.failures g.I.Feed.reads g.I.Feed.ends c.args.input.now c.args.input.now)
     (writer g.W.Sink.contents g.W.Sink.failures c.args.out.now c.args.out.now) c.index.result) in
@@ -77,7 +86,8 @@ returns-in-Shell-clause-navigable g c =
     let gives = g.F.ReadFiles.gives c.args.host.now.files.now in
     let Here : Request → Type 0 = λ request.
     IfSome (index_options request) (λ options. WritesNavigable lists gives options
-    (writer g.O.Sink.contents g.O.Sink.failures c.args.file.now c.args.file.now) c.shell.result)
+    (place g.O.OutPlace.holds g.O.Part.Sink.contents g.O.Part.Sink.failures c.args.file.now c.args.file.now)
+    c.shell.result)
     × IfSome (shell_options request) (λ options. AnswersNavigable lists gives options
     (reader g.I.Feed.remaining g.I.Feed.failures g.I.Feed.reads g.I.Feed.ends c.args.input.now c.shell.new.commands)
     (writer g.W.Sink.contents g.W.Sink.failures c.args.out.now c.shell.new.answers) c.shell.result) in

@@ -1,0 +1,79 @@
+-- Where the program `index` puts an index.
+-- `same` is what asking whether the file with a path is the one at the place may answer.
+use Rattle.std.specs.Prelude.{◌≡◌, ℕ, Bool, true, List, [], ◌∷◌, Option, Some, Result, Ok, Err, string_bytes}
+use Rattle.streams.specs.WholeWrites.{IsWritten}
+use Rattle.source_tree.specs.Files.{TreeFile}
+use Rattle.source_files.specs.Places.{IsAsked, IsBegun}
+use Rattle.source_files.specs.declared.load_fault.LoadFault.TheVariants as load
+use Rattle.command_line.specs.declared.options.IndexOptions.{IndexOptions}
+use Rattle.protoscip.specs.declared.fault.Fault.{Fault}
+use Rattle.protoscip.specs.declared.fault.Fault.TheVariants.{Write}
+use Rattle.protoscip.specs.declared.recorded.Recorded.{Recorded}
+use Rattle.programs.specs.Folders.{included_in}
+use Rattle.programs.specs.declared.start_fault.StartFault.{StartFault}
+use Rattle.programs.specs.declared.start_fault.StartFault.TheVariants.{IsSource, Load}
+
+-- a place around a call, and what its trait says: what it holds; and of a part of it, which is put there when it is
+-- whole, what that holds, and how many writes to it failed
+pub record Place (P W : Type 0) : Type 0 where
+  pub holds : P → Option (List ℕ)
+  pub contents : W → Option (List ℕ)
+  pub failures : W → ℕ
+  pub before : P
+  pub after : P
+
+abbrev pub place : {P W : Type 0} → (P → Option (List ℕ)) → (contents : W → Option (List ℕ)) → (failures : W → ℕ)
+    → P → P → Place P W
+place holds contents failures before after =
+    record { holds = holds; contents = contents; failures = failures; before = before; after = after }
+
+-- it is as it was
+abbrev pub IsLeft : {P W : Type 0} → Place P W → Type 0
+IsLeft at = at.after ≡ at.before
+
+-- a part has been put there
+abbrev pub IsFilled : {P W : Type 0} → Place P W → (part : W) → Type 0
+IsFilled at part = at.holds at.after ≡ at.contents part
+
+-- What becomes of a place by a run that writes to a part of it; `runs` says what the run answers of the part before and
+-- after. If there is an index, the part is put there; or that is refused, as a write is, and the place is as it was. If
+-- there is none, it is as it was, too.
+pub data Fills {P W : Type 0} (at : Place P W) (runs : W → W → Result Recorded Fault → Type 0)
+    : Result Recorded Fault → Type 0 where
+  filled : {recorded : Recorded} (begun whole : W) → IsBegun at.contents at.failures begun
+      → runs begun whole (Ok recorded) → IsFilled at whole → Fills at runs (Ok recorded)
+  refused : {recorded : Recorded} {count : ℕ} (begun whole : W) → IsBegun at.contents at.failures begun
+      → runs begun whole (Ok recorded) → IsLeft at → Fills at runs (Err (Write count))
+  unmade : {fault : Fault} (begun left : W) → IsBegun at.contents at.failures begun
+      → runs begun left (Err fault) → IsLeft at → Fills at runs (Err fault)
+
+-- what becomes of a place and of the part `whole`, to which a run wrote that answered `ran`; `done` is what is answered
+-- in the end
+abbrev pub Finishes : {P W A : Type 0} → Place P W → (whole : W) → (ran done : Result A Fault) → Type 0
+Finishes at whole (Ok made) (Ok kept) = (kept ≡ made) × IsFilled at whole
+Finishes at whole (Ok made) (Err fault) = (fault ≡ Write 0) × IsLeft at
+Finishes at whole (Err fault) (Ok kept) = ⊥
+Finishes at whole (Err fault) (Err other) = (other ≡ fault) × IsLeft at
+
+-- These bytes, and no others, were written to a part, which was put there. So the place holds them, if it is known what
+-- parts hold.
+pub record IsPut {P W : Type 0} (at : Place P W) (bytes : List ℕ) : Type 0 where
+  pub begun : W
+  pub whole : W
+  pub nothing : IsBegun at.contents at.failures begun
+  pub written : IsWritten at.contents at.failures begun whole bytes
+  pub put : IsFilled at whole
+  pub held : at.contents begun ≡ Some [] → at.holds at.after ≡ Some bytes
+
+-- the folders whose files are read: the root, and then those with included files
+abbrev pub roots_in : IndexOptions → List (List ℕ)
+roots_in options = string_bytes options.root ∷ included_in options
+
+-- why no part is begun for a tree: one of the files that were read is said to be the one at the place, whose path is
+-- named; or memory ran out
+abbrev pub MayNotBegin : (same : List ℕ → Bool → Type 0) → IndexOptions → (path : List ℕ) → List TreeFile
+    → StartFault → Type 0
+MayNotBegin same options path tree (IsSource named) =
+    (string_bytes named ≡ path) × IsAsked same (roots_in options) tree true
+MayNotBegin same options path tree (Load load.Memory) = Unit {0}
+MayNotBegin same options path tree fault = ⊥

@@ -18,6 +18,8 @@ mod proto_link_calls;
 #[cfg(test)]
 mod proto_parse_calls;
 #[cfg(test)]
+mod protoscip_calls;
+#[cfg(test)]
 mod scip_model_calls;
 #[cfg(test)]
 mod scip_query_calls;

@@ -1,0 +1,435 @@
+//! Whole runs, by the one crate that an indexer is embedded by.
+
+use crate::shared::{NOTHING, ONE_MESSAGE, package_of, see};
+use protoscip::{
+    BuildFault, Built, Choices, CustomOptions, Dialect, Encoding, Fault, Faulty, FilePackages,
+    NoGate, OwnedText, Registry, Run, Settings, Source, Std, SyntaxFault, Tree, TreeFault, Workers,
+    build, dump, fault_line, index_tree, session,
+};
+use std::alloc::{AllocError, Global};
+use std::sync::Wait;
+use std::test::Fail;
+use std::thread::Threads;
+
+/// A source with a path.
+fn source_of(alloc: Global, path: &str, text: &str) -> Result<Source, AllocError> {
+    Ok(Source {
+        path: String::from_str(alloc, path)?,
+        bytes: Vec::from_slice(alloc, text.as_bytes())?,
+    })
+}
+
+/// Adds a source.
+fn add_source(
+    alloc: Global,
+    list: &mut Vec<Source>,
+    path: &str,
+    text: &str,
+) -> Result<(), AllocError> {
+    let source = source_of(alloc, path, text)?;
+    list.push(source)?;
+    Ok(())
+}
+
+/// Sources with their paths.
+fn sources_of(alloc: Global, sources: &[(&str, &str)]) -> Result<Vec<Source>, AllocError> {
+    let mut list = Vec::new(alloc);
+    for (path, text) in sources {
+        add_source(alloc, &mut list, path, text)?;
+    }
+    Ok(list)
+}
+
+/// Why sources make no tree, and how many come back; none if they make one.
+fn refusal_of(
+    alloc: Global,
+    sources: &[(&str, &str)],
+) -> Result<Option<(TreeFault, usize)>, AllocError> {
+    let list = sources_of(alloc, sources)?;
+    match Tree::new(alloc, list) {
+        Ok(_) => Ok(None),
+        Err((back, fault)) => Ok(Some((fault, back.len()))),
+    }
+}
+
+/// Paths that aren't good.
+const BAD_PATHS: [&str; 5] = ["/a.proto", "a//b.proto", "../a.proto", "a.txt", ""];
+
+#[test]
+fn tree_new_refuses_bad_paths(rt: HostRuntime) -> Result<(), Fail> {
+    for path in &BAD_PATHS {
+        let refusal = refusal_of(rt.alloc(), &[(*path, "")])?;
+        see(&rt, refusal == Some((TreeFault::BadPath(0), 1)), path);
+    }
+    Ok(())
+}
+
+#[test]
+fn tree_new_refuses_one_path_twice(rt: HostRuntime) -> Result<(), Fail> {
+    let sources = [("a.proto", ""), ("a.proto", "")];
+    let refusal = refusal_of(rt.alloc(), &sources)?;
+    let is_so = refusal == Some((TreeFault::SamePath(1), 2));
+    see(
+        &rt,
+        is_so,
+        "the second of the pair, and the list comes back",
+    );
+    Ok(())
+}
+
+/// The tree of sources.
+fn tree_of(alloc: Global, sources: &[(&str, &str)]) -> Result<Tree, Fail> {
+    let list = sources_of(alloc, sources)?;
+    match Tree::new(alloc, list) {
+        Ok(tree) => Ok(tree),
+        Err(_) => Err("sources that make no tree".into()),
+    }
+}
+
+/// Settings of a package without names.
+fn settings_of(alloc: Global) -> Result<Settings, Fail> {
+    let package = package_of(alloc, ["", "", ""])?;
+    Ok(Settings {
+        project_root: OwnedText::copy_of(alloc, "file:///")?,
+        package: FilePackages::of_run(alloc, package),
+        encoding: Encoding::Utf8,
+        dialect: Dialect::Proto3(CustomOptions::Refuse),
+        faulty: Faulty::Refuse,
+    })
+}
+
+/// Two files that import one another.
+const ROUND: [(&str, &str); 2] = [
+    (
+        "b.proto",
+        "syntax = \"proto3\";\nimport \"a.proto\";\nmessage B { A a = 1; }\n",
+    ),
+    (
+        "a.proto",
+        "syntax = \"proto3\";\nimport \"b.proto\";\nmessage A { B b = 1; }\n",
+    ),
+];
+
+/// A use whose first component is hidden by a package.
+const SHADOWED: [(&str, &str); 3] = [
+    (
+        "a.proto",
+        "syntax = \"proto3\";\npackage acme;\nimport \"b.proto\";\nimport \"t.proto\";\n\
+message M { google.protobuf.Timestamp t = 1; }\n",
+    ),
+    ("b.proto", "syntax = \"proto3\";\npackage acme.google;\n"),
+    (
+        "t.proto",
+        "syntax = \"proto3\";\npackage google.protobuf;\nmessage Timestamp {}\n",
+    ),
+];
+
+/// Two values with one full name.
+const TWICE: [(&str, &str); 1] = [(
+    "a.proto",
+    "syntax = \"proto3\";\nmessage M {\n  enum A { ZERO = 0; }\n  enum B { ZERO = 0; }\n}\n",
+)];
+
+/// Two files that can't be read.
+const BAD_GRAMMAR: [(&str, &str); 2] = [
+    ("a.proto", "syntax = \"proto3\";\nmessage {}\n"),
+    ("b.proto", "@"),
+];
+
+/// Two names, of which the second is the field's that is named like a type.
+const NAMED: [(&str, &str); 1] = [(
+    "a.proto",
+    "syntax = \"proto3\";\npackage p;\nmessage Foo {}\nmessage M { string Foo = 1; Foo x = 2; }\n",
+)];
+
+/// One message.
+const MESSAGE: [(&str, &str); 1] = [("a.proto", "syntax = \"proto3\";\nmessage A {}\n")];
+
+/// A tree, and what its index is made by.
+#[derive(Drop)]
+struct Given<'a> {
+    tree: Tree,
+    registry: &'a Registry,
+    settings: Settings,
+}
+
+/// Sources with plain settings, and the callbacks that are asked.
+fn given_of<'a>(
+    alloc: Global,
+    sources: &[(&str, &str)],
+    registry: &'a Registry,
+) -> Result<Given<'a>, Fail> {
+    let tree = tree_of(alloc, sources)?;
+    let settings = settings_of(alloc)?;
+    Ok(Given {
+        tree,
+        registry,
+        settings,
+    })
+}
+
+/// A run by these workers.
+fn run_of<R>(rt: &R, alloc: Global, workers: Workers) -> Run<'_, R, NoGate> {
+    Run {
+        rt,
+        alloc,
+        workers,
+        gate: &NoGate,
+    }
+}
+
+/// What was chosen for the declarations of the two files that import one another.
+const CHOSEN: &str = "Choices { lists: [\
+[Choice { keep: true, doc: Leading }, Choice { keep: true, doc: Leading }], \
+[Choice { keep: true, doc: Leading }, Choice { keep: true, doc: Leading }]] }";
+
+/// Whether this was chosen.
+fn are_chosen(alloc: Global, choices: &Choices) -> Result<bool, AllocError> {
+    let chosen = format!(in alloc; "{choices:?}")?;
+    Ok(chosen.as_str() == CHOSEN)
+}
+
+/// Whether this was built of the two files.
+fn is_round(alloc: Global, built: &Built) -> bool {
+    match built.index.documents.as_slice() {
+        [a, b] => {
+            a.relative_path.as_str() == "a.proto"
+                && a.occurrences.as_slice().len() == 5
+                && b.relative_path.as_str() == "b.proto"
+                && are_chosen(alloc, &built.choices) == Ok(true)
+        }
+        _ => false,
+    }
+}
+
+/// Whether they are built.
+fn builds_round<R: Threads + Wait>(rt: &R, alloc: Global, given: &Given, workers: Workers) -> bool {
+    let run = run_of(rt, alloc, workers);
+    match build(&run, &given.tree, given.registry, &given.settings) {
+        Ok(built) => is_round(alloc, &built),
+        Err(_) => false,
+    }
+}
+
+#[test]
+fn build_gives_index_and_choices(rt: HostRuntime) -> Result<(), Fail> {
+    let workers = Workers::new(2).ok_or("two workers")?;
+    let registry = Registry::new(rt.alloc());
+    let given = given_of(rt.alloc(), &ROUND, &registry)?;
+    let is_so = builds_round(&rt, rt.alloc(), &given, workers);
+    see(&rt, is_so, "two documents, and four choices");
+    Ok(())
+}
+
+/// Why nothing is built, if nothing is.
+fn build_fault<R: Threads + Wait>(
+    rt: &R,
+    alloc: Global,
+    given: &Given,
+    workers: Workers,
+) -> Option<BuildFault> {
+    let run = run_of(rt, alloc, workers);
+    build(&run, &given.tree, given.registry, &given.settings).err()
+}
+
+#[test]
+fn build_names_the_least_faulty_file(rt: HostRuntime) -> Result<(), Fail> {
+    let workers = Workers::new(1).ok_or("one worker")?;
+    let registry = Registry::new(rt.alloc());
+    let given = given_of(rt.alloc(), &BAD_GRAMMAR, &registry)?;
+    let fault = build_fault(&rt, rt.alloc(), &given, workers).map(Fault::from);
+    let is_so = fault == Some(Fault::Syntax(0, SyntaxFault::Grammar(27)));
+    see(&rt, is_so, "the first file");
+    Ok(())
+}
+
+/// Whether a tree is written as these bytes.
+fn is_written<R: Threads + Wait>(
+    rt: &R,
+    alloc: Global,
+    given: &Given,
+    workers: Workers,
+    due: &[u8],
+) -> bool {
+    let run = run_of(rt, alloc, workers);
+    let mut out = Std::new(Vec::new(alloc));
+    let fault = index_tree(&run, &given.tree, given.registry, &given.settings, &mut out).err();
+    fault == None && out.into_inner().as_slice() == due
+}
+
+#[test]
+fn index_tree_writes_the_bytes(rt: HostRuntime) -> Result<(), Fail> {
+    let workers = Workers::new(1).ok_or("one worker")?;
+    let registry = Registry::new(rt.alloc());
+    let given = given_of(rt.alloc(), &MESSAGE, &registry)?;
+    let is_so = is_written(&rt, rt.alloc(), &given, workers, ONE_MESSAGE);
+    see(&rt, is_so, "the 200 bytes");
+    Ok(())
+}
+
+#[test]
+fn index_tree_writes_the_empty_index(rt: HostRuntime) -> Result<(), Fail> {
+    let workers = Workers::new(1).ok_or("one worker")?;
+    let registry = Registry::new(rt.alloc());
+    let given = given_of(rt.alloc(), &[], &registry)?;
+    let is_so = is_written(&rt, rt.alloc(), &given, workers, NOTHING);
+    see(&rt, is_so, "the 30 bytes");
+    Ok(())
+}
+
+/// Why a tree isn't written to a writer that takes ten bytes, and these bytes.
+fn cut_off<R: Threads + Wait>(
+    rt: &R,
+    alloc: Global,
+    given: &Given,
+    workers: Workers,
+) -> (Option<Fault>, [u8; 10]) {
+    let run = run_of(rt, alloc, workers);
+    let mut room = [0u8; 10];
+    let fault = index_tree(
+        &run,
+        &given.tree,
+        given.registry,
+        &given.settings,
+        &mut Std::new(room.as_mut_slice()),
+    )
+    .err();
+    (fault, room)
+}
+
+#[test]
+fn index_tree_counts_what_went_out(rt: HostRuntime) -> Result<(), Fail> {
+    let workers = Workers::new(1).ok_or("one worker")?;
+    let registry = Registry::new(rt.alloc());
+    let given = given_of(rt.alloc(), &[], &registry)?;
+    let (fault, room) = cut_off(&rt, rt.alloc(), &given, workers);
+    see(&rt, fault == Some(Fault::Write(10)), "the count");
+    see(&rt, NOTHING.starts_with(&room), "the first ten bytes");
+    Ok(())
+}
+
+/// Commands, and their answers.
+const COMMANDS: &[u8] = b"ref 3 28 a.proto\ndef 3 31 a.proto\ndef 0 0 z.proto\nref\n";
+
+const ANSWERS: &[u8] =
+    b"2 8 2 11 1 a.proto\n3 28 3 31 0 a.proto\n= 2\n? nothing there\n? no document\n? bad command\n";
+
+/// Whether the commands are answered so.
+fn is_answered<R: Threads + Wait>(rt: &R, alloc: Global, given: &Given, workers: Workers) -> bool {
+    let run = run_of(rt, alloc, workers);
+    let mut out = Std::new(Vec::new(alloc));
+    let fault = session(
+        &run,
+        &given.tree,
+        given.registry,
+        &given.settings,
+        &mut Std::new(COMMANDS),
+        &mut out,
+    )
+    .err();
+    fault == None && out.into_inner().as_slice() == ANSWERS
+}
+
+#[test]
+fn session_answers(rt: HostRuntime) -> Result<(), Fail> {
+    let workers = Workers::new(1).ok_or("one worker")?;
+    let registry = Registry::new(rt.alloc());
+    let given = given_of(rt.alloc(), &NAMED, &registry)?;
+    let is_so = is_answered(&rt, rt.alloc(), &given, workers);
+    see(&rt, is_so, "the answers");
+    Ok(())
+}
+
+/// A source, and its listing.
+const DUMPED: &[u8] = b"syntax = \"proto3\";\nmessage A {}\n";
+
+const LISTING: &[u8] =
+    b"0 0 0 0 1 scip-protobuf . . . `input.proto`/\n1 8 1 9 1 scip-protobuf . . . A#\n= 2\n";
+
+#[test]
+fn dump_lists_the_occurrences(rt: HostRuntime) {
+    let mut source = Std::new(DUMPED);
+    let mut out = Std::new(Vec::new(rt.alloc()));
+    let answer = dump(&rt, rt.alloc(), &mut source, &mut out);
+    see(&rt, answer == Ok(()), "the source is dumped");
+    see(
+        &rt,
+        out.into_inner().as_slice() == LISTING,
+        "the occurrences",
+    );
+}
+
+/// The line that says why a tree isn't written; none if it is.
+fn line_of<R: Threads + Wait>(
+    rt: &R,
+    alloc: Global,
+    given: &Given,
+    workers: Workers,
+) -> Result<Option<String>, AllocError> {
+    let run = run_of(rt, alloc, workers);
+    let mut out = Std::new(Vec::new(alloc));
+    match index_tree(&run, &given.tree, given.registry, &given.settings, &mut out) {
+        Ok(_) => Ok(None),
+        Err(fault) => Ok(Some(fault_line(alloc, &given.tree, &fault)?)),
+    }
+}
+
+/// Whether this line says why a tree isn't written.
+fn is_line<R: Threads + Wait>(
+    rt: &R,
+    alloc: Global,
+    given: &Given,
+    workers: Workers,
+    due: &str,
+) -> Result<bool, AllocError> {
+    match line_of(rt, alloc, given, workers)? {
+        Some(line) => Ok(line.as_str() == due),
+        None => Ok(false),
+    }
+}
+
+#[test]
+fn fault_line_names_a_place(rt: HostRuntime) -> Result<(), Fail> {
+    let workers = Workers::new(1).ok_or("one worker")?;
+    let registry = Registry::new(rt.alloc());
+    let given = given_of(rt.alloc(), &SHADOWED, &registry)?;
+    let due = "protoscip: a.proto@81: Unresolved";
+    see(&rt, is_line(&rt, rt.alloc(), &given, workers, due)?, due);
+    Ok(())
+}
+
+#[test]
+fn fault_line_names_two_places(rt: HostRuntime) -> Result<(), Fail> {
+    let workers = Workers::new(1).ok_or("one worker")?;
+    let registry = Registry::new(rt.alloc());
+    let given = given_of(rt.alloc(), &TWICE, &registry)?;
+    let due = "protoscip: a.proto@65: Duplicate of a.proto@42";
+    see(&rt, is_line(&rt, rt.alloc(), &given, workers, due)?, due);
+    Ok(())
+}
+
+/// How many files and how many sources a source and an included file are, and whether the last of the files is
+/// included.
+fn with_included(alloc: Global) -> Result<Option<(usize, usize, bool)>, AllocError> {
+    let sources = sources_of(alloc, &MESSAGE)?;
+    let included = sources_of(alloc, &[("t.proto", "syntax = \"proto3\";\n")])?;
+    match Tree::with_included(alloc, sources, included) {
+        Ok(tree) => Ok(Some((
+            tree.file_count(),
+            tree.source_count(),
+            tree.file_count() == 2 && tree.is_included(1),
+        ))),
+        Err(_) => Ok(None),
+    }
+}
+
+#[test]
+fn a_tree_has_included_files(rt: HostRuntime) -> Result<(), Fail> {
+    let counted = with_included(rt.alloc())?;
+    see(
+        &rt,
+        counted == Some((2, 1, true)),
+        "a source and another file",
+    );
+    Ok(())
+}

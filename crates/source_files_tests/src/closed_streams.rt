@@ -2,10 +2,10 @@
 //! may refuse another file in a folder, or its move.
 
 use crate::numbered::{Numbered, Taken, least_free};
-use crate::outputs::{holds, part_of};
+use crate::outputs::holds;
 use crate::roots::see;
 use source_files::{OutFile, OutPlace};
-use std::alloc::{Allocator, Global};
+use std::alloc::Allocator;
 use std::cell::Cell;
 use std::fs::{Metadata, OpenOptions};
 use std::io::{Error, ErrorKind};
@@ -89,13 +89,6 @@ fn is_written<W: Sink>(part: &mut W) -> bool {
     part.write(b"ab") == Ok(2) && part.write(b"c") == Ok(1) && write_all(part, b"defghijk").is_ok()
 }
 
-/// Whether eleven bytes are put at the place `beside.scip`. None after want of memory.
-fn is_put<S: Files>(system: &S, alloc: Global) -> Option<bool> {
-    let mut place = OutFile::new(system, "beside.scip");
-    let mut part = part_of(alloc, &place)?;
-    Some(is_written(&mut part) && place.put(part).is_ok())
-}
-
 /// What a system refuses: another file, and how a move; and whether the bytes are put at the place all the same.
 const SYSTEMS: [(bool, Option<ErrorKind>, bool); 5] = [
     (false, None, true),
@@ -116,11 +109,16 @@ fn made_beside_closed_streams(rt: HostRuntime) -> Result<(), Fail> {
             is_closed: *is_closed,
             stays: *stays,
         };
-        let held = match is_put(&system, rt.alloc()) {
-            None => continue,
-            Some(is) if is != *due => b"".as_slice(),
-            Some(true) => b"abcdefghijk".as_slice(),
-            Some(false) => b"what was there".as_slice(),
+        let mut place = OutFile::new(&system, "beside.scip");
+        let Ok(mut part) = place.begin(rt.alloc()) else {
+            continue;
+        };
+        see(&rt, is_written(&mut part), "written");
+        see(&rt, place.put(part).is_ok() == *due, "put");
+        let held = if *due {
+            b"abcdefghijk".as_slice()
+        } else {
+            b"what was there".as_slice()
         };
         see(&rt, holds(&rt, "beside.scip", held), "what is there");
         let is_left = holds(&rt, ".beside.scip.protoscip-0", b"abcdefghijk");

@@ -1,7 +1,7 @@
 //! Files that are written beside their places, and put there.
 
 use crate::roots::{remove_again, see};
-use source_files::{MakeFiles, OutFile, OutPart, OutPlace};
+use source_files::{MakeFiles, OutFile, OutPlace};
 use std::alloc::{AllocError, Global};
 use std::fs::{File, Permissions};
 use std::io::Read;
@@ -35,10 +35,9 @@ pub(crate) fn part_of<P: OutPlace>(alloc: Global, place: &P) -> Option<P::Part> 
     }
 }
 
-/// Whether three bytes can be written to the part of a place, in two writes, and the place holds `due` then, as before.
-fn is_written<S: Files>(system: &S, part: &mut OutPart<'_, S>, path: &str, due: &[u8]) -> bool {
-    let is_taken = part.write(b"ab") == Ok(2) && part.write(b"c") == Ok(1);
-    is_taken && holds(system, path, due)
+/// Whether three bytes can be written to a part, in two writes.
+fn is_written<W: Sink>(part: &mut W) -> bool {
+    part.write(b"ab") == Ok(2) && part.write(b"c") == Ok(1)
 }
 
 /// The other file, in which a part of `made.scip` is until it is put there.
@@ -50,11 +49,8 @@ fn put_when_it_is_whole(rt: HostRuntime) -> Result<(), Fail> {
     let mut place = OutFile::new(&rt, "made.scip");
     if let Some(mut part) = part_of(rt.alloc(), &place) {
         see(&rt, !holds(&rt, BESIDE, b""), "nothing is made yet");
-        see(
-            &rt,
-            is_written(&rt, &mut part, "made.scip", b"what was there"),
-            "written",
-        );
+        see(&rt, is_written(&mut part), "written");
+        see(&rt, holds(&rt, "made.scip", b"what was there"), "not there");
         see(&rt, holds(&rt, BESIDE, b"abc"), "beside");
         see(&rt, place.put(part) == Ok(()), "put");
         see(&rt, holds(&rt, "made.scip", b"abc"), "there");
@@ -68,11 +64,7 @@ fn given_up(rt: HostRuntime) -> Result<(), Fail> {
     fs::write(&rt, "kept.scip", "what was there")?;
     let place = OutFile::new(&rt, "kept.scip");
     if let Some(mut part) = part_of(rt.alloc(), &place) {
-        see(
-            &rt,
-            is_written(&rt, &mut part, "kept.scip", b"what was there"),
-            "written",
-        );
+        see(&rt, is_written(&mut part), "written");
         place.leave(part);
         see(&rt, holds(&rt, "kept.scip", b"what was there"), "kept");
         see(
@@ -84,12 +76,10 @@ fn given_up(rt: HostRuntime) -> Result<(), Fail> {
     Ok(fs::remove_file(&rt, "kept.scip")?)
 }
 
-/// Whether three bytes are put at a place.
-fn is_put<S: Files>(system: &S, alloc: Global, path: &str) -> Option<bool> {
-    let mut place = OutFile::new(system, path);
-    let mut part = part_of(alloc, &place)?;
-    let is_taken = part.write(b"ab") == Ok(2) && part.write(b"c") == Ok(1);
-    Some(is_taken && place.put(part) == Ok(()) && holds(system, path, b"abc"))
+/// Whether three bytes are put at a place. None after want of memory.
+fn is_put<P: OutPlace>(alloc: Global, place: &mut P) -> Option<bool> {
+    let mut part = part_of(alloc, place)?;
+    Some(is_written(&mut part) && place.put(part) == Ok(()))
 }
 
 #[test]
@@ -97,7 +87,8 @@ fn a_link_stays_and_its_file_has_its_mode(rt: HostRuntime) -> Result<(), Fail> {
     fs::write(&rt, "linked.scip", "what was there")?;
     fs::set_permissions(&rt, "linked.scip", Permissions::from_mode(0o604))?;
     rt.symlink("linked.scip", "link.scip")?;
-    let is = is_put(&rt, rt.alloc(), "link.scip");
+    let mut place = OutFile::new(&rt, "link.scip");
+    let is = is_put(rt.alloc(), &mut place);
     see(&rt, is != Some(false), "put");
     if is == Some(true) {
         see(&rt, holds(&rt, "linked.scip", b"abc"), "its file");
@@ -110,19 +101,23 @@ fn a_link_stays_and_its_file_has_its_mode(rt: HostRuntime) -> Result<(), Fail> {
     Ok(fs::remove_file(&rt, "linked.scip")?)
 }
 
-/// Two runs that write to one place at once don't meet.
+/// Whether two parts of a place can be written side by side, and put there, the second one first. None after want of
+/// memory.
+fn are_put<P: OutPlace>(alloc: Global, place: &mut P) -> Option<bool> {
+    let mut one = part_of(alloc, place)?;
+    let mut other = part_of(alloc, place)?;
+    let are_written = is_written(&mut one) && other.write(b"other") == Ok(5);
+    let is_put = place.put(other) == Ok(());
+    Some(are_written && is_put && place.put(one) == Ok(()))
+}
+
 #[test]
 fn two_at_once(rt: HostRuntime) -> Result<(), Fail> {
-    let mut first = OutFile::new(&rt, "both.scip");
-    let mut second = OutFile::new(&rt, "both.scip");
-    let parts = (part_of(rt.alloc(), &first), part_of(rt.alloc(), &second));
-    if let (Some(mut one), Some(mut other)) = parts {
-        see(&rt, one.write(b"one") == Ok(3), "the first");
-        see(&rt, other.write(b"other") == Ok(5), "the second");
-        see(&rt, second.put(other) == Ok(()), "the second is put");
-        see(&rt, holds(&rt, "both.scip", b"other"), "and is there");
-        see(&rt, first.put(one) == Ok(()), "the first is put");
-        see(&rt, holds(&rt, "both.scip", b"one"), "and is there");
+    let mut place = OutFile::new(&rt, "both.scip");
+    let are = are_put(rt.alloc(), &mut place);
+    see(&rt, are != Some(false), "both");
+    if are == Some(true) {
+        see(&rt, holds(&rt, "both.scip", b"abc"), "the first one");
         fs::remove_file(&rt, "both.scip")?;
     }
     Ok(())

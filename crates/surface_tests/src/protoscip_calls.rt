@@ -2,9 +2,9 @@
 
 use crate::shared::{NOTHING, ONE_MESSAGE, package_of, see};
 use protoscip::{
-    BuildFault, Built, Choices, CustomOptions, Dialect, Encoding, Fault, Faulty, FilePackages,
-    NoGate, OwnedText, Registry, Run, Settings, Source, Std, SyntaxFault, Tree, TreeFault, Workers,
-    build, dump, fault_line, index_tree, session,
+    Built, Choices, CustomOptions, Dialect, Encoding, Fault, Faulty, FilePackages, NoGate,
+    OwnedText, Registry, Run, Settings, Source, Std, SyntaxFault, Tree, TreeFault, Workers, build,
+    dump, fault_line, index_tree, session,
 };
 use std::alloc::{AllocError, Global};
 use std::sync::Wait;
@@ -211,36 +211,16 @@ fn builds_round<R: Threads + Wait>(rt: &R, alloc: Global, given: &Given, workers
     }
 }
 
-#[test]
-fn build_gives_index_and_choices(rt: HostRuntime) -> Result<(), Fail> {
-    let workers = Workers::new(2).ok_or("two workers")?;
-    let registry = Registry::new(rt.alloc());
-    let given = given_of(rt.alloc(), &ROUND, &registry)?;
-    let is_so = builds_round(&rt, rt.alloc(), &given, workers);
-    see(&rt, is_so, "two documents, and four choices");
-    Ok(())
-}
-
-/// Why nothing is built, if nothing is.
-fn build_fault<R: Threads + Wait>(
+/// Whether nothing is built, since the first file has no tree.
+fn is_first_refused<R: Threads + Wait>(
     rt: &R,
     alloc: Global,
     given: &Given,
     workers: Workers,
-) -> Option<BuildFault> {
+) -> bool {
     let run = run_of(rt, alloc, workers);
-    build(&run, &given.tree, given.registry, &given.settings).err()
-}
-
-#[test]
-fn build_names_the_least_faulty_file(rt: HostRuntime) -> Result<(), Fail> {
-    let workers = Workers::new(1).ok_or("one worker")?;
-    let registry = Registry::new(rt.alloc());
-    let given = given_of(rt.alloc(), &BAD_GRAMMAR, &registry)?;
-    let fault = build_fault(&rt, rt.alloc(), &given, workers).map(Fault::from);
-    let is_so = fault == Some(Fault::Syntax(0, SyntaxFault::Grammar(27)));
-    see(&rt, is_so, "the first file");
-    Ok(())
+    let fault = build(&run, &given.tree, given.registry, &given.settings).err();
+    fault.map(Fault::from) == Some(Fault::Syntax(0, SyntaxFault::Grammar(27)))
 }
 
 /// Whether a tree is written as these bytes.
@@ -257,33 +237,8 @@ fn is_written<R: Threads + Wait>(
     fault == None && out.into_inner().as_slice() == due
 }
 
-#[test]
-fn index_tree_writes_the_bytes(rt: HostRuntime) -> Result<(), Fail> {
-    let workers = Workers::new(1).ok_or("one worker")?;
-    let registry = Registry::new(rt.alloc());
-    let given = given_of(rt.alloc(), &MESSAGE, &registry)?;
-    let is_so = is_written(&rt, rt.alloc(), &given, workers, ONE_MESSAGE);
-    see(&rt, is_so, "the 200 bytes");
-    Ok(())
-}
-
-#[test]
-fn index_tree_writes_the_empty_index(rt: HostRuntime) -> Result<(), Fail> {
-    let workers = Workers::new(1).ok_or("one worker")?;
-    let registry = Registry::new(rt.alloc());
-    let given = given_of(rt.alloc(), &[], &registry)?;
-    let is_so = is_written(&rt, rt.alloc(), &given, workers, NOTHING);
-    see(&rt, is_so, "the 30 bytes");
-    Ok(())
-}
-
-/// Why a tree isn't written to a writer that takes ten bytes, and these bytes.
-fn cut_off<R: Threads + Wait>(
-    rt: &R,
-    alloc: Global,
-    given: &Given,
-    workers: Workers,
-) -> (Option<Fault>, [u8; 10]) {
+/// Whether the first ten bytes of the empty index are written to a writer that takes no more.
+fn is_cut_off<R: Threads + Wait>(rt: &R, alloc: Global, given: &Given, workers: Workers) -> bool {
     let run = run_of(rt, alloc, workers);
     let mut room = [0u8; 10];
     let fault = index_tree(
@@ -294,18 +249,7 @@ fn cut_off<R: Threads + Wait>(
         &mut Std::new(room.as_mut_slice()),
     )
     .err();
-    (fault, room)
-}
-
-#[test]
-fn index_tree_counts_what_went_out(rt: HostRuntime) -> Result<(), Fail> {
-    let workers = Workers::new(1).ok_or("one worker")?;
-    let registry = Registry::new(rt.alloc());
-    let given = given_of(rt.alloc(), &[], &registry)?;
-    let (fault, room) = cut_off(&rt, rt.alloc(), &given, workers);
-    see(&rt, fault == Some(Fault::Write(10)), "the count");
-    see(&rt, NOTHING.starts_with(&room), "the first ten bytes");
-    Ok(())
+    fault == Some(Fault::Write(10)) && NOTHING.starts_with(&room)
 }
 
 /// Commands, and their answers.
@@ -328,16 +272,6 @@ fn is_answered<R: Threads + Wait>(rt: &R, alloc: Global, given: &Given, workers:
     )
     .err();
     fault == None && out.into_inner().as_slice() == ANSWERS
-}
-
-#[test]
-fn session_answers(rt: HostRuntime) -> Result<(), Fail> {
-    let workers = Workers::new(1).ok_or("one worker")?;
-    let registry = Registry::new(rt.alloc());
-    let given = given_of(rt.alloc(), &NAMED, &registry)?;
-    let is_so = is_answered(&rt, rt.alloc(), &given, workers);
-    see(&rt, is_so, "the answers");
-    Ok(())
 }
 
 /// A source, and its listing.
@@ -388,23 +322,81 @@ fn is_line<R: Threads + Wait>(
     }
 }
 
-#[test]
-fn fault_line_names_a_place(rt: HostRuntime) -> Result<(), Fail> {
-    let workers = Workers::new(1).ok_or("one worker")?;
-    let registry = Registry::new(rt.alloc());
-    let given = given_of(rt.alloc(), &SHADOWED, &registry)?;
-    let due = "protoscip: a.proto@81: Unresolved";
-    see(&rt, is_line(&rt, rt.alloc(), &given, workers, due)?, due);
-    Ok(())
+/// What is called, and what is due.
+#[derive(Clone, Copy)]
+enum Call {
+    Build,
+    BuildRefused,
+    Index(&'static [u8]),
+    IndexCutOff,
+    Session,
+    Line(&'static str),
 }
 
+/// Whether a call does what is due.
+fn is_due<R: Threads + Wait>(
+    rt: &R,
+    alloc: Global,
+    given: &Given,
+    workers: Workers,
+    call: Call,
+) -> bool {
+    match call {
+        Call::Build => builds_round(rt, alloc, given, workers),
+        Call::BuildRefused => is_first_refused(rt, alloc, given, workers),
+        Call::Index(due) => is_written(rt, alloc, given, workers, due),
+        Call::IndexCutOff => is_cut_off(rt, alloc, given, workers),
+        Call::Session => is_answered(rt, alloc, given, workers),
+        Call::Line(due) => is_line(rt, alloc, given, workers, due) == Ok(true),
+    }
+}
+
+/// The same of sources, by two workers.
+fn is_due_of<R: Threads + Wait>(
+    rt: &R,
+    alloc: Global,
+    sources: &[(&str, &str)],
+    call: Call,
+) -> Result<bool, Fail> {
+    let workers = Workers::new(2).ok_or("two workers")?;
+    let registry = Registry::new(alloc);
+    let given = given_of(alloc, sources, &registry)?;
+    Ok(is_due(rt, alloc, &given, workers, call))
+}
+
+/// Sources, a call, and what the test says of it.
+const CALLS: [(&[(&str, &str)], Call, &str); 8] = [
+    (&ROUND, Call::Build, "build gives index and choices"),
+    (
+        &BAD_GRAMMAR,
+        Call::BuildRefused,
+        "build names the least faulty file",
+    ),
+    (
+        &MESSAGE,
+        Call::Index(ONE_MESSAGE),
+        "index_tree writes the 200 bytes",
+    ),
+    (&[], Call::Index(NOTHING), "index_tree writes the 30 bytes"),
+    (&[], Call::IndexCutOff, "index_tree counts what went out"),
+    (&NAMED, Call::Session, "session answers"),
+    (
+        &SHADOWED,
+        Call::Line("protoscip: a.proto@81: Unresolved"),
+        "fault_line names a place",
+    ),
+    (
+        &TWICE,
+        Call::Line("protoscip: a.proto@65: Duplicate of a.proto@42"),
+        "fault_line names two places",
+    ),
+];
+
 #[test]
-fn fault_line_names_two_places(rt: HostRuntime) -> Result<(), Fail> {
-    let workers = Workers::new(1).ok_or("one worker")?;
-    let registry = Registry::new(rt.alloc());
-    let given = given_of(rt.alloc(), &TWICE, &registry)?;
-    let due = "protoscip: a.proto@65: Duplicate of a.proto@42";
-    see(&rt, is_line(&rt, rt.alloc(), &given, workers, due)?, due);
+fn runs_are_called_once_each(rt: HostRuntime) -> Result<(), Fail> {
+    for (sources, call, case) in &CALLS {
+        see(&rt, is_due_of(&rt, rt.alloc(), sources, *call)?, case);
+    }
     Ok(())
 }
 

@@ -18,29 +18,13 @@ const LOCALS: &[u8] = b"\x12\x25\x0A\x01a\
 const TEXTS: &[u8] = b"\x12\x20\x0A\x01a\x12\x0A\x0A\x03\x00\x00\x01\x12\x01x\x18\x01\
 \x1A\x0F\x0A\x01x\x1A\x04One.\x1A\x04Two.";
 
-/// The queries of the index that bytes decode to.
-fn queries_of(alloc: Global, bytes: &[u8]) -> Result<Queries, Fail> {
-    let index = read_index(alloc, bytes)?;
-    match Queries::new(alloc, index) {
-        Ok(queries) => Ok(queries),
-        Err(_) => Err("no memory for the tables".into()),
-    }
-}
-
-#[test]
-fn at_gives_the_occurrence_there(rt: HostRuntime) -> Result<(), Fail> {
-    let queries = queries_of(rt.alloc(), LOCALS)?;
+/// Whether this is the occurrence at a position, and nothing is between two occurrences.
+fn is_at(queries: &Queries) -> bool {
     let is_so = match queries.at("a", 0, 2) {
         Some(found) => found.symbol.as_str() == "local 1" && found.symbol_roles == 0,
         None => false,
     };
-    see(&rt, is_so, "the second occurrence");
-    see(
-        &rt,
-        queries.at("a", 0, 1).is_none(),
-        "nothing between the two",
-    );
-    Ok(())
+    is_so && queries.at("a", 0, 1).is_none()
 }
 
 /// The occurrence with a number in the document with a number.
@@ -51,26 +35,20 @@ const fn place(document: usize, occurrence: usize) -> Place {
     }
 }
 
-#[test]
-fn definitions_are_those_of_the_document(rt: HostRuntime) -> Result<(), Fail> {
-    let queries = queries_of(rt.alloc(), LOCALS)?;
-    let places = queries.definitions(rt.alloc(), "b", 0, 2)?;
-    let due = [place(1, 0)];
-    see(&rt, places.as_slice() == due.as_slice(), "the definition");
-    Ok(())
+/// Whether these are the definitions of a local symbol: that of the document.
+fn are_definitions(alloc: Global, queries: &Queries) -> bool {
+    match queries.definitions(alloc, "b", 0, 2) {
+        Ok(places) => places.as_slice() == [place(1, 0)].as_slice(),
+        Err(_) => false,
+    }
 }
 
-#[test]
-fn references_are_in_order(rt: HostRuntime) -> Result<(), Fail> {
-    let queries = queries_of(rt.alloc(), LOCALS)?;
-    let places = queries.references(rt.alloc(), "a", 0, 2)?;
-    let due = [place(0, 0), place(0, 1)];
-    see(
-        &rt,
-        places.as_slice() == due.as_slice(),
-        "the first, the second",
-    );
-    Ok(())
+/// Whether these are its references, in order.
+fn are_references(alloc: Global, queries: &Queries) -> bool {
+    match queries.references(alloc, "a", 0, 2) {
+        Ok(places) => places.as_slice() == [place(0, 0), place(0, 1)].as_slice(),
+        Err(_) => false,
+    }
 }
 
 /// Paths and columns at which there is nothing, and why.
@@ -79,35 +57,33 @@ const REFUSED: [(&str, u32, QueryFault); 2] = [
     ("a", 1, QueryFault::NothingThere),
 ];
 
-#[test]
-fn queries_are_refused_by_name(rt: HostRuntime) -> Result<(), Fail> {
-    let queries = queries_of(rt.alloc(), LOCALS)?;
+/// Whether these queries are refused so.
+fn are_refused(alloc: Global, queries: &Queries) -> bool {
     for (path, column, due) in &REFUSED {
-        let fault = queries.references(rt.alloc(), path, 0, *column).err();
-        see(&rt, fault == Some(*due), path);
+        if queries.references(alloc, path, 0, *column).err() != Some(*due) {
+            return false;
+        }
     }
-    Ok(())
+    true
 }
 
-#[test]
-fn documentation_gives_the_texts(rt: HostRuntime) -> Result<(), Fail> {
-    let queries = queries_of(rt.alloc(), TEXTS)?;
-    let texts = queries.documentation(rt.alloc(), "a", 0, 0)?;
-    let due = ["One.", "Two."];
-    see(&rt, texts.as_slice() == due.as_slice(), "the texts");
-    Ok(())
+/// Whether these are the texts of a symbol.
+fn are_texts(alloc: Global, queries: &Queries) -> bool {
+    match queries.documentation(alloc, "a", 0, 0) {
+        Ok(texts) => texts.as_slice() == ["One.", "Two."].as_slice(),
+        Err(_) => false,
+    }
 }
 
-#[test]
-fn symbols_lists_the_entries(rt: HostRuntime) -> Result<(), Fail> {
-    let queries = queries_of(rt.alloc(), TEXTS)?;
-    let entries = queries.symbols(rt.alloc(), "a")?;
-    let is_so = match entries.as_slice() {
-        [entry] => entry.symbol.as_str() == "x",
-        _ => false,
-    };
-    see(&rt, is_so, "the entry");
-    Ok(())
+/// Whether this is the entry of a document.
+fn are_entries(alloc: Global, queries: &Queries) -> bool {
+    match queries.symbols(alloc, "a") {
+        Ok(entries) => match entries.as_slice() {
+            [entry] => entry.symbol.as_str() == "x",
+            _ => false,
+        },
+        Err(_) => false,
+    }
 }
 
 /// Commands, and their answers.
@@ -128,34 +104,87 @@ fn is_answered(alloc: Global, queries: &Queries, command: &str, due: &str) -> bo
     answer == Ok(()) && out.into_inner().as_slice() == due.as_bytes()
 }
 
-#[test]
-fn answer_writes_one_command(rt: HostRuntime) -> Result<(), Fail> {
-    let queries = queries_of(rt.alloc(), LOCALS)?;
+/// Whether all of them do.
+fn are_answered(alloc: Global, queries: &Queries) -> bool {
     for (command, due) in &ANSWERS {
-        let is_so = is_answered(rt.alloc(), &queries, command, due);
-        see(&rt, is_so, command);
+        if !is_answered(alloc, queries, command, due) {
+            return false;
+        }
     }
-    Ok(())
+    true
 }
 
-#[test]
-fn answer_all_writes_all_commands(rt: HostRuntime) -> Result<(), Fail> {
-    let queries = queries_of(rt.alloc(), TEXTS)?;
+/// Whether commands that are read get these answers.
+fn are_all_answered(alloc: Global, queries: &Queries) -> bool {
     let mut commands = Std::new(b"doc 0 0 a\nsym a".as_slice());
-    let mut answers = Std::new(Vec::new(rt.alloc()));
-    let answer = queries.answer_all(rt.alloc(), &mut commands, &mut answers);
-    see(&rt, answer == Ok(()), "the commands");
+    let mut answers = Std::new(Vec::new(alloc));
+    let answer = queries.answer_all(alloc, &mut commands, &mut answers);
     let due = b"| One.\n| Two.\n= 2\nx\n= 1\n".as_slice();
-    let is_so = answers.into_inner().as_slice() == due;
-    see(&rt, is_so, "the answers");
-    Ok(())
+    answer == Ok(()) && answers.into_inner().as_slice() == due
 }
 
+/// Whether a reader that fails is refused.
+fn is_broken_refused(alloc: Global, queries: &Queries) -> bool {
+    let mut answers = Std::new(Vec::new(alloc));
+    let answer = queries.answer_all(alloc, &mut Broken::new(), &mut answers);
+    answer == Err(AnswerFault::Read)
+}
+
+/// A call of queries.
+#[derive(Clone, Copy)]
+enum Call {
+    At,
+    Definitions,
+    References,
+    Refused,
+    Documentation,
+    Symbols,
+    Answer,
+    AnswerAll,
+    Broken,
+}
+
+/// Whether a call answers what is due.
+fn is_due(alloc: Global, queries: &Queries, call: Call) -> bool {
+    match call {
+        Call::At => is_at(queries),
+        Call::Definitions => are_definitions(alloc, queries),
+        Call::References => are_references(alloc, queries),
+        Call::Refused => are_refused(alloc, queries),
+        Call::Documentation => are_texts(alloc, queries),
+        Call::Symbols => are_entries(alloc, queries),
+        Call::Answer => are_answered(alloc, queries),
+        Call::AnswerAll => are_all_answered(alloc, queries),
+        Call::Broken => is_broken_refused(alloc, queries),
+    }
+}
+
+/// The same of the queries of the index that bytes decode to.
+fn is_due_of(alloc: Global, bytes: &[u8], call: Call) -> Result<bool, Fail> {
+    let index = read_index(alloc, bytes)?;
+    match Queries::new(alloc, index) {
+        Ok(queries) => Ok(is_due(alloc, &queries, call)),
+        Err(_) => Err("no memory for the tables".into()),
+    }
+}
+
+/// Each call, the index that it asks, and what the test says of it.
+const CALLS: [(Call, &[u8], &str); 9] = [
+    (Call::At, LOCALS, "at"),
+    (Call::Definitions, LOCALS, "definitions"),
+    (Call::References, LOCALS, "references"),
+    (Call::Refused, LOCALS, "references that are refused"),
+    (Call::Documentation, TEXTS, "documentation"),
+    (Call::Symbols, TEXTS, "symbols"),
+    (Call::Answer, LOCALS, "answer"),
+    (Call::AnswerAll, TEXTS, "answer_all"),
+    (Call::Broken, TEXTS, "answer_all of a broken reader"),
+];
+
 #[test]
-fn answer_all_refuses_a_broken_reader(rt: HostRuntime) -> Result<(), Fail> {
-    let queries = queries_of(rt.alloc(), TEXTS)?;
-    let mut answers = Std::new(Vec::new(rt.alloc()));
-    let answer = queries.answer_all(rt.alloc(), &mut Broken::new(), &mut answers);
-    see(&rt, answer == Err(AnswerFault::Read), "a broken reader");
+fn queries_are_called_once_each(rt: HostRuntime) -> Result<(), Fail> {
+    for (call, bytes, case) in &CALLS {
+        see(&rt, is_due_of(rt.alloc(), bytes, *call)?, case);
+    }
     Ok(())
 }

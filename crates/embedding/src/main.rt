@@ -56,20 +56,6 @@ fn tree_in_memory(alloc: Global) -> Result<Tree> {
     }
 }
 
-/// The callbacks, each beside what it promises.
-fn own_callbacks(alloc: Global) -> Result<Registry> {
-    let filter = Box::new(alloc, Filter::new(OnlyCommented, Commented))?;
-    let rule = Box::new(alloc, DocRule::new(AnyAnswer, BothOfFields))?;
-    let mut registry = Registry::new(alloc);
-    if let Err((_, fault)) = registry.add_filter(filter) {
-        bail!("{fault}");
-    }
-    if let Err((_, fault)) = registry.add_doc(rule) {
-        bail!("{fault}");
-    }
-    Ok(registry)
-}
-
 /// What the index says of itself, and which sources are accepted.
 fn own_settings(alloc: Global) -> Result<Settings> {
     let manager = String::from_str(alloc, "buf")?;
@@ -116,7 +102,16 @@ fn answer<W: Sink>(alloc: Global, queries: &Queries, answers: &mut W) -> Result<
 fn main(rt: HostRuntime) -> Result<()> {
     let alloc = rt.alloc();
     let tree = tree_in_memory(alloc)?;
-    let callbacks = own_callbacks(alloc)?;
+    // Each callback stands beside what it promises.
+    let filter = Box::new(alloc, Filter::new(OnlyCommented, Commented))?;
+    let rule = Box::new(alloc, DocRule::new(AnyAnswer, BothOfFields))?;
+    let mut callbacks = Registry::new(alloc);
+    if let Err((_, fault)) = callbacks.add_filter(filter) {
+        bail!("{fault}");
+    }
+    if let Err((_, fault)) = callbacks.add_doc(rule) {
+        bail!("{fault}");
+    }
     let settings = own_settings(alloc)?;
     let bytes = index_of(&rt, alloc, &tree, &callbacks, &settings)?;
     let queries = Queries::new(alloc, read_index(alloc, &bytes)?)?;

@@ -1,6 +1,6 @@
 //! What the program does with its files and streams, and the exit status that it ends with.
 
-ghost use Rattle.std.specs.Prelude.{◌≡◌, Result, IfSome, IfOk, IfErr};
+ghost use Rattle.std.specs.Prelude.{◌≡◌, [], None, Result, IfSome, IfOk, IfErr};
 ghost use Rattle.scip_snapshot.specs.Showing.{maker, writer};
 ghost use Rattle.command_line.specs.Requests.{
   dump_options,
@@ -83,7 +83,9 @@ fn answer<R, F: ReadFiles, I: Feed, W: Sink, M: Sink>(
 
 /// The path of the file that the index is to be written to; empty if no index is asked for.
 pub fn out_path(asked: &Result<Request, AllocError>) -> &str
-    ensures { IfOk asked.now (λ request. IfSome (out_path request) (λ path. result.now ≡ path)) }
+    ensures path { IfOk asked.now (λ request. IfSome (out_path request) (λ path. result.now ≡ path)) }
+    ensures none { IfOk asked.now (λ request. out_path request ≡ None → result.now ≡ []) }
+    ensures unread { IfErr asked.now (λ _. result.now ≡ []) }
 {
     match asked {
         Ok(Request::Index(_, path, _)) => path.as_str(),

@@ -62,9 +62,13 @@ impl From<AllocError> for MergeFault {
 }
 
 /// Pieces that weren't put together, and the external entries, as they were.
-#[derive(Debug, Drop)]
+#[derive(Debug, Drop, Error)]
+#[error("the pieces make no index: {fault}")]
 pub struct Unmerged {
+    /// The pieces.
     pub pieces: Vec<Document>,
+    /// The external entries.
     pub externals: Vec<SymbolInformation>,
+    /// Why they weren't put together.
     pub fault: MergeFault,
 }

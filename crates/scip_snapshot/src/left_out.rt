@@ -9,17 +9,22 @@ use crate::show_fault::ShowFault;
 use scip_pages::SnapshotFault;
 use std::alloc::{AllocError, Global};
 use streams::{Sink, write_all};
+use thiserror::Error;
 
 /// Why a document of an index has no snapshot that is printed. The first of those that hold.
-#[derive(Clone, Copy, Debug, Drop, PartialEq, Eq)]
+#[derive(Clone, Copy, Debug, Drop, PartialEq, Eq, Error)]
 pub enum LeftOut {
     /// Its path leads to no place of its own below the root (`scip_pages::is_path_below`).
+    #[error("its path leads to no place of its own below the root")]
     BadPath,
     /// Its source can't be read.
+    #[error("its source can't be read")]
     Unreadable,
     /// Its source isn't UTF-8.
+    #[error("its source isn't UTF-8")]
     NotText,
     /// It has no snapshot.
+    #[error("it has no snapshot: {0}")]
     NoSnapshot(SnapshotFault),
 }
 

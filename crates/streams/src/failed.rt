@@ -1,18 +1,8 @@
 //! A failed write or read.
 
-use std::fmt;
-use std::fmt::{Display, Formatter, Write};
+use thiserror::Error;
 
 /// A write or a read failed. The sink or the feed has counted it.
-#[derive(Clone, Copy, Debug, PartialEq, Eq)]
+#[derive(Clone, Copy, Debug, PartialEq, Eq, Error)]
+#[error("a write or a read failed")]
 pub struct Failed;
-
-impl Display for Failed {
-    ghost use Rattle.std.specs.Prelude.{Some, codes};
-
-    ghost output = { λ _. Some (codes "a write or a read failed") };
-
-    fn fmt<W: Write>(&self, f: &mut Formatter<W>) -> fmt::Result {
-        f.write_str("a write or a read failed")
-    }
-}

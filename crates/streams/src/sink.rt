@@ -6,6 +6,7 @@ ghost use Rattle.streams.specs.Streams.{failures_after_write};
 ghost use Rattle.streams.specs.WholeWrites.{IsWritten, IsCutOff};
 
 use crate::failed::Failed;
+use thiserror::Error;
 
 /// A writer that counts its failures.
 ///
@@ -26,7 +27,8 @@ pub trait Sink {
 }
 
 /// A write failed before all of the bytes were written.
-#[derive(Clone, Copy, Debug, PartialEq, Eq)]
+#[derive(Clone, Copy, Debug, PartialEq, Eq, Error)]
+#[error("a write failed after {written} bytes")]
 pub struct CutOff {
     /// How many of the bytes were written before it, from the first on.
     pub written: usize,

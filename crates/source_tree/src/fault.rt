@@ -12,7 +12,7 @@ pub enum TreeFault {
     #[error("more than {max} files", max = MAX_FILES)]
     TooMany,
     /// The least number, through the sources and then the included files as they were handed in,
-    /// of a file whose path isn't a good one.
+    /// of a file whose path isn't a good one. [`Source`](crate::Source) says which are.
     #[error("the path of file {0} isn't a good one")]
     BadPath(usize),
     /// The least number, in the list of the sources sorted by path, of a source with the path of

@@ -14,8 +14,11 @@ use std::marker::Model;
 #[derive(Debug, Drop)]
 pub struct Source {
     /// Its path below its root.
+    ///
+    /// A tree takes only good paths: at most 4,096 bytes, no character below U+0020, `.proto` at the end, and no
+    /// component that is empty, `.` or `..`. So a good path neither begins nor ends with `/`.
     pub path: String,
-    /// What the file holds.
+    /// What the file holds: any bytes.
     pub bytes: Vec<u8>,
 }
 

@@ -56,7 +56,13 @@ impl Model for Tree {
 }
 
 impl Tree {
-    /// The tree of sources. If they make none, they come back: after SamePath sorted by path, and else as they were.
+    /// The tree of sources. If they make none, they come back with the first of these that holds: after `SamePath`
+    /// sorted by path, and else as they were.
+    ///
+    /// - `TooMany`: they are more than `MAX_FILES`.
+    /// - `BadPath(n)`: number n, as they were handed in, is the first whose path isn't a good one.
+    /// - `Memory`: memory was refused.
+    /// - `SamePath(n)`: number n of those that come back is the first with the path of the one before it.
     pub fn new(alloc: Global, sources: Vec<Source>) -> Result<Tree, (Vec<Source>, TreeFault)>
         ensures tree { IfOk result (IsTreeOf sources.items []) }
         ensures refused { IfErr result (λ back. MayRefuse sources.items [] back.1) }
@@ -72,8 +78,14 @@ impl Tree {
     }
 
     /// The tree of sources and included files. Of included files with one path the first listed counts; one whose
-    /// path a source has doesn't count. If they make no tree, both lists come back: the sources after SamePath sorted
-    /// by path, all else as it was.
+    /// path a source has doesn't count. If they make no tree, both lists come back with the first of these that holds:
+    /// the sources after `SamePath` sorted by path, all else as it was.
+    ///
+    /// - `TooMany`: both lists together have more than `MAX_FILES`.
+    /// - `BadPath(n)`: number n, through the sources and then the included files as they were handed in, is the first
+    ///   whose path isn't a good one. Those that don't count are looked at, too.
+    /// - `Memory`: memory was refused.
+    /// - `SamePath(n)`: number n of the sources that come back is the first with the path of the one before it.
     pub fn with_included(
         alloc: Global,
         sources: Vec<Source>,
@@ -120,7 +132,7 @@ impl Tree {
         self.sources.len()
     }
 
-    /// The path of the file with a number.
+    /// The path of the file with a number, which has to be below `file_count`.
     pub fn path(&self, number: usize) -> &str
         requires { number < length self.now }
         ensures { option_map (λ file. file.path) (slice_get self.now number) ≡ Some result.now }
@@ -128,7 +140,7 @@ impl Tree {
         self.file(number).path()
     }
 
-    /// What the file with a number holds.
+    /// What the file with a number, which has to be below `file_count`, holds.
     pub fn bytes(&self, number: usize) -> &[u8]
         requires { number < length self.now }
         ensures { option_map (λ file. file.bytes) (slice_get self.now number) ≡ Some result.now }
@@ -136,7 +148,7 @@ impl Tree {
         self.file(number).bytes()
     }
 
-    /// Whether the file with a number is included, and so no source.
+    /// Whether the file with a number, which has to be below `file_count`, is included, and so no source.
     pub fn is_included(&self, number: usize) -> bool
         requires { number < length self.now }
         ensures { option_map (λ file. file.is_included) (slice_get self.now number) ≡ Some result }

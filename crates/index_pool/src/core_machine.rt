@@ -48,7 +48,8 @@ use worker::CoreWorker;
 /// The neighbour of the last worker is the first, and that of any other is the next.
 #[derive(Clone, Copy, Debug, PartialEq, Eq)]
 pub enum Event {
-    /// The next number that isn't seeded joins a queue, at its end. The numbers go round the queues.
+    /// The next number that isn't seeded, below the number of inputs, joins a queue, at its end. The numbers go round
+    /// the queues.
     Seed(usize),
     /// A worker takes the first number of its queue, which isn't empty.
     Pop(usize),
@@ -87,9 +88,9 @@ impl Model for Core {
 }
 
 impl Core {
-    /// The machine for the numbers below `inputs`, with none of them seeded.
+    /// The machine for the numbers below `inputs`, which has to be at most `MAX_INPUTS`, with none of them seeded.
     ///
-    /// All the memory that its steps need is taken here.
+    /// All the memory that its steps need is taken here. An error means that it was refused.
     pub fn new(alloc: Global, inputs: usize, workers: Workers) -> Result<Core, AllocError>
         requires { inputs ≤ MAX_INPUTS }
         ensures { IfOk result (λ core. core ≡ core_start inputs workers) }
@@ -105,7 +106,10 @@ impl Core {
         })
     }
 
-    /// Lets one event happen, and answers the number that a worker took by it. Takes no memory.
+    /// Lets one event happen, and answers the number that a worker took by it: `None` for all but `Pop` and `Steal`.
+    /// Takes no memory.
+    ///
+    /// `NotPossible`: the event isn't possible in this state, by what [`Event`] says of it. Then nothing has changed.
     pub fn step(&mut self, event: Event) -> Result<Option<usize>, NotPossible>
         ensures { MatchResult result (λ answer. CoreStep self.old event answer self.new)
             (λ _. (¬ MayHappen self.old event) × (self.new ≡ self.old)) }

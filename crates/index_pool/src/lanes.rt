@@ -62,6 +62,9 @@ pub use ticket::Ticket;
 /// The lane of one worker, with its inputs pushed: of the numbers below `inputs` those that leave
 /// the worker's number when they are divided by the number of workers, in rising order.
 ///
+/// `inputs` has to be at most `MAX_INPUTS`, and `worker`, counted from 0, below the number of workers. An error means
+/// that memory was refused.
+///
 /// The owner pops, and the thief steals, from any two threads. With one worker both are its own.
 pub fn lane(
     alloc: Global,

@@ -30,15 +30,19 @@ pub use task::Task;
 use worker::{Post, Ran};
 
 /// Runs the job's inputs below `inputs`, each once, on this many workers, with the gate's calls round each run, and
-/// answers an entry for each, in order.
+/// answers an entry for each, in order. `inputs` has to be at most `MAX_INPUTS`, and the job has to have that many.
 ///
 /// Every input is run, even if one has a fault. The calling thread is the first worker; each further worker is a
 /// thread of its own, which has ended when the phase has. A worker pops its own lane until it is empty, and then
 /// steals from its neighbour's until that is empty, or has asked for a further try 64 times in a row. It waits for
 /// its threads, so it returns if the job's and the gate's calls do.
 ///
-/// Of the refusals, `Spawn` comes before `Memory`, and `Memory` before `Job`. After `Spawn` and `Memory` inputs may
-/// not have been run.
+/// The first of these that holds is the refusal; but without room for the lanes it is `Memory`, and no thread is
+/// started.
+///
+/// - `Spawn`: a thread could not be started. One worker needs none. Inputs may not have been run.
+/// - `Memory`: room for the lanes or for results was refused. Inputs may not have been run.
+/// - `Job`: the least faulty input, with its fault. Every input was run.
 pub fn run_phase<R: Threads + Wait, J: Job, G: Gate>(
     rt: &R,
     alloc: Global,
@@ -60,7 +64,8 @@ pub fn run_phase<R: Threads + Wait, J: Job, G: Gate>(
     }
 }
 
-/// As `run_phase`, but the start of this number is refused. It serves tests of such a refusal.
+/// As `run_phase`, with the same conditions, but the start of this number is refused. It serves tests of such a
+/// refusal.
 ///
 /// The starts of the threads are numbered from 1, so that of W workers the last is W - 1. If a start
 /// of this number is due, the answer is `Spawn`, whatever memory the workers lack that were started.

@@ -6,7 +6,10 @@ use std::alloc::Global;
 /// each run, and where their memory comes from.
 #[derive(Drop)]
 pub struct Task<'t, J, G> {
+    /// Where memory is taken.
     pub alloc: Global,
+    /// Whose inputs are run.
     pub job: &'t J,
+    /// What is called before and after each run.
     pub gate: &'t G,
 }

@@ -140,7 +140,8 @@ fn symbol_with(
     })))
 }
 
-/// The symbol of the file with a path: one namespace.
+/// The symbol of the file with a path: one namespace, whose name is the path. The path has to be a good one, as those
+/// of the files of a tree are (`source_tree`). An error means that memory was refused.
 pub fn file_symbol(alloc: Global, id: &PackageId, path: &str) -> Result<Symbol, AllocError>
     requires { IsEntity (OfFile path.now) }
     ensures { IfOk result (λ symbol. symbol ≡ symbol_in id.now (OfFile path.now)) }
@@ -150,7 +151,8 @@ pub fn file_symbol(alloc: Global, id: &PackageId, path: &str) -> Result<Symbol, 
     symbol_with(alloc, id, descriptors)
 }
 
-/// The symbol of the package with these components: a namespace for each of them.
+/// The symbol of the package with these components: a namespace for each of them. There has to be at least one, and the
+/// name of each has to be an identifier of the language. An error means that memory was refused.
 pub fn package_symbol(
     alloc: Global,
     id: &PackageId,
@@ -166,6 +168,9 @@ pub fn package_symbol(
 
 /// The symbol of a declaration, by the components of its file's package and the path from the package to it: a
 /// namespace for each component, and for each step the descriptor of its kind.
+///
+/// There may be no component. The names of the components and of the steps have to be identifiers of the language. An
+/// error means that memory was refused.
 pub fn symbol_of(
     alloc: Global,
     id: &PackageId,

@@ -84,7 +84,12 @@ impl Model for Symbol {
 }
 
 impl Symbol {
-    /// The symbol of parts that have a spelling.
+    /// The symbol of parts, which have to have a spelling.
+    ///
+    /// A local one has a name of one character or more, each a letter or a digit of ASCII or one of `_+-$`. A global
+    /// one has a scheme that isn't empty and begins neither with a space nor with `local`; a manager, a name and a
+    /// version as [`PackageId`](crate::PackageId) takes them; and at least one descriptor. No descriptor's name is
+    /// empty, and a method's disambiguator has only characters as those of a local name, or none.
     pub fn from_parts(parts: SymbolParts) -> Symbol
         requires { IsSymbol parts }
         ensures { result ≡ parts }

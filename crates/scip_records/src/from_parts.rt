@@ -75,7 +75,7 @@ impl<'a> LentSymbol<'a> {
 }
 
 impl<'a> LentOccurrence<'a> {
-    /// An occurrence with a copy of the symbol.
+    /// An occurrence with a copy of the symbol. An error means that memory was refused.
     pub fn to_record(&self, alloc: Global) -> Result<Occurrence, AllocError>
         ensures { IfOk result (λ made. made ≡ self.now) }
     {
@@ -89,7 +89,7 @@ impl<'a> LentOccurrence<'a> {
 }
 
 impl<'a> LentInformation<'a> {
-    /// An entry with copies of the texts.
+    /// An entry with copies of the texts. An error means that memory was refused.
     pub fn to_record(&self, alloc: Global) -> Result<SymbolInformation, AllocError>
         ensures { IfOk result (λ made. made ≡ self.now) }
     {
@@ -134,7 +134,7 @@ fn entries_of<D: DocumentParts>(
     Ok(list)
 }
 
-/// The record of a document whose parts are lent, with copies of all texts.
+/// The record of a document whose parts are lent, with copies of all texts. An error means that memory was refused.
 pub fn records_of<D: DocumentParts>(alloc: Global, document: &D) -> Result<Document, AllocError>
     ensures { IfOk result (λ made. made ≡ D.document document.now) }
 {

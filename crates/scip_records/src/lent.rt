@@ -13,7 +13,9 @@ use std::marker::Model;
 /// Contracts see the text: the front, and the rest behind it.
 #[derive(Debug, Drop)]
 pub struct LentSymbol<'a> {
+    /// What the text begins with; empty if the whole text is the rest.
     pub front: &'a str,
+    /// What follows it.
     pub rest: &'a str,
 }
 
@@ -42,8 +44,11 @@ impl<'a> LentSymbol<'a> {
 /// Contracts see the occurrence.
 #[derive(Debug, Drop)]
 pub struct LentOccurrence<'a> {
+    /// Where it is.
     pub range: Range,
+    /// The symbol.
     pub symbol: LentSymbol<'a>,
+    /// The bits of `Occurrence`.
     pub symbol_roles: i32,
 }
 
@@ -123,8 +128,11 @@ impl<'a> LentTexts<'a> {
 /// Contracts see the entry.
 #[derive(Debug, Drop)]
 pub struct LentInformation<'a> {
+    /// The symbol.
     pub symbol: LentSymbol<'a>,
+    /// The texts that document it.
     pub documentation: LentTexts<'a>,
+    /// How it is shown.
     pub display_name: &'a str,
 }
 

@@ -36,7 +36,7 @@ impl Model for Range {
 }
 
 impl Range {
-    /// The range of four numbers, if each of them fits a SCIP `int32`.
+    /// The range of four numbers, if each of them fits a SCIP `int32`. The end may be before the start.
     pub fn new(start_line: u32, start_column: u32, end_line: u32, end_column: u32) -> Option<Range>
         ensures { SomeIff result (IsRange (record {
           start_line = start_line;

@@ -31,7 +31,8 @@ impl Choices {
         Choices { lists }
     }
 
-    /// The choice for a declaration, by its file's number and its own, which has one.
+    /// The choice for a declaration, by its file's number and its own, both from 0. There has to be one: the lists that
+    /// `new` was given have one with the first number, and that list a choice with the second.
     pub fn of(&self, file: usize, declaration: usize) -> Choice
         requires { HasChoice self.now file declaration }
         ensures { IsChosen self.now file declaration result }

@@ -240,6 +240,9 @@ fn has_included(linker: &Linker<'_, '_>) -> bool
 /// file that is kept by these choices and that a component of a use in a source names.
 ///
 /// A use that names no type names none of them. If no file is included, no use is looked at, and no memory is taken.
+///
+/// `choices` has to have a choice for each declaration of each file that has facts. An error means that memory was
+/// refused.
 pub fn externals_in_packages(
     alloc: Global,
     linker: &Linker<'_, '_>,

@@ -61,7 +61,7 @@ impl From<AllocError> for MergeFault {
     }
 }
 
-/// Pieces that weren't put together, and the external entries, as they were.
+/// Pieces that weren't put together, and the external entries, as they were. The metadata isn't handed back.
 #[derive(Debug, Drop, Error)]
 #[error("the pieces make no index: {fault}")]
 pub struct Unmerged {

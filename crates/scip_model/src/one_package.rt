@@ -42,7 +42,13 @@ fn packages_of(alloc: Global, id: &PackageId) -> Result<FilePackages, AllocError
 /// entries, in order, with columns in this encoding. All symbols belong to one package;
 /// [`make_document`](crate::make_document) has one for each included root.
 ///
-/// `Unresolved` at the first use that names no type, kept or not. `Memory`: there is none for what this needs.
+/// `file` has to be the number of a source, and `text` its text. Each file has to have a good path, as those of a tree
+/// have (`source_tree`), and `choices` a choice for each declaration of each file that has facts.
+///
+/// Refusals, of which the first that holds is answered:
+///
+/// - `Memory`: memory was refused.
+/// - `Unresolved`: the place of the source's first use that names no type. It counts though what has it isn't kept.
 pub fn document(
     alloc: Global,
     linker: &Linker<'_, '_>,
@@ -76,6 +82,9 @@ pub fn document(
 /// The external symbol entries of linked files, by symbol: one for each declaration of an included file that is kept
 /// by these choices and that a component of a use in a source names. All symbols belong to one package;
 /// [`externals_in_packages`](crate::externals_in_packages) has one for each included root.
+///
+/// `choices` has to have a choice for each declaration of each file that has facts. An error means that memory was
+/// refused.
 pub fn externals(
     alloc: Global,
     linker: &Linker<'_, '_>,

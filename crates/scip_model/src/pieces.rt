@@ -122,10 +122,16 @@ fn put_in_order_of(
     put_in_order(alloc, lent.as_slice(), pieces)
 }
 
-/// Puts pieces together: an index with a document for each path, in the order of the paths, which
-/// have to rise.
+/// Puts pieces together: an index with a document for each path, in the order of the paths. Each path has to be after
+/// the one before it, by its bytes. The external entries stay as they are.
 ///
-/// If they aren't put together, the pieces and the external entries come back as they were.
+/// If they aren't put together, the pieces and the external entries come back as they were, with one of these. The
+/// metadata doesn't come back.
+///
+/// - `Stranger(n)` or `Twice(n)`: piece n, from 0, has none of the paths, or that of an earlier piece, and no earlier
+///   piece is like that.
+/// - `Missing(n)`: no piece is like that, and path n, from 0, is the first that no piece has.
+/// - `Memory`: memory was refused. It may come before any of these.
 pub fn merge(
     alloc: Global,
     paths: &[String],

@@ -76,13 +76,16 @@ fn occurrences(
 /// The document of a source, and the places of its uses that name no type, in order.
 #[derive(Debug, Drop)]
 pub struct SourceDocument {
+    /// The document.
     pub document: Document,
+    /// The place of each use that names no type, in order; none if each names one.
     pub unresolved: Sequence<Span>,
 }
 
 /// The plan of the document of a source of linked files, which has this text, by what was chosen for each
 /// declaration: what occurs in it and its symbol entries, in order. A use that names no type doesn't
-/// occur; its place is told beside the document. `Memory` is the only fault.
+/// occur; its place is told beside the document. `Memory` is the only fault. What is asked of the maker's parts is
+/// what [`document`](crate::document) asks.
 pub fn plan_document<'a, 'f>(
     maker: &DocumentMaker<'a, '_, 'f, '_>,
 ) -> Result<PlannedDocument<'a, 'f>, LinkFault>
@@ -126,7 +129,8 @@ pub fn plan_document<'a, 'f>(
 
 /// The document of a source of linked files, which has this text, by what was chosen for each
 /// declaration: what occurs in it and its symbol entries, in order. A use that names no type doesn't
-/// occur; its place is told beside the document. `Memory` is the only fault.
+/// occur; its place is told beside the document. `Memory` is the only fault. What is asked of the maker's parts is
+/// what [`document`](crate::document) asks.
 pub fn document_and_gaps(maker: &DocumentMaker<'_, '_, '_, '_>) -> Result<SourceDocument, LinkFault>
     requires source { IsSource maker.now.linker.now maker.now.source }
     requires text { HasText maker.now.linker.now maker.now.source maker.now.text.now }
@@ -155,7 +159,8 @@ fn first_of(spans: &[Span]) -> Option<Span>
 }
 
 /// The document of a source, where each use names a type. `Unresolved` at the first that doesn't, kept
-/// or not: there is a document only where all do.
+/// or not: there is a document only where all do. `Memory` comes before it. What is asked of the maker's parts is what
+/// [`document`](crate::document) asks.
 pub fn make_document(maker: &DocumentMaker<'_, '_, '_, '_>) -> Result<Document, LinkFault>
     requires source { IsSource maker.now.linker.now maker.now.source }
     requires text { HasText maker.now.linker.now maker.now.source maker.now.text.now }

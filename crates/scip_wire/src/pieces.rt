@@ -32,7 +32,8 @@ fn write_in_order<W: Sink>(
 }
 
 /// Writes the spelling of an index of which each document is spelled: its record is one of `documents`, in
-/// order. They are written in full, one after another. Takes no memory.
+/// order. They are written in full, one after another. Takes no memory. The refusals are those of
+/// [`write_index`](crate::write_index).
 pub fn write_pieces<W: Sink>(
     metadata: &Option<Metadata>,
     documents: &[DocumentRecord],

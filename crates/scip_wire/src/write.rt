@@ -15,7 +15,7 @@ use streams::{CutOff, Sink};
 /// The most bytes that an index may have: the Protocol Buffers libraries' own limit.
 pub const MAX_INDEX_LEN: u32 = 2147483647;
 
-/// How many bytes the spelling of an index has. Takes no memory.
+/// How many bytes the spelling of an index has. `TooLarge` if they are more than `MAX_INDEX_LEN`. Takes no memory.
 pub fn encoded_len(index: &Index) -> Result<u32, TooLarge>
     ensures len { OkIff result (length (spelling_of index.now) ≤ max_index_len) (length (spelling_of index.now)) }
     ensures known { IsWellFormed index.now }
@@ -27,7 +27,8 @@ pub fn encoded_len(index: &Index) -> Result<u32, TooLarge>
     Ok(len as u32)
 }
 
-/// The spelling of an index, whole in memory; `None` if it is longer than `MAX_INDEX_LEN` bytes.
+/// The spelling of an index, whole in memory; `None` if it is longer than `MAX_INDEX_LEN` bytes, and that is found
+/// before memory is taken. An error means that memory was refused.
 pub fn spell_index(alloc: Global, index: &Index) -> Result<Option<Vec<u8>>, AllocError>
     ensures bytes { IfOk result (λ spelled. IfSome spelled (λ bytes. bytes.items ≡ spelling_of index.now)) }
     ensures too_large { (result ≡ Ok None) ↔ (max_index_len < length (spelling_of index.now)) }
@@ -55,6 +56,9 @@ fn write_spelling<W: Sink>(index: &Index, sink: &mut W) -> Result<(), CutOff>
 }
 
 /// Writes the spelling of an index, as it comes: at most 64 KiB of it on the stack at a time. Takes no memory.
+///
+/// - `TooLarge`: the spelling is longer than `MAX_INDEX_LEN` bytes. Nothing was written.
+/// - `Write(n)`: the first n bytes of the spelling were written, which aren't all, and then a write failed.
 pub fn write_index<W: Sink>(index: &Index, sink: &mut W) -> Result<(), WriteFault>
     ensures ok { OnOk result (IsWritten W.contents W.failures sink.old sink.new (spelling_of index.now)) }
     ensures too_large { (result ≡ Err WriteFault.TooLarge) ↔ (max_index_len < length (spelling_of index.now)) }

@@ -69,6 +69,8 @@ fn begun_with<D: DocumentParts>(
 
 /// A document's record, as in the spelling of an index, with its tag and length. The document lets go of its
 /// occurrences as soon as they are spelled: until then, only their part of the record's memory is touched.
+///
+/// An error means that memory was refused. Then the document is as it was.
 pub fn spell_document<D: DocumentParts>(
     alloc: Global,
     document: &mut D,

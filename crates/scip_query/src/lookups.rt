@@ -144,6 +144,10 @@ impl Queries {
 
     /// The places of all occurrences of the symbol at a position, definitions included, in the index's order. A local
     /// symbol is looked for only in its document.
+    ///
+    /// - `NoDocument`: no document has the path.
+    /// - `NothingThere`: no occurrence with a symbol has a range that contains the position.
+    /// - `Memory`: there is an answer, but no memory for it.
     pub fn references(
         &self,
         alloc: Global,
@@ -161,7 +165,7 @@ impl Queries {
     }
 
     /// The places where the symbol at a position is defined: those of its references whose role has the bit of a
-    /// definition.
+    /// definition. The refusals are those of `references`.
     pub fn definitions(
         &self,
         alloc: Global,
@@ -178,7 +182,9 @@ impl Queries {
         }
     }
 
-    /// The documentation of the symbol at a position: the texts of its first entry; none if it has no entry.
+    /// The documentation of the symbol at a position: the texts of its first entry; none if it has no entry. Entries
+    /// are looked for in the documents in their order, and then among the external symbols; those of a local symbol
+    /// only in its document. The refusals are those of `references`.
     pub fn documentation(
         &self,
         alloc: Global,
@@ -196,6 +202,11 @@ impl Queries {
     }
 
     /// The symbol entries of the document that a path names, in its order.
+    ///
+    /// - `NoDocument`: no document has the path.
+    /// - `Memory`: there is an answer, but no memory for it.
+    ///
+    /// `NothingThere` never comes.
     pub fn symbols(&self, alloc: Global, path: &str) -> Result<Vec<&SymbolInformation>, QueryFault>
         ensures { Gives (λ entries. map (λ (entry : Bor SymbolInformation). entry.now) entries.items) result
             (symbols_of self.now path.now) }

@@ -7,7 +7,7 @@ use crate::miss::Miss;
 use std::alloc::AllocError;
 use thiserror::Error;
 
-/// Why a query isn't answered. If more than one holds, the first in this order is given, but `Memory` at any time.
+/// Why a query isn't answered. If more than one holds, the first in this order is given.
 #[derive(Clone, Copy, Debug, Drop, PartialEq, Eq, Error)]
 pub enum QueryFault {
     /// No document of the index has the path.

@@ -219,7 +219,7 @@ fn build_kept<'a, R: Threads + Wait, G: Gate, F: DocumentForm + Sync>(
 }
 
 /// Builds the index of a tree's sources, as `build` does, but keeps of each document only what the form
-/// says, and lets go of it at once.
+/// says, and lets go of it at once. The refusals are those of `build`.
 pub fn build_in_form<'a, R: Threads + Wait, C: Chooses + Sync, G: Gate, F: DocumentForm + Sync>(
     run: &Run<'_, R, G>,
     tree: &'a Tree,
@@ -260,7 +260,7 @@ fn index_of(parts: Parts<Document>) -> Index
 /// told, and of the refusals the first is answered: `Spawn`, `Memory`, or the first source that can't be read; then
 /// the first included file that some source sees and that can't be read; then `Duplicate`, `MissingImport`; then
 /// `Spawn`, `Memory`, or the first use of the first source in which one names no type. A refused growth ends the step
-/// that it is in with `Memory`.
+/// that it is in with `Memory`. File numbers, of refusals and of what is told, are those of the tree.
 pub fn build<R: Threads + Wait, C: Chooses + Sync, G: Gate>(
     run: &Run<'_, R, G>,
     tree: &Tree,

@@ -18,7 +18,8 @@ fn choices_of(alloc: Global, reading: &Reading<'_>) -> Result<Vec<Choice>, Alloc
 }
 
 /// A copy of the choices: for each file, by its number, a list, in the order of its declarations.
-/// The readings are borrowed while the files are linked, so the choices can't be moved out of them.
+/// The readings are borrowed while the files are linked, so the choices can't be moved out of them. A file without
+/// contents has an empty list. An error means that memory was refused.
 pub fn chosen_lists(alloc: Global, readings: &[Reading<'_>]) -> Result<Vec<Vec<Choice>>, AllocError>
     ensures { IfOk result (λ lists. map (λ list. list.items) lists.items ≡ map choices_of readings.now) }
 {

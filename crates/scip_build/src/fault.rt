@@ -21,6 +21,9 @@ pub enum FileFault {
 
 /// Why a tree has no index. The first of those that hold is answered, in this order; but `Spawn` and
 /// `Memory` also come again, before what the same step would answer.
+///
+/// A file is named by its number in the tree. `Built::told` has such faults, too: there each is that of one file, one
+/// import or one use, and needn't be the first.
 #[derive(Clone, Copy, Debug, Drop, PartialEq, Eq, Error)]
 pub enum BuildFault {
     /// A thread could not be started.
@@ -33,13 +36,16 @@ pub enum BuildFault {
     /// some source sees and that can't be.
     #[error("in file {0}: {1}")]
     File(usize, FileFault),
-    /// Two places that give one full name.
+    /// The places of two declarations, or of a declaration and a component of a package statement, that give one full
+    /// name. Of such pairs it is that with the least second place, and then the least first; places are ordered by file
+    /// number, then start.
     #[error("one full name is given twice, {0} and {1}")]
     Duplicate(FilePlace, FilePlace),
-    /// The first import of a path that no file has.
+    /// The first import of a path that no file has, by its literal's place: any import of a source counts, and the
+    /// public ones of an included file that some source sees.
     #[error("an import of a file that isn't there, {0}")]
     MissingImport(FilePlace),
-    /// The first use of the first source in which a use names no type.
+    /// The first use that names no type, of the first source that has one, by the place of the whole use.
     #[error("a use that names no type, {0}")]
     Unresolved(FilePlace),
 }

@@ -29,7 +29,7 @@ fn linked_file<'a, 'r>(reading: &'a Reading<'r>) -> LinkFile<'a, 'r>
     }
 }
 
-/// The files as they are linked, each under its number.
+/// The files as they are linked, each under its number. An error means that memory was refused.
 pub fn linked_files<'a, 'r>(
     alloc: Global,
     readings: &'a [Reading<'r>],
@@ -116,6 +116,8 @@ fn linker_of<'a, 'r, R: Threads>(
 }
 
 /// Links files that were read, given as they are linked. If there is more than one worker, two threads link.
+///
+/// `files` has to be what `linked_files` gives for `readings`, and no two may have one path.
 ///
 /// Of the refusals `File` comes first: the least included file that some source sees and that
 /// couldn't be read. Then `Duplicate`, then `MissingImport`. `Memory` comes at any growth. `Spawn` never comes: if no

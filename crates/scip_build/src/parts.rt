@@ -9,8 +9,11 @@ use sequences::Sequence;
 /// The parts of an index, of whose documents something is kept: one of each, in their order.
 #[derive(Drop)]
 pub struct Parts<T> {
+    /// What the index says about itself.
     pub metadata: Option<Metadata>,
+    /// What is kept of each document, in order of path.
     pub documents: Sequence<T>,
+    /// What is known of symbols of included files, in order of symbol.
     pub external_symbols: Sequence<SymbolInformation>,
 }
 
@@ -18,6 +21,7 @@ pub struct Parts<T> {
 /// out.
 #[derive(Drop)]
 pub struct BuiltParts<'a, T> {
+    /// The parts.
     pub parts: Parts<T>,
     /// For each file that is kept, by its number among these, the choice for each of its declarations.
     pub choices: Choices,

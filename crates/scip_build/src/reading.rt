@@ -12,7 +12,9 @@ use std::marker::Model;
 /// Contracts see the bytes of its text, its facts, and the list of choices.
 #[derive(Drop)]
 pub struct Contents<'a> {
+    /// Its text.
     pub text: Text<'a>,
+    /// What it declares, imports and uses.
     pub facts: FileFacts<'a>,
     /// The choice for each declaration, in their order.
     pub choices: Sequence<Choice>,
@@ -35,6 +37,7 @@ pub struct Reading<'a> {
     pub path: &'a str,
     /// Whether it is included: linked, but not indexed.
     pub is_included: bool,
+    /// Its contents, or why it can't be read.
     pub contents: Result<Contents<'a>, FileFault>,
 }
 

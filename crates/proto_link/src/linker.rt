@@ -38,6 +38,17 @@ impl<'a, 't> Linker<'a, 't> {
     ///
     /// An included file has an effect only where some source sees it. A weak import counts as a
     /// plain one.
+    ///
+    /// Refusals, of which the first that holds is answered; but `Memory` may come before any:
+    ///
+    /// - `Broken`: the least number of a file without facts, among the sources and the included files that some source
+    ///   sees.
+    /// - `Duplicate`: two places in these files, of declarations or of a declaration and a component of a package
+    ///   statement, that give one full name. Of such pairs it is that with the least second place, and then the least
+    ///   first; places are ordered by file number, then start.
+    /// - `MissingImport`: the first import of a path that no file has. Any import of a source counts, and the public
+    ///   ones of an included file that some source sees.
+    /// - `Memory`: memory was refused.
     pub fn new(alloc: Global, files: &'a [LinkFile<'a, 't>]) -> Result<Linker<'a, 't>, LinkFault>
         requires { HaveOwnPaths files.now }
         ensures linked { IfOk result (λ linker. linker ≡ files.now) }
@@ -48,8 +59,9 @@ impl<'a, 't> Linker<'a, 't> {
         Ok(Linker { namespace })
     }
 
-    /// Links files that are checked and whose names are listed. `new` is the same as to make both parts, one after
-    /// the other, and to join them; two threads can make them at once. Takes no memory.
+    /// Links files that are checked and whose names are listed: both parts have to be of the same files. `new` is the
+    /// same as to make both parts, one after the other, and to join them; two threads can make them at once. Takes no
+    /// memory.
     pub fn joined(checked: CheckedFiles<'a, 't>, listed: ListedNames<'a, 't>) -> Linker<'a, 't>
         requires { listed ≡ checked }
         ensures { result ≡ checked.entry }
@@ -60,6 +72,9 @@ impl<'a, 't> Linker<'a, 't> {
 
     /// Links the files that are kept of a tree with faults, by their numbers in the list: an import may
     /// name none of them.
+    ///
+    /// No two may have one path. The sources, and the included files that some source sees, have to have facts, and no
+    /// two places in them may clash as `Duplicate` says. An error means that memory was refused.
     pub fn of_kept(
         alloc: Global,
         files: &'a [LinkFile<'a, 't>],
@@ -80,7 +95,7 @@ impl<'a, 't> Linker<'a, 't> {
     }
 
     /// The places of the imports that have to be there and name no file, in order: those of sources, and the public
-    /// ones of included files that some source sees.
+    /// ones of included files that some source sees. An error means that memory was refused.
     pub fn missing_imports(&self, alloc: Global) -> Result<Vec<FilePlace>, AllocError>
         ensures { IfOk result (λ places. AreMissing self.now places.items) }
     {
@@ -88,7 +103,7 @@ impl<'a, 't> Linker<'a, 't> {
     }
 
     /// Whether a file sees another: itself, what it imports, and what public imports lead to from
-    /// there. Takes no memory.
+    /// there. Both numbers have to be below `count`. Takes no memory.
     pub fn visible(&self, file: usize, other: usize) -> bool
         requires file { file < length self.now }
         requires other { other < length self.now }
@@ -106,7 +121,7 @@ impl<'a, 't> Linker<'a, 't> {
         self.namespace.linked();
     }
 
-    /// The facts of a file, where it has some. Takes no memory.
+    /// The facts of a file, where it has some. Its number has to be below `count`. Takes no memory.
     pub fn facts_of(&self, number: usize) -> Option<&FileFacts<'t>>
         requires { number < length self.now }
         ensures { MatchOption result ((facts : Facts) → HasFacts self.now number facts → ⊥)
@@ -122,7 +137,7 @@ impl<'a, 't> Linker<'a, 't> {
         self.namespace.count()
     }
 
-    /// Whether a file is included, and so no source. Takes no memory.
+    /// Whether a file is included, and so no source. Its number has to be below `count`. Takes no memory.
     pub fn is_included(&self, number: usize) -> bool
         requires { number < length self.now }
         ensures { IsIncludedAt self.now number result }
@@ -130,7 +145,7 @@ impl<'a, 't> Linker<'a, 't> {
         self.namespace.is_included(number)
     }
 
-    /// The path of a file. Takes no memory.
+    /// The path of a file. Its number has to be below `count`. Takes no memory.
     pub fn path_of(&self, number: usize) -> &str
         requires { number < length self.now }
         ensures { HasPathAt self.now result.now number }
@@ -138,8 +153,11 @@ impl<'a, 't> Linker<'a, 't> {
         self.namespace.path_of(number)
     }
 
-    /// What a use names, in a file's scopes: by the names of the files that it sees. `Unresolved`, at the place of
-    /// the whole use, if it names no type.
+    /// What a use names, in a file's scopes: by the names of the files that it sees. The file's number has to be below
+    /// `count`.
+    ///
+    /// Refusals are `Unresolved`, at the place of the whole use, if it names no type, and `Memory`, if memory was
+    /// refused. The others never come.
     ///
     /// For a source the answer is the only one. An included file may see files that don't count,
     /// whose names may clash: there a part may be any declaration of its name.

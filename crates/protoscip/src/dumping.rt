@@ -178,7 +178,8 @@ pub fn dump_and_keep<R: Threads + Wait, F: Feed, W: Sink>(
 ///
 /// - `Read`: a read failed, or `MAX_READS` reads met no end.
 /// - `Lex`, `Syntax`, `Duplicate`, `MissingImport`, `Unresolved`, `TooLarge`: the first reason why the source has no
-///   listing.
+///   listing. The file's number is 0: it is the only one of the tree that `dump_tree` makes of the bytes.
+/// - `Memory`: memory was refused. It may come before any of the others; nothing was written.
 /// - `Write`: a write failed before the whole listing was written.
 pub fn dump_with<R: Threads + Wait, F: Feed, W: Sink>(
     rt: &R,

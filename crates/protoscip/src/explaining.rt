@@ -50,6 +50,9 @@ fn shown_file(tree: &Tree, file: usize) -> ShownFile<'_>
 /// The line, without its end, that says why a run over the tree stops; and, if that is asked for, what explains it: a
 /// place of a source as editors show it, a sentence, and the place's line with the place marked. To explain it takes
 /// the dialect in which the tree's sources are parsed. Nothing explains a lack of memory.
+///
+/// The file numbers in the fault have to be below the tree's `file_count`, as `fault_line` asks it. An error means that
+/// memory was refused.
 pub fn fault_text(
     alloc: Global,
     tree: &Tree,

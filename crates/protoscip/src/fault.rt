@@ -33,19 +33,22 @@ pub enum Fault {
     /// The number of that file, and why the tokens of its text derive no tree.
     #[error("in file {0}: {1}")]
     Syntax(usize, SyntaxFault),
-    /// Two places that give one full name.
+    /// The places of two declarations, or of a declaration and a component of a package statement, that give one full
+    /// name. Of such pairs it is that with the least second place, and then the least first; places are ordered by file
+    /// number, then start.
     #[error("one full name is given twice, {0} and {1}")]
     Duplicate(FilePlace, FilePlace),
-    /// The first import of a path that no file has.
+    /// The first import of a path that no file has, by its literal's place: any import of a source counts, and the
+    /// public ones of an included file that some source sees.
     #[error("an import of a file that isn't there, {0}")]
     MissingImport(FilePlace),
-    /// The first use of the first source in which a use names no type.
+    /// The first use that names no type, of the first source that has one, by the place of the whole use.
     #[error("a use that names no type, {0}")]
     Unresolved(FilePlace),
     /// The index would have more than `MAX_INDEX_LEN` bytes.
     #[error("an index has at most {most} bytes", most = MAX_INDEX_LEN)]
     TooLarge,
-    /// A write failed after this many bytes.
+    /// A write failed after this many bytes of what was due.
     #[error("a write that failed, after {0} bytes")]
     Write(u64),
     /// A read failed, or `MAX_READS` reads gave no end.

@@ -12,6 +12,9 @@ use std::alloc::{AllocError, Global};
 
 /// The line, without its end, that says why a run over the tree stops. The offset of a place is in bytes from its
 /// file's start. The offset of a source that is too long is that of the first byte over the limit.
+///
+/// The file numbers in the fault have to be below the tree's `file_count`. Those of a fault that `index_tree` or
+/// `session` answers of this tree are. An error means that memory was refused.
 pub fn fault_line(alloc: Global, tree: &Tree, fault: &Fault) -> Result<String, AllocError>
     requires { HasFilesOf tree.now fault.now }
     ensures { IfOk result (λ line. string_bytes line ≡ line_of tree.now fault.now) }

@@ -1,5 +1,5 @@
 //! From a tree of `.proto` sources to the bytes of its SCIP index, and to answers about it: over readers and
-//! writers, with no files.
+//! writers, with no files. The program `embedding` shows how it is called.
 #![tactic(auto)]
 
 // The index of a tree.
@@ -48,7 +48,8 @@ pub use statuses::{MEMORY_STATUS, SOURCES_STATUS, STREAM_STATUS};
 pub use telling::told_text;
 pub use told_lines::told_line;
 
-// What is made below, so that whoever embeds the indexer needs this crate alone: sources and settings,
+// What is made below, for whoever embeds the indexer. (To read an index, `scip_wire` and `scip_query` are needed, too.)
+// Sources and settings,
 pub use proto_lex::Encoding;
 pub use proto_parse::{CustomOptions, Dialect};
 pub use scip_build::{Built, Faulty, Run, Settings, build};

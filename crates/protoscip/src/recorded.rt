@@ -10,6 +10,6 @@ pub struct Recorded {
     /// For each file that is kept, by its number among these, the choice for each of its declarations.
     pub choices: Choices,
     /// What was left out, and what has no target, each by the fault for which it would be refused, in order of file
-    /// and place; nothing if faults are refused.
+    /// and place; nothing if faults are refused. File numbers are those of the tree.
     pub told: Sequence<BuildFault>,
 }

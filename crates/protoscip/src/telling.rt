@@ -151,6 +151,9 @@ fn text_of(
 
 /// The report of what an index of the tree lacks: a line for each, in this order, explained if that is asked for, and
 /// then one with their numbers, without its end.
+///
+/// The file numbers in what is told have to be below the tree's `file_count`, as `told_line` asks it. An error means
+/// that memory was refused.
 pub fn told_text(
     alloc: Global,
     tree: &Tree,

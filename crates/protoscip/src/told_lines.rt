@@ -15,6 +15,9 @@ use std::alloc::{AllocError, Global};
 
 /// The line, without its end, that reports one thing that an index of the tree lacks: the line of the fault for which
 /// the tree would be refused, with words before the path.
+///
+/// The file numbers in the fault have to be below the tree's `file_count`. Those of what `index_tree` and `session`
+/// tell of this tree are; `Fault::from` makes a fault of each. An error means that memory was refused.
 pub fn told_line(alloc: Global, tree: &Tree, fault: &Fault) -> Result<String, AllocError>
     requires { HasFilesOf tree.now fault.now }
     ensures { IfOk result (λ line. string_bytes line ≡ told_line tree.now fault.now) }

@@ -5,13 +5,14 @@ ghost use Rattle.std.specs.List.{slice_split};
 ghost use Rattle.source_tree.specs.Path.{IsGoodPath, IsComponent, slash};
 
 /// The most bytes of a path.
-const MAX_PATH_LENGTH: usize = 4096;
+pub const MAX_PATH_LENGTH: usize = 4096;
 
 /// What a path ends in.
 const ENDING: &str = ".proto";
 
-/// Whether a path names a file below the root of its tree.
-pub(crate) fn is_good_path(path: &str) -> bool
+/// Whether a path is a good one, by which a source may be named: it has at most `MAX_PATH_LENGTH` bytes, no character
+/// below U+0020, names between its `/` that aren't empty, `.` or `..`, and `.proto` at its end. Takes no memory.
+pub fn is_good_path(path: &str) -> bool
     ensures { IsTrue result ↔ IsGoodPath path.now }
 {
     path.len() <= MAX_PATH_LENGTH

@@ -1,7 +1,7 @@
 //! A tree of sources and included files, and what is refused.
 
 use crate::calls::{fault_of, see, tree_of};
-use source_tree::{Tree, TreeFault};
+use source_tree::{Tree, TreeFault, is_good_path};
 use std::alloc::{AllocError, Global};
 use std::test::Fail;
 use test_kit::sources_of;
@@ -68,6 +68,26 @@ const BAD: [&str; 5] = [
     "a.txt\n1|a.proto\n2",
     "\n1|a.proto\n2",
 ];
+
+/// Paths, and whether each is a good one.
+const PATHS: [(&str, bool); 8] = [
+    ("a.proto", true),
+    ("b/.c/a.proto", true),
+    (".proto", true),
+    ("/a.proto", false),
+    ("a/./b.proto", false),
+    ("a/", false),
+    ("a\u{1f}.proto", false),
+    ("a.PROTO", false),
+];
+
+#[test]
+fn good_paths_are_told(rt: HostRuntime) -> Result<(), Fail> {
+    for (path, is_good) in &PATHS {
+        see(&rt, is_good_path(path) == *is_good, path);
+    }
+    Ok(())
+}
 
 #[test]
 fn bad_paths_and_two_sources_with_one_path(rt: HostRuntime) -> Result<(), Fail> {

@@ -1,6 +1,6 @@
 //! What was chosen for the declarations of files.
 
-ghost use Rattle.std.specs.Prelude.{◌≡◌, map};
+ghost use Rattle.std.specs.Prelude.{◌≡◌, length, map};
 ghost use Rattle.scip_model.specs.Chosen.{IsChosen, HasChoice};
 ghost use Rattle.scip_model.specs.Tables.EntryLists.{choices_for};
 
@@ -40,8 +40,16 @@ impl Choices {
         self.lists[file][declaration]
     }
 
-    /// The choices for a file's declarations.
-    pub(crate) fn of_file(&self, file: usize) -> &[Choice]
+    /// How many files there are lists for.
+    pub fn file_count(&self) -> usize
+        ensures { result ≡ length self.now }
+    {
+        self.lists.len()
+    }
+
+    /// The choices for the declarations of the file with this number, from 0, in their order. None are there for a
+    /// number that isn't below `file_count`.
+    pub fn of_file(&self, file: usize) -> &[Choice]
         ensures { result.now ≡ choices_for self.now file }
     {
         match self.lists.get(file) {

@@ -136,6 +136,12 @@ fn choices_keep_their_lists(rt: HostRuntime) -> Result<(), Fail> {
         choices.of(1, 0) == DROPPED,
         "the choice of the second file",
     );
+    see(&rt, choices.file_count() == 2, "how many files have lists");
+    see(
+        &rt,
+        choices.of_file(1) == [DROPPED].as_slice() && choices.of_file(2).is_empty(),
+        "the list of the second file, and none of a third",
+    );
     Ok(())
 }
 

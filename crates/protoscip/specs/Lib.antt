@@ -4,6 +4,7 @@ pub mod Output
 pub mod Faults
 pub mod Lines
 pub mod FaultLines
+pub mod FileLaws
 pub mod Statuses
 -- what is added to that line if it is to be explained
 pub mod Explanations

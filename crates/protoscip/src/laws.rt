@@ -2,6 +2,7 @@
 //! nothing.
 
 ghost use Rattle.protoscip.specs.DumpLaws.{OneListing, ListedUnlessMemory};
+ghost use Rattle.protoscip.specs.FileLaws.{BuiltHasFiles};
 ghost use Rattle.protoscip.specs.Headline.{Headline, HeadlineOfTree};
 ghost use Rattle.protoscip.specs.IndexLaws.{OneFault, IndexedHasNoFault, OneIndexing};
 ghost use Rattle.protoscip.specs.IndexLaws.{OneIndexingOfChoices, OneIndexingHasNoFault};
@@ -45,6 +46,12 @@ pub fn one_indexing<C: Chooses, D: Chooses>(chooser: &C, other: &D)
     one_built(chooser, other);
     indexed_has_no_fault(chooser, other);
 }
+
+/// The file numbers that `build` gives, in its faults and in what is told, are those of the tree: so `fault_line`,
+/// `fault_text` and `told_text` may be called with them.
+pub fn built_has_files<C: Chooses>(chooser: &C)
+    ensures { BuiltHasFiles (C.allows chooser.now) }
+{}
 
 /// A use that names a type has a target: each of its components names an entity.
 pub fn each_use_has_a_target()

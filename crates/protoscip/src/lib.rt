@@ -37,8 +37,8 @@ pub use fault::Fault;
 pub use fault_lines::fault_line;
 pub use indexing::{KeptIndex, index_and_keep, index_tree};
 pub use laws::{
-    each_use_has_a_target, headline, indexed_has_no_fault, laws_of_names, listed_unless_memory,
-    one_fault, one_indexing, one_listing,
+    built_has_files, each_use_has_a_target, headline, indexed_has_no_fault, laws_of_names,
+    listed_unless_memory, one_fault, one_indexing, one_listing,
 };
 pub use lines::{path_line, placed_line, plain_line};
 pub use output::write_text;
@@ -56,7 +56,7 @@ pub use scip_build::{Built, Faulty, Run, Settings, build};
 pub use scip_model::{Choices, FilePackages, RootPackage};
 pub use scip_symbol::{BadPart, PackageId};
 pub use sequences::{OwnedText, Sequence};
-pub use source_tree::{Source, Tree, TreeFault};
+pub use source_tree::{Source, Tree, TreeFault, is_good_path};
 
 // callbacks and their promises,
 pub use index_hooks::{

@@ -2,8 +2,8 @@
 
 use index_hooks::Registry;
 use protoscip::{
-    each_use_has_a_target, headline, indexed_has_no_fault, laws_of_names, listed_unless_memory,
-    one_fault, one_indexing, one_listing,
+    built_has_files, each_use_has_a_target, headline, indexed_has_no_fault, laws_of_names,
+    listed_unless_memory, one_fault, one_indexing, one_listing,
 };
 
 #[test]
@@ -14,6 +14,7 @@ fn laws_of_indexes(rt: HostRuntime) {
     one_fault(&registry, &registry);
     indexed_has_no_fault(&registry, &registry);
     one_indexing(&registry, &registry);
+    built_has_files(&registry);
     laws_of_names();
     one_listing();
     listed_unless_memory();

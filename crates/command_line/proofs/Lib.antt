@@ -1,4 +1,5 @@
 pub mod AnswerLemmas
 pub mod ValueLemmas
 pub mod WorkersLemmas
+pub mod LimitLemmas
 pub mod RuleLemmas

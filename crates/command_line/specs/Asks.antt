@@ -5,7 +5,7 @@ use Rattle.std.specs.Option.{option_map}
 use Rattle.clap.specs.Words.{Kinds, IsAmong, Row, Text, fault_of, subcommand_of}
 use Rattle.clap.specs.declared.error.kind.ErrorKind.{ErrorKind}
 use Rattle.command_line.specs.Values.{Carries, CarriesDump, CarriesPages, CarriesSnapshot}
-use Rattle.command_line.specs.Values.{explains_in, quiet_in, rows_in, text_of}
+use Rattle.command_line.specs.Values.{explains_in, limits_of, quiet_in, rows_in, text_of}
 use Rattle.command_line.specs.Program.{command_line}
 use Rattle.command_line.specs.Requests.{Prints}
 use Rattle.command_line.specs.Words.{AreListed}
@@ -20,10 +20,11 @@ name_of program = option_map (λ p. p.0) program
 -- the program, with what it is given: `index`, `shell`, `query`, `snapshot`, `pages`, and else
 -- `dump`, the only other one
 abbrev pub Names : Option (Text × List Row) → Request → Type 0
-Names program (request.Index options out quiet) = (name_of program ≡ Some (codes "index"))
+Names program (request.Index options out quiet limits) = (name_of program ≡ Some (codes "index"))
     × Carries (rows_in program) options
     × (string_bytes out ≡ text_of (codes "OUT") (rows_in program))
     × (quiet ≡ quiet_in (rows_in program))
+    × (limits ≡ limits_of (rows_in program))
 Names program (request.Shell options) = (name_of program ≡ Some (codes "shell"))
     × Carries (rows_in program) options
 Names program (request.Query index explain) = (name_of program ≡ Some (codes "query"))

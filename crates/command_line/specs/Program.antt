@@ -8,6 +8,7 @@ use Rattle.clap.specs.declared.builder.arg.Arg.{Arg}
 use Rattle.clap.specs.declared.builder.action.ArgAction.TheVariants.{Append, SetTrue}
 use Rattle.clap.specs.declared.builder.value_parser.ValueParser.TheVariants as values
 use Rattle.index_pool.specs.Workers.{most_workers}
+use Rattle.command_line.specs.Values.{most_limit}
 use Rattle.command_line.specs.declared.words.WordLists.{WordLists}
 
 -- ---- arguments and options
@@ -73,6 +74,20 @@ explain_rule = flag_rule (codes "explain")
 abbrev pub quiet_rule : Rule
 quiet_rule = flag_rule (codes "quiet")
 
+-- the option takes a number from 0 to `most_limit`
+abbrev pub taking_limit : Rule → Rule
+taking_limit rule = record rule { parser = Some (values.Unsigned 0 most_limit) }
+
+abbrev pub max_skipped_rule : Rule
+max_skipped_rule = taking_limit (option_rule (codes "max-skipped"))
+
+abbrev pub min_sources_rule : Rule
+min_sources_rule = taking_limit (option_rule (codes "min-sources"))
+
+-- the options of `index` alone
+abbrev pub own_rules : List Rule
+own_rules = quiet_rule ∷ max_skipped_rule ∷ min_sources_rule ∷ []
+
 -- the options on the run and on the package
 abbrev pub setting_rules : List Rule
 setting_rules = workers_rule
@@ -118,7 +133,8 @@ line_of name rules = (with_rules (new_app name) rules).top
 
 abbrev pub index_line : WordLists → Shape
 index_line lists =
-    line_of (codes "index") (required_rule (codes "ROOT") ∷ required_rule (codes "OUT") ∷ quiet_rule ∷ tree_rules lists)
+    line_of (codes "index")
+    (required_rule (codes "ROOT") ∷ required_rule (codes "OUT") ∷ own_rules ++ tree_rules lists)
 
 -- `shell` wants the folder alone
 abbrev pub shell_line : WordLists → Shape

@@ -2,7 +2,7 @@
 use Rattle.std.specs.Prelude.{◌≡◌, ◌≤◌, ℕ, Bool, List, [], ◌∷◌, Option, Some, None, codes, map, string_bytes}
 use Rattle.std.specs.Prelude.{unwrap_or}
 use Rattle.std.specs.Prelude.{if◌then◌else◌, nat_le, ◌&&◌}
-use Rattle.std.specs.Option.{option_map, option_map_or}
+use Rattle.std.specs.Option.{option_and_then, option_map, option_map_or}
 use Rattle.std.specs.Str.{bytes_eq}
 use Rattle.std.specs.Str.Parse.{digits_value, without_leading_plus}
 use Rattle.clap.specs.Words.{Row, Text, all_of, first_of, one_of}
@@ -10,6 +10,7 @@ use Rattle.clap.specs.ValueTests.{is_unsigned_in}
 use Rattle.index_pool.specs.Workers.{most_workers}
 use Rattle.command_line.specs.Words.{accept_word, custom_options_word, doc_word, faulty_word, positions_word}
 use Rattle.command_line.specs.declared.options.IndexOptions.{IndexOptions}
+use Rattle.command_line.specs.declared.options.Limits.{Limits}
 use Rattle.command_line.specs.declared.options.DumpOptions.{DumpOptions}
 use Rattle.command_line.specs.declared.options.SnapshotOptions.{SnapshotOptions}
 use Rattle.command_line.specs.declared.options.PagesOptions.{PagesOptions}
@@ -63,6 +64,32 @@ explains_in rows = bytes_eq (text_of (codes "explain") rows) (codes "true")
 -- and whether `--quiet` is
 abbrev pub quiet_in : List Row → Bool
 quiet_in rows = bytes_eq (text_of (codes "quiet") rows) (codes "true")
+
+-- the greatest number of 32 bits
+abbrev pub most_limit : ℕ
+most_limit = 4294967295
+
+-- the number from 0 to `most_limit` that the text spells, with or without a plus sign and zeros before it; `clap`
+-- refuses every other text
+abbrev pub limit_in : Text → Option ℕ
+limit_in text =
+    if is_unsigned_in 0 most_limit text then Some (digits_value 10 (without_leading_plus text)) else None
+
+-- a number from 0 to `most_limit`, if there is one
+abbrev pub in_limit : Option ℕ → Option ℕ
+in_limit None = None
+in_limit (Some n) = if nat_le n most_limit then Some n else None
+
+-- the limit of an option, if it is given
+abbrev pub limit_of : Text → List Row → Option ℕ
+limit_of id rows = option_and_then limit_in (one_of id rows)
+
+-- the limits that `index` is given
+abbrev pub limits_of : List Row → Limits
+limits_of rows = record {
+  max_skipped = limit_of (codes "max-skipped") rows;
+  min_sources = limit_of (codes "min-sources") rows;
+}
 
 -- a folder, and the package that its files belong to
 pub record Folder : Type 0 where

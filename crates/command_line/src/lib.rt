@@ -11,8 +11,8 @@ mod values;
 mod words;
 
 pub use options::{
-    AcceptWord, CustomOptionsWord, DocWord, DumpOptions, FaultyWord, IndexOptions, PackageFolder,
-    PagesOptions, PositionsWord, SnapshotOptions,
+    AcceptWord, CustomOptionsWord, DocWord, DumpOptions, FaultyWord, IndexOptions, Limits,
+    PackageFolder, PagesOptions, PositionsWord, SnapshotOptions,
 };
 pub use reading::{request_of, request_of_process};
 pub use request::Request;

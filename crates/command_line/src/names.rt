@@ -52,8 +52,12 @@ pub(crate) const FAULTY: &str = "faulty";
 
 pub(crate) const EXPLAIN: &str = "explain";
 
-/// The option of `index` alone.
+/// The options of `index` alone.
 pub(crate) const QUIET: &str = "quiet";
+
+pub(crate) const MAX_SKIPPED: &str = "max-skipped";
+
+pub(crate) const MIN_SOURCES: &str = "min-sources";
 
 /// The option of `snapshot`.
 pub(crate) const TO: &str = "to";

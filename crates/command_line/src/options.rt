@@ -40,6 +40,15 @@ pub struct IndexOptions {
     ghost workers_fit: { (1 ≤ workers) × (workers ≤ most_workers) },
 }
 
+/// The limits that `index` is given: if its index breaks one, the file that it would go to stays as it was.
+#[derive(Clone, Copy, Debug, PartialEq, Eq)]
+pub struct Limits {
+    /// How many files may be left out, 0 to 4294967295; any number if it isn't given.
+    pub max_skipped: Option<usize>,
+    /// How many sources have to be indexed, 0 to 4294967295; any number if it isn't given.
+    pub min_sources: Option<usize>,
+}
+
 /// What `dump` is given.
 #[derive(Clone, Copy, Debug, PartialEq, Eq)]
 pub struct DumpOptions {

@@ -17,7 +17,10 @@ ghost use Rattle.command_line.specs.Program.{
 };
 
 use crate::names::{DUMP, INDEX, INDEX_FILE, OUT, PAGES, QUERY, ROOT, SHELL, SNAPSHOT, TO};
-use crate::tree::{accept, add_tree_options, custom_options, explain, option, quiet, required};
+use crate::tree::{
+    accept, add_tree_options, custom_options, explain, max_skipped, min_sources, option, quiet,
+    required,
+};
 use crate::words::WordLists;
 use clap::{Arg, Command};
 use std::alloc::{AllocError, Global};
@@ -85,6 +88,8 @@ fn index_program<'a>(alloc: Global, lists: WordLists<'a>) -> Result<Command<'a>,
         required(alloc, ROOT, "The folder whose sources are indexed"),
         required(alloc, OUT, "The file to which the index is written"),
         quiet(alloc),
+        max_skipped(alloc),
+        min_sources(alloc),
     ]?;
     add_tree_options(alloc, &mut args, lists)?;
     program_of(alloc, INDEX, about, INDEX_EXAMPLE, args)

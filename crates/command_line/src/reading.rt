@@ -13,8 +13,8 @@ use crate::options::{AcceptWord, CustomOptionsWord, DumpOptions};
 use crate::program::program;
 use crate::request::Request;
 use crate::values::{
-    dump_options_of, explains_in, options_of, pages_options_of, quiet_in, snapshot_options_of,
-    text_of,
+    dump_options_of, explains_in, limits_of, options_of, pages_options_of, quiet_in,
+    snapshot_options_of, text_of,
 };
 use crate::words::WordLists;
 use clap::error::ErrorKind;
@@ -42,7 +42,7 @@ fn named(alloc: Global, matches: &ArgMatches<'_>) -> Result<Request, AllocError>
     if let Some(given) = matches.subcommand_matches(INDEX) {
         let options = options_of(alloc, given)?;
         let out = text_of(alloc, given, OUT)?;
-        return Ok(Request::Index(options, out, quiet_in(given)));
+        return Ok(Request::Index(options, out, quiet_in(given), limits_of(given)));
     }
     if let Some(given) = matches.subcommand_matches(SHELL) {
         return Ok(Request::Shell(options_of(alloc, given)?));
@@ -102,6 +102,14 @@ fn refuse_other_text(alloc: Global) -> Result<Request, AllocError>
     )
 }
 
+/// To a text that refuses a word of `--accept`, adds what `all` means, since `clap` proposes a word by its spelling.
+fn add_what_all_is(text: &mut String) -> Result<(), AllocError> {
+    if text.as_str().contains("for '--accept <WORD>'") {
+        text.push_str("\n`--accept all` reads proto2 sources, too.\n")?;
+    }
+    Ok(())
+}
+
 /// What an answer of `clap` other than a program asks for.
 fn answer(alloc: Global, error: &Error) -> Result<Request, AllocError>
     ensures { IfOk result (λ r. (kind_of error.now ≢ ErrorKind.OutOfMemory) × Prints (kind_of error.now) r) }
@@ -109,7 +117,8 @@ fn answer(alloc: Global, error: &Error) -> Result<Request, AllocError>
     if matches!(error.kind(), ErrorKind::OutOfMemory) {
         return Err(AllocError);
     }
-    let text = format!(in alloc; "{error}")?;
+    let mut text = format!(in alloc; "{error}")?;
+    add_what_all_is(&mut text)?;
     if error.use_stderr() {
         Ok(Request::Refuse(text))
     } else {

@@ -13,6 +13,8 @@ ghost use Rattle.command_line.specs.Program.{
   flag_rule,
   include_package_rule,
   include_rule,
+  max_skipped_rule,
+  min_sources_rule,
   option_rule,
   or_default,
   positions_rule,
@@ -20,6 +22,7 @@ ghost use Rattle.command_line.specs.Program.{
   quiet_rule,
   required_rule,
   setting_rules,
+  taking_limit,
   taking_threads,
   taking_words,
   tree_rules,
@@ -27,8 +30,8 @@ ghost use Rattle.command_line.specs.Program.{
 };
 
 use crate::names::{
-    ACCEPT, CUSTOM_OPTIONS, DOC, EXPLAIN, FAULTY, INCLUDE, INCLUDE_PACKAGE, MANAGER, ONLY, PACKAGE,
-    PACKAGE_FOLDER, POSITIONS, PROJECT_ROOT, QUIET, RELEASE, WORKERS,
+    ACCEPT, CUSTOM_OPTIONS, DOC, EXPLAIN, FAULTY, INCLUDE, INCLUDE_PACKAGE, MANAGER, MAX_SKIPPED,
+    MIN_SOURCES, ONLY, PACKAGE, PACKAGE_FOLDER, POSITIONS, PROJECT_ROOT, QUIET, RELEASE, WORKERS,
 };
 use crate::words::WordLists;
 use clap::{Arg, ArgAction, value_parser};
@@ -230,6 +233,33 @@ pub(crate) fn quiet<'a>(alloc: Global) -> Arg<'a>
 {
     let help = "Shows no progress; without it, a terminal shows some after a second";
     flag(alloc, QUIET, help)
+}
+
+/// The option, with a number from 0 to the greatest of 32 bits for its value.
+fn taking_limit<'a>(option: Arg<'a>) -> Arg<'a>
+    ensures rule { rule_of result ≡ taking_limit (rule_of option.entry) }
+    ensures local { result.global ≡ option.entry.global }
+{
+    option.value_parser(value_parser!(usize).range(0..=u32::MAX as i64))
+}
+
+/// How many files may be left out.
+pub(crate) fn max_skipped<'a>(alloc: Global) -> Arg<'a>
+    ensures rule { rule_of result ≡ max_skipped_rule }
+    ensures local { result.global ≡ false }
+{
+    let help =
+        "If --faulty skip leaves out more files than this, OUT stays as it was and the status is 1";
+    taking_limit(option(alloc, MAX_SKIPPED, "N", help))
+}
+
+/// How many sources have to be indexed.
+pub(crate) fn min_sources<'a>(alloc: Global) -> Arg<'a>
+    ensures rule { rule_of result ≡ min_sources_rule }
+    ensures local { result.global ≡ false }
+{
+    let help = "If fewer sources than this are indexed, OUT stays as it was and the status is 1";
+    taking_limit(option(alloc, MIN_SOURCES, "N", help))
 }
 
 /// The options on the run and on the package.

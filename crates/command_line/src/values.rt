@@ -16,6 +16,9 @@ ghost use Rattle.command_line.specs.Values.{
   fitting,
   folder_of,
   folders_in,
+  in_limit,
+  limit_of,
+  limits_of,
   positions_of,
   quiet_in,
   text_of,
@@ -24,11 +27,12 @@ ghost use Rattle.command_line.specs.Values.{
 
 use crate::names::{
     ACCEPT, CUSTOM_OPTIONS, DOC, EXPLAIN, FAULTY, INCLUDE, INCLUDE_PACKAGE, INDEX_FILE, MANAGER,
-    ONLY, OUT, PACKAGE, POSITIONS, PROJECT_ROOT, QUIET, RELEASE, ROOT, TO, WORKERS,
+    MAX_SKIPPED, MIN_SOURCES, ONLY, OUT, PACKAGE, POSITIONS, PROJECT_ROOT, QUIET, RELEASE, ROOT,
+    TO, WORKERS,
 };
 use crate::options::{
-    AcceptWord, CustomOptionsWord, DocWord, DumpOptions, FaultyWord, IndexOptions, PackageFolder,
-    PagesOptions, PositionsWord, SnapshotOptions,
+    AcceptWord, CustomOptionsWord, DocWord, DumpOptions, FaultyWord, IndexOptions, Limits,
+    PackageFolder, PagesOptions, PositionsWord, SnapshotOptions,
 };
 use clap::ArgMatches;
 use index_pool::MAX_WORKERS;
@@ -215,6 +219,33 @@ pub(crate) fn quiet_in(given: &ArgMatches<'_>) -> bool
     ensures { result ≡ quiet_in (rows_of (found_of given.now)) }
 {
     given_text(given, QUIET) == "true"
+}
+
+/// A number of at most 32 bits, if there is one.
+fn in_limit(number: Option<usize>) -> Option<usize>
+    ensures { result ≡ in_limit number }
+{
+    match number {
+        Some(number) if number <= u32::MAX as usize => Some(number),
+        _ => None,
+    }
+}
+
+/// The number of a limit, if it is given. `clap` takes no greater number than that of 32 bits.
+fn limit_of(given: &ArgMatches<'_>, id: &str) -> Option<usize>
+    ensures { result ≡ limit_of id.now (rows_of (found_of given.now)) }
+{
+    in_limit(given.get_one::<usize>(id))
+}
+
+/// The limits of `index`.
+pub(crate) fn limits_of(given: &ArgMatches<'_>) -> Limits
+    ensures { result ≡ limits_of (rows_of (found_of given.now)) }
+{
+    Limits {
+        max_skipped: limit_of(given, MAX_SKIPPED),
+        min_sources: limit_of(given, MIN_SOURCES),
+    }
 }
 
 /// What a program about a tree is given.

@@ -76,6 +76,10 @@ Arguments:
 Options:
       --quiet
           Shows no progress; without it, a terminal shows some after a second
+      --max-skipped <N>
+          If --faulty skip leaves out more files than this, OUT stays as it was and the status is 1
+      --min-sources <N>
+          If fewer sources than this are indexed, OUT stays as it was and the status is 1
 ",
         Some(
             "

@@ -29,6 +29,27 @@ error: the following required arguments were not provided:
 shell api --quiet
 error: unexpected argument '--quiet' found
 
+shell api --max-skipped 1
+error: unexpected argument '--max-skipped' found
+
+shell api --min-sources 1
+error: unexpected argument '--min-sources' found
+
+index api out --max-skipped none
+error: invalid value 'none' for '--max-skipped <N>': invalid digit found in string
+
+index api out --max-skipped=-1
+error: invalid value '-1' for '--max-skipped <N>': invalid digit found in string
+
+index api out --min-sources 4294967296
+error: invalid value '4294967296' for '--min-sources <N>': 4294967296 is not in 0..=4294967295
+
+index api out --min-sources
+error: a value is required for '--min-sources <N>' but none was supplied
+
+index api out --min-sources 1 --min-sources 1
+error: the argument '--min-sources <N>' cannot be used multiple times
+
 index api out --workers 0
 error: invalid value '0' for '--workers <N>': 0 is not in 1..=16
 
@@ -73,6 +94,16 @@ fn refused_command_lines(rt: HostRuntime) -> Result<(), Fail> {
         let text = asked(rt.alloc(), words, By::List)?;
         see(&rt, text.as_str().starts_with(front), case);
     }
+    Ok(())
+}
+
+#[test]
+fn what_all_is_is_said(rt: HostRuntime) -> Result<(), Fail> {
+    let end = "\n`--accept all` reads proto2 sources, too.\n";
+    let text = asked(rt.alloc(), "dump --accept proto2", By::List)?;
+    see(&rt, text.as_str().ends_with(end), "--accept proto2");
+    let text = asked(rt.alloc(), "dump --custom-options keep", By::List)?;
+    see(&rt, !text.as_str().ends_with(end), "--custom-options keep");
     Ok(())
 }
 

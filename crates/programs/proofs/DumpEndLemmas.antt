@@ -1,5 +1,5 @@
 -- How a dump ends.
-use Rattle.std.proofs.Common.{ℕ, List, [], Option, Some, None, Err, subst}
+use Rattle.std.proofs.Common.{ℕ, Bool, ◌&&◌, List, [], Option, Some, None, Err, subst}
 use Rattle.proto_parse.specs.tree.Dialect.{Dialect}
 use Rattle.source_tree.specs.Files.{TreeFile}
 use Rattle.source_tree.specs.Reading.{kept_bytes}
@@ -10,9 +10,10 @@ use Rattle.protoscip.specs.Statuses.{status_of}
 use Rattle.protoscip.specs.declared.fault.Fault.{Fault}
 use Rattle.protoscip.specs.declared.fault.Fault.TheVariants.{Spawn, Memory, Lex, Syntax, Duplicate, MissingImport}
 use Rattle.protoscip.specs.declared.fault.Fault.TheVariants.{Unresolved, TooLarge, Write, Read, Answer}
-use Rattle.programs.specs.Dumping.{EndsDump}
+use Rattle.programs.specs.Dumping.{EndsDump, is_write}
 use Rattle.programs.specs.Messages.{TellsOne}
-use Rattle.programs.proofs.MessageLemmas.{tells_other}
+use Rattle.programs.specs.Printing.{EndsCut}
+use Rattle.programs.proofs.MessageLemmas.{cut_other, tells_other}
 
 -- what is told of these faults is of no tree
 read_of_any : (explain : Option Dialect) (tree other : List TreeFile) (text : List ℕ)
@@ -25,13 +26,16 @@ memory_of_any : (explain : Option Dialect) (tree other : List TreeFile) (text : 
 memory_of_any None tree other text is = is
 memory_of_any (Some dialect) tree other text is = is
 
-module _ {R M : Type 0} (remaining : R → Option (List ℕ)) (explain : Option Dialect) (reader : R)
+module _ {R M : Type 0} (remaining : R → Option (List ℕ)) (explain : Option Dialect) (closed : Bool) (reader : R)
     (messages : Writer M) (status : ℕ) where
+  abbrev due : List TreeFile → Fault → Type 0
+  due tree fault = TellsOne (IsFaultText explain tree fault) (status_of fault) messages status
+
   abbrev tells : List TreeFile → Fault → Type 0
-  tells tree fault = TellsOne (IsFaultText explain tree fault) (status_of fault) messages status
+  tells tree fault = EndsCut (is_write fault && closed) (due tree fault) messages status
 
   abbrev ends : Fault → Type 0
-  ends fault = EndsDump remaining explain reader (Err fault) messages status
+  ends fault = EndsDump remaining explain closed reader (Err fault) messages status
 
   -- a fault is told of the source's tree,
   of_source : (fault : Fault) (tree : List TreeFile) → IsTreeOfSource remaining reader tree → tells tree fault
@@ -48,8 +52,9 @@ module _ {R M : Type 0} (remaining : R → Option (List ℕ)) (explain : Option 
       → IsFaultText explain other fault text)
       → tells tree fault → ends fault
   of_any fault tree holds said_so =
-      let moved = λ (other : List TreeFile). tells_other messages status (status_of fault)
-      (IsFaultText explain tree fault) (IsFaultText explain other fault) (holds other) said_so in
+      let moved = λ (other : List TreeFile). cut_other (is_write fault && closed) (due tree fault) (due other fault)
+      messages status (tells_other messages status (status_of fault) (IsFaultText explain tree fault)
+      (IsFaultText explain other fault) (holds other)) said_so in
       record { some = ([], moved (dump_tree [])); told = λ bytes known. moved (dump_tree (kept_bytes bytes)) }
 
   -- or names no place

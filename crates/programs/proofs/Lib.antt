@@ -2,6 +2,7 @@ mod MoveLemmas
 mod MessageLemmas
 mod FolderLemmas
 mod LackLemmas
+mod NoSourceLemmas
 mod TreeRunLemmas
 mod DumpEndLemmas
 mod QueryLemmas

@@ -1,10 +1,11 @@
 -- What is said of a line that is there, or isn't.
-use Rattle.std.proofs.Common.{◌≡◌, ◌⊎◌, inl, inr, ℕ, List, Ok, Err, subst}
+use Rattle.std.proofs.Common.{◌≡◌, ◌⊎◌, inl, inr, ℕ, Bool, true, false, List, Ok, Err, subst}
 use Rattle.std.specs.Prelude.{Option, Result, IfErr, IfOk, MatchResult, OnOk}
 use Rattle.streams.specs.WholeWrites.{IsWritten, IsCutOff}
 use Rattle.streams.specs.declared.sink.CutOff.{CutOff}
 use Rattle.scip_snapshot.specs.Showing.{Writer}
-use Rattle.programs.specs.Messages.{Says, Tells, TellsOne, memory_line, memory_status}
+use Rattle.programs.specs.Messages.{IsSilent, Says, Tells, TellsOne, memory_line, memory_status}
+use Rattle.programs.specs.Printing.{EndsCut}
 
 pub told : {M L E : Type 0} (messages : Writer M) (status asked due : ℕ) (bytes : L → List ℕ) (line : Result L E)
     (text : List ℕ)
@@ -27,6 +28,23 @@ pub told_one : {M L E : Type 0} (messages : Writer M) (status asked due : ℕ) (
 told_one messages status asked due bytes (Ok l) Due same is said =
     inl (bytes l, is, subst (λ d. Says (bytes l) d messages status) same said)
 told_one messages status asked due bytes (Err e) Due same is said = inr said
+
+-- nothing is said of a closed pipe, and of another what is due
+pub closed_ends : {M : Type 0} (closed : Bool) (due : Type 0) (messages : Writer M) (status : ℕ) → closed ≡ true
+    → IsSilent messages status → EndsCut closed due messages status
+closed_ends true due messages status is silent = silent
+closed_ends false due messages status is silent = absurd cc
+
+pub open_ends : {M : Type 0} (closed : Bool) (due : Type 0) (messages : Writer M) (status : ℕ) → closed ≡ false
+    → due → EndsCut closed due messages status
+open_ends true due messages status is said = absurd cc
+open_ends false due messages status is said = said
+
+-- what follows from what is due is due, too
+pub cut_other : {M : Type 0} (closed : Bool) (due other : Type 0) (messages : Writer M) (status : ℕ) → (due → other)
+    → EndsCut closed due messages status → EndsCut closed other messages status
+cut_other true due other messages status holds ends = ends
+cut_other false due other messages status holds ends = holds ends
 
 -- or is also one of which more holds
 pub tells_other : {M : Type 0} (messages : Writer M) (status due : ℕ) (Due Other : List ℕ → Type 0)

@@ -5,7 +5,9 @@ use Rattle.proto_lex.specs.declared.fault.LexFault.TheVariants as lexing
 use Rattle.proto_parse.specs.fault.SyntaxFault.{SyntaxFault}
 use Rattle.proto_parse.specs.fault.SyntaxFault.TheVariants as parsing
 use Rattle.command_line.specs.declared.options.IndexOptions.{IndexOptions}
+use Rattle.command_line.specs.declared.options.Limits.{Limits}
 use Rattle.source_files.specs.Entries.{Entry}
+use Rattle.source_tree.specs.Files.{TreeFile}
 use Rattle.source_files.specs.declared.load_fault.LoadFault.TheVariants.{Unreadable, TooMany, BadPath, SamePath}
 use Rattle.source_files.specs.declared.load_fault.LoadFault.TheVariants as load
 use Rattle.scip_snapshot.specs.Showing.{Writer}
@@ -13,8 +15,9 @@ use Rattle.protoscip.specs.Statuses.{lex_status, syntax_status, status_of}
 use Rattle.protoscip.specs.declared.fault.Fault.{Fault}
 use Rattle.protoscip.specs.declared.fault.Fault.TheVariants.{Spawn, Memory, Lex, Syntax, Duplicate, MissingImport}
 use Rattle.protoscip.specs.declared.fault.Fault.TheVariants.{Unresolved, TooLarge, Write, Read, Answer}
-use Rattle.programs.specs.Indexing.{Indexed, WritesNavigable, not_begun, into_part}
+use Rattle.programs.specs.Indexing.{Indexed, WritesNavigable, not_begun, into_part, too_poor}
 use Rattle.programs.specs.Indexing as indexing
+use Rattle.programs.specs.Limits.{limit_status}
 use Rattle.programs.specs.Messages.{Tells, TellsOne}
 use Rattle.programs.specs.OptionLaws.{HeadlineOfFiles}
 use Rattle.programs.specs.Placing.{Place, filled}
@@ -93,16 +96,19 @@ told_one_no_success Due due messages status failure (inr said) none = no_success
 
 module _ (lists : List ℕ → List ℕ → Option (List Entry) → Type 0) (gives : List ℕ → Option (List ℕ) → Type 0)
     (options : IndexOptions) (headline : HeadlineOfFiles lists gives options) where
-  pub writes : {P W M : Type 0} (same : List ℕ → Bool → Type 0) (path : List ℕ) (at : Place P W) (messages : Writer M)
-      (status : ℕ)
-      → Indexed lists gives same options path at messages status → WritesNavigable lists gives options at status
-  writes same path at messages status (indexing.not_started fault may left tells) none =
+  pub writes : {P W M : Type 0} (same : List ℕ → Bool → Type 0)
+      (none_found : List TreeFile → Option (List ℕ) → Type 0) (limits : Limits) (path : List ℕ) (at : Place P W)
+      (messages : Writer M) (status : ℕ)
+      → Indexed lists gives same none_found options limits path at messages status
+      → WritesNavigable lists gives options at status
+  writes same none_found limits path at messages status (indexing.not_started fault may left tells) none =
       absurd (told_no_success _ (start_status fault) messages status (start_fails fault) tells none)
-  writes same path at messages status (indexing.over_tree tree ids named folders (not_begun fault may left tells)) none =
+  writes same none_found limits path at messages status
+      (indexing.over_tree tree ids named folders (not_begun fault may left tells)) none =
       absurd (told_no_success _ (start_status fault) messages status (start_fails fault) tells none)
-  writes same path at messages status
+  writes same none_found limits path at messages status
       (indexing.over_tree tree ids named folders
-      (into_part (Ok recorded) apart (filled begun whole nothing runs put) ends)) none =
+      (into_part (Ok recorded) apart (filled begun whole nothing keeps runs put) ends)) none =
       record {
         tree = tree;
         ids = ids;
@@ -123,21 +129,24 @@ module _ (lists : List ℕ → List ℕ → Option (List Entry) → Type 0) (giv
           },
         );
       }
-  writes same path at messages status
+  writes same none_found limits path at messages status
       (indexing.over_tree tree ids named folders (into_part (Err fault) apart fills ends)) none =
       absurd (told_one_no_success _ (status_of fault) messages status (fails fault) ends none)
+  writes same none_found limits path at messages status
+      (indexing.over_tree tree ids named folders (too_poor recorded fault apart forgoes breaks ends)) none =
+      absurd (told_no_success _ limit_status _ status tt ends.2 none)
 
-  pub answers : {R W M : Type 0} (commands : Reader R) (written : Writer W) (messages : Writer M) (status : ℕ)
-      → Served lists gives options commands written messages status
+  pub answers : {R W M : Type 0} (none_found : List TreeFile → Option (List ℕ) → Type 0) (commands : Reader R) (written : Writer W) (messages : Writer M) (status : ℕ)
+      → Served lists gives none_found options commands written messages status
       → AnswersNavigable lists gives options commands written status
-  answers commands written messages status (not_started fault may untouched tells) none =
+  answers none_found commands written messages status (not_started fault may untouched tells) none =
       absurd (told_no_success _ (start_status fault) messages status (start_fails fault) tells none)
-  answers commands written messages status (over_tree tree ids (Ok recorded) named folders runs ends) none = record {
+  answers none_found commands written messages status (over_tree tree ids (Ok recorded) named folders runs ends) none = record {
     tree = tree;
     ids = ids;
     recorded = recorded;
     folders = folders;
     navigable = (runs.bytes, runs.indexed.index, headline tree ids folders recorded runs.bytes runs.indexed, runs.are);
   }
-  answers commands written messages status (over_tree tree ids (Err fault) named folders runs ends) none =
+  answers none_found commands written messages status (over_tree tree ids (Err fault) named folders runs ends) none =
       absurd (told_one_no_success _ (status_of fault) messages status (fails fault) ends none)

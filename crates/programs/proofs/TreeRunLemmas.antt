@@ -1,5 +1,5 @@
 -- A run over a tree that hands out more than what is recorded.
-use Rattle.std.proofs.Common.{ℕ, List, Option, Result, Ok, Err}
+use Rattle.std.proofs.Common.{◌≡◌, ℕ, Bool, List, Option, Result, Ok, Err}
 use Rattle.std.specs.Prelude.{MatchResult}
 use Rattle.std.specs.Result.{result_map_both}
 use Rattle.proto_parse.specs.tree.Dialect.{Dialect}
@@ -7,7 +7,17 @@ use Rattle.source_tree.specs.Files.{TreeFile}
 use Rattle.scip_build.specs.declared.fault.BuildFault.{BuildFault}
 use Rattle.scip_snapshot.specs.Showing.{Writer}
 use Rattle.protoscip.specs.declared.fault.Fault.{Fault}
+use Rattle.proto_decl.specs.Seen.{Seen}
+use Rattle.index_hooks.specs.declared.choice.Choice.{Choice}
+use Rattle.scip_build.specs.declared.settings.Settings.{Settings}
+use Rattle.command_line.specs.declared.options.IndexOptions.{IndexOptions}
+use Rattle.command_line.specs.declared.options.Limits.{Limits}
+use Rattle.protoscip.specs.Explanations.{explain_in}
+use Rattle.programs.specs.Indexing.{IndexesInto, not_begun, into_part, too_poor}
+use Rattle.programs.specs.Messages.{SaysOfSuccess}
+use Rattle.programs.specs.Placing.{Place}
 use Rattle.programs.specs.TreeRuns.{Ends}
+use Rattle.programs.proofs.LackLemmas.{ends_of, lacks_of}
 
 -- the part of what is handed out, or the fault
 abbrev pub part_of : {A B E : Type 0} → (A → B) → Result A E → Result B E
@@ -21,9 +31,32 @@ holds_of_part f P (Err e) holds = holds
 
 -- a run ends alike, if what is told is of the part
 pub ends_alike : {M A B : Type 0} (f : A → B) (told_of : B → List BuildFault)
-    (says : (List ℕ → Type 0) → Writer M → (status : ℕ) → Type 0) (explain : Option Dialect)
-    (tree : List TreeFile) (done : Result A Fault) (messages : Writer M) (status : ℕ)
-    → Ends says explain tree (λ a. told_of (f a)) done messages status
-    → Ends says explain tree told_of (part_of f done) messages status
-ends_alike f told_of says explain tree (Ok a) messages status ends = ends
-ends_alike f told_of says explain tree (Err e) messages status ends = ends
+    (says : (List ℕ → Type 0) → Writer M → (status : ℕ) → Type 0) (none_found : Option (List ℕ) → Type 0)
+    (explain : Option Dialect) (tree : List TreeFile) (done : Result A Fault) (messages : Writer M) (status : ℕ)
+    → Ends says none_found explain tree (λ a. told_of (f a)) done messages status
+    → Ends says none_found explain tree told_of (part_of f done) messages status
+ends_alike f told_of says none_found explain tree (Ok a) messages status ends = ends
+ends_alike f told_of says none_found explain tree (Err e) messages status ends = ends
+
+-- a tree is indexed alike, if the line of none found is one of which `none_found` holds
+pub into_of : {P W M : Type 0} (same : List ℕ → Bool → Type 0) (none_found : List TreeFile → Option (List ℕ) → Type 0)
+    (options : IndexOptions) (limits : Limits) (path : List ℕ) (allows : Seen → Choice → Type 0) (settings : Settings)
+    (workers : ℕ) (tree : List TreeFile) (at : Place P W) (messages : Writer M) (status : ℕ) (line : Option (List ℕ))
+    → none_found tree line
+    → IndexesInto same (λ _ l. l ≡ line) options limits path allows settings workers tree at messages status
+    → IndexesInto same none_found options limits path allows settings workers tree at messages status
+into_of same none_found options limits path allows settings workers tree at messages status line found
+    (not_begun fault may left tells) = not_begun fault may left tells
+into_of same none_found options limits path allows settings workers tree at messages status line found
+    (into_part done apart fills ends) =
+    into_part done apart fills
+    (ends_of SaysOfSuccess (none_found tree) (explain_in options.explain settings.dialect) tree messages status
+    (λ recorded. recorded.told) done line found ends)
+into_of same none_found options limits path allows settings workers tree at messages status line found
+    (too_poor recorded fault apart forgoes breaks ends) =
+    too_poor recorded fault apart forgoes breaks (
+      ends.0,
+      lacks_of SaysOfSuccess (none_found tree) (explain_in options.explain settings.dialect) tree
+          (record messages { after = ends.0 }) 0 line found recorded.told ends.1,
+      ends.2,
+    )

@@ -12,6 +12,7 @@ pub mod Answering
 pub mod ShowFaults
 pub mod Snapshotting
 -- `pages`
+pub mod SiteFaults
 pub mod Paging
 -- `index` and `shell`: what their options say, why there is no package or no tree, and what they do
 pub mod Choices
@@ -20,8 +21,10 @@ pub mod Folders
 pub mod StartFaults
 pub mod StartExplanations
 pub mod Starting
+pub mod NoSources
 pub mod TreeRuns
 pub mod Dumping
+pub mod Limits
 pub mod Placing
 pub mod Indexing
 pub mod Serving

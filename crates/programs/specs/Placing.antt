@@ -1,6 +1,7 @@
 -- Where the program `index` puts an index.
 -- `same` is what asking whether the file with a path is the one at the place may answer.
-use Rattle.std.specs.Prelude.{◌≡◌, ℕ, Bool, true, List, [], ◌∷◌, Option, Some, Result, Ok, Err, string_bytes}
+use Rattle.std.specs.Prelude.{◌≡◌, ℕ, Bool, true, List, [], ◌∷◌, Option, None, Some, Result, Ok, Err}
+use Rattle.std.specs.Prelude.{string_bytes}
 use Rattle.streams.specs.WholeWrites.{IsWritten}
 use Rattle.source_tree.specs.Files.{TreeFile}
 use Rattle.source_files.specs.Places.{IsAsked, IsBegun}
@@ -10,50 +11,82 @@ use Rattle.protoscip.specs.declared.fault.Fault.{Fault}
 use Rattle.protoscip.specs.declared.fault.Fault.TheVariants.{Write}
 use Rattle.protoscip.specs.declared.recorded.Recorded.{Recorded}
 use Rattle.programs.specs.Folders.{included_in}
+use Rattle.programs.specs.declared.limits.LimitFault.{LimitFault}
 use Rattle.programs.specs.declared.start_fault.StartFault.{StartFault}
 use Rattle.programs.specs.declared.start_fault.StartFault.TheVariants.{IsSource, Load}
 
--- a place around a call, and what its trait says: what it holds; and of a part of it, which is put there when it is
--- whole, what that holds, and how many writes to it failed
-pub record Place (P W : Type 0) : Type 0 where
+-- a place around a call, and what its trait says: what it holds; what is known of a part that it refuses, and of one
+-- that it is told to give up; and of a part, which is put there when it is whole, what that holds, and how many writes
+-- to it failed
+pub record Place (P W : Type 0) : Type 1 where
   pub holds : P → Option (List ℕ)
+  pub refuses : P → W → Type 0
+  pub gives_up : P → W → Type 0
   pub contents : W → Option (List ℕ)
   pub failures : W → ℕ
   pub before : P
   pub after : P
 
-abbrev pub place : {P W : Type 0} → (P → Option (List ℕ)) → (contents : W → Option (List ℕ)) → (failures : W → ℕ)
-    → P → P → Place P W
-place holds contents failures before after =
-    record { holds = holds; contents = contents; failures = failures; before = before; after = after }
+abbrev pub place : {P W : Type 0} → (P → Option (List ℕ)) → (refuses gives_up : P → W → Type 0)
+    → (contents : W → Option (List ℕ)) → (failures : W → ℕ) → P → P → Place P W
+place holds refuses gives_up contents failures before after = record {
+  holds = holds;
+  refuses = refuses;
+  gives_up = gives_up;
+  contents = contents;
+  failures = failures;
+  before = before;
+  after = after;
+}
 
 -- it is as it was
 abbrev pub IsLeft : {P W : Type 0} → Place P W → Type 0
 IsLeft at = at.after ≡ at.before
+
+-- it was to take a part, and refused that; it is as it was
+abbrev pub IsRefused : {P W : Type 0} → Place P W → (part : W) → Type 0
+IsRefused at part = at.refuses at.before part × IsLeft at
+
+-- it was told to give a part up; it is as it was
+abbrev pub IsGivenUp : {P W : Type 0} → Place P W → (part : W) → Type 0
+IsGivenUp at part = at.gives_up at.before part × IsLeft at
 
 -- a part has been put there
 abbrev pub IsFilled : {P W : Type 0} → Place P W → (part : W) → Type 0
 IsFilled at part = at.holds at.after ≡ at.contents part
 
 -- What becomes of a place by a run that writes to a part of it; `runs` says what the run answers of the part before and
--- after. If there is an index, the part is put there; or that is refused, as a write is, and the place is as it was. If
--- there is none, it is as it was, too.
-pub data Fills {P W : Type 0} (at : Place P W) (runs : W → W → Result Recorded Fault → Type 0)
-    : Result Recorded Fault → Type 0 where
-  filled : {recorded : Recorded} (begun whole : W) → IsBegun at.contents at.failures begun
-      → runs begun whole (Ok recorded) → IsFilled at whole → Fills at runs (Ok recorded)
+-- after. If there is an index that `keeps` the limits, the part is put there; or the place refuses it, as a write is
+-- refused. If there is none, the part is given up.
+pub data Fills {P W : Type 0} (at : Place P W) (keeps : Recorded → Type 0)
+    (runs : W → W → Result Recorded Fault → Type 0) : Result Recorded Fault → Type 0 where
+  filled : {recorded : Recorded} (begun whole : W) → IsBegun at.contents at.failures begun → keeps recorded
+      → runs begun whole (Ok recorded) → IsFilled at whole → Fills at keeps runs (Ok recorded)
   refused : {recorded : Recorded} {count : ℕ} (begun whole : W) → IsBegun at.contents at.failures begun
-      → runs begun whole (Ok recorded) → IsLeft at → Fills at runs (Err (Write count))
+      → keeps recorded → runs begun whole (Ok recorded) → IsRefused at whole
+      → Fills at keeps runs (Err (Write count))
   unmade : {fault : Fault} (begun left : W) → IsBegun at.contents at.failures begun
-      → runs begun left (Err fault) → IsLeft at → Fills at runs (Err fault)
+      → runs begun left (Err fault) → IsGivenUp at left → Fills at keeps runs (Err fault)
 
--- what becomes of a place and of the part `whole`, to which a run wrote that answered `ran`; `done` is what is answered
--- in the end
-abbrev pub Finishes : {P W A : Type 0} → Place P W → (whole : W) → (ran done : Result A Fault) → Type 0
-Finishes at whole (Ok made) (Ok kept) = (kept ≡ made) × IsFilled at whole
-Finishes at whole (Ok made) (Err fault) = (fault ≡ Write 0) × IsLeft at
-Finishes at whole (Err fault) (Ok kept) = ⊥
-Finishes at whole (Err fault) (Err other) = (other ≡ fault) × IsLeft at
+-- There is an index, written whole, but the part is given up.
+pub record Forgoes {P W : Type 0} (at : Place P W) (runs : W → W → Result Recorded Fault → Type 0)
+    (recorded : Recorded) : Type 0 where
+  pub begun : W
+  pub whole : W
+  pub nothing : IsBegun at.contents at.failures begun
+  pub ran : runs begun whole (Ok recorded)
+  pub given_up : IsGivenUp at whole
+
+-- what becomes of a place and of the part `whole`, to which a run wrote that answered `ran`; `broken` is the limit that
+-- its index breaks, and `done` what is answered in the end
+abbrev pub Finishes : {P W A : Type 0} → Place P W → (whole : W) → (ran : Result A Fault)
+    → (broken : Option LimitFault) → (done : Result A Fault) → Type 0
+Finishes at whole (Ok made) None (Ok kept) = (kept ≡ made) × IsFilled at whole
+Finishes at whole (Ok made) None (Err fault) = (fault ≡ Write 0) × IsRefused at whole
+Finishes at whole (Ok made) (Some limit) (Ok kept) = (kept ≡ made) × IsGivenUp at whole
+Finishes at whole (Ok made) (Some limit) (Err fault) = ⊥
+Finishes at whole (Err fault) broken (Ok kept) = ⊥
+Finishes at whole (Err fault) broken (Err other) = (other ≡ fault) × IsGivenUp at whole
 
 -- These bytes, and no others, were written to a part, which was put there. So the place holds them, if it is known what
 -- parts hold.

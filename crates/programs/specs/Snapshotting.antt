@@ -1,13 +1,16 @@
 -- What the program `snapshot` does.
--- `gives` is what reading a file may give, and `messages` the stream of messages.
-use Rattle.std.specs.Prelude.{◌≡◌, ℕ, Bool, List, Option, None, Some, Result, Ok, Err, string_bytes}
+-- `gives` is what reading a file may give, `cause` why the last write failed, and `messages` the stream of messages.
+use Rattle.std.specs.Prelude.{◌≡◌, ◌&&◌, ℕ, Bool, true, false, List, Option, None, Some, Result, Ok, Err, string_bytes}
 use Rattle.std.specs.Option.{option_map}
 use Rattle.scip_records.specs.declared.records.Index.{Index}
 use Rattle.scip_snapshot.specs.Showing.{Writer, writer, Maker, ArePrinted, AreCutOff, AreFiled, AreFiledButOne, Shows}
 use Rattle.scip_snapshot.specs.declared.show_fault.ShowFault.{ShowFault}
+use Rattle.scip_snapshot.specs.declared.show_fault.ShowFault.TheVariants.{Write}
+use Rattle.source_files.specs.declared.cause.Cause.{Cause}
 use Rattle.command_line.specs.declared.options.SnapshotOptions.{SnapshotOptions}
 use Rattle.programs.specs.declared.query_fault.QueryFault.{QueryFault}
 use Rattle.programs.specs.Messages.{IsSilent, Tells}
+use Rattle.programs.specs.Printing.{EndsCut, is_closed}
 use Rattle.programs.specs.Queries.{IsReadFrom}
 use Rattle.programs.specs.QueryExplanations.{told as query_told}
 use Rattle.programs.specs.QueryFaults.{status_of as query_status}
@@ -17,6 +20,18 @@ use Rattle.programs.specs.ShowFaults.{told, status_of}
 abbrev pub EndsShown : {M : Type 0} → (explain : Bool) → Result (Unit {0}) ShowFault → Writer M → (status : ℕ) → Type 0
 EndsShown explain (Ok done) messages status = IsSilent messages status
 EndsShown explain (Err fault) messages status = Tells (told explain fault) (status_of fault) messages status
+
+-- a write failed
+abbrev pub is_write : Result (Unit {0}) ShowFault → Bool
+is_write (Err Write) = true
+is_write done = false
+
+-- so, but that nothing is said of a write to a closed pipe, where documents are printed
+abbrev pub EndsTo : {M : Type 0} → (explain : Bool) → (to : Option (List ℕ)) → (closed : Bool)
+    → Result (Unit {0}) ShowFault → Writer M → (status : ℕ) → Type 0
+EndsTo explain None closed done messages status =
+    EndsCut (is_write done && closed) (EndsShown explain done messages status) messages status
+EndsTo explain (Some folder) closed done messages status = EndsShown explain done messages status
 
 -- documents are printed, and no file is made; or they go to files, and nothing is printed
 abbrev pub ShowsTo : {W O M : Type 0} → (gives : List ℕ → Option (List ℕ) → Type 0) → (root : List ℕ)
@@ -28,22 +43,24 @@ ShowsTo gives root (Some folder) index out files messages done =
     × Shows gives root index (AreFiled files folder) (AreFiledButOne files folder) messages done
 
 -- so, and then it ends
-pub record ShowsAndEnds {W O M : Type 0} (gives : List ℕ → Option (List ℕ) → Type 0) (options : SnapshotOptions)
-    (index : Index) (out : Writer W) (files : Maker O) (messages : Writer M) (status : ℕ) : Type 0 where
+pub record ShowsAndEnds {W O M : Type 0} (gives : List ℕ → Option (List ℕ) → Type 0) (cause : W → Option Cause)
+    (options : SnapshotOptions) (index : Index) (out : Writer W) (files : Maker O) (messages : Writer M) (status : ℕ) : Type 0 where
   pub now : M
   pub done : Result (Unit {0}) ShowFault
   pub shows : ShowsTo gives (string_bytes options.root) (option_map string_bytes options.to) index out files
       (writer messages.contents messages.failures messages.before now) done
-  pub ends : EndsShown options.explain done (writer messages.contents messages.failures now messages.after) status
+  pub ends : EndsTo options.explain (option_map string_bytes options.to) (is_closed (cause out.after)) done
+      (writer messages.contents messages.failures now messages.after) status
 
 -- the index of the file with a path can't be read, and nothing is printed or made; or it is read, and its documents are
 -- shown
-pub data RunsSnapshot {W O M : Type 0} (gives : List ℕ → Option (List ℕ) → Type 0) (options : SnapshotOptions)
-    (out : Writer W) (files : Maker O) (messages : Writer M) (status : ℕ) : Type 0 where
+pub data RunsSnapshot {W O M : Type 0} (gives : List ℕ → Option (List ℕ) → Type 0) (cause : W → Option Cause)
+    (options : SnapshotOptions) (out : Writer W) (files : Maker O) (messages : Writer M) (status : ℕ)
+    : Type 0 where
   unread : (fault : QueryFault) → IsReadFrom (gives (string_bytes options.index)) (Err fault)
       → out.after ≡ out.before → files.after ≡ files.before
       → Tells (query_told options.explain (string_bytes options.index) fault) (query_status fault) messages status
-      → RunsSnapshot gives options out files messages status
+      → RunsSnapshot gives cause options out files messages status
   read : (index : Index) → IsReadFrom (gives (string_bytes options.index)) (Ok index)
-      → ShowsAndEnds gives options index out files messages status
-      → RunsSnapshot gives options out files messages status
+      → ShowsAndEnds gives cause options index out files messages status
+      → RunsSnapshot gives cause options out files messages status

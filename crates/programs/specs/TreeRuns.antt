@@ -1,5 +1,6 @@
 -- What the programs about a tree do: `index` and `shell`.
--- `lists` and `gives` are what the system of files gives, and `messages` is the stream of messages.
+-- `lists` and `gives` are what the system of files gives, and `messages` is the stream of messages. `none_found` says
+-- which line, if any, is said of a tree whose index lacks nothing: that it has no source.
 use Rattle.std.specs.Prelude.{ℕ, List, [], ◌∷◌, Option, Result, Ok, Err}
 use Rattle.proto_parse.specs.tree.Dialect.{Dialect}
 use Rattle.source_tree.specs.Files.{TreeFile}
@@ -16,7 +17,7 @@ use Rattle.protoscip.specs.Statuses.{status_of}
 use Rattle.protoscip.specs.ToldLines.{IsToldText}
 use Rattle.command_line.specs.declared.options.IndexOptions.{IndexOptions}
 use Rattle.programs.specs.declared.start_fault.StartFault.{StartFault}
-use Rattle.programs.specs.Messages.{IsSilent, Tells, TellsOne}
+use Rattle.programs.specs.Messages.{SaysIfAny, Tells, TellsOne}
 use Rattle.programs.specs.Folders.{AreFolders, NamePackages}
 use Rattle.programs.specs.Settings.{allowed_by, settings_in}
 use Rattle.programs.specs.StartExplanations.{told as start_told}
@@ -25,39 +26,44 @@ use Rattle.programs.specs.Starting.{MayNotStart}
 use Rattle.source_files.specs.Entries.{Entry}
 
 -- the end of a run that made an index which lacks this; `says` says how a text with a property is written after a
--- success. If it lacks nothing, nothing is said; else a line for each, and their numbers
+-- success. If it lacks nothing, the line of none found is said, if there is one; else a line for each, and then their
+-- numbers
 abbrev pub Lacks : {M : Type 0} → (says : (List ℕ → Type 0) → Writer M → (status : ℕ) → Type 0)
-    → (explain : Option Dialect) → List TreeFile → List BuildFault → Writer M → (status : ℕ) → Type 0
-Lacks says explain tree [] messages status = IsSilent messages status
-Lacks says explain tree (first ∷ others) messages status =
+    → (none_found : Option (List ℕ) → Type 0) → (explain : Option Dialect) → List TreeFile → List BuildFault
+    → Writer M → (status : ℕ) → Type 0
+Lacks says none_found explain tree [] messages status =
+    (line : Option (List ℕ)) × none_found line × SaysIfAny line messages status
+Lacks says none_found explain tree (first ∷ others) messages status =
     (sources : ℕ) × IsSourceCount tree sources
     × says (IsToldText explain tree sources (first ∷ others)) messages status
 
 -- the end of a run over a tree: after a success, what is told of it is said; after a fault, the line of the fault,
 -- explained if that is asked for, with its status
 abbrev pub Ends : {M A : Type 0} → (says : (List ℕ → Type 0) → Writer M → (status : ℕ) → Type 0)
-    → (explain : Option Dialect) → List TreeFile → (A → List BuildFault) → Result A Fault → Writer M → (status : ℕ)
-    → Type 0
-Ends says explain tree told_of (Ok done) messages status = Lacks says explain tree (told_of done) messages status
-Ends says explain tree told_of (Err fault) messages status =
+    → (none_found : Option (List ℕ) → Type 0) → (explain : Option Dialect) → List TreeFile → (A → List BuildFault)
+    → Result A Fault → Writer M → (status : ℕ) → Type 0
+Ends says none_found explain tree told_of (Ok done) messages status =
+    Lacks says none_found explain tree (told_of done) messages status
+Ends says none_found explain tree told_of (Err fault) messages status =
     TellsOne (IsFaultText explain tree fault) (status_of fault) messages status
 
 -- Either the program doesn't start, leaves all but the stream of messages `untouched`, and says why; or there is a
 -- tree of the files, and the run over it ends. `runs` says what the run answers.
 pub data IsRun {M : Type 0} (lists : List ℕ → List ℕ → Option (List Entry) → Type 0)
     (gives : List ℕ → Option (List ℕ) → Type 0)
-    (says : (List ℕ → Type 0) → Writer M → (status : ℕ) → Type 0) (options : IndexOptions) (untouched : Type 0)
+    (says : (List ℕ → Type 0) → Writer M → (status : ℕ) → Type 0)
+    (none_found : List TreeFile → Option (List ℕ) → Type 0) (options : IndexOptions) (untouched : Type 0)
     (runs : List TreeFile → Packages → Result Recorded Fault → Type 0)
     (messages : Writer M) (status : ℕ) : Type 0 where
   not_started : (fault : StartFault) → MayNotStart lists gives options fault → untouched
       → Tells (start_told options.explain fault) (start_status fault) messages status
-      → IsRun lists gives says options untouched runs messages status
+      → IsRun lists gives says none_found options untouched runs messages status
   over_tree : (tree : List TreeFile) (ids : Packages) (done : Result Recorded Fault) → NamePackages options
       → AreFolders lists gives options tree ids
       → runs tree ids done
-      → Ends says (explain_in options.explain (settings_in options ids).dialect) tree
+      → Ends says (none_found tree) (explain_in options.explain (settings_in options ids).dialect) tree
       (λ recorded. recorded.told) done messages status
-      → IsRun lists gives says options untouched runs messages status
+      → IsRun lists gives says none_found options untouched runs messages status
 
 -- There is a tree of the files that the options name, and an index of it by what they allow and say navigates it;
 -- `goes` says what becomes of its bytes and of it.

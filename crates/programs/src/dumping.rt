@@ -1,28 +1,83 @@
 //! The program `dump`.
 
-ghost use Rattle.std.specs.Prelude.{Result};
+ghost use Rattle.std.specs.Prelude.{◌≡◌, ◌&&◌, Result};
 ghost use Rattle.streams.specs.WholeReads.{IsReadBriefly};
 ghost use Rattle.scip_snapshot.specs.Showing.{writer};
 ghost use Rattle.protoscip.specs.declared.fault.Fault.{Fault};
 ghost use Rattle.protoscip.specs.Dump.{IsDumped, LeavesReader};
-ghost use Rattle.protoscip.specs.Explanations.{explain_in};
-ghost use Rattle.programs.specs.Dumping.{EndsDump};
+ghost use Rattle.protoscip.specs.Explanations.{IsFaultText, explain_in};
+ghost use Rattle.protoscip.specs.FaultLines.{HasFilesOf};
+ghost use Rattle.protoscip.specs.Statuses.{status_of};
+ghost use Rattle.programs.specs.Dumping.{EndsDump, is_write};
+ghost use Rattle.programs.specs.Messages.{TellsOne};
+ghost use Rattle.programs.specs.Printing.{EndsCut, is_closed};
 ghost use Rattle.programs.specs.Settings.{dialect_of};
 
 use crate::ending::stop;
 use crate::host::Host;
 use crate::messages::report;
+use crate::output::is_closed;
 use crate::settings::dialect_of;
 use command_line::DumpOptions;
-use protoscip::{MEMORY_STATUS, dump_and_keep, dump_tree, explain_in};
-use std::alloc::AllocError;
+use proto_parse::Dialect;
+use protoscip::{Fault, MEMORY_STATUS, dump_and_keep, dump_tree, explain_in};
+use source_files::Caused;
+use source_tree::Tree;
+use std::alloc::{AllocError, Global};
 use std::sync::Wait;
 use std::thread::Threads;
 use streams::{Feed, Sink};
 
+/// Whether a write failed.
+fn is_write(fault: &Fault) -> bool
+    ensures { result ≡ is_write fault.now }
+{
+    match fault {
+        Fault::Write(_) => true,
+        Fault::Spawn
+        | Fault::Memory
+        | Fault::Lex(..)
+        | Fault::Syntax(..)
+        | Fault::Duplicate(..)
+        | Fault::MissingImport(_)
+        | Fault::Unresolved(_)
+        | Fault::TooLarge
+        | Fault::Read
+        | Fault::Answer(_) => false,
+    }
+}
+
+/// Whether a write failed because the pipe that it goes to is closed by its reader.
+fn is_dropped<W: Caused>(fault: &Fault, out: &W) -> bool
+    ensures { result ≡ (is_write fault.now && is_closed (W.cause out.now)) }
+{
+    is_write(fault) && is_closed(out)
+}
+
+/// Says why a dump stopped, unless the pipe that it writes to is closed by its reader, and gives the exit status.
+fn stop_listing<W: Caused, M: Sink>(
+    alloc: Global,
+    tree: &Tree,
+    fault: &Fault,
+    explain: Option<Dialect>,
+    out: &W,
+    messages: &mut M,
+) -> u8
+    requires { HasFilesOf tree.now fault.now }
+    ensures { EndsCut (is_write fault.now && is_closed (W.cause out.now)) (TellsOne (IsFaultText explain tree.now
+        fault.now) (status_of fault.now) (writer M.contents M.failures messages.old messages.new) result)
+        (writer M.contents M.failures messages.old messages.new) result }
+{
+    if is_dropped(fault, out) {
+        return 0;
+    }
+    stop(alloc, tree, fault, explain, messages)
+}
+
 /// Reads one source, prints the occurrences of its index, and gives the exit status. If it stops early, it reports
-/// why, explained if that is asked for.
-pub(crate) fn dump_source<R: Threads + Wait, F, I: Feed, W: Sink, M: Sink>(
+/// why, explained if that is asked for; but not if the pipe that it writes to is closed by its reader, who wants no
+/// more.
+pub(crate) fn dump_source<R: Threads + Wait, F, I: Feed, W: Sink + Caused, M: Sink>(
     host: &Host<'_, R, F>,
     options: &DumpOptions,
     input: &mut I,
@@ -35,7 +90,8 @@ pub(crate) fn dump_source<R: Threads + Wait, F, I: Feed, W: Sink, M: Sink>(
         × LeavesReader I.failures I.reads I.ends input.old input.new done
         × IsReadBriefly I.reads input.old input.new
         × EndsDump I.remaining
-        (explain_in options.now.explain (dialect_of options.now.accept options.now.custom_options)) input.old done
+        (explain_in options.now.explain (dialect_of options.now.accept options.now.custom_options))
+        (is_closed (W.cause out.new)) input.old done
         (writer M.contents M.failures messages.old messages.new) result }
 {
     let dialect = dialect_of(options.accept, options.custom_options);
@@ -47,7 +103,7 @@ pub(crate) fn dump_source<R: Threads + Wait, F, I: Feed, W: Sink, M: Sink>(
         Ok(()) => 0,
         Err(fault) => {
             let explain = explain_in(options.explain, dialect);
-            stop(host.alloc, &tree, &fault, explain, messages)
+            stop_listing(host.alloc, &tree, &fault, explain, out, messages)
         }
     }
 }

@@ -1,6 +1,6 @@
 //! How a program about a tree ends.
 
-ghost use Rattle.std.specs.Prelude.{string_bytes};
+ghost use Rattle.std.specs.Prelude.{◌≡◌, string_bytes};
 ghost use Rattle.std.specs.Option.{option_map};
 ghost use Rattle.protoscip.specs.Explanations.{IsFaultText};
 ghost use Rattle.protoscip.specs.FaultLines.{HasFilesOf, HaveFilesOf};
@@ -13,36 +13,40 @@ use crate::messages::report;
 use proto_parse::Dialect;
 use protoscip::{Fault, fault_text, told_text};
 use scip_build::BuildFault;
+use scip_snapshot::say;
 use source_tree::Tree;
 use std::alloc::Global;
 use streams::Sink;
 
-/// Says what an index of the tree lacks, if it lacks anything, and gives the exit status.
+/// Says what an index of the tree lacks, if it lacks anything, and else the line that says that there are no sources,
+/// if there is one; and gives the exit status.
 pub(crate) fn tell<M: Sink>(
     alloc: Global,
     tree: &Tree,
     told: &[BuildFault],
+    none_found: &Option<String>,
     explain: Option<Dialect>,
     messages: &mut M,
 ) -> u8
     requires { HaveFilesOf tree.now told.now }
-    ensures { Lacks TellsOfSuccess explain tree.now told.now (writer M.contents M.failures messages.old messages.new)
-        result }
+    ensures { Lacks TellsOfSuccess (λ line. line ≡ option_map string_bytes none_found.now) explain tree.now told.now
+        (writer M.contents M.failures messages.old messages.new) result }
 {
     if told.is_empty() {
-        return 0;
+        return say_line(none_found, messages);
     }
     report(told_text(alloc, tree, told, explain), 0, messages)
 }
 
-/// Says a text of a success, if there is one, and gives the exit status.
-pub(crate) fn say_text<M: Sink>(text: Option<String>, messages: &mut M) -> u8
-    ensures { SaysIfAny (option_map string_bytes text) (writer M.contents M.failures messages.old messages.new) result }
+/// Says a line of a success, if there is one, and gives the exit status.
+pub(crate) fn say_line<M: Sink>(line: &Option<String>, messages: &mut M) -> u8
+    ensures { SaysIfAny (option_map string_bytes line.now) (writer M.contents M.failures messages.old messages.new)
+        result }
 {
-    match text {
-        Some(text) => report(Ok(text), 0, messages),
-        None => 0,
+    if let Some(line) = line {
+        say(messages, line.as_str());
     }
+    0
 }
 
 /// Says why a run over a tree stopped, explained if that is asked for, and gives the exit status.

@@ -19,11 +19,13 @@ mod snapshotting;
 
 // `pages`: the sources of an index as pages, in files.
 mod paging;
+mod site_faults;
 
 // The programs about a tree: what their options say of the run, and why there is no package or no tree.
 mod choices;
 mod ending;
 mod folders;
+mod no_sources;
 mod package;
 mod settings;
 mod start_explanations;
@@ -33,6 +35,7 @@ mod starting;
 // `index`: the index of a tree goes to a file.
 mod asking_ahead;
 mod indexing;
+mod limits;
 mod progress;
 
 // `shell`: the index of a tree answers commands.

@@ -2,16 +2,17 @@
 
 ghost use Rattle.std.specs.Prelude.{◌≡◌, IfOk, string_bytes};
 ghost use Rattle.scip_snapshot.specs.Showing.{maker, writer};
-ghost use Rattle.programs.specs.Paging.{MakesAndEnds, ReadsAndMakes, RunsPages, taken_told};
+ghost use Rattle.programs.specs.Paging.{EndsPaged, MakesAndEnds, ReadsAndMakes, RunsPages, taken_told};
 
 use crate::host::Host;
 use crate::messages::report;
 use crate::query_explanations::report_query;
-use crate::snapshotting::{end, queries_of};
+use crate::site_faults::{site_status, site_text};
+use crate::snapshotting::queries_of;
 use command_line::PagesOptions;
 use protoscip::{MEMORY_STATUS, STREAM_STATUS, path_line};
 use scip_query::Queries;
-use scip_site::make_pages;
+use scip_site::{SiteFault, make_pages};
 use scip_snapshot::Folders;
 use source_files::{EmptyFolders, MakeFiles, ReadFiles};
 use std::alloc::{AllocError, Global};
@@ -27,6 +28,20 @@ fn taken_text(alloc: Global, out: &str, explain: bool) -> Result<String, AllocEr
         text.push_str("\nit must be an empty folder, or not exist yet")?;
     }
     Ok(text)
+}
+
+/// Gives the exit status. Why the pages aren't all made, if they aren't, is said.
+fn end<M: Sink>(alloc: Global, explain: bool, done: Result<(), SiteFault>, messages: &mut M) -> u8
+    ensures { EndsPaged explain done (writer M.contents M.failures messages.old messages.new) result }
+{
+    match done {
+        Ok(()) => 0,
+        Err(fault) => report(
+            site_text(alloc, fault, explain),
+            site_status(fault),
+            messages,
+        ),
+    }
 }
 
 /// Makes the pages of an index's documents, and gives the exit status.

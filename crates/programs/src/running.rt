@@ -5,6 +5,7 @@ ghost use Rattle.scip_snapshot.specs.Showing.{maker, writer};
 ghost use Rattle.command_line.specs.Requests.{
   dump_options,
   explains,
+  index_limits,
   index_options,
   index_path,
   out_path,
@@ -23,9 +24,10 @@ ghost use Rattle.programs.specs.Answering.{Answers};
 ghost use Rattle.programs.specs.Dumping.{EndsDump};
 ghost use Rattle.programs.specs.Indexing.{Indexed, WritesNavigable};
 ghost use Rattle.programs.specs.Messages.{Tells, memory_line, memory_status};
+ghost use Rattle.programs.specs.NoSources.{NoneFoundBy};
 ghost use Rattle.programs.specs.Paging.{RunsPages};
 ghost use Rattle.programs.specs.Placing.{place};
-ghost use Rattle.programs.specs.Printing.{Prints, Refuses};
+ghost use Rattle.programs.specs.Printing.{Prints, Refuses, is_closed};
 ghost use Rattle.programs.specs.Queries.{Queried};
 ghost use Rattle.programs.specs.Serving.{AnswersNavigable, Served};
 ghost use Rattle.programs.specs.Settings.{dialect_of};
@@ -45,7 +47,7 @@ use crate::snapshotting::snapshot;
 use crate::statuses::COMMAND_LINE_STATUS;
 use command_line::Request;
 use protoscip::{MEMORY_STATUS, plain_line};
-use source_files::{EmptyFolders, MakeFiles, OutPlace, ReadFiles};
+use source_files::{Caused, EmptyFolders, LookAgain, MakeFiles, OutPlace, ReadFiles};
 use std::alloc::AllocError;
 use std::sync::Wait;
 use std::thread::Threads;
@@ -88,7 +90,7 @@ pub fn out_path(asked: &Result<Request, AllocError>) -> &str
     ensures unread { IfErr asked.now (λ _. result.now ≡ []) }
 {
     match asked {
-        Ok(Request::Index(_, path, _)) => path.as_str(),
+        Ok(Request::Index(_, path, _, _)) => path.as_str(),
         _ => "",
     }
 }
@@ -96,7 +98,7 @@ pub fn out_path(asked: &Result<Request, AllocError>) -> &str
 /// Does what was asked for, and gives the exit status. An index goes to the place `file`, which makes the files
 /// of snapshots and of pages too; everything else goes to `out`. Where memory ran out while the command
 /// line was read, it says so.
-pub fn run<R, F, I: Feed, W: Sink, O: OutPlace + MakeFiles, M: Sink>(
+pub fn run<R, F, I: Feed, W: Sink + Caused, O: OutPlace + MakeFiles, M: Sink>(
     host: &Host<'_, R, F>,
     asked: &Result<Request, AllocError>,
     input: &mut I,
@@ -106,10 +108,10 @@ pub fn run<R, F, I: Feed, W: Sink, O: OutPlace + MakeFiles, M: Sink>(
 ) -> u8
 where
     R: Threads + Wait + Clock + Eprint + Sync,
-    F: ReadFiles + EmptyFolders + Sync,
-    // Help and the version are printed.
+    F: ReadFiles + EmptyFolders + LookAgain + Sync,
+    // Help and the version are printed. Of this, a listing and snapshots nothing is said where the pipe is closed.
     ensures printed { IfOk asked.now (λ request. IfSome (printed_text request) (λ text.
-        Prints text (writer W.contents W.failures out.old out.new)
+        Prints W.cause text (writer W.contents W.failures out.old out.new)
         (writer M.contents M.failures messages.old messages.new) result
         × (input.new ≡ input.old) × (file.new ≡ file.old))) }
     // It says why a command line is refused.
@@ -124,7 +126,7 @@ where
         × LeavesReader I.failures I.reads I.ends input.old input.new done
         × IsReadBriefly I.reads input.old input.new
         × EndsDump I.remaining (explain_in options.explain (dialect_of options.accept options.custom_options))
-        input.old done (writer M.contents M.failures messages.old messages.new) result)
+        (is_closed (W.cause out.new)) input.old done (writer M.contents M.failures messages.old messages.new) result)
         × (file.new ≡ file.old))) }
     // What `query` promises of its answers, and what becomes of that.
     ensures queried { IfOk asked.now (λ request. IfSome (index_path request) (λ path. ((done : Result (Unit {0})
@@ -135,28 +137,30 @@ where
         × (file.new ≡ file.old))) }
     // What `index` does.
     ensures indexed { IfOk asked.now (λ request. IfSome (index_options request) (λ options.
-        IfSome (out_path request) (λ path.
-        Indexed (F.lists host.now.files.now) (F.gives host.now.files.now) (O.same file.old) options path
-        (place O.holds O.Part.contents O.Part.failures file.old file.new)
-        (writer M.contents M.failures messages.old messages.new) result)
+        IfSome (index_limits request) (λ limits. IfSome (out_path request) (λ path.
+        Indexed (F.lists host.now.files.now) (F.gives host.now.files.now) (O.same file.old)
+        (NoneFoundBy (F.passes host.now.files.now) host.now.is_watched options) options limits path
+        (place O.holds O.refuses O.gives_up O.Part.contents O.Part.failures file.old file.new)
+        (writer M.contents M.failures messages.old messages.new) result))
         × (input.new ≡ input.old) × (out.new ≡ out.old))) }
     // What `shell` does.
     ensures served { IfOk asked.now (λ request. IfSome (shell_options request) (λ options.
-        Served (F.lists host.now.files.now) (F.gives host.now.files.now) options
+        Served (F.lists host.now.files.now) (F.gives host.now.files.now)
+        (NoneFoundBy (F.passes host.now.files.now) host.now.is_watched options) options
         (reader I.remaining I.failures I.reads I.ends input.old input.new)
         (writer W.contents W.failures out.old out.new) (writer M.contents M.failures messages.old messages.new) result
         × (file.new ≡ file.old))) }
     // After a success of either, queries over what is written, or answered from, are exact.
     ensures navigable { IfOk asked.now (λ request. IfSome (index_options request) (λ options.
         WritesNavigable (F.lists host.now.files.now) (F.gives host.now.files.now) options
-        (place O.holds O.Part.contents O.Part.failures file.old file.new) result)
+        (place O.holds O.refuses O.gives_up O.Part.contents O.Part.failures file.old file.new) result)
         × IfSome (shell_options request) (λ options.
         AnswersNavigable (F.lists host.now.files.now) (F.gives host.now.files.now) options
         (reader I.remaining I.failures I.reads I.ends input.old input.new)
         (writer W.contents W.failures out.old out.new) result)) }
     // What `snapshot` does.
     ensures snapshotted { IfOk asked.now (λ request. IfSome (snapshot_options request) (λ options.
-        RunsSnapshot (F.gives host.now.files.now) options (writer W.contents W.failures out.old out.new)
+        RunsSnapshot (F.gives host.now.files.now) W.cause options (writer W.contents W.failures out.old out.new)
         (maker O.made file.old file.new) (writer M.contents M.failures messages.old messages.new) result
         × (input.new ≡ input.old))) }
     // What `pages` does.
@@ -177,11 +181,12 @@ where
             }
             Request::Snapshot(options) => snapshot(host, options, out, file, messages),
             Request::Pages(options) => pages(host, options, file, messages),
-            Request::Index(options, path, quiet) => {
+            Request::Index(options, path, quiet, limits) => {
                 let index_request = IndexRequest {
                     options,
                     path: path.as_str(),
                     quiet: *quiet,
+                    limits: *limits,
                 };
                 index(host, &index_request, file, messages)
             }

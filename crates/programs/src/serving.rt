@@ -1,8 +1,10 @@
 //! The program `shell`.
 
-ghost use Rattle.std.specs.Prelude.{IfErr, IfOk};
+ghost use Rattle.std.specs.Prelude.{◌≡◌, IfErr, IfOk, string_bytes};
+ghost use Rattle.std.specs.Option.{option_map};
 ghost use Rattle.protoscip.specs.FaultLines.{HasFilesOf, HaveFilesOf};
 ghost use Rattle.programs.specs.Messages.{TellsOfSuccess};
+ghost use Rattle.programs.specs.NoSources.{NoneFoundBy};
 ghost use Rattle.programs.specs.Serving.{AnswersNavigable, Served};
 ghost use Rattle.programs.specs.Streams.{reader};
 ghost use Rattle.scip_snapshot.specs.Showing.{writer};
@@ -12,51 +14,57 @@ use crate::ending::{stop, tell};
 use crate::host::Host;
 use crate::laws::headline_of_options;
 use crate::start_explanations::report_start;
-use crate::starting::start;
+use crate::starting::{TreeRun, start};
 use command_line::IndexOptions;
 use index_pool::NoGate;
 use proto_parse::Dialect;
 use protoscip::{Fault, Recorded, explain_in, session};
-use source_files::ReadFiles;
-use source_tree::Tree;
+use source_files::{LookAgain, ReadFiles};
 use std::alloc::Global;
 use std::sync::Wait;
 use std::thread::Threads;
 use streams::{Feed, Sink};
 
-/// Reports what the index lacked about which commands were answered, or why they weren't, and gives the exit status.
+/// Reports what the index lacked about which commands were answered, or that there are no sources, or why they weren't
+/// answered, and gives the exit status.
 fn end<M: Sink>(
     alloc: Global,
-    tree: &Tree,
+    run: &TreeRun,
     done: &Result<Recorded, Fault>,
     explain: Option<Dialect>,
     messages: &mut M,
 ) -> u8
-    requires files { IfErr done.now (HasFilesOf tree.now) }
-    requires told { IfOk done.now (λ recorded. HaveFilesOf tree.now recorded.told) }
-    ensures { Ends TellsOfSuccess explain tree.now (λ recorded. recorded.told) done.now
+    requires files { IfErr done.now (HasFilesOf run.now.tree) }
+    requires told { IfOk done.now (λ recorded. HaveFilesOf run.now.tree recorded.told) }
+    ensures { Ends TellsOfSuccess (λ line. line ≡ option_map string_bytes run.now.none_found) explain run.now.tree
+        (λ recorded. recorded.told) done.now
         (writer M.contents M.failures messages.old messages.new) result }
 {
     match done {
-        Ok(recorded) => tell(alloc, tree, recorded.told.as_slice(), explain, messages),
-        Err(fault) => stop(alloc, tree, fault, explain, messages),
+        Ok(recorded) => {
+            let told = recorded.told.as_slice();
+            tell(alloc, &run.tree, told, &run.none_found, explain, messages)
+        }
+        Err(fault) => stop(alloc, &run.tree, fault, explain, messages),
     }
 }
 
 /// Reads the sources below the root of the options and the files below their included roots, builds the index of the
 /// sources, answers commands about it, one a line, as `session` does, and gives the exit status. Once all commands
-/// are answered, it reports what the index lacks. If it stops early, it reports why.
+/// are answered, it reports what the index lacks, or that there are no sources, where somebody is told. If it stops
+/// early, it reports why.
 ///
 /// If there are several faults, it reports the first: those of `index` in its order, up to `TooLarge`, after which
 /// nothing was read or written; then `Read` or `Answer`. Memory may run out at any step.
-pub(crate) fn shell<R: Threads + Wait, F: ReadFiles + Sync, I: Feed, W: Sink, M: Sink>(
+pub(crate) fn shell<R: Threads + Wait, F: ReadFiles + LookAgain + Sync, I: Feed, W: Sink, M: Sink>(
     host: &Host<'_, R, F>,
     options: &IndexOptions,
     commands: &mut I,
     answers: &mut W,
     messages: &mut M,
 ) -> u8
-    ensures served { Served (F.lists host.now.files.now) (F.gives host.now.files.now) options.now (reader I.remaining
+    ensures served { Served (F.lists host.now.files.now) (F.gives host.now.files.now)
+        (NoneFoundBy (F.passes host.now.files.now) host.now.is_watched options.now) options.now (reader I.remaining
         I.failures I.reads I.ends commands.old commands.new) (writer W.contents W.failures answers.old answers.new)
         (writer M.contents M.failures messages.old messages.new) result }
     ensures navigable { AnswersNavigable (F.lists host.now.files.now) (F.gives host.now.files.now) options.now
@@ -78,5 +86,5 @@ pub(crate) fn shell<R: Threads + Wait, F: ReadFiles + Sync, I: Feed, W: Sink, M:
         answers,
     );
     let explain = explain_in(options.explain, run.settings.dialect);
-    end(host.alloc, &run.tree, &done, explain, messages)
+    end(host.alloc, &run, &done, explain, messages)
 }

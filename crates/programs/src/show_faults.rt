@@ -8,7 +8,7 @@ use scip_snapshot::ShowFault;
 use std::alloc::{AllocError, Global};
 
 /// A sentence after a line end; nothing for lack of memory.
-fn explanation_of(fault: ShowFault) -> &'static str
+pub(crate) fn explanation_of(fault: ShowFault) -> &'static str
     ensures { result.now ≡ explanation_of fault }
 {
     match fault {

@@ -1,11 +1,14 @@
 //! The program `snapshot`: the sources of an index, and below each line what the index says about it.
 
+ghost use Rattle.std.specs.Prelude.{◌≡◌, ◌&&◌};
 ghost use Rattle.scip_snapshot.specs.Showing.{maker, writer};
 ghost use Rattle.programs.specs.Queries.{IsReadFrom};
-ghost use Rattle.programs.specs.Snapshotting.{EndsShown, RunsSnapshot, ShowsAndEnds};
+ghost use Rattle.programs.specs.Printing.{EndsCut, is_closed};
+ghost use Rattle.programs.specs.Snapshotting.{EndsShown, RunsSnapshot, ShowsAndEnds, is_write};
 
 use crate::host::Host;
 use crate::messages::report;
+use crate::output::is_closed;
 use crate::query_explanations::report_query;
 use crate::query_fault::QueryFault;
 use crate::querying::index_of_file;
@@ -13,7 +16,7 @@ use crate::show_faults::{show_status, show_text};
 use command_line::SnapshotOptions;
 use scip_query::{AnswerFault, Queries};
 use scip_snapshot::{Folders, ShowFault, file_all, print_all};
-use source_files::{MakeFiles, ReadFiles};
+use source_files::{Caused, MakeFiles, ReadFiles};
 use std::alloc::Global;
 use streams::Sink;
 
@@ -33,12 +36,7 @@ pub(crate) fn queries_of<F: ReadFiles>(
 }
 
 /// Gives the exit status. Why the documents aren't all shown, if they aren't, is said.
-pub(crate) fn end<M: Sink>(
-    alloc: Global,
-    explain: bool,
-    done: Result<(), ShowFault>,
-    messages: &mut M,
-) -> u8
+fn end<M: Sink>(alloc: Global, explain: bool, done: Result<(), ShowFault>, messages: &mut M) -> u8
     ensures { EndsShown explain done (writer M.contents M.failures messages.old messages.new) result }
 {
     match done {
@@ -51,9 +49,45 @@ pub(crate) fn end<M: Sink>(
     }
 }
 
+/// Whether a write failed.
+fn is_write(done: &Result<(), ShowFault>) -> bool
+    ensures { result ≡ is_write done.now }
+{
+    match done {
+        Err(ShowFault::Write) => true,
+        Err(ShowFault::Memory) | Ok(()) => false,
+    }
+}
+
+/// Whether a write failed because the pipe that it goes to is closed by its reader.
+fn is_dropped<W: Caused>(done: &Result<(), ShowFault>, out: &W) -> bool
+    ensures { result ≡ (is_write done.now && is_closed (W.cause out.now)) }
+{
+    is_write(done) && is_closed(out)
+}
+
+/// Gives the exit status of what was printed. Why it isn't all, if it isn't, is said, unless the pipe is closed by its
+/// reader, who wants no more.
+fn end_printed<W: Caused, M: Sink>(
+    alloc: Global,
+    explain: bool,
+    done: Result<(), ShowFault>,
+    out: &W,
+    messages: &mut M,
+) -> u8
+    ensures { EndsCut (is_write done && is_closed (W.cause out.now)) (EndsShown explain done
+        (writer M.contents M.failures messages.old messages.new) result)
+        (writer M.contents M.failures messages.old messages.new) result }
+{
+    if is_dropped(&done, out) {
+        return 0;
+    }
+    end(alloc, explain, done, messages)
+}
+
 /// Prints the snapshots of an index's documents, or makes a file of each, as the options say, and gives the
 /// exit status.
-fn show<R, F: ReadFiles, W: Sink, O: MakeFiles, M: Sink>(
+fn show<R, F: ReadFiles, W: Sink + Caused, O: MakeFiles, M: Sink>(
     host: &Host<'_, R, F>,
     options: &SnapshotOptions,
     queries: &Queries,
@@ -61,7 +95,7 @@ fn show<R, F: ReadFiles, W: Sink, O: MakeFiles, M: Sink>(
     made: &mut O,
     messages: &mut M,
 ) -> u8
-    ensures { ShowsAndEnds (F.gives host.now.files.now) options.now queries.now (writer W.contents W.failures out.old
+    ensures { ShowsAndEnds (F.gives host.now.files.now) W.cause options.now queries.now (writer W.contents W.failures out.old
         out.new) (maker O.made made.old made.new) (writer M.contents M.failures messages.old messages.new) result }
 {
     let root = options.root.as_str();
@@ -76,21 +110,22 @@ fn show<R, F: ReadFiles, W: Sink, O: MakeFiles, M: Sink>(
         }
         None => {
             let done = print_all(host.alloc, host.files, root, queries, out, messages);
-            end(host.alloc, options.explain, done, messages)
+            end_printed(host.alloc, options.explain, done, out, messages)
         }
     }
 }
 
 /// Reads the index that a file holds, prints the snapshots of its documents or makes a file of each, as the options
-/// say, and gives the exit status. It reports each document that is left out. If it stops early, it reports why.
-pub(crate) fn snapshot<R, F: ReadFiles, W: Sink, O: MakeFiles, M: Sink>(
+/// say, and gives the exit status. It reports each document that is left out. If it stops early, it reports why, but of
+/// a pipe that is closed by its reader.
+pub(crate) fn snapshot<R, F: ReadFiles, W: Sink + Caused, O: MakeFiles, M: Sink>(
     host: &Host<'_, R, F>,
     options: &SnapshotOptions,
     out: &mut W,
     made: &mut O,
     messages: &mut M,
 ) -> u8
-    ensures { RunsSnapshot (F.gives host.now.files.now) options.now (writer W.contents W.failures out.old out.new)
+    ensures { RunsSnapshot (F.gives host.now.files.now) W.cause options.now (writer W.contents W.failures out.old out.new)
         (maker O.made made.old made.new) (writer M.contents M.failures messages.old messages.new) result }
 {
     let path = options.index.as_str();

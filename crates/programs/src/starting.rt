@@ -1,6 +1,7 @@
 //! How a program about a tree starts.
 
-ghost use Rattle.std.specs.Prelude.{◌≡◌, IfOk, IfErr, map};
+ghost use Rattle.std.specs.Prelude.{◌≡◌, ◌||◌, IfOk, IfErr, map};
+ghost use Rattle.programs.specs.NoSources.{NoneFoundBy};
 ghost use Rattle.std.specs.Option.{option_map};
 ghost use Rattle.std.specs.String.{string_bytes};
 ghost use Rattle.programs.specs.Choices.{choice_of_word};
@@ -12,12 +13,13 @@ use crate::asking_ahead::AskingAhead;
 use crate::choices::OptionChoices;
 use crate::folders::{Folders, load_folders};
 use crate::host::Host;
+use crate::no_sources::none_found;
 use crate::settings::{only_of, settings_of, workers_of};
 use crate::start_fault::StartFault;
 use command_line::IndexOptions;
 use index_pool::Workers;
 use scip_build::{Run, Settings};
-use source_files::{ReadFiles, Readers};
+use source_files::{LookAgain, ReadFiles, Readers};
 use source_tree::Tree;
 use std::alloc::Global;
 use std::sync::Wait;
@@ -28,6 +30,8 @@ use std::thread::Threads;
 pub(crate) struct TreeRun {
     /// The sources below the root, and the files below the included roots.
     pub(crate) tree: Tree,
+    /// The line that says that there are no sources, if it is to be said.
+    pub(crate) none_found: Option<String>,
     /// What is chosen for each declaration.
     pub(crate) choices: OptionChoices,
     /// Who works.
@@ -50,15 +54,25 @@ impl TreeRun {
     }
 }
 
+/// Whether somebody is told that there are no sources: standard error is a terminal, or faults are explained.
+fn is_told<R, F>(host: &Host<'_, R, F>, options: &IndexOptions) -> bool
+    ensures { result ≡ (host.now.is_watched || options.now.explain) }
+{
+    host.is_watched || options.explain
+}
+
 /// The tree of the sources below the root of the options and of the files below their included roots, and what the
-/// options say about the run over it.
-pub(crate) fn start<R: Threads + Wait, F: ReadFiles + Sync>(
+/// options say about the run over it. It has a line that says that there are no sources, if there are none and somebody
+/// is told.
+pub(crate) fn start<R: Threads + Wait, F: ReadFiles + LookAgain + Sync>(
     host: &Host<'_, R, F>,
     options: &IndexOptions,
 ) -> Result<TreeRun, StartFault>
     ensures named { IfOk result (λ _. NamePackages options.now) }
     ensures folders { IfOk result (λ start. AreFolders (F.lists host.now.files.now) (F.gives host.now.files.now)
         options.now start.tree start.settings.package) }
+    ensures none_found { IfOk result (λ start. NoneFoundBy (F.passes host.now.files.now) host.now.is_watched options.now
+        start.tree (option_map string_bytes start.none_found)) }
     ensures only { IfOk result (λ start. option_map (λ f. string_bytes f.promise.0) start.choices.filter ≡ option_map
         string_bytes options.now.only) }
     ensures doc { IfOk result (λ start. option_map (λ r. r.promise.0) start.choices.rule ≡ option_map choice_of_word
@@ -76,10 +90,13 @@ pub(crate) fn start<R: Threads + Wait, F: ReadFiles + Sync>(
         files: host.files,
     };
     let Folders { tree, packages } = load_folders(&readers, options)?;
+    let root = options.root.as_str();
+    let none_found = none_found(host.alloc, host.files, root, &tree, is_told(host, options))?;
     let settings = settings_of(host.alloc, options, packages)?;
     let choices = OptionChoices::new(host.alloc, only_of(options), options.doc)?;
     Ok(TreeRun {
         tree,
+        none_found,
         choices,
         workers,
         settings,

@@ -1,6 +1,6 @@
 //! Files in memory.
 
-use source_files::{EmptyFolders, FolderEntry, ReadFiles};
+use source_files::{EmptyFolders, FolderEntry, LookAgain, PassedOver, ReadFiles};
 use source_tree::read_source;
 use std::alloc::{AllocError, Global};
 use streams::Std;
@@ -65,7 +65,8 @@ const SEEN: &[u8] =
 \x12\x16\x0a\x07b/c.txt\x12\x09\x0a\x03\x00\x01\x02\x12\x02X#0\x01";
 
 /// The sources of `ENTRIES`, and beside them the index `a.scip` of one document `a` with one occurrence,
-/// `cut.scip`, which is cut off, and `SEEN` with sources below `src`. No folder but `full` has an entry.
+/// `cut.scip`, which is cut off, `empty.scip` without documents, and `SEEN` with sources below `src`. No folder but
+/// `full` has an entry, and `links`, where no source is.
 #[derive(Clone, Copy)]
 pub(crate) struct Files;
 
@@ -111,7 +112,7 @@ impl ReadFiles for Files {
         _folder: &str,
     ) -> Result<Option<Vec<FolderEntry>>, AllocError> {
         let entries = listed(alloc, root)?;
-        if entries.is_empty() {
+        if entries.is_empty() && root != "links" && root != "empty" {
             return Ok(None);
         }
         Ok(Some(entries))
@@ -124,6 +125,7 @@ impl ReadFiles for Files {
             "cut.scip" => b"\x0a".as_slice(),
             "twice.scip" => b"\x0a\x00\x0a\x00".as_slice(),
             "seen.scip" => SEEN,
+            "empty.scip" => b"".as_slice(),
             "src/a.txt" => b"ab\n".as_slice(),
             "src/b/c.txt" => b"\tx".as_slice(),
             _ => return Ok(None),
@@ -146,5 +148,25 @@ impl EmptyFolders for Files {
 
     fn is_free(&self, path: &str) -> Result<bool, AllocError> {
         Ok(path != "full")
+    }
+}
+
+impl LookAgain for Files {
+    ghost use Rattle.std.specs.Prelude.{⊤};
+
+    ghost passes = { λ _ _ _. ⊤ };
+
+    ghost blames = { λ _ _ _ _. ⊤ };
+
+    fn passed_over(&self, root: &str) -> Result<PassedOver, AllocError> {
+        let links = if root == "links" { 3 } else { 0 };
+        Ok(PassedOver {
+            links,
+            others: links * 4,
+        })
+    }
+
+    fn why_unread(&self, _folders: &[String], _path: &str) -> Result<Option<String>, AllocError> {
+        Ok(None)
     }
 }

@@ -9,7 +9,7 @@ use std::test::Fail;
 
 /// Whether an index is asked for that goes to `out`.
 fn is_named(asked: &Result<Request, AllocError>) -> bool {
-    if let Ok(Request::Index(options, _, _)) = asked {
+    if let Ok(Request::Index(options, _, _, _)) = asked {
         headline_of_options(&Files, options);
     }
     out_path(asked) == "out"

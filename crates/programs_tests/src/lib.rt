@@ -8,6 +8,8 @@ mod laws;
 #[cfg(test)]
 mod pages;
 #[cfg(test)]
+mod pipe;
+#[cfg(test)]
 mod progress;
 #[cfg(test)]
 mod report;

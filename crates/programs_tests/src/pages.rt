@@ -5,7 +5,7 @@ use std::test::Fail;
 
 // The first row reads: of the three documents of the index two have pages; then come the files that pages
 // share. In the second there is room for three paths, so the fourth file can't be made.
-static ROWS: [Row; 5] = [
+static ROWS: [Row; 8] = [
     Row {
         words: "pages seen.scip src out",
         written: b"[out/src/a.txt.html][out/src/b/c.txt.html][out/pages.css][out/search.js][out/symbols.js][out/index.html]\0",
@@ -32,9 +32,26 @@ static ROWS: [Row; 5] = [
         ..SILENT
     },
     Row {
-        words: "pages seen.scip nowhere full/new",
-        written: b"[full/new/pages.css][full/new/search.js][full/new/symbols.js][full/new/index.html]\0",
-        said: "protoscip: a.txt: Unreadable\nprotoscip: no.txt: Unreadable\nprotoscip: b/c.txt: Unreadable\n",
+        words: "pages seen.scip src full/new",
+        written: b"[full/new/src/a.txt.html][full/new/src/b/c.txt.html][full/new/pages.css][full/new/search.js][full/new/symbols.js][full/new/index.html]\0",
+        said: "protoscip: no.txt: Unreadable\n",
+        ..SILENT
+    },
+    Row {
+        words: "pages seen.scip nowhere out",
+        status: 3,
+        said: "protoscip: a.txt: Unreadable\nprotoscip: no.txt: Unreadable\nprotoscip: b/c.txt: Unreadable\nprotoscip: NothingThere\n",
+        ..SILENT
+    },
+    Row {
+        words: "pages --explain a.scip src out",
+        status: 3,
+        said: "protoscip: a: Unreadable\nprotoscip: NothingThere\nno document has its source below ROOT\n",
+        ..SILENT
+    },
+    Row {
+        words: "pages empty.scip nowhere out",
+        written: b"[out/pages.css][out/search.js][out/symbols.js][out/index.html]\0",
         ..SILENT
     },
 ];

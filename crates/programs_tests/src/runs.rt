@@ -3,10 +3,12 @@
 //! Each stream is a part of an array, which takes no memory.
 
 use crate::files::Files;
+use crate::pipe::Pipe;
 use crate::shared::{see, words_of};
 use crate::written::Written;
 use command_line::{Request, request_of};
 use programs::{Host, out_path, run};
+use source_files::SystemStream;
 use std::alloc::{AllocError, Global};
 use std::process::Abort;
 use std::sync::Wait;
@@ -20,12 +22,13 @@ pub(crate) const ROOM: usize = 512;
 
 /// A command line and an input; how many bytes of an index are taken, and whether its place then is refused; and what
 /// the run ends with. The output and the file have room for what is printed and written alone: a `\0` is room for a
-/// byte that doesn't come.
+/// byte that doesn't come. The output may be a pipe that is closed once its room is used.
 pub(crate) struct Row {
     pub words: &'static str,
     pub input: &'static str,
     pub fits: usize,
     pub is_refused: bool,
+    pub closes: bool,
     pub printed: &'static str,
     pub written: &'static [u8],
     pub status: u8,
@@ -37,6 +40,7 @@ pub(crate) const SILENT: Row = Row {
     input: "",
     fits: ROOM,
     is_refused: false,
+    closes: false,
     printed: "\0",
     written: b"\0",
     status: 0,
@@ -44,7 +48,7 @@ pub(crate) const SILENT: Row = Row {
 };
 
 // The second row reads: there is no program `nothing`, which is said, with status 2.
-static ROWS: [Row; 28] = [
+static ROWS: [Row; 45] = [
     Row {
         words: "--version",
         printed: "protoscip 1\n\0",
@@ -247,6 +251,66 @@ protoscip: skipped: b.proto@27: Duplicate of a.proto@46
 protoscip: 1 sources indexed, 1 skipped, 1 imports and 0 uses without a target\n",
         ..SILENT
     },
+    // one file is left out, and one source indexed: each limit is kept, and each broken by one
+    Row {
+        words: "index clash out --faulty skip --max-skipped 1 --min-sources 1",
+        written: b"\x0A\x1C\x12\x0E\x0A\x09protoscip\x12\x011\x1A\x08file:///\x20\x01\
+\x12\xA7\x01\x0A\x07a.proto\
+\x12\x27\x0A\x03\x00\x00\x00\x12\x1Escip-protobuf . . . `a.proto`/\x18\x01\
+\x12\x1F\x0A\x03\x02\x08\x09\x12\x16scip-protobuf . . . A#\x18\x01\
+\x1A\x1B\x0A\x16scip-protobuf . . . A#\x32\x01A\
+\x1A\x29\x0A\x1Escip-protobuf . . . `a.proto`/\x32\x07a.proto\
+\x22\x08Protobuf\x30\x01\0",
+        said: "protoscip: no target: a.proto@26: MissingImport
+protoscip: skipped: b.proto@27: Duplicate of a.proto@46
+protoscip: 1 sources indexed, 1 skipped, 1 imports and 0 uses without a target\n",
+        ..SILENT
+    },
+    Row {
+        words: "index clash out --faulty skip --max-skipped 0 --min-sources 2",
+        status: 1,
+        said: "protoscip: no target: a.proto@26: MissingImport
+protoscip: skipped: b.proto@27: Duplicate of a.proto@46
+protoscip: 1 sources indexed, 1 skipped, 1 imports and 0 uses without a target
+protoscip: TooManySkipped\n",
+        ..SILENT
+    },
+    Row {
+        words: "index clash out --faulty skip --max-skipped 1 --min-sources 2",
+        status: 1,
+        said: "protoscip: no target: a.proto@26: MissingImport
+protoscip: skipped: b.proto@27: Duplicate of a.proto@46
+protoscip: 1 sources indexed, 1 skipped, 1 imports and 0 uses without a target
+protoscip: TooFewSources\n",
+        ..SILENT
+    },
+    Row {
+        words: "index api out --max-skipped 0 --min-sources 2",
+        status: 1,
+        said: "protoscip: TooFewSources\n",
+        ..SILENT
+    },
+    Row {
+        words: "index api out --min-sources 4294967295 --explain",
+        status: 1,
+        said: "protoscip: TooFewSources\n1 sources are indexed, and --min-sources wants 4294967295\n",
+        ..SILENT
+    },
+    // a place that takes no part isn't asked to, and a write that fails comes first
+    Row {
+        words: "index api out --min-sources 2",
+        is_refused: true,
+        status: 1,
+        said: "protoscip: TooFewSources\n",
+        ..SILENT
+    },
+    Row {
+        words: "index api out --min-sources 2",
+        fits: 30,
+        status: 3,
+        said: "protoscip: Write\n",
+        ..SILENT
+    },
     Row {
         words: "shell said --doc both --only A --positions utf16 --custom-options skip --release r --workers 1",
         input: "doc 3 8 a.proto\ndef 5 16 a.proto\nsym a.proto",
@@ -267,6 +331,80 @@ protoscip: 1 sources indexed, 1 skipped, 1 imports and 0 uses without a target\n
         said: "protoscip: Answer\n",
         ..SILENT
     },
+    // closed pipes, and others that are full
+    Row {
+        words: "--version",
+        printed: "proto",
+        closes: true,
+        ..SILENT
+    },
+    Row {
+        words: "--version",
+        printed: "proto",
+        status: 3,
+        said: "protoscip: Write\n",
+        ..SILENT
+    },
+    Row {
+        words: "dump",
+        input: "syntax = \"proto3\";",
+        printed: "0 0 0",
+        closes: true,
+        ..SILENT
+    },
+    Row {
+        words: "dump",
+        input: "syntax = \"proto3\";",
+        printed: "0 0 0",
+        status: 3,
+        said: "protoscip: Write\n",
+        ..SILENT
+    },
+    Row {
+        words: "snapshot seen.scip src",
+        printed: "a.txt\n",
+        closes: true,
+        ..SILENT
+    },
+    Row {
+        words: "snapshot seen.scip src",
+        printed: "a.txt\n",
+        status: 3,
+        said: "protoscip: Write\n",
+        ..SILENT
+    },
+    Row {
+        words: "query a.scip",
+        input: "ref 1 8 a",
+        printed: "1 8",
+        closes: true,
+        status: 3,
+        said: "protoscip: Write\n",
+        ..SILENT
+    },
+    Row {
+        words: "shell one",
+        input: "def 3 28 a.proto",
+        printed: "2 8 2",
+        closes: true,
+        status: 3,
+        said: "protoscip: Answer\n",
+        ..SILENT
+    },
+    // no sources
+    Row {
+        words: "index links out",
+        written: b"\n\x1C\x12\x0E\n\x09protoscip\x12\x011\x1A\x08file:/// \x01\0",
+        said: "protoscip: no sources below links (3 symbolic links, 12 files with other names)\n",
+        ..SILENT
+    },
+    Row {
+        words: "shell empty --include api",
+        input: "sym a.proto",
+        printed: "? no document\n\0",
+        said: "protoscip: no sources below empty\n",
+        ..SILENT
+    },
 ];
 
 /// Runs what was asked for. Gives the status, and whether what is due is said.
@@ -279,7 +417,10 @@ fn ended<R: Threads + Wait + Clock + Eprint + Sync>(
     written: &mut [u8],
 ) -> (u8, bool) {
     let mut input = Std::new(row.input.as_bytes());
-    let mut out = Std::new(printed);
+    let mut out = SystemStream::new(Pipe {
+        room: printed,
+        closes: row.closes,
+    });
     let mut file = Written {
         room: Std::new(written),
         path: out_path(asked),

@@ -71,6 +71,10 @@ impl<'r, 'p> OutPlace for Written<'r, 'p> {
 
     ghost same = { λ _ _ _. ⊤ };
 
+    ghost refuses = { λ _ _. ⊤ };
+
+    ghost gives_up = { λ _ _. ⊤ };
+
     fn may_be_source(&self) -> bool {
         true
     }

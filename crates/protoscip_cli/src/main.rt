@@ -3,7 +3,7 @@
 
 use command_line::request_of_process;
 use programs::{Host, out_path, run};
-use source_files::{OutFile, SystemFiles};
+use source_files::{OutFile, SystemFiles, SystemStream};
 use std::io::IsTerminal;
 use std::process::ExitCode;
 use streams::Std;
@@ -16,7 +16,7 @@ fn main(rt: HostRuntime) -> ExitCode {
     let files = SystemFiles::new(&rt);
     let mut file = OutFile::new(&rt, out_path(&asked));
     let mut input = Std::new(rt.stdin());
-    let mut out = Std::new(rt.stdout());
+    let mut out = SystemStream::new(rt.stdout());
     let mut messages = Std::new(rt.stderr());
     let host = Host {
         rt: &rt,

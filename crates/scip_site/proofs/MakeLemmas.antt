@@ -1,6 +1,6 @@
 -- Files that are made one after another.
-use Rattle.std.proofs.Common.{◌≡◌, ◌≢◌, ◌∙◌, sym, refl, ap, subst, ℕ, zero, suc, ◌+◌, ◌<◌, ◌≤◌, ◌-◌, List, [], ◌∷◌, ◌++◌}
-use Rattle.std.proofs.Common.{map, append-nil, append_assoc, arith, Ok, Err, inl, inr}
+use Rattle.std.proofs.Common.{◌≡◌, ◌≢◌, ◌∙◌, sym, refl, ap, subst, ℕ, zero, suc, ◌+◌, ◌<◌, ◌-◌, List, [], ◌∷◌, ◌++◌}
+use Rattle.std.proofs.Common.{map, append-nil, append_assoc, arith, Ok, Err, inl, inr, true, false}
 use Rattle.std.specs.Prelude.{Result, Option, Some, None, length, codes}
 use Rattle.std.specs.List.{flat_map, range_with_len}
 use Rattle.std.proofs.lemmas.Grind.{flat_map-append}
@@ -16,7 +16,9 @@ use Rattle.source_page.specs.Site.{Sources, page_path}
 use Rattle.scip_site.specs.Tree.{first_page}
 use Rattle.scip_site.specs.Reading.{ReadsInto, AllAreKept, none}
 use Rattle.scip_site.specs.Making.{AllOf, AllThenNone, PartOf, MakesFiles, MakesSite, file, in_folder, pages, shared}
-use Rattle.scip_site.specs.Making.{script_text, paths_in, site_files, page_file}
+use Rattle.scip_site.specs.Making.{is_bare, script_text, paths_in, site_files, page_file}
+use Rattle.scip_site.specs.declared.site_fault.SiteFault.{SiteFault}
+use Rattle.scip_site.specs.declared.site_fault.SiteFault.TheVariants.{Show, NothingThere}
 use Rattle.scip_site.specs.declared.styles.TheConstants.{STYLE, SEARCH}
 use Rattle.source_page.proofs.CodeLemmas.{range_more}
 
@@ -267,31 +269,44 @@ module _ {O : Type 0} (made : O → Made) (folder : List ℕ) (index : Index) (s
 
 -- ---- the whole
 
+-- what is answered of the files
+abbrev pub answered : Result (Unit {0}) ShowFault → Result (Unit {0}) SiteFault
+answered (Ok done) = Ok done
+answered (Err fault) = Err (Show fault)
+
 module _ {O M : Type 0} (made : O → Made) (heard : M → Option (List ℕ)) (unheard : M → ℕ)
     (gives : List ℕ → Option (List ℕ) → Type 0) (root folder : List ℕ) (index : Index) (start : O) where
   -- memory runs out while sources are read
   pub nothing_made : (here after : M) (fault : ShowFault)
       → ReadsInto gives root index.documents (writer heard unheard here after) (Err fault)
-      → MakesSite gives root folder index (maker made start start) (writer heard unheard here after) (Err fault)
+      → MakesSite gives root folder index (maker made start start) (writer heard unheard here after) (Err (Show fault))
   nothing_made here after Write reads = absurd reads
   nothing_made here after Memory reads = inr record { read = reads; none_made = makes_none (made start) }
 
   pub nothing_read : (here : M)
-      → MakesSite gives root folder index (maker made start start) (writer heard unheard here here) (Err Memory)
+      → MakesSite gives root folder index (maker made start start) (writer heard unheard here here) (Err (Show Memory))
   nothing_read here = inr record {
     read = record { reads = []; are = none; told_are = silent };
     none_made = makes_none (made start);
   }
 
-  -- or files are made
-  pub made_so : (after : O) (here heard_all : M) (sources : Sources) (order : List ℕ)
-      → AllAreKept gives root index.documents sources (writer heard unheard here heard_all)
-      → IsByPath index.documents order → (done : Result (Unit {0}) ShowFault)
-      → MakesFiles (maker made start after) (all_in folder index sources order) done
-      → MakesSite gives root folder index (maker made start after) (writer heard unheard here heard_all) done
-  made_so after here heard_all sources order read ordered (Ok done) makes =
-      record { sources = sources; read = read; order = order; ordered = ordered; made = makes }
-  made_so after here heard_all sources order read ordered (Err Write) makes =
-      record { sources = sources; read = read; order = order; ordered = ordered; made = makes }
-  made_so after here heard_all sources order read ordered (Err Memory) makes =
-      inl record { sources = sources; read = read; order = order; ordered = ordered; made = makes }
+  module _ (here heard_all : M) (sources : Sources)
+      (read : AllAreKept gives root index.documents sources (writer heard unheard here heard_all)) where
+    -- or no document has a page
+    pub bare_so : is_bare index.documents sources ≡ true
+        → MakesSite gives root folder index (maker made start start) (writer heard unheard here heard_all)
+        (Err NothingThere)
+    bare_so bare = record { sources = sources; read = read; bare = bare; none_made = refl }
+
+    -- or files are made
+    pub made_so : (after : O) (order : List ℕ) → is_bare index.documents sources ≡ false
+        → IsByPath index.documents order → (done : Result (Unit {0}) ShowFault)
+        → MakesFiles (maker made start after) (all_in folder index sources order) done
+        → MakesSite gives root folder index (maker made start after) (writer heard unheard here heard_all)
+        (answered done)
+    made_so after order there ordered (Ok done) makes =
+        record { sources = sources; read = read; there = there; order = order; ordered = ordered; made = makes }
+    made_so after order there ordered (Err Write) makes =
+        record { sources = sources; read = read; there = there; order = order; ordered = ordered; made = makes }
+    made_so after order there ordered (Err Memory) makes =
+        inl record { sources = sources; read = read; there = there; order = order; ordered = ordered; made = makes }

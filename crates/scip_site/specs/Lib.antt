@@ -3,6 +3,7 @@ pub mod Nesting
 pub mod Repeats
 pub mod Script
 pub mod Reading
+pub mod SiteFaults
 pub mod Making
 pub mod FolderLaws
 pub mod Laws

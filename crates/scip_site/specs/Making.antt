@@ -1,9 +1,9 @@
 -- The files that all pages of an index are, and how they are made.
 -- `gives` is what reading a file may give.
-use Rattle.std.specs.Prelude.{◌≡◌, ◌⊎◌, ℕ, List, [], ◌∷◌, ◌++◌, cond, codes, length, map, Option, None, Some, Result}
-use Rattle.std.specs.Prelude.{Ok, Err}
-use Rattle.std.specs.List.{flat_map, slice_get}
-use Rattle.std.specs.Option.{unwrap_or}
+use Rattle.std.specs.Prelude.{◌≡◌, ◌⊎◌, ℕ, Bool, true, false, not, List, [], ◌∷◌, ◌++◌, cond, codes, length, map, Option}
+use Rattle.std.specs.Prelude.{None, Some, Result, Ok, Err}
+use Rattle.std.specs.List.{flat_map, list_any, slice_get}
+use Rattle.std.specs.Option.{is_some, unwrap_or}
 use Rattle.scip_records.specs.declared.records.Index.{Index}
 use Rattle.scip_records.specs.declared.records.Document.{Document}
 use Rattle.scip_query.specs.Tables.{numbers, path_listed, IsByPath}
@@ -20,6 +20,8 @@ use Rattle.source_page.specs.Page.{firsts_of, page_of}
 use Rattle.scip_site.specs.Reading.{AreReadBy, AllAreKept}
 use Rattle.scip_site.specs.Script.{listing_text}
 use Rattle.scip_site.specs.Tree.{first_page}
+use Rattle.scip_site.specs.declared.site_fault.SiteFault.{SiteFault}
+use Rattle.scip_site.specs.declared.site_fault.SiteFault.TheVariants.{Show, NothingThere}
 
 -- ---- files
 
@@ -136,11 +138,17 @@ MakesFiles maker files (Ok done) = AllOf maker files
 MakesFiles maker files (Err Write) = AllBut maker files
 MakesFiles maker files (Err Memory) = SomeOf maker files
 
--- All sources are read, and what has none is told; then files are made.
+-- whether there are documents, but none has a page
+abbrev pub is_bare : List Document → Sources → Bool
+is_bare [] sources = false
+is_bare (document ∷ documents) sources = not (list_any is_some sources)
+
+-- All sources are read, and what has none is told; then files are made, unless none of the documents has a page.
 pub record IsMade {O M : Type 0} (gives : List ℕ → Option (List ℕ) → Type 0) (root folder : List ℕ) (index : Index)
     (maker : Maker O) (messages : Writer M) (done : Result (Unit {0}) ShowFault) : Type 0 where
   pub sources : List (Option (List ℕ))
   pub read : AllAreKept gives root index.documents sources messages
+  pub there : is_bare index.documents sources ≡ false
   pub order : List ℕ
   pub ordered : IsByPath index.documents order
   pub made : MakesFiles maker (map (in_folder folder) (site_files index sources order)) done
@@ -151,10 +159,20 @@ pub record IsReadInPart {O M : Type 0} (gives : List ℕ → Option (List ℕ) �
   pub read : AreReadBy gives root index.documents messages
   pub none_made : AllOf maker []
 
--- The pages of an index are made; if memory runs out, perhaps before the first.
+-- or none has, and no file is made
+pub record IsBare {O M : Type 0} (gives : List ℕ → Option (List ℕ) → Type 0) (root : List ℕ) (index : Index)
+    (maker : Maker O) (messages : Writer M) : Type 0 where
+  pub sources : List (Option (List ℕ))
+  pub read : AllAreKept gives root index.documents sources messages
+  pub bare : is_bare index.documents sources ≡ true
+  pub none_made : maker.after ≡ maker.before
+
+-- The pages of an index are made, unless no document has one; if memory runs out, perhaps before the first.
 abbrev pub MakesSite : {O M : Type 0} → (gives : List ℕ → Option (List ℕ) → Type 0) → (root folder : List ℕ) → Index
-    → Maker O → Writer M → Result (Unit {0}) ShowFault → Type 0
+    → Maker O → Writer M → Result (Unit {0}) SiteFault → Type 0
 MakesSite gives root folder index maker messages (Ok done) = IsMade gives root folder index maker messages (Ok done)
-MakesSite gives root folder index maker messages (Err Write) = IsMade gives root folder index maker messages (Err Write)
-MakesSite gives root folder index maker messages (Err Memory) =
+MakesSite gives root folder index maker messages (Err (Show Write)) =
+    IsMade gives root folder index maker messages (Err Write)
+MakesSite gives root folder index maker messages (Err (Show Memory)) =
     IsMade gives root folder index maker messages (Err Memory) ⊎ IsReadInPart gives root index maker messages
+MakesSite gives root folder index maker messages (Err NothingThere) = IsBare gives root index maker messages

@@ -11,6 +11,7 @@ mod outcome;
 mod reading;
 mod repeats;
 mod script;
+mod site_fault;
 mod styles;
 mod tree;
 
@@ -22,3 +23,4 @@ pub use laws::{
     folders_have_places, pages_have_their_own_places, shared_files_are_alone, trees_show_folders,
 };
 pub use making::make_pages;
+pub use site_fault::SiteFault;

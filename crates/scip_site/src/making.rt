@@ -2,7 +2,8 @@
 
 ghost use Rattle.std.specs.Prelude.{◌≡◌, ◌≢◌, ◌++◌, [], ◌∷◌, ℕ, List, IfErr, IfOk, None, OnOk, length, map};
 ghost use Rattle.std.specs.Borrow.{Bor};
-ghost use Rattle.std.specs.Option.{option_map};
+ghost use Rattle.std.specs.List.{list_any};
+ghost use Rattle.std.specs.Option.{is_some, option_map};
 ghost use Rattle.scip_query.specs.Tables.{numbers};
 ghost use Rattle.scip_snapshot.specs.Showing.{maker, writer};
 ghost use Rattle.source_page.specs.Facts.{AreRight};
@@ -16,6 +17,7 @@ ghost use Rattle.scip_pages.specs.Snapshot.{lines_of};
 use crate::listing::listed_page;
 use crate::order::by_path;
 use crate::reading::read_all;
+use crate::site_fault::SiteFault;
 use crate::styles::{SEARCH, STYLE};
 use crate::tree::first_page;
 use scip_pages::{ColumnUnit, lines_of, unit_of};
@@ -286,6 +288,23 @@ fn make_all<O: MakeFiles>(
     make_shared(alloc, folder, &listed.script, &first, made)
 }
 
+/// Whether one of the sources is there.
+fn has_some(sources: &[Option<OwnedText>]) -> bool
+    ensures { result ≡ list_any is_some sources.now }
+{
+    sources.iter().any(|source| source.is_some())
+}
+
+/// Whether there are documents, but none has a page.
+fn is_bare(documents: &[Document], sources: &[Option<OwnedText>]) -> bool
+    ensures { result ≡ spec.is_bare documents.now sources.now }
+{
+    match documents {
+        [] => false,
+        [_, ..] => !has_some(sources),
+    }
+}
+
 /// Makes pages of the documents of an index in a folder, for a browser; the sources are below a root. A document
 /// whose path leads out of the root or is that of a document before it, whose source isn't there, or whose ranges
 /// don't fit it, is told and has no page.
@@ -294,6 +313,7 @@ fn make_all<O: MakeFiles>(
 /// for each document. Behind `src` is a `~` for each folder on the document's path whose name ends in `.html`, so that
 /// no page is where another has a folder.
 ///
+/// - `NothingThere`: there are documents, but none has a page. No file is made.
 /// - `Write`: a file can't be made; those before it are. The first page is the last.
 /// - `Memory`: memory ran out, after a first part of the files.
 pub fn make_pages<F: ReadFiles, O: MakeFiles, M: Sink>(
@@ -303,16 +323,20 @@ pub fn make_pages<F: ReadFiles, O: MakeFiles, M: Sink>(
     queries: &Queries,
     made: &mut O,
     messages: &mut M,
-) -> Result<(), ShowFault>
+) -> Result<(), SiteFault>
     ensures { spec.MakesSite (F.gives files.now) folders.now.root.now folders.now.to.now queries.now
         (maker O.made made.old made.new) (writer M.contents M.failures messages.old messages.new) result }
 {
     let documents = queries.documents();
     let order = by_path(alloc, documents)?;
     let sources = read_all(alloc, files, folders.root, documents, messages)?;
+    if is_bare(documents, &sources) {
+        return Err(SiteFault::NothingThere);
+    }
     let site = Site {
         queries,
         sources: &sources,
     };
-    make_all(alloc, folders.to, &site, &order, made)
+    make_all(alloc, folders.to, &site, &order, made)?;
+    Ok(())
 }

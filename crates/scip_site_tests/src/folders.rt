@@ -3,7 +3,7 @@
 use crate::files::{Files, Made};
 use crate::see::{queries, see};
 use scip_query::Queries;
-use scip_site::make_pages;
+use scip_site::{SiteFault, make_pages};
 use scip_snapshot::{Folders, ShowFault};
 use std::alloc::Global;
 use std::test::Fail;
@@ -134,8 +134,13 @@ const MADE: &str = "[out/src/b/x.html]<!DOCTYPE html>
 </html>
 \0";
 
-/// Makes the pages; gives the answer, and whether what is due is said.
-fn pages(alloc: Global, queries: &Queries, room: &mut [u8]) -> (Result<(), ShowFault>, bool) {
+/// Makes the pages; gives the answer, and whether this is said.
+fn pages(
+    alloc: Global,
+    queries: &Queries,
+    room: &mut [u8],
+    due: &str,
+) -> (Result<(), SiteFault>, bool) {
     let mut told = [0u8; ROOM];
     let mut messages = Std::new(told.as_mut_slice());
     let folders = Folders {
@@ -148,15 +153,15 @@ fn pages(alloc: Global, queries: &Queries, room: &mut [u8]) -> (Result<(), ShowF
     };
     let answer = make_pages(alloc, &Files, &folders, queries, &mut made, &mut messages);
     let count = ROOM - messages.into_inner().len().min(ROOM);
-    (answer, told.split_at(count).0 == TOLD.as_bytes())
+    (answer, told.split_at(count).0 == due.as_bytes())
 }
 
 /// Whether the files are made that are due; none after want of memory.
 fn is_so(alloc: Global, queries: &Queries) -> Option<bool> {
     let mut room = [0u8; ROOM];
     let room = room.split_at_mut(MADE.len().min(ROOM)).0;
-    let (answer, is_said) = pages(alloc, queries, room);
-    if answer == Err(ShowFault::Memory) {
+    let (answer, is_said) = pages(alloc, queries, room, TOLD);
+    if answer == Err(SiteFault::Show(ShowFault::Memory)) {
         return None;
     }
     Some(answer.is_ok() && is_said && *room == *MADE.as_bytes())
@@ -171,5 +176,50 @@ fn folders_have_the_pages_due(rt: HostRuntime) -> Result<(), Fail> {
         is_so => is_so,
     };
     see(&rt, is_so == Some(true), "the pages");
+    Ok(())
+}
+
+/// Indexes of which no document has a page, what is said of those, and whether that is a fault.
+///
+/// The first row reads: of two documents the source of one can't be read, and the path of the other leads out of the
+/// root. The last is an index without documents.
+const BARE: [(&[u8], &str, bool); 3] = [
+    (
+        b"\x12\x06\x0a\x02no0\x01\x12\x08\x0a\x04../x0\x01",
+        "protoscip: no: Unreadable\nprotoscip: ../x: BadPath\n",
+        true,
+    ),
+    (
+        b"\x12\x14\x0a\x05short\x12\x09\x0a\x03\x00\x00\x02\x12\x02S#0\x01",
+        "protoscip: short: Misfit\n",
+        true,
+    ),
+    (b"", "", false),
+];
+
+/// Whether a row holds; none after want of memory.
+fn is_bare(alloc: Global, queries: &Queries, due: &str, is_fault: bool) -> Option<bool> {
+    let mut room = [0u8; ROOM];
+    let (answer, is_said) = pages(alloc, queries, &mut room, due);
+    if answer == Err(SiteFault::Show(ShowFault::Memory)) {
+        return None;
+    }
+    let is_due = match answer {
+        Ok(()) => !is_fault && room.starts_with(b"[out/pages.css]"),
+        Err(fault) => is_fault && fault == SiteFault::NothingThere && room == [0u8; ROOM],
+    };
+    Some(is_due && is_said)
+}
+
+#[test]
+fn folders_without_pages(rt: HostRuntime) -> Result<(), Fail> {
+    for (index, due, is_fault) in &BARE {
+        let queries = queries(&rt, rt.alloc(), *index)?;
+        let is_so = match is_bare(rt.alloc(), &queries, *due, *is_fault) {
+            None => is_bare(rt.alloc(), &queries, *due, *is_fault),
+            is_so => is_so,
+        };
+        see(&rt, is_so == Some(true), *due);
+    }
     Ok(())
 }

@@ -1,6 +1,7 @@
 //! The texts of faults.
 
 use crate::see::see;
+use scip_site::SiteFault;
 use scip_snapshot::ShowFault;
 use std::test::Fail;
 
@@ -10,5 +11,10 @@ fn faults_are_printed_as_sentences(rt: HostRuntime) -> Result<(), Fail> {
     let is_printed = text.as_str()
         == "a write that failed, or a file that can't be made memory ran out";
     see(&rt, is_printed, "texts");
+    let write = SiteFault::Show(ShowFault::Write);
+    let text = format!(in rt.alloc(); "{} {}", write, SiteFault::NothingThere)?;
+    let is_printed = text.as_str()
+        == "a write that failed, or a file that can't be made no document has its source below the root";
+    see(&rt, is_printed, "texts of a folder");
     Ok(())
 }

@@ -17,3 +17,5 @@ pub mod LoadFaults
 pub mod Made
 -- where a file is to be
 pub mod Places
+-- why the system refuses a call
+pub mod Causes

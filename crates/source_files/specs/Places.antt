@@ -13,11 +13,11 @@ pub record IsBegun {W : Type 0} (contents : W → Option (List ℕ)) (failures :
   pub nothing : HoldsNothing (contents part)
   pub unfailed : failures part ≡ 0
 
--- The place holds what the part holds; or the part is refused, and the place is as it was.
-abbrev pub Puts : {P W E : Type 0} → (holds : P → Option (List ℕ)) → (contents : W → Option (List ℕ))
-    → (before after : P) → (part : W) → Result (Unit {0}) E → Type 0
-Puts holds contents before after part (Ok done) = holds after ≡ contents part
-Puts holds contents before after part (Err refused) = after ≡ before
+-- The place holds what the part holds; or it refuses the part, and is as it was. `refuses` is what is known then.
+abbrev pub Puts : {P W E : Type 0} → (holds : P → Option (List ℕ)) → (refuses : P → W → Type 0)
+    → (contents : W → Option (List ℕ)) → (before after : P) → (part : W) → Result (Unit {0}) E → Type 0
+Puts holds refuses contents before after part (Ok done) = holds after ≡ contents part
+Puts holds refuses contents before after part (Err refused) = refuses before part × (after ≡ before)
 
 -- Whether one of the files of a tree, below a root, is said to be the file that is at a place: one is, or each isn't.
 -- `same` is what asking about a path may answer.

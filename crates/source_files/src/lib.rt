@@ -1,7 +1,9 @@
 //! The files of a run: the sources below a root, the tree that they make with included files, the file that an
-//! index is written to, files that are made by their paths, and whether a folder is free for them.
+//! index is written to, files that are made by their paths, and whether a folder is free for them; and why the system
+//! refuses a call.
 #![tactic(auto)]
 
+mod cause;
 mod empty_folders;
 mod entry;
 mod folders;
@@ -9,6 +11,7 @@ mod found;
 mod laws;
 mod load;
 mod load_fault;
+mod look_again;
 mod make_files;
 mod out_file;
 mod out_part;
@@ -20,15 +23,19 @@ mod read_files;
 mod readers;
 mod reading;
 mod root;
+mod second_look;
 mod system_files;
 mod system_folders;
+mod system_stream;
 mod walk;
 
+pub use cause::{Cause, Caused};
 pub use empty_folders::EmptyFolders;
 pub use entry::FolderEntry;
 pub use laws::{listed_paths_stay_below, roots_have_one_listing};
 pub use load::{LoadedTree, load_tree, load_tree_with_paths};
 pub use load_fault::LoadFault;
+pub use look_again::{LookAgain, PassedOver};
 pub use make_files::MakeFiles;
 pub use out_file::OutFile;
 pub use out_part::OutPart;
@@ -38,3 +45,4 @@ pub use read_files::ReadFiles;
 pub use readers::Readers;
 pub use root::read_root;
 pub use system_files::SystemFiles;
+pub use system_stream::SystemStream;

@@ -63,6 +63,10 @@ impl<'a, S: Files> OutPlace for OutFile<'a, S> {
 
     ghost same = { λ _ _ _. ⊤ };
 
+    ghost refuses = { λ _ _. ⊤ };
+
+    ghost gives_up = { λ _ _. ⊤ };
+
     fn may_be_source(&self) -> bool {
         match self.system.symlink_metadata(self.path) {
             Ok(there) if there.is_file() => there.nlink() > 1 || may_name_source(self.path),

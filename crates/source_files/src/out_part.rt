@@ -2,7 +2,9 @@
 
 ghost use Rattle.std.specs.Prelude.{◌≡◌, ◌≤◌, None, length, IfOk};
 
+use crate::cause::{Cause, Caused};
 use crate::out_way::Way;
+use crate::system_stream::cause_in;
 use std::fs::File;
 use std::io;
 use std::io::Write;
@@ -19,6 +21,7 @@ pub struct OutPart<'a, S: Files> {
     held: [Option<S::File>; 3],
     file: Option<S::File>,
     failures: u64,
+    cause: Option<Cause>,
 }
 
 impl<'a, S: Files> OutPart<'a, S> {
@@ -34,6 +37,7 @@ impl<'a, S: Files> OutPart<'a, S> {
             held: [None, None, None],
             file: None,
             failures: 0,
+            cause: None,
         }
     }
 
@@ -91,6 +95,7 @@ impl<'a, S: Files> Sink for OutPart<'a, S> {
 
     fn write(&mut self, bytes: &[u8]) -> Result<usize, Failed> {
         let result = self.write_to_file(bytes);
+        self.cause = cause_in(&result);
         let failed = match &result {
             Ok(count) => *count == 0 && !bytes.is_empty(),
             Err(_) => true,
@@ -99,5 +104,13 @@ impl<'a, S: Files> Sink for OutPart<'a, S> {
             self.failures = self.failures.saturating_add(1);
         }
         result.map_err(|_| Failed)
+    }
+}
+
+impl<'a, S: Files> Caused for OutPart<'a, S> {
+    ghost cause = { λ s. s.cause };
+
+    fn cause(&self) -> Option<Cause> {
+        self.cause
     }
 }

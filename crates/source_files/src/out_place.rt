@@ -21,6 +21,11 @@ pub trait OutPlace {
     // What asking whether the file with a path is the one that is there may answer.
     ghost same: { Self → List ℕ → Bool → Type 0 };
 
+    // What is known of a part that the place refuses, and of one that it is told to give up.
+    ghost refuses: { Self → Self.Part → Type 0 };
+
+    ghost gives_up: { Self → Self.Part → Type 0 };
+
     /// Whether a file that is read as a source may be the one that is there. If not, none needs to be asked about.
     fn may_be_source(&self) -> bool
         ensures { result ≡ false → (path : List ℕ) → same self.now path false };
@@ -35,8 +40,9 @@ pub trait OutPlace {
 
     /// Puts a part there, in place of what is there. `Failed`: the system refuses it.
     fn put(&mut self, part: Self::Part) -> Result<(), Failed>
-        ensures { Puts holds Self.Part.contents self.old self.new part result };
+        ensures { Puts holds refuses Self.Part.contents self.old self.new part result };
 
     /// Gives a part up.
-    fn leave(&self, part: Self::Part);
+    fn leave(&self, part: Self::Part)
+        ensures { gives_up self.now part };
 }

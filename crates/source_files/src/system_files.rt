@@ -4,7 +4,9 @@ ghost use Rattle.source_files.specs.SystemFiles.{IsGiven};
 
 use crate::empty_folders::EmptyFolders;
 use crate::entry::FolderEntry;
+use crate::look_again::{LookAgain, PassedOver};
 use crate::read_files::ReadFiles;
+use crate::second_look::{SecondLook, why_unread};
 use crate::system_folders::entries_of;
 use source_tree::read_source;
 use std::alloc::{AllocError, Global};
@@ -94,5 +96,21 @@ impl<'a, S: Files + AllocGlobal + Clone + Drop> EmptyFolders for SystemFiles<'a,
             Err(error) if error.kind() == ErrorKind::NotFound => Ok(true),
             answer => Ok(given(answer)? == Some(true)),
         }
+    }
+}
+
+impl<'a, S: Files + AllocGlobal + Clone + Drop> LookAgain for SystemFiles<'a, S> {
+    ghost use Rattle.std.specs.Prelude.{⊤};
+
+    ghost passes = { λ _ _ _. ⊤ };
+
+    ghost blames = { λ _ _ _ _. ⊤ };
+
+    fn passed_over(&self, root: &str) -> Result<PassedOver, AllocError> {
+        Ok(SecondLook::below(self.system, self.system.alloc(), root)?.passed)
+    }
+
+    fn why_unread(&self, folders: &[String], path: &str) -> Result<Option<String>, AllocError> {
+        why_unread(self.system, self.system.alloc(), folders, path)
     }
 }

@@ -14,6 +14,8 @@ mod outputs;
 #[cfg(test)]
 mod roots;
 #[cfg(test)]
+mod second_looks;
+#[cfg(test)]
 mod short_reads;
 #[cfg(test)]
 mod wide_folders;

@@ -8,10 +8,10 @@ pub returns-in-Ok : goal.returns-in-Ok
 returns-in-Ok g c =
     let kept = c.in-Ok.kept in
     rw c.in-Ok.is
-    (text_is_said c.args.explain c.args.tree.now
-    (writer g.M.Sink.contents g.M.Sink.failures c.args.messages.now c.say_text.new.messages) c.say_text.result
-    kept.built.told (option_map string_bytes kept.text)
-    (rw c.in-Ok.is at c.requires.said) c.say_text.ensures)
+    (text_is_said string_bytes c.args.explain c.args.run.now.tree
+    (writer g.M.Sink.contents g.M.Sink.failures c.args.messages.now c.say_end.new.messages) c.say_end.result
+    (option_map string_bytes c.args.run.now.none_found) kept.built.told kept.text
+    (rw c.in-Ok.is at c.requires.said) c.say_end.ensures.text c.say_end.ensures.line)
 
 pub returns-in-Err : goal.returns-in-Err
 returns-in-Err g c = rw c.in-Err.is c.stop.ensures

@@ -1,12 +1,17 @@
-use Rattle.std.proofs.Common.{refl, ℕ, List, Option}
+use Rattle.std.proofs.Common.{◌≡◌, refl, ℕ, List, Option}
+use Rattle.std.specs.Option.{option_map}
+use Rattle.std.specs.String.{string_bytes}
 use Rattle.index_hooks.specs.declared.choice.DocChoice.{DocChoice}
 use Rattle.scip_build.specs.declared.settings.Settings.{Settings}
 use Rattle.scip_snapshot.specs.Showing.{writer}
 use Rattle.programs.specs.Choices.{IsChosenBy}
 use Rattle.programs.specs.Indexing.{IndexesInto, not_started, over_tree}
+use Rattle.programs.specs.NoSources.{NoneFoundBy}
 use Rattle.programs.specs.Placing.{place}
+use Rattle.programs.specs.Settings.{allowed_by, settings_in}
 use Rattle.programs.proofs.MoveLemmas.{moved4}
 use Rattle.programs.proofs.NavigableLemmas.{writes}
+use Rattle.programs.proofs.TreeRunLemmas.{into_of}
 use Rattle.programs.proofs.indexing.index.Goals as goal
 
 pub returns-in-Err-clause-indexed : goal.returns-in-Err-clause-indexed
@@ -17,14 +22,24 @@ pub returns-clause-indexed : goal.returns-clause-indexed
 returns-clause-indexed g c =
     let run = c.in-Ok.start in
     let Into : Option (List ℕ) → Option DocChoice → Settings → ℕ → Type 0 = λ only doc settings workers.
-    IndexesInto (g.P.OutPlace.same c.args.out.now) c.args.request.now.options.now c.args.request.now.path.now
+    IndexesInto (g.P.OutPlace.same c.args.out.now) (λ _ line. line ≡ option_map string_bytes run.none_found)
+    c.args.request.now.options.now c.args.request.now.limits c.args.request.now.path.now
     (IsChosenBy only doc) settings workers run.tree
-    (place g.P.OutPlace.holds g.P.Part.Sink.contents g.P.Part.Sink.failures c.args.out.now c.index_over-status.new.out)
+    (place g.P.OutPlace.holds g.P.OutPlace.refuses g.P.OutPlace.gives_up g.P.Part.Sink.contents
+    g.P.Part.Sink.failures c.args.out.now c.index_over-status.new.out)
     (writer g.M.Sink.contents g.M.Sink.failures c.args.messages.now c.index_over-status.new.messages)
     c.index_over-status.result in
+    let options = c.args.request.now.options.now in
     over_tree run.tree run.settings.package c.in-Ok.ensures.named c.in-Ok.ensures.folders
+    (into_of (g.P.OutPlace.same c.args.out.now)
+    (NoneFoundBy (g.F.LookAgain.passes c.args.host.now.files.now) c.args.host.now.is_watched options) options
+    c.args.request.now.limits c.args.request.now.path.now (allowed_by options) (settings_in options run.settings.package) options.workers run.tree
+    (place g.P.OutPlace.holds g.P.OutPlace.refuses g.P.OutPlace.gives_up g.P.Part.Sink.contents
+    g.P.Part.Sink.failures c.args.out.now c.index_over-status.new.out)
+    (writer g.M.Sink.contents g.M.Sink.failures c.args.messages.now c.index_over-status.new.messages)
+    c.index_over-status.result (option_map string_bytes run.none_found) c.in-Ok.ensures.none_found
     (moved4 Into c.in-Ok.ensures.only c.in-Ok.ensures.doc c.in-Ok.ensures.settings c.in-Ok.ensures.workers
-    c.index_over-status.ensures)
+    c.index_over-status.ensures))
 
 -- what is so in either case
 
@@ -32,8 +47,10 @@ pub returns-in-Err-clause-navigable : goal.returns-in-Err-clause-navigable
 returns-in-Err-clause-navigable g c =
     writes (g.F.ReadFiles.lists c.args.host.now.files.now) (g.F.ReadFiles.gives c.args.host.now.files.now)
     c.args.request.now.options.now c.headline_of_options.ensures.files (g.P.OutPlace.same c.args.out.now)
-    c.args.request.now.path.now
-    (place g.P.OutPlace.holds g.P.Part.Sink.contents g.P.Part.Sink.failures c.args.out.now c.args.out.now)
+    (NoneFoundBy (g.F.LookAgain.passes c.args.host.now.files.now) c.args.host.now.is_watched
+    c.args.request.now.options.now) c.args.request.now.limits c.args.request.now.path.now
+    (place g.P.OutPlace.holds g.P.OutPlace.refuses g.P.OutPlace.gives_up g.P.Part.Sink.contents
+    g.P.Part.Sink.failures c.args.out.now c.args.out.now)
     (writer g.M.Sink.contents g.M.Sink.failures c.args.messages.now c.report_start.new.messages) c.report_start.result
     (returns-in-Err-clause-indexed g c)
 
@@ -41,7 +58,9 @@ pub returns-clause-navigable : goal.returns-clause-navigable
 returns-clause-navigable g c =
     writes (g.F.ReadFiles.lists c.args.host.now.files.now) (g.F.ReadFiles.gives c.args.host.now.files.now)
     c.args.request.now.options.now c.headline_of_options.ensures.files (g.P.OutPlace.same c.args.out.now)
-    c.args.request.now.path.now
-    (place g.P.OutPlace.holds g.P.Part.Sink.contents g.P.Part.Sink.failures c.args.out.now c.index_over-status.new.out)
+    (NoneFoundBy (g.F.LookAgain.passes c.args.host.now.files.now) c.args.host.now.is_watched
+    c.args.request.now.options.now) c.args.request.now.limits c.args.request.now.path.now
+    (place g.P.OutPlace.holds g.P.OutPlace.refuses g.P.OutPlace.gives_up g.P.Part.Sink.contents
+    g.P.Part.Sink.failures c.args.out.now c.index_over-status.new.out)
     (writer g.M.Sink.contents g.M.Sink.failures c.args.messages.now c.index_over-status.new.messages)
     c.index_over-status.result (returns-clause-indexed g c)

@@ -1,21 +1,41 @@
-use Rattle.std.proofs.Common.{inr, refl, subst}
+use Rattle.std.proofs.Common.{◌∙◌, inr, refl, subst, sym}
 use Rattle.std.specs.String.{string_bytes}
 use Rattle.protoscip.specs.Lines.{plain_line}
+use Rattle.protoscip.specs.declared.statuses.TheConstants.{STREAM_STATUS}
 use Rattle.std.specs.Prelude.{codes}
 use Rattle.streams.specs.WholeWrites.{IsCutOff}
 use Rattle.scip_snapshot.specs.Showing.{writer}
-use Rattle.programs.proofs.MessageLemmas.{told}
+use Rattle.programs.specs.Messages.{Tells}
+use Rattle.programs.specs.Printing.{is_closed}
+use Rattle.programs.proofs.MessageLemmas.{closed_ends, open_ends, told}
 use Rattle.programs.proofs.output.print.Goals as goal
 
-pub returns-in-Err : goal.returns-in-Err
-returns-in-Err g c =
+pub returns-then-is_closed : goal.returns-then-is_closed
+returns-then-is_closed g c =
     let count = c.in-Err.field-0.written in
+    let messages = writer g.M.Sink.contents g.M.Sink.failures c.args.messages.now c.args.messages.now in
     let cut = subst (λ text. IsCutOff g.W.Sink.contents g.W.Sink.failures c.args.out.now c.write_all.new.sink text
     count) c.as_bytes.ensures.value c.in-Err.ensures.err in
     inr (
       count,
       cut,
-      told (writer g.M.Sink.contents g.M.Sink.failures c.args.messages.now c.report.new.messages) c.report.result
-          _ _ string_bytes c.plain_line-line.result
-          (plain_line (codes "Write")) refl c.plain_line-line.ensures c.report.ensures,
+      closed_ends (is_closed (g.W.Caused.cause c.write_all.new.sink))
+          (Tells (plain_line (codes "Write")) STREAM_STATUS messages 0) messages 0
+          (sym c.is_closed.ensures ∙ c.if-is_closed.true) (refl, refl),
+    )
+
+pub returns-else-is_closed : goal.returns-else-is_closed
+returns-else-is_closed g c =
+    let count = c.in-Err.field-0.written in
+    let messages = writer g.M.Sink.contents g.M.Sink.failures c.args.messages.now c.report.new.messages in
+    let cut = subst (λ text. IsCutOff g.W.Sink.contents g.W.Sink.failures c.args.out.now c.write_all.new.sink text
+    count) c.as_bytes.ensures.value c.in-Err.ensures.err in
+    inr (
+      count,
+      cut,
+      open_ends (is_closed (g.W.Caused.cause c.write_all.new.sink))
+          (Tells (plain_line (codes "Write")) STREAM_STATUS messages c.report.result) messages c.report.result
+          (sym c.is_closed.ensures ∙ c.if-is_closed.false)
+          (told messages c.report.result _ _ string_bytes c.plain_line-line.result (plain_line (codes "Write")) refl
+          c.plain_line-line.ensures c.report.ensures),
     )

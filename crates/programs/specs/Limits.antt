@@ -1,0 +1,73 @@
+-- The limits that an index has to keep: how many files may be left out, and how many sources have to be indexed.
+-- (The texts are this project's own.)
+use Rattle.std.specs.Prelude.{◌≡◌, ℕ, ◌-◌, Bool, List, ◌++◌, Option, None, Some, codes, if◌then◌else◌, nat_lt}
+use Rattle.std.specs.Fmt.{decimal}
+use Rattle.std.specs.List.{count_by}
+use Rattle.std.specs.Option.{option_or}
+use Rattle.proto_parse.specs.tree.Dialect.{Dialect}
+use Rattle.source_tree.specs.Files.{TreeFile}
+use Rattle.source_tree.specs.Trees.{IsSourceCount}
+use Rattle.scip_build.specs.declared.fault.BuildFault.{BuildFault}
+use Rattle.scip_snapshot.specs.Showing.{Writer}
+use Rattle.command_line.specs.declared.options.Limits.{Limits}
+use Rattle.protoscip.specs.Lines.{plain_line}
+use Rattle.protoscip.specs.ToldLines.{is_skipped, is_skipped_source}
+use Rattle.protoscip.specs.declared.statuses.TheConstants.{SOURCES_STATUS}
+use Rattle.programs.specs.declared.limits.LimitFault.{LimitFault}
+use Rattle.programs.specs.declared.limits.LimitFault.TheVariants.{TooManySkipped, TooFewSources}
+use Rattle.programs.specs.Messages.{SaysOfSuccess, Tells}
+use Rattle.programs.specs.TreeRuns.{Lacks}
+
+-- ---- which limit is broken
+
+-- more files are left out than may be
+abbrev pub too_many : (most : Option ℕ) → (skipped : ℕ) → Option LimitFault
+too_many None skipped = None
+too_many (Some most) skipped = if nat_lt most skipped then Some (TooManySkipped skipped most) else None
+
+-- fewer sources are indexed than have to be
+abbrev pub too_few : (least : Option ℕ) → (indexed : ℕ) → Option LimitFault
+too_few None indexed = None
+too_few (Some least) indexed = if nat_lt indexed least then Some (TooFewSources indexed least) else None
+
+-- The limit that an index breaks which lacks this, of a tree with this many sources: that of what is left out, or else
+-- the other one. Both count as the line with the numbers does.
+abbrev pub broken_by : Limits → (sources : ℕ) → List BuildFault → Option LimitFault
+broken_by limits sources told =
+    option_or (too_many limits.max_skipped (count_by is_skipped told))
+    (too_few limits.min_sources (sources - count_by (is_skipped_source sources) told))
+
+-- the limit that an index of a tree breaks which lacks this, if it breaks one
+abbrev pub Breaks : Limits → List TreeFile → List BuildFault → Option LimitFault → Type 0
+Breaks limits tree told broken = (sources : ℕ) × IsSourceCount tree sources × (broken ≡ broken_by limits sources told)
+
+-- ---- what is said of it
+
+abbrev pub name_of : LimitFault → List ℕ
+name_of (TooManySkipped skipped most) = codes "TooManySkipped"
+name_of (TooFewSources indexed least) = codes "TooFewSources"
+
+abbrev pub sentence_with : (first : ℕ) → (words : List ℕ) → (second : ℕ) → List ℕ
+sentence_with first words second = codes "\n" ++ decimal first ++ words ++ decimal second
+
+abbrev pub sentence_of : LimitFault → List ℕ
+sentence_of (TooManySkipped skipped most) =
+    sentence_with skipped (codes " files are left out, and --max-skipped allows ") most
+sentence_of (TooFewSources indexed least) =
+    sentence_with indexed (codes " sources are indexed, and --min-sources wants ") least
+
+abbrev pub told : (explain : Bool) → LimitFault → List ℕ
+told explain fault =
+    if explain then plain_line (name_of fault) ++ sentence_of fault else plain_line (name_of fault)
+
+-- the exit status
+abbrev pub limit_status : ℕ
+limit_status = SOURCES_STATUS
+
+-- the end of a run whose index lacks this and breaks a limit: what it lacks is said as after a success, and then the
+-- limit; `dialect` is the one with which the former is explained
+abbrev pub EndsShort : {M : Type 0} → (none_found : Option (List ℕ) → Type 0) → (explain : Bool)
+    → (dialect : Option Dialect) → List TreeFile → List BuildFault → LimitFault → Writer M → (status : ℕ) → Type 0
+EndsShort {M} none_found explain dialect tree lacks fault messages status =
+    (said : M) × Lacks SaysOfSuccess none_found dialect tree lacks (record messages { after = said }) 0
+    × Tells (told explain fault) limit_status (record messages { before = said }) status

@@ -1,0 +1,228 @@
+//! A second look through the system's folders.
+
+use crate::cause::Cause;
+use crate::entry::ENDING;
+use crate::look_again::PassedOver;
+use std::alloc::{AllocError, Global};
+use std::fmt::Write;
+use std::fs::File;
+use std::io;
+use std::io::Read;
+use std::rt::Files;
+
+/// So many bytes of a folder's names are read at once.
+const NAMES_LENGTH: usize = 16_384;
+
+/// What is seen below a folder.
+#[derive(Drop)]
+pub(crate) struct SecondLook<'a, S: Files> {
+    system: &'a S,
+    alloc: Global,
+    /// The paths of the folders that are left.
+    left: Vec<String>,
+    /// What a walk passes over.
+    pub(crate) passed: PassedOver,
+    /// The first of what can't be read, and why.
+    pub(crate) blamed: Option<String>,
+}
+
+/// A path, with a `/` at its end, that of a folder where it is empty.
+fn front_of(alloc: Global, path: &str) -> Result<String, AllocError> {
+    let mut front = String::from_str(alloc, path)?;
+    if !path.is_empty() && !path.ends_with('/') {
+        front.push('/')?;
+    }
+    Ok(front)
+}
+
+/// Appends a name, with its bytes that aren't UTF-8 in the form `\xe9`.
+fn push_name(out: &mut String, name: &[u8]) -> Result<(), AllocError> {
+    for chunk in name.utf8_chunks() {
+        out.push_str(chunk.valid())?;
+        for byte in chunk.invalid() {
+            if write!(out, "\\x{byte:02x}").is_err() {
+                return Err(AllocError);
+            }
+        }
+    }
+    Ok(())
+}
+
+/// A path and what is said of it.
+fn said_of(alloc: Global, path: &str, words: &str) -> Result<String, AllocError> {
+    let mut text = String::from_str(alloc, path)?;
+    text.push_str(": ")?;
+    text.push_str(words)?;
+    Ok(text)
+}
+
+impl<'a, S: Files> SecondLook<'a, S> {
+    /// Looks through a folder and all below it, as far as they can be read.
+    pub(crate) fn below(
+        system: &'a S,
+        alloc: Global,
+        root: &str,
+    ) -> Result<SecondLook<'a, S>, AllocError> {
+        let mut look = SecondLook {
+            system,
+            alloc,
+            left: Vec::new(alloc),
+            passed: PassedOver {
+                links: 0,
+                others: 0,
+            },
+            blamed: None,
+        };
+        look.left.push(front_of(alloc, root)?)?;
+        // A bound for the proof: there aren't so many folders.
+        for _ in 0..usize::MAX {
+            let Some(front) = look.left.pop() else {
+                break;
+            };
+            look.see_folder(front.as_str())?;
+        }
+        Ok(look)
+    }
+
+    /// Blames a path, if none is blamed yet.
+    fn blame(&mut self, path: &str, words: &str) -> Result<(), AllocError> {
+        if self.blamed.is_none() {
+            self.blamed = Some(said_of(self.alloc, path, words)?);
+        }
+        Ok(())
+    }
+
+    /// Sees the entries of a folder whose path has a `/` at its end.
+    fn see_folder(&mut self, front: &str) -> Result<(), AllocError> {
+        if let Err(error) = self.see_names(front)? {
+            let path = if front.len() > 1 {
+                front.trim_end_matches('/')
+            } else {
+                front
+            };
+            self.blame(path, Cause::of(&error).words())?;
+        }
+        Ok(())
+    }
+
+    /// The same, or why they can't be read.
+    fn see_names(&mut self, front: &str) -> Result<io::Result<()>, AllocError> {
+        let mut folder = match self.system.open_dir(front) {
+            Ok(folder) => folder,
+            Err(error) => return Ok(Err(error)),
+        };
+        let mut buffer = [0u8; NAMES_LENGTH];
+        // A bound for the proof: the names end.
+        for _ in 0..usize::MAX {
+            match folder.read(&mut buffer) {
+                Ok(0) => break,
+                Ok(count) => self.see_each(front, &buffer[..count])?,
+                Err(error) => return Ok(Err(error)),
+            }
+        }
+        Ok(Ok(()))
+    }
+
+    /// Sees entries, whose names each end in a NUL.
+    fn see_each(&mut self, front: &str, names: &[u8]) -> Result<(), AllocError> {
+        for name in names.split(|byte| *byte == 0) {
+            self.see_name(front, name)?;
+        }
+        Ok(())
+    }
+
+    /// Sees an entry, which isn't the folder itself nor the one that it is in.
+    fn see_name(&mut self, front: &str, name: &[u8]) -> Result<(), AllocError> {
+        let mut path = String::from_str(self.alloc, front)?;
+        match str::from_utf8(name) {
+            Ok("" | "." | "..") => Ok(()),
+            Ok(text) => {
+                path.push_str(text)?;
+                self.see_entry(path)
+            }
+            Err(_) => {
+                push_name(&mut path, name)?;
+                self.blame(path.as_str(), "the name isn't UTF-8")
+            }
+        }
+    }
+
+    /// Sees the entry with a path.
+    fn see_entry(&mut self, path: String) -> Result<(), AllocError> {
+        let kind = match self.system.symlink_metadata(path.as_str()) {
+            Ok(there) => there.file_type(),
+            Err(error) => return self.blame(path.as_str(), Cause::of(&error).words()),
+        };
+        if kind.is_symlink() {
+            self.passed.links = self.passed.links.saturating_add(1);
+        } else if kind.is_dir() {
+            self.left.push(front_of(self.alloc, path.as_str())?)?;
+        } else if kind.is_file() && !path.ends_with(ENDING) {
+            self.passed.others = self.passed.others.saturating_add(1);
+        }
+        Ok(())
+    }
+}
+
+/// Reads a byte of the file with a path.
+fn read_byte<S: Files>(system: &S, path: &str) -> io::Result<()> {
+    let mut file = File::open(system, path)?;
+    let mut room = [0u8; 1];
+    file.read(&mut room)?;
+    Ok(())
+}
+
+/// Why the file with a path can't be read, if it can't.
+fn why_no_file<S: Files>(
+    system: &S,
+    alloc: Global,
+    path: &str,
+) -> Result<Option<String>, AllocError> {
+    match read_byte(system, path) {
+        Ok(()) => Ok(None),
+        Err(error) => Ok(Some(said_of(alloc, path, Cause::of(&error).words())?)),
+    }
+}
+
+/// Why the file with a path below the first of the folders where there is one can't be read, if it can't.
+fn why_no_file_below<S: Files>(
+    system: &S,
+    alloc: Global,
+    folders: &[String],
+    path: &str,
+) -> Result<Option<String>, AllocError> {
+    for folder in folders {
+        let mut whole = front_of(alloc, folder.as_str())?;
+        whole.push_str(path)?;
+        if system.symlink_metadata(whole.as_str()).is_ok() {
+            return why_no_file(system, alloc, whole.as_str());
+        }
+    }
+    Ok(None)
+}
+
+/// Whether a path is that of one of the folders.
+fn is_among(folders: &[String], path: &str) -> bool {
+    for folder in folders {
+        if folder.as_str() == path {
+            return true;
+        }
+    }
+    false
+}
+
+/// Why a path can't be read, as `LookAgain` says.
+pub(crate) fn why_unread<S: Files>(
+    system: &S,
+    alloc: Global,
+    folders: &[String],
+    path: &str,
+) -> Result<Option<String>, AllocError> {
+    if is_among(folders, path) {
+        Ok(SecondLook::below(system, alloc, path)?.blamed)
+    } else if folders.is_empty() {
+        why_no_file(system, alloc, path)
+    } else {
+        why_no_file_below(system, alloc, folders, path)
+    }
+}

@@ -1,0 +1,3 @@
+mod MatchLemmas
+mod RowLemmas
+mod ExclusionLemmas

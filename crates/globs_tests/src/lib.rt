@@ -1,0 +1,5 @@
+//! Tests of `globs`, by its public call.
+#![tactic(auto)]
+
+#[cfg(test)]
+mod exclusions;

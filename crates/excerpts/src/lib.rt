@@ -9,4 +9,4 @@ mod shown;
 
 pub use excerpt::{push_excerpt, push_quoted};
 pub use laws::{characters_of_a_text, marks_stand_below, nothing_is_obeyed, short_lines_are_whole};
-pub use line::{push_place, token_len};
+pub use line::{line_and_column, push_place, token_len};

@@ -6,7 +6,16 @@ ghost use Rattle.std.specs.String.{string_bytes};
 ghost use Rattle.proto_lex.specs.Bytes.{is_quote, is_word};
 ghost use Rattle.proto_lex.specs.Position.{is_line_end};
 ghost use Rattle.excerpts.specs.Characters.{characters};
-ghost use Rattle.excerpts.specs.Places.{closing_len, first_len, place_text, sign_len, token_len, without_return};
+ghost use Rattle.excerpts.specs.Places.{
+  closing_len,
+  column,
+  first_len,
+  line_number,
+  place_text,
+  sign_len,
+  token_len,
+  without_return,
+};
 ghost use Rattle.excerpts.specs.Tables.Steps.{closes, escapes};
 
 use crate::characters::{count_characters, first_character};
@@ -190,13 +199,22 @@ pub fn token_len(bytes: &[u8]) -> usize
     if len > 0 { len } else { sign_len(bytes) }
 }
 
-/// Appends the place of an offset: `PATH:LINE:COLUMN: `, the path as it is shown.
-pub fn push_place(out: &mut String, path: &str, text: &[u8], at: usize) -> Result<(), AllocError>
-    ensures { OnOk result (string_bytes out.new ≡ string_bytes out.old ++ place_text path.now text.now at) }
+/// The line of an offset, from 1, and its column, from 1 in characters. Past the end it is that of the end.
+pub fn line_and_column(text: &[u8], at: usize) -> (usize, usize)
+    ensures line { result.0 ≡ line_number text.now at }
+    ensures column { result.1 ≡ column text.now at }
 {
     let (front, _) = cut(text, at);
     let line = line_number(front);
     let column = count_characters(last_line(front)) + 1;
+    (line, column)
+}
+
+/// Appends the place of an offset: `PATH:LINE:COLUMN: `, the path as it is shown.
+pub fn push_place(out: &mut String, path: &str, text: &[u8], at: usize) -> Result<(), AllocError>
+    ensures { OnOk result (string_bytes out.new ≡ string_bytes out.old ++ place_text path.now text.now at) }
+{
+    let (line, column) = line_and_column(text, at);
     push_text(out, path)?;
     write!(out, ":{line}:{column}: ")
 }

@@ -1,0 +1,120 @@
+-- A report as a log in the Static Analysis Results Interchange Format (SARIF 2.1.0, OASIS): one run, a result for each
+-- finding, and a rule for each name. Keys are in the order of their bytes.
+use Rattle.std.specs.Prelude.{ℕ, ◌-◌, Bool, List, [], ◌∷◌, ◌++◌, Option, None, Some, codes, map, if◌then◌else◌}
+use Rattle.std.specs.List.{list_any}
+use Rattle.std.specs.Str.{bytes_eq}
+use Rattle.excerpts.specs.Places.{column, line_number}
+use Rattle.percent_encoding.specs.Percent.{percent_encode}
+use Rattle.serde_json.specs.Data.{Data, number, unsigned, string, array, item, no_items}
+use Rattle.serde_json.specs.Data.{object, Members, member, no_members}
+use Rattle.serde_json.specs.View.{items_of}
+use Rattle.fault_reports.specs.declared.sarif.TheConstants.{ESCAPED}
+use Rattle.fault_reports.specs.Findings.{Found, FoundPlace, level_of}
+
+-- a text in a message (3.11)
+abbrev pub message_value : List ℕ → Data
+message_value text = object (member (codes "text") (string text) no_members)
+
+-- a place in a text: its line and its column, and how many bytes come before it (3.30.5, 3.30.6, 3.30.11)
+abbrev pub point_value : (text : List ℕ) → (at : ℕ) → Data
+point_value text at = object
+    (member (codes "byteOffset") (number (unsigned at))
+    (member (codes "startColumn") (number (unsigned (column text at)))
+    (member (codes "startLine") (number (unsigned (line_number text at))) no_members)))
+
+-- the same, and how many bytes it has, and where it ends (3.30.7, 3.30.8, 3.30.12)
+abbrev pub range_value : (text : List ℕ) → (at end : ℕ) → Data
+range_value text at end = object
+    (member (codes "byteLength") (number (unsigned (end - at)))
+    (member (codes "byteOffset") (number (unsigned at))
+    (member (codes "endColumn") (number (unsigned (column text end)))
+    (member (codes "endLine") (number (unsigned (line_number text end)))
+    (member (codes "startColumn") (number (unsigned (column text at)))
+    (member (codes "startLine") (number (unsigned (line_number text at))) no_members))))))
+
+-- its end only where it is known
+abbrev pub region_value : (text : List ℕ) → (at : ℕ) → (end : Option ℕ) → Data
+region_value text at None = point_value text at
+region_value text at (Some end) = range_value text at end
+
+-- only where there is an offset
+abbrev pub region_members : (text : List ℕ) → (at end : Option ℕ) → Members
+region_members text None end = no_members
+region_members text (Some at) end = member (codes "region") (region_value text at end) no_members
+
+-- a file by its path, escaped as a relative reference is (3.4.3), and a place of it (3.29)
+abbrev pub physical_value : FoundPlace → Data
+physical_value place = object
+    (member (codes "artifactLocation")
+    (object (member (codes "uri") (string (percent_encode ESCAPED place.path)) no_members))
+    (region_members place.text place.offset place.end))
+
+-- where a finding is (3.28), none if it is of no file
+abbrev pub locations_value : Option FoundPlace → Data
+locations_value None = array no_items
+locations_value (Some place) =
+    array (item (object (member (codes "physicalLocation") (physical_value place) no_members)) no_items)
+
+-- where its full name is first given, with a sentence
+abbrev pub related_value : Option FoundPlace → Data
+related_value None = array no_items
+related_value (Some place) =
+    array (item (object
+    (member (codes "message") (message_value (codes "it is given here"))
+    (member (codes "physicalLocation") (physical_value place) no_members))) no_items)
+
+-- a result (3.27)
+abbrev pub result_value : Found → Data
+result_value found = object
+    (member (codes "level") (string (level_of found.kind))
+    (member (codes "locations") (locations_value found.place)
+    (member (codes "message") (message_value found.message)
+    (member (codes "relatedLocations") (related_value found.first)
+    (member (codes "ruleId") (string found.name) no_members)))))
+
+-- ---- rules
+
+-- a text is one of these
+abbrev pub is_among : List (List ℕ) → List ℕ → Bool
+is_among names name = list_any (λ other. bytes_eq other name) names
+
+-- with a name, if it isn't there
+abbrev pub with_name : List (List ℕ) → List ℕ → List (List ℕ)
+with_name names name = if is_among names name then names else names ++ name ∷ []
+
+-- the names that aren't among those before, each once, in the order in which they first come
+abbrev pub new_names : (before names : List (List ℕ)) → List (List ℕ)
+new_names before [] = []
+new_names before (name ∷ names) =
+    if is_among before name then new_names before names else name ∷ new_names (before ++ name ∷ []) names
+
+-- a rule (3.49)
+abbrev pub rule_value : List ℕ → Data
+rule_value name = object (member (codes "id") (string name) no_members)
+
+abbrev pub rules_value : List Found → Data
+rules_value findings = array (items_of (map rule_value (new_names [] (map (λ (found : Found). found.name) findings))))
+
+-- ---- the log
+
+-- the tool (3.18, 3.19)
+abbrev pub tool_value : List Found → Data
+tool_value findings = object
+    (member (codes "driver") (object
+    (member (codes "name") (string (codes "protoscip"))
+    (member (codes "rules") (rules_value findings)
+    (member (codes "version") (string (codes "1")) no_members)))) no_members)
+
+-- the run (3.14): columns count characters (3.14.27)
+abbrev pub run_value : List Found → Data
+run_value findings = object
+    (member (codes "columnKind") (string (codes "unicodeCodePoints"))
+    (member (codes "results") (array (items_of (map result_value findings)))
+    (member (codes "tool") (tool_value findings) no_members)))
+
+-- the log (3.13)
+abbrev pub log_value : List Found → Data
+log_value findings = object
+    (member (codes "$schema") (string (codes "https://json.schemastore.org/sarif-2.1.0.json"))
+    (member (codes "runs") (array (item (run_value findings) no_items))
+    (member (codes "version") (string (codes "2.1.0")) no_members)))

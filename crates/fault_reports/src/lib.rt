@@ -1,0 +1,14 @@
+//! Reports of faults for programs: what is wrong with a tree, or what its index lacks, as lines of JSON, or as a log in
+//! SARIF.
+//!
+//! A `Finding` is one thing. `report_bytes` gives the report of a list of them: each in its order, and none besides.
+#![tactic(auto)]
+
+mod finding;
+mod json_lines;
+mod report;
+mod sarif;
+mod values;
+
+pub use finding::{Counts, Finding, FindingKind, Place};
+pub use report::{ReportFormat, report_bytes};

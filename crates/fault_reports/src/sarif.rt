@@ -1,0 +1,269 @@
+//! A report as a log in SARIF.
+
+ghost use Rattle.std.specs.Prelude.{◌≡◌, ◌++◌, [], ◌∷◌, IfOk, OnOk, map};
+ghost use Rattle.std.specs.String.{string_bytes};
+ghost use Rattle.percent_encoding.specs.Percent.{percent_encode};
+ghost use Rattle.serde_json.specs.View.{items_view, view};
+ghost use Rattle.fault_reports.specs.declared.sarif.TheConstants.{ESCAPED};
+ghost use Rattle.fault_reports.specs.Sarif.{
+  is_among,
+  locations_value,
+  log_value,
+  message_value,
+  new_names,
+  physical_value,
+  point_value,
+  range_value,
+  region_value,
+  related_value,
+  result_value,
+  rule_value,
+  rules_value,
+  run_value,
+  tool_value,
+  with_name,
+};
+
+use crate::finding::{Finding, Place};
+use excerpts::line_and_column;
+use percent_encoding::{AsciiSet, NON_ALPHANUMERIC, ascii_set, percent_encode};
+use serde_json::{Value, json};
+use std::alloc::{AllocError, Global};
+use tool::{NAME, VERSION};
+
+/// The bytes of a path that are escaped in a URI: all but letters, digits, `-`, `.`, `_`, `~`, and `/`.
+const ESCAPED: AsciiSet = ascii_set!(
+    NON_ALPHANUMERIC
+        .remove(b'-')
+        .remove(b'.')
+        .remove(b'_')
+        .remove(b'~')
+        .remove(b'/')
+);
+
+/// The value of a text in a message.
+fn message_value(alloc: Global, text: &str) -> Result<Value, AllocError>
+    ensures { IfOk result (λ value. view value ≡ message_value text.now) }
+{
+    json!(in alloc; {"text": text})
+}
+
+/// A path as a relative reference.
+fn reference_to(alloc: Global, path: &str) -> Result<String, AllocError>
+    ensures { IfOk result (λ text. string_bytes text ≡ percent_encode ESCAPED path.now) }
+{
+    let mut text = String::new(alloc);
+    percent_encode(path.as_bytes(), ESCAPED).append_to(&mut text)?;
+    Ok(text)
+}
+
+/// The value of a place in a text.
+fn point_value(alloc: Global, text: &[u8], at: usize) -> Result<Value, AllocError>
+    ensures { IfOk result (λ value. view value ≡ point_value text.now at) }
+{
+    let (line, column) = line_and_column(text, at);
+    json!(in alloc; {"byteOffset": at, "startColumn": column, "startLine": line})
+}
+
+/// The value of a place in a text, and of its end.
+fn range_value(alloc: Global, text: &[u8], at: usize, end: usize) -> Result<Value, AllocError>
+    ensures { IfOk result (λ value. view value ≡ range_value text.now at end) }
+{
+    let (line, column) = line_and_column(text, at);
+    let (end_line, end_column) = line_and_column(text, end);
+    json!(in alloc; {
+        "byteLength": end.saturating_sub(at),
+        "byteOffset": at,
+        "endColumn": end_column,
+        "endLine": end_line,
+        "startColumn": column,
+        "startLine": line
+    })
+}
+
+/// The value of a place in a text, with its end if it is known.
+fn region_value(
+    alloc: Global,
+    text: &[u8],
+    at: usize,
+    end: Option<usize>,
+) -> Result<Value, AllocError>
+    ensures { IfOk result (λ value. view value ≡ region_value text.now at end) }
+{
+    match end {
+        Some(end) => range_value(alloc, text, at, end),
+        None => point_value(alloc, text, at),
+    }
+}
+
+/// The value of a file, and of a place of it.
+fn physical_value(alloc: Global, place: &Place<'_>) -> Result<Value, AllocError>
+    ensures { IfOk result (λ value. view value ≡ physical_value place.now) }
+{
+    let uri = reference_to(alloc, place.path)?;
+    match place.offset {
+        Some(at) => {
+            let region = region_value(alloc, place.text, at, place.end)?;
+            json!(in alloc; {"artifactLocation": {"uri": uri}, "region": region})
+        }
+        None => json!(in alloc; {"artifactLocation": {"uri": uri}}),
+    }
+}
+
+/// The value of where a finding is.
+fn locations_value(alloc: Global, place: &Option<Place<'_>>) -> Result<Value, AllocError>
+    ensures { IfOk result (λ value. view value ≡ locations_value place.now) }
+{
+    let Some(place) = place else {
+        return json!(in alloc; []);
+    };
+    let physical = physical_value(alloc, place)?;
+    json!(in alloc; [{"physicalLocation": physical}])
+}
+
+/// The value of where a full name is first given.
+fn related_value(alloc: Global, first: &Option<Place<'_>>) -> Result<Value, AllocError>
+    ensures { IfOk result (λ value. view value ≡ related_value first.now) }
+{
+    let Some(place) = first else {
+        return json!(in alloc; []);
+    };
+    let message = message_value(alloc, "it is given here")?;
+    let physical = physical_value(alloc, place)?;
+    json!(in alloc; [{"message": message, "physicalLocation": physical}])
+}
+
+/// The value of a result.
+fn result_value(alloc: Global, finding: &Finding<'_>) -> Result<Value, AllocError>
+    ensures { IfOk result (λ value. view value ≡ result_value finding.now) }
+{
+    let locations = locations_value(alloc, &finding.place)?;
+    let message = message_value(alloc, finding.message)?;
+    let related = related_value(alloc, &finding.first)?;
+    json!(in alloc; {
+        "level": finding.kind.level(),
+        "locations": locations,
+        "message": message,
+        "relatedLocations": related,
+        "ruleId": finding.name
+    })
+}
+
+/// Appends the result of a finding.
+fn push_result(
+    alloc: Global,
+    results: &mut Vec<Value>,
+    finding: &Finding<'_>,
+) -> Result<(), AllocError>
+    ensures { OnOk result (map view results.new.items ≡ map view results.old.items ++ result_value finding.now ∷ []) }
+{
+    let value = result_value(alloc, finding)?;
+    Ok(results.push(value)?)
+}
+
+/// The results of findings.
+fn results_of(alloc: Global, findings: &[Finding<'_>]) -> Result<Vec<Value>, AllocError>
+    ensures { IfOk result (λ results. map view results.items ≡ map result_value findings.now) }
+{
+    let mut results = Vec::new(alloc);
+    for finding in findings {
+        push_result(alloc, &mut results, finding)?;
+    }
+    Ok(results)
+}
+
+/// Whether a name is one of these.
+fn is_among(names: &[&str], name: &str) -> bool
+    ensures { result ≡ is_among (map (λ other. other.now) names.now) name.now }
+{
+    match names {
+        [] => false,
+        [first, others @ ..] => *first == name || is_among(others, name),
+    }
+}
+
+/// Appends a name, if it isn't there.
+fn push_name<'a>(names: &mut Vec<&'a str>, name: &'a str) -> Result<(), AllocError>
+    ensures { OnOk result (map (λ other. other.now) names.new.items
+        ≡ with_name (map (λ other. other.now) names.old.items) name.now) }
+{
+    if is_among(names.as_slice(), name) {
+        return Ok(());
+    }
+    Ok(names.push(name)?)
+}
+
+/// The names of findings, each once, in the order in which they first come.
+fn names_of<'a>(alloc: Global, findings: &[Finding<'a>]) -> Result<Vec<&'a str>, AllocError>
+    ensures { IfOk result (λ names. map (λ name. name.now) names.items
+        ≡ new_names [] (map (λ found. found.name) findings.now)) }
+{
+    let mut names = Vec::new(alloc);
+    for finding in findings {
+        push_name(&mut names, finding.name())?;
+    }
+    Ok(names)
+}
+
+/// The value of a rule.
+fn rule_value(alloc: Global, name: &str) -> Result<Value, AllocError>
+    ensures { IfOk result (λ value. view value ≡ rule_value name.now) }
+{
+    json!(in alloc; {"id": name})
+}
+
+/// Appends the value of a rule.
+fn push_rule(alloc: Global, rules: &mut Vec<Value>, name: &str) -> Result<(), AllocError>
+    ensures { OnOk result (map view rules.new.items ≡ map view rules.old.items ++ rule_value name.now ∷ []) }
+{
+    let value = rule_value(alloc, name)?;
+    Ok(rules.push(value)?)
+}
+
+/// The values of rules.
+fn rules_of(alloc: Global, names: &[&str]) -> Result<Vec<Value>, AllocError>
+    ensures { IfOk result (λ rules. map view rules.items ≡ map (λ name. rule_value name.now) names.now) }
+{
+    let mut rules = Vec::new(alloc);
+    for name in names {
+        push_rule(alloc, &mut rules, *name)?;
+    }
+    Ok(rules)
+}
+
+/// The value of the rules of findings.
+fn rules_value(alloc: Global, findings: &[Finding<'_>]) -> Result<Value, AllocError>
+    ensures { IfOk result (λ value. view value ≡ rules_value findings.now) }
+{
+    let names = names_of(alloc, findings)?;
+    Ok(Value::from(rules_of(alloc, names.as_slice())?))
+}
+
+/// The value of the tool.
+fn tool_value(alloc: Global, findings: &[Finding<'_>]) -> Result<Value, AllocError>
+    ensures { IfOk result (λ value. view value ≡ tool_value findings.now) }
+{
+    let rules = rules_value(alloc, findings)?;
+    json!(in alloc; {"driver": {"name": NAME, "rules": rules, "version": VERSION}})
+}
+
+/// The value of the run.
+fn run_value(alloc: Global, findings: &[Finding<'_>]) -> Result<Value, AllocError>
+    ensures { IfOk result (λ value. view value ≡ run_value findings.now) }
+{
+    let results = results_of(alloc, findings)?;
+    let tool = tool_value(alloc, findings)?;
+    json!(in alloc; {"columnKind": "unicodeCodePoints", "results": results, "tool": tool})
+}
+
+/// The value of the log.
+pub(crate) fn log_value(alloc: Global, findings: &[Finding<'_>]) -> Result<Value, AllocError>
+    ensures { IfOk result (λ value. view value ≡ log_value findings.now) }
+{
+    let run = run_value(alloc, findings)?;
+    json!(in alloc; {
+        "$schema": "https://json.schemastore.org/sarif-2.1.0.json",
+        "runs": [run],
+        "version": "2.1.0"
+    })
+}

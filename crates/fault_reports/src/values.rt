@@ -1,0 +1,29 @@
+//! Values of JSON that may be missing.
+
+ghost use Rattle.std.specs.Prelude.{◌≡◌, IfOk};
+ghost use Rattle.std.specs.Option.{option_map};
+ghost use Rattle.serde_json.specs.View.{view};
+ghost use Rattle.fault_reports.specs.JsonLines.{number_or_null, text_or_null};
+
+use serde_json::Value;
+use std::alloc::{AllocError, Global};
+
+/// A number, or `null`.
+pub(crate) fn number_or_null(number: Option<usize>) -> Value
+    ensures { view result ≡ number_or_null number }
+{
+    match number {
+        Some(number) => Value::from(number),
+        None => Value::Null,
+    }
+}
+
+/// A text, or `null`.
+pub(crate) fn text_or_null(alloc: Global, text: Option<&str>) -> Result<Value, AllocError>
+    ensures { IfOk result (λ value. view value ≡ text_or_null (option_map (λ text. text.now) text.entry)) }
+{
+    match text {
+        Some(text) => Value::try_from_str(alloc, text),
+        None => Ok(Value::Null),
+    }
+}

@@ -1,0 +1,5 @@
+//! Tests of `fault_reports`, by its public call.
+#![tactic(auto)]
+
+#[cfg(test)]
+mod reports;

@@ -1,13 +1,14 @@
 -- What a command line asks for. Which words name a program, and which ask for help or are refused,
 -- is as the rules of the crate `clap` say of this program's command line.
-use Rattle.std.specs.Prelude.{◌≡◌, ◌≢◌, List, [], ◌∷◌, Option, Some, codes, string_bytes}
+use Rattle.std.specs.Prelude.{◌≡◌, ◌≢◌, Bool, true, false, List, [], ◌∷◌, Option, Some, codes, string_bytes}
 use Rattle.std.specs.Option.{option_map}
 use Rattle.clap.specs.Words.{Kinds, IsAmong, Row, Text, fault_of, subcommand_of}
 use Rattle.clap.specs.declared.error.kind.ErrorKind.{ErrorKind}
 use Rattle.command_line.specs.Values.{Carries, CarriesDump, CarriesPages, CarriesSnapshot}
 use Rattle.command_line.specs.Values.{explains_in, limits_of, quiet_in, rows_in, text_of}
 use Rattle.command_line.specs.Program.{command_line}
-use Rattle.command_line.specs.Requests.{Prints}
+use Rattle.command_line.specs.Reports.{lacks_report}
+use Rattle.command_line.specs.Requests.{IsRefused, Prints}
 use Rattle.command_line.specs.Words.{AreListed}
 use Rattle.command_line.specs.declared.words.WordLists.{WordLists}
 use Rattle.command_line.specs.declared.request.Request.{Request}
@@ -43,9 +44,14 @@ Names program (request.Dump options) = (name_of program ≢ Some (codes "index")
 Names program (request.Print text) = ⊥
 Names program (request.Refuse text) = ⊥
 
+-- the program that the words name, unless they give a form for its report, and no file: this is refused
+abbrev pub AsksFor : (lacks_report : Bool) → Option (Text × List Row) → Request → Type 0
+AsksFor true program r = IsRefused r
+AsksFor false program r = Names program r
+
 -- no fault in the words: the program that they name; else one of the answers that the rules allow
 abbrev pub AsksBy : Kinds → Option (Text × List Row) → Request → Type 0
-AsksBy [] program r = Names program r
+AsksBy [] program r = AsksFor (lacks_report (rows_in program)) program r
 AsksBy (k ∷ ks) program r = (answer : ErrorKind) × IsAmong answer (k ∷ ks) × Prints answer r
 
 -- what the words ask for, of which the first is the program's name; the lists of the words that some options take are

@@ -1,4 +1,5 @@
 pub mod Words
+pub mod Reports
 pub mod Values
 pub mod Program
 pub mod Requests

@@ -64,6 +64,12 @@ custom_options_rule words =
 abbrev pub faulty_rule : Bor (List (Bor Text)) → Rule
 faulty_rule words = or_default (codes "refuse") (taking_words words (option_rule (codes "faulty")))
 
+abbrev pub exclude_rule : Rule
+exclude_rule = record (option_rule (codes "exclude")) { action = Some Append }
+
+abbrev pub links_rule : Bor (List (Bor Text)) → Rule
+links_rule words = or_default (codes "ignore") (taking_words words (option_rule (codes "links")))
+
 -- an option without a value, at most once
 abbrev pub flag_rule : Text → Rule
 flag_rule name = record (new_rule name) { long = Some name; action = Some SetTrue }
@@ -110,9 +116,20 @@ choice_rules lists = option_rule (codes "only")
     ∷ explain_rule
     ∷ []
 
+-- the options on how folders are searched
+abbrev pub search_rules : WordLists → List Rule
+search_rules lists = exclude_rule ∷ links_rule lists.links ∷ []
+
 -- the options of `index` and of `shell`
 abbrev pub tree_rules : WordLists → List Rule
-tree_rules lists = setting_rules ++ choice_rules lists
+tree_rules lists = setting_rules ++ (choice_rules lists ++ search_rules lists)
+
+abbrev pub report_format_rule : Bor (List (Bor Text)) → Rule
+report_format_rule words = taking_words words (option_rule (codes "report-format"))
+
+-- the options on the report of `index` and of `shell`
+abbrev pub report_rules : WordLists → List Rule
+report_rules lists = option_rule (codes "report") ∷ report_format_rule lists.report_format ∷ []
 
 -- an argument that the programs below don't have, too
 abbrev pub IsLocal : Arg → Type 0
@@ -134,11 +151,13 @@ line_of name rules = (with_rules (new_app name) rules).top
 abbrev pub index_line : WordLists → Shape
 index_line lists =
     line_of (codes "index")
-    (required_rule (codes "ROOT") ∷ required_rule (codes "OUT") ∷ own_rules ++ tree_rules lists)
+    ((required_rule (codes "ROOT") ∷ required_rule (codes "OUT") ∷ own_rules ++ tree_rules lists)
+    ++ report_rules lists)
 
 -- `shell` wants the folder alone
 abbrev pub shell_line : WordLists → Shape
-shell_line lists = line_of (codes "shell") (required_rule (codes "ROOT") ∷ tree_rules lists)
+shell_line lists =
+    line_of (codes "shell") ((required_rule (codes "ROOT") ∷ tree_rules lists) ++ report_rules lists)
 
 -- `query` wants one argument, the path of an index
 abbrev pub query_line : Shape

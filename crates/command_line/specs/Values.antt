@@ -8,7 +8,8 @@ use Rattle.std.specs.Str.Parse.{digits_value, without_leading_plus}
 use Rattle.clap.specs.Words.{Row, Text, all_of, first_of, one_of}
 use Rattle.clap.specs.ValueTests.{is_unsigned_in}
 use Rattle.index_pool.specs.Workers.{most_workers}
-use Rattle.command_line.specs.Words.{accept_word, custom_options_word, doc_word, faulty_word, positions_word}
+use Rattle.command_line.specs.Words.{accept_word, custom_options_word, doc_word, faulty_word, links_word, positions_word}
+use Rattle.command_line.specs.Reports.{CarriesReport}
 use Rattle.command_line.specs.declared.options.IndexOptions.{IndexOptions}
 use Rattle.command_line.specs.declared.options.Limits.{Limits}
 use Rattle.command_line.specs.declared.options.DumpOptions.{DumpOptions}
@@ -20,6 +21,7 @@ use Rattle.command_line.specs.declared.options.PositionsWord.{PositionsWord}
 use Rattle.command_line.specs.declared.options.AcceptWord.{AcceptWord}
 use Rattle.command_line.specs.declared.options.CustomOptionsWord.{CustomOptionsWord}
 use Rattle.command_line.specs.declared.options.FaultyWord.{FaultyWord}
+use Rattle.command_line.specs.declared.options.LinksWord.{LinksWord}
 
 -- the rows of the program that the words name
 abbrev pub rows_in : Option (Text × List Row) → List Row
@@ -56,6 +58,9 @@ custom_options_of rows = custom_options_word (text_of (codes "custom-options") r
 
 abbrev pub faulty_of : List Row → FaultyWord
 faulty_of rows = faulty_word (text_of (codes "faulty") rows)
+
+abbrev pub links_of : List Row → LinksWord
+links_of rows = links_word (text_of (codes "links") rows)
 
 -- whether `--explain` is given: `clap` then gives the text `true`
 abbrev pub explains_in : List Row → Bool
@@ -121,6 +126,7 @@ pub record Carries (rows : List Row) (options : IndexOptions) : Type 0 where
   pub manager : string_bytes options.manager ≡ text_of (codes "manager") rows
   pub «package» : string_bytes options.«package» ≡ text_of (codes "package") rows
   pub release : string_bytes options.release ≡ text_of (codes "release") rows
+  pub report : CarriesReport rows options.report
   pub only : option_map string_bytes options.only ≡ first_of (codes "only") rows
   pub doc : options.doc ≡ doc_of rows
   pub include : map string_bytes options.include.items ≡ unwrap_or (all_of (codes "include") rows) []
@@ -131,6 +137,8 @@ pub record Carries (rows : List Row) (options : IndexOptions) : Type 0 where
   pub custom_options : options.custom_options ≡ custom_options_of rows
   pub faulty : options.faulty ≡ faulty_of rows
   pub explain : options.explain ≡ explains_in rows
+  pub exclude : map string_bytes options.exclude.items ≡ unwrap_or (all_of (codes "exclude") rows) []
+  pub links : options.links ≡ links_of rows
 
 -- and so those of `dump`
 pub record CarriesDump (rows : List Row) (options : DumpOptions) : Type 0 where

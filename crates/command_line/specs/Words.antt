@@ -14,18 +14,23 @@ use Rattle.command_line.specs.declared.options.CustomOptionsWord.{CustomOptionsW
 use Rattle.command_line.specs.declared.options.CustomOptionsWord.TheVariants.{Refuse, Skip}
 use Rattle.command_line.specs.declared.options.FaultyWord.{FaultyWord}
 use Rattle.command_line.specs.declared.options.FaultyWord.TheVariants as faulty
+use Rattle.command_line.specs.declared.options.LinksWord.{LinksWord}
+use Rattle.command_line.specs.declared.options.LinksWord.TheVariants.{Ignore, Follow}
 
 -- the texts of a list, wherever it is in memory
 abbrev pub texts_at : Bor (List (Bor Text)) → List Text
 texts_at list = map (λ (s : Bor Text). s.now) list.now
 
--- the lists hold the words of `--doc`, `--positions`, `--accept`, `--custom-options` and `--faulty`
+-- the lists hold the words of `--report-format`, `--doc`, `--positions`, `--accept`, `--custom-options`, `--faulty` and
+-- `--links`
 pub record AreListed (lists : WordLists) : Type 0 where
+  pub report_format : texts_at lists.report_format ≡ codes "jsonl" ∷ codes "sarif" ∷ []
   pub doc : texts_at lists.doc ≡ codes "leading" ∷ codes "trailing" ∷ codes "both" ∷ codes "nothing" ∷ []
   pub positions : texts_at lists.positions ≡ codes "utf8" ∷ codes "utf16" ∷ []
   pub accept : texts_at lists.accept ≡ codes "proto3" ∷ codes "all" ∷ []
   pub custom_options : texts_at lists.custom_options ≡ codes "refuse" ∷ codes "skip" ∷ []
   pub faulty : texts_at lists.faulty ≡ codes "refuse" ∷ codes "skip" ∷ []
+  pub links : texts_at lists.links ≡ codes "ignore" ∷ codes "follow" ∷ []
 
 -- what each word says; `clap` refuses every other text
 abbrev pub doc_word : Text → DocWord
@@ -44,3 +49,6 @@ custom_options_word text = if bytes_eq text (codes "skip") then Skip else Refuse
 
 abbrev pub faulty_word : Text → FaultyWord
 faulty_word text = if bytes_eq text (codes "skip") then faulty.Skip else faulty.Refuse
+
+abbrev pub links_word : Text → LinksWord
+links_word text = if bytes_eq text (codes "follow") then Follow else Ignore

@@ -5,6 +5,7 @@ mod names;
 mod options;
 mod program;
 mod reading;
+mod report;
 mod request;
 mod tree;
 mod values;
@@ -12,7 +13,8 @@ mod words;
 
 pub use options::{
     AcceptWord, CustomOptionsWord, DocWord, DumpOptions, FaultyWord, IndexOptions, Limits,
-    PackageFolder, PagesOptions, PositionsWord, SnapshotOptions,
+    LinksWord, PackageFolder, PagesOptions, PositionsWord, SnapshotOptions,
 };
 pub use reading::{request_of, request_of_process};
+pub use report::{ReportOptions, ReportWord};
 pub use request::Request;

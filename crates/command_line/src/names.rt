@@ -50,6 +50,10 @@ pub(crate) const CUSTOM_OPTIONS: &str = "custom-options";
 
 pub(crate) const FAULTY: &str = "faulty";
 
+pub(crate) const EXCLUDE: &str = "exclude";
+
+pub(crate) const LINKS: &str = "links";
+
 pub(crate) const EXPLAIN: &str = "explain";
 
 /// The options of `index` alone.
@@ -58,6 +62,11 @@ pub(crate) const QUIET: &str = "quiet";
 pub(crate) const MAX_SKIPPED: &str = "max-skipped";
 
 pub(crate) const MIN_SOURCES: &str = "min-sources";
+
+/// The options on the report of `index` and of `shell`.
+pub(crate) const REPORT: &str = "report";
+
+pub(crate) const REPORT_FORMAT: &str = "report-format";
 
 /// The option of `snapshot`.
 pub(crate) const TO: &str = "to";

@@ -3,6 +3,8 @@
 ghost use Rattle.std.specs.Prelude.{◌≤◌};
 ghost use Rattle.index_pool.specs.Workers.{most_workers};
 
+use crate::report::ReportOptions;
+
 /// The values of the argument ROOT and of the options of `index` and `shell`. An option that isn't given
 /// has its default.
 #[derive(Debug, Drop)]
@@ -19,6 +21,8 @@ pub struct IndexOptions {
     pub package: String,
     /// The package's release, empty if it isn't given.
     pub release: String,
+    /// The report that is made.
+    pub report: ReportOptions,
     /// The full name below which declarations are kept; `None` if all are.
     pub only: Option<String>,
     /// Which comments document a declaration, if it is given.
@@ -37,6 +41,10 @@ pub struct IndexOptions {
     pub faulty: FaultyWord,
     /// Whether a fault is explained.
     pub explain: bool,
+    /// What is left out of the folders, in the order of the words.
+    pub exclude: Vec<String>,
+    /// What is done about links below the folders; they are passed over if it isn't given.
+    pub links: LinksWord,
     ghost workers_fit: { (1 ≤ workers) × (workers ≤ most_workers) },
 }
 
@@ -146,4 +154,13 @@ pub enum FaultyWord {
     Refuse,
     /// `skip`: what has one is left out and reported.
     Skip,
+}
+
+/// A word of `--links`.
+#[derive(Clone, Copy, Debug, PartialEq, Eq)]
+pub enum LinksWord {
+    /// `ignore`: below a folder that is searched they are passed over.
+    Ignore,
+    /// `follow`: those to regular files and folders are followed, each folder once.
+    Follow,
 }

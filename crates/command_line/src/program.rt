@@ -17,6 +17,7 @@ ghost use Rattle.command_line.specs.Program.{
 };
 
 use crate::names::{DUMP, INDEX, INDEX_FILE, OUT, PAGES, QUERY, ROOT, SHELL, SNAPSHOT, TO};
+use crate::report::add_report_options;
 use crate::tree::{
     accept, add_tree_options, custom_options, explain, max_skipped, min_sources, option, quiet,
     required,
@@ -92,6 +93,7 @@ fn index_program<'a>(alloc: Global, lists: WordLists<'a>) -> Result<Command<'a>,
         min_sources(alloc),
     ]?;
     add_tree_options(alloc, &mut args, lists)?;
+    add_report_options(alloc, &mut args, lists)?;
     program_of(alloc, INDEX, about, INDEX_EXAMPLE, args)
 }
 
@@ -104,6 +106,7 @@ fn shell_program<'a>(alloc: Global, lists: WordLists<'a>) -> Result<Command<'a>,
     let root = required(alloc, ROOT, "The folder whose sources are indexed");
     let mut args = vec![in alloc; root]?;
     add_tree_options(alloc, &mut args, lists)?;
+    add_report_options(alloc, &mut args, lists)?;
     program_of(alloc, SHELL, about, SHELL_EXAMPLE, args)
 }
 

@@ -4,13 +4,15 @@ ghost use Rattle.std.specs.Prelude.{◌≢◌, ◌≡◌, IfOk, IfErr, IsErr, ma
 ghost use Rattle.std.specs.IoError.{error_kind};
 ghost use Rattle.std.specs.declared.io.ErrorKind.TheVariants.{OutOfMemory as Memory};
 ghost use Rattle.clap.specs.Words.{kind_of, subcommand_rows_of};
-ghost use Rattle.command_line.specs.Asks.{Asks, Names};
+ghost use Rattle.command_line.specs.Asks.{Asks, AsksFor, Names};
+ghost use Rattle.command_line.specs.Reports.{lacks_report};
 ghost use Rattle.command_line.specs.Values.{CarriesDump, rows_in};
 ghost use Rattle.command_line.specs.Requests.{IsRefused, Prints};
 
 use crate::names::{INDEX, INDEX_FILE, OUT, PAGES, QUERY, SHELL, SNAPSHOT};
 use crate::options::{AcceptWord, CustomOptionsWord, DumpOptions};
 use crate::program::program;
+use crate::report::lacks_report;
 use crate::request::Request;
 use crate::values::{
     dump_options_of, explains_in, limits_of, options_of, pages_options_of, quiet_in,
@@ -22,6 +24,12 @@ use clap::{ArgMatches, Error};
 use std::alloc::{AllocError, Global};
 use std::io;
 
+/// Why a form for a report is refused that has no file.
+const FORM_ALONE: &str = "'--report-format <WORD>' can't be used without '--report <FILE>'";
+
+/// Why a command line is refused that isn't text, which the system allows.
+const OTHER_TEXT: &str = "invalid UTF-8 was detected in one or more arguments";
+
 /// Reads a command line, of which the first word is the program's name.
 ///
 /// `Asks` says what it asks for, by the rules of `clap`.
@@ -30,8 +38,20 @@ pub fn request_of(alloc: Global, words: &Vec<String>) -> Result<Request, AllocEr
 {
     let lists = WordLists::new();
     match program(alloc, lists)?.try_get_matches_from(words.as_slice()) {
-        Ok(matches) => named(alloc, &matches),
+        Ok(matches) => asked(alloc, &matches),
         Err(error) => answer(alloc, &error),
+    }
+}
+
+/// The program that a command line names, with what it is given; a form for a report without a file is refused.
+fn asked(alloc: Global, matches: &ArgMatches<'_>) -> Result<Request, AllocError>
+    ensures { IfOk result (AsksFor (lacks_report (rows_in (subcommand_rows_of matches.now)))
+        (subcommand_rows_of matches.now)) }
+{
+    if lacks_report(matches) {
+        refuse(alloc, FORM_ALONE)
+    } else {
+        named(alloc, matches)
     }
 }
 
@@ -87,15 +107,14 @@ pub fn request_of_process(
     match words {
         Ok(words) => request_of(alloc, &words),
         Err(error) if error.kind() == io::ErrorKind::OutOfMemory => Err(AllocError),
-        Err(_) => refuse_other_text(alloc),
+        Err(_) => refuse(alloc, OTHER_TEXT),
     }
 }
 
-/// Refuses a command line that isn't text, which the system allows.
-fn refuse_other_text(alloc: Global) -> Result<Request, AllocError>
+/// Refuses a command line for what `clap` doesn't see.
+fn refuse(alloc: Global, message: &str) -> Result<Request, AllocError>
     ensures { IfOk result IsRefused }
 {
-    let message = "invalid UTF-8 was detected in one or more arguments";
     answer(
         alloc,
         &program(alloc, WordLists::new())?.error(ErrorKind::ValueValidation, message)?,

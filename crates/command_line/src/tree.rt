@@ -8,11 +8,13 @@ ghost use Rattle.command_line.specs.Program.{
   choice_rules,
   custom_options_rule,
   doc_rule,
+  exclude_rule,
   explain_rule,
   faulty_rule,
   flag_rule,
   include_package_rule,
   include_rule,
+  links_rule,
   max_skipped_rule,
   min_sources_rule,
   option_rule,
@@ -21,6 +23,7 @@ ghost use Rattle.command_line.specs.Program.{
   project_root_rule,
   quiet_rule,
   required_rule,
+  search_rules,
   setting_rules,
   taking_limit,
   taking_threads,
@@ -30,8 +33,9 @@ ghost use Rattle.command_line.specs.Program.{
 };
 
 use crate::names::{
-    ACCEPT, CUSTOM_OPTIONS, DOC, EXPLAIN, FAULTY, INCLUDE, INCLUDE_PACKAGE, MANAGER, MAX_SKIPPED,
-    MIN_SOURCES, ONLY, PACKAGE, PACKAGE_FOLDER, POSITIONS, PROJECT_ROOT, QUIET, RELEASE, WORKERS,
+    ACCEPT, CUSTOM_OPTIONS, DOC, EXCLUDE, EXPLAIN, FAULTY, INCLUDE, INCLUDE_PACKAGE, LINKS,
+    MANAGER, MAX_SKIPPED, MIN_SOURCES, ONLY, PACKAGE, PACKAGE_FOLDER, POSITIONS, PROJECT_ROOT,
+    QUIET, RELEASE, WORKERS,
 };
 use crate::words::WordLists;
 use clap::{Arg, ArgAction, value_parser};
@@ -77,7 +81,7 @@ fn or_default<'a>(option: Arg<'a>, text: &'a str) -> Arg<'a>
 }
 
 /// The option, with only these words for its value.
-fn taking_words<'a>(option: Arg<'a>, words: &'a [&'a str]) -> Arg<'a>
+pub(crate) fn taking_words<'a>(option: Arg<'a>, words: &'a [&'a str]) -> Arg<'a>
     ensures rule { rule_of result ≡ taking_words words.entry (rule_of option.entry) }
     ensures local { result.global ≡ option.entry.global }
 {
@@ -217,6 +221,34 @@ fn faulty<'a>(alloc: Global, words: &'a [&'a str]) -> Arg<'a>
     or_default(taking_words(option, words), "refuse")
 }
 
+/// What is left out of the folders.
+fn exclude<'a>(alloc: Global) -> Arg<'a>
+    ensures rule { rule_of result ≡ exclude_rule }
+    ensures local { result.global ≡ false }
+{
+    Arg::new(alloc, EXCLUDE)
+        .long(EXCLUDE)
+        .value_name("GLOB")
+        .help(
+            "Leaves out files and folders by name or path, as .git, which is searched otherwise; may be given again",
+        )
+        .action(ArgAction::Append)
+}
+
+/// What is done about links.
+fn links<'a>(alloc: Global, words: &'a [&'a str]) -> Arg<'a>
+    ensures rule { rule_of result ≡ links_rule words.entry }
+    ensures local { result.global ≡ false }
+{
+    let option = option(
+        alloc,
+        LINKS,
+        "WORD",
+        "What to do with symbolic links below a folder: pass them over, or follow them",
+    );
+    or_default(taking_words(option, words), "ignore")
+}
+
 /// Whether a fault is explained.
 pub(crate) fn explain<'a>(alloc: Global) -> Arg<'a>
     ensures rule { rule_of result ≡ explain_rule }
@@ -298,6 +330,14 @@ fn choices<'a>(alloc: Global, lists: WordLists<'a>) -> Result<Vec<Arg<'a>>, Allo
     ]?)
 }
 
+/// The options on how folders are searched.
+fn searching<'a>(alloc: Global, lists: WordLists<'a>) -> Result<Vec<Arg<'a>>, AllocError>
+    ensures rules { IfOk result (λ args. map rule_of args.items ≡ search_rules lists.entry) }
+    ensures local { IfOk result (λ args. AreLocal args.items) }
+{
+    Ok(vec![in alloc; exclude(alloc), links(alloc, lists.links)]?)
+}
+
 /// Adds the options that the programs about a tree share.
 pub(crate) fn add_tree_options<'a>(
     alloc: Global,
@@ -309,5 +349,6 @@ pub(crate) fn add_tree_options<'a>(
 {
     args.append(&mut settings(alloc)?)?;
     args.append(&mut choices(alloc, lists)?)?;
+    args.append(&mut searching(alloc, lists)?)?;
     Ok(())
 }

@@ -19,6 +19,7 @@ ghost use Rattle.command_line.specs.Values.{
   in_limit,
   limit_of,
   limits_of,
+  links_of,
   positions_of,
   quiet_in,
   text_of,
@@ -26,14 +27,15 @@ ghost use Rattle.command_line.specs.Values.{
 };
 
 use crate::names::{
-    ACCEPT, CUSTOM_OPTIONS, DOC, EXPLAIN, FAULTY, INCLUDE, INCLUDE_PACKAGE, INDEX_FILE, MANAGER,
-    MAX_SKIPPED, MIN_SOURCES, ONLY, OUT, PACKAGE, POSITIONS, PROJECT_ROOT, QUIET, RELEASE, ROOT,
-    TO, WORKERS,
+    ACCEPT, CUSTOM_OPTIONS, DOC, EXCLUDE, EXPLAIN, FAULTY, INCLUDE, INCLUDE_PACKAGE, INDEX_FILE,
+    LINKS, MANAGER, MAX_SKIPPED, MIN_SOURCES, ONLY, OUT, PACKAGE, POSITIONS, PROJECT_ROOT, QUIET,
+    RELEASE, ROOT, TO, WORKERS,
 };
 use crate::options::{
     AcceptWord, CustomOptionsWord, DocWord, DumpOptions, FaultyWord, IndexOptions, Limits,
-    PackageFolder, PagesOptions, PositionsWord, SnapshotOptions,
+    LinksWord, PackageFolder, PagesOptions, PositionsWord, SnapshotOptions,
 };
+use crate::report::report_options_of;
 use clap::ArgMatches;
 use index_pool::MAX_WORKERS;
 use std::alloc::{AllocError, Global};
@@ -42,7 +44,7 @@ use std::alloc::{AllocError, Global};
 const DEFAULT_WORKERS: usize = 4;
 
 /// The first text of an argument or option: what it is given, or its default.
-fn first_of<'a>(given: &ArgMatches<'a>, id: &str) -> Option<&'a str>
+pub(crate) fn first_of<'a>(given: &ArgMatches<'a>, id: &str) -> Option<&'a str>
     ensures { option_map (λ s. s.now) result ≡ first_of id.now (rows_of (found_of given.now)) }
 {
     given.get_str(id)
@@ -63,7 +65,7 @@ pub(crate) fn text_of(alloc: Global, given: &ArgMatches<'_>, id: &str) -> Result
 }
 
 /// The text of an option, if there is one.
-fn optional_text_of(
+pub(crate) fn optional_text_of(
     alloc: Global,
     given: &ArgMatches<'_>,
     id: &str,
@@ -207,6 +209,13 @@ fn faulty_of(given: &ArgMatches<'_>) -> FaultyWord
     FaultyWord::of(given_text(given, FAULTY))
 }
 
+/// The word of `--links`, or its default.
+fn links_of(given: &ArgMatches<'_>) -> LinksWord
+    ensures { result ≡ links_of (rows_of (found_of given.now)) }
+{
+    LinksWord::of(given_text(given, LINKS))
+}
+
 /// Whether `--explain` is given.
 pub(crate) fn explains_in(given: &ArgMatches<'_>) -> bool
     ensures { result ≡ explains_in (rows_of (found_of given.now)) }
@@ -259,6 +268,7 @@ pub(crate) fn options_of(alloc: Global, given: &ArgMatches<'_>) -> Result<IndexO
         manager: text_of(alloc, given, MANAGER)?,
         package: text_of(alloc, given, PACKAGE)?,
         release: text_of(alloc, given, RELEASE)?,
+        report: report_options_of(alloc, given)?,
         only: optional_text_of(alloc, given, ONLY)?,
         doc: doc_of(given),
         include: texts_of(alloc, given, INCLUDE)?,
@@ -268,6 +278,8 @@ pub(crate) fn options_of(alloc: Global, given: &ArgMatches<'_>) -> Result<IndexO
         custom_options: custom_options_of(given),
         faulty: faulty_of(given),
         explain: explains_in(given),
+        exclude: texts_of(alloc, given, EXCLUDE)?,
+        links: links_of(given),
     })
 }
 

@@ -7,20 +7,27 @@ ghost use Rattle.command_line.specs.Words.{
   custom_options_word,
   doc_word,
   faulty_word,
+  links_word,
   positions_word,
 };
 
-use crate::options::{AcceptWord, CustomOptionsWord, DocWord, FaultyWord, PositionsWord};
+use crate::options::{
+    AcceptWord, CustomOptionsWord, DocWord, FaultyWord, LinksWord, PositionsWord,
+};
 
 /// The lists of words of the options that take only listed words.
 #[derive(Clone, Copy)]
 pub(crate) struct WordLists<'a> {
+    pub(crate) report_format: &'a [&'a str],
     pub(crate) doc: &'a [&'a str],
     pub(crate) positions: &'a [&'a str],
     pub(crate) accept: &'a [&'a str],
     pub(crate) custom_options: &'a [&'a str],
     pub(crate) faulty: &'a [&'a str],
+    pub(crate) links: &'a [&'a str],
 }
+
+static REPORT_FORMAT: [&str; 2] = ["jsonl", "sarif"];
 
 static DOC: [&str; 4] = ["leading", "trailing", "both", "nothing"];
 
@@ -32,17 +39,21 @@ static CUSTOM_OPTIONS: [&str; 2] = ["refuse", "skip"];
 
 static FAULTY: [&str; 2] = ["refuse", "skip"];
 
+static LINKS: [&str; 2] = ["ignore", "follow"];
+
 impl<'a> WordLists<'a> {
     /// The words of each of these options.
     pub(crate) fn new() -> WordLists<'a>
         ensures { AreListed result }
     {
         WordLists {
+            report_format: REPORT_FORMAT.as_slice(),
             doc: DOC.as_slice(),
             positions: POSITIONS.as_slice(),
             accept: ACCEPT.as_slice(),
             custom_options: CUSTOM_OPTIONS.as_slice(),
             faulty: FAULTY.as_slice(),
+            links: LINKS.as_slice(),
         }
     }
 }
@@ -105,6 +116,18 @@ impl FaultyWord {
         match text {
             "skip" => FaultyWord::Skip,
             _ => FaultyWord::Refuse,
+        }
+    }
+}
+
+impl LinksWord {
+    /// What a word of `--links` says. `clap` takes no other text than these words.
+    pub(crate) fn of(text: &str) -> LinksWord
+        ensures { result ≡ links_word text.now }
+    {
+        match text {
+            "follow" => LinksWord::Follow,
+            _ => LinksWord::Ignore,
         }
     }
 }

@@ -36,6 +36,14 @@ const OPTIONS: &str = "      --workers <N>
           What to do with faults: refuse the tree, or leave out what has one and report it [default: refuse] [possible values: refuse, skip]
       --explain
           Explains a fault: adds its line and column, a sentence, and the text of that line
+      --exclude <GLOB>
+          Leaves out files and folders by name or path, as .git, which is searched otherwise; may be given again
+      --links <WORD>
+          What to do with symbolic links below a folder: pass them over, or follow them [default: ignore] [possible values: ignore, follow]
+      --report <FILE>
+          Writes a report to this file: each fault, and what the index leaves out or lacks
+      --report-format <WORD>
+          The form of the report, jsonl if not given: lines of JSON, or SARIF for code hosts [possible values: jsonl, sarif]
   -h, --help
           Print help
 ";

@@ -11,7 +11,7 @@ struct Asked {
 
 // The fourth row reads: `dump --explain --custom-options skip` asks for a dump that reads past custom options, and
 // explains a fault.
-static ASKED: [Asked; 14] = [
+static ASKED: [Asked; 15] = [
     Asked {
         words: "query a.scip",
         request: "Query(\"a.scip\", false)",
@@ -34,23 +34,27 @@ static ASKED: [Asked; 14] = [
     },
     Asked {
         words: "index api out",
-        request: "Index(IndexOptions { root: \"api\", workers: 4, project_root: \"file:///\", manager: \"\", package: \"\", release: \"\", only: None, doc: None, include: [], include_packages: [], positions: Utf8, accept: Proto3, custom_options: Refuse, faulty: Refuse, explain: false }, \"out\", false, Limits { max_skipped: None, min_sources: None })",
+        request: "Index(IndexOptions { root: \"api\", workers: 4, project_root: \"file:///\", manager: \"\", package: \"\", release: \"\", report: ReportOptions { path: None, format: JsonLines }, only: None, doc: None, include: [], include_packages: [], positions: Utf8, accept: Proto3, custom_options: Refuse, faulty: Refuse, explain: false, exclude: [], links: Ignore }, \"out\", false, Limits { max_skipped: None, min_sources: None })",
     },
     Asked {
-        words: "index --workers 2 --quiet --max-skipped 3 --min-sources=812 --project-root u --manager m --package p --release r --only o --doc both --include j --include i --positions utf16 --accept all --custom-options skip --faulty skip --explain api out",
-        request: "Index(IndexOptions { root: \"api\", workers: 2, project_root: \"u\", manager: \"m\", package: \"p\", release: \"r\", only: Some(\"o\"), doc: Some(Both), include: [\"j\", \"i\"], include_packages: [], positions: Utf16, accept: All, custom_options: Skip, faulty: Skip, explain: true }, \"out\", true, Limits { max_skipped: Some(3), min_sources: Some(812) })",
+        words: "index --workers 2 --quiet --max-skipped 3 --min-sources=812 --report f --report-format sarif --project-root u --manager m --package p --release r --only o --doc both --include j --include i --positions utf16 --accept all --custom-options skip --faulty skip --explain api out",
+        request: "Index(IndexOptions { root: \"api\", workers: 2, project_root: \"u\", manager: \"m\", package: \"p\", release: \"r\", report: ReportOptions { path: Some(\"f\"), format: Sarif }, only: Some(\"o\"), doc: Some(Both), include: [\"j\", \"i\"], include_packages: [], positions: Utf16, accept: All, custom_options: Skip, faulty: Skip, explain: true, exclude: [], links: Ignore }, \"out\", true, Limits { max_skipped: Some(3), min_sources: Some(812) })",
     },
     Asked {
-        words: "shell --workers 16 --project-root=u --manager=m --package=p --release=r --only=o --doc=trailing --include=i --positions=utf8 --accept=proto3 --custom-options=refuse --faulty=refuse -- -api",
-        request: "Shell(IndexOptions { root: \"-api\", workers: 16, project_root: \"u\", manager: \"m\", package: \"p\", release: \"r\", only: Some(\"o\"), doc: Some(Trailing), include: [\"i\"], include_packages: [], positions: Utf8, accept: Proto3, custom_options: Refuse, faulty: Refuse, explain: false })",
+        words: "shell --workers 16 --project-root=u --manager=m --package=p --release=r --report=f --report-format=jsonl --only=o --doc=trailing --include=i --positions=utf8 --accept=proto3 --custom-options=refuse --faulty=refuse -- -api",
+        request: "Shell(IndexOptions { root: \"-api\", workers: 16, project_root: \"u\", manager: \"m\", package: \"p\", release: \"r\", report: ReportOptions { path: Some(\"f\"), format: JsonLines }, only: Some(\"o\"), doc: Some(Trailing), include: [\"i\"], include_packages: [], positions: Utf8, accept: Proto3, custom_options: Refuse, faulty: Refuse, explain: false, exclude: [], links: Ignore })",
     },
     Asked {
         words: "index api --include a --include-package m n r d --include b out --include-package '' '' '' e --include c",
-        request: "Index(IndexOptions { root: \"api\", workers: 4, project_root: \"file:///\", manager: \"\", package: \"\", release: \"\", only: None, doc: None, include: [\"a\", \"b\", \"c\"], include_packages: [PackageFolder { manager: \"m\", name: \"n\", release: \"r\", folder: \"d\" }, PackageFolder { manager: \"\", name: \"\", release: \"\", folder: \"e\" }], positions: Utf8, accept: Proto3, custom_options: Refuse, faulty: Refuse, explain: false }, \"out\", false, Limits { max_skipped: None, min_sources: None })",
+        request: "Index(IndexOptions { root: \"api\", workers: 4, project_root: \"file:///\", manager: \"\", package: \"\", release: \"\", report: ReportOptions { path: None, format: JsonLines }, only: None, doc: None, include: [\"a\", \"b\", \"c\"], include_packages: [PackageFolder { manager: \"m\", name: \"n\", release: \"r\", folder: \"d\" }, PackageFolder { manager: \"\", name: \"\", release: \"\", folder: \"e\" }], positions: Utf8, accept: Proto3, custom_options: Refuse, faulty: Refuse, explain: false, exclude: [], links: Ignore }, \"out\", false, Limits { max_skipped: None, min_sources: None })",
     },
     Asked {
-        words: "index api out --max-skipped +0 --min-sources 04294967295",
-        request: "Index(IndexOptions { root: \"api\", workers: 4, project_root: \"file:///\", manager: \"\", package: \"\", release: \"\", only: None, doc: None, include: [], include_packages: [], positions: Utf8, accept: Proto3, custom_options: Refuse, faulty: Refuse, explain: false }, \"out\", false, Limits { max_skipped: Some(0), min_sources: Some(4294967295) })",
+        words: "index api out --max-skipped +0 --min-sources 04294967295 --report f",
+        request: "Index(IndexOptions { root: \"api\", workers: 4, project_root: \"file:///\", manager: \"\", package: \"\", release: \"\", report: ReportOptions { path: Some(\"f\"), format: JsonLines }, only: None, doc: None, include: [], include_packages: [], positions: Utf8, accept: Proto3, custom_options: Refuse, faulty: Refuse, explain: false, exclude: [], links: Ignore }, \"out\", false, Limits { max_skipped: Some(0), min_sources: Some(4294967295) })",
+    },
+    Asked {
+        words: "index api --exclude .git --links follow --exclude=a/**/b out",
+        request: "Index(IndexOptions { root: \"api\", workers: 4, project_root: \"file:///\", manager: \"\", package: \"\", release: \"\", report: ReportOptions { path: None, format: JsonLines }, only: None, doc: None, include: [], include_packages: [], positions: Utf8, accept: Proto3, custom_options: Refuse, faulty: Refuse, explain: false, exclude: [\".git\", \"a/**/b\"], links: Follow }, \"out\", false, Limits { max_skipped: None, min_sources: None })",
     },
     Asked {
         words: "snapshot a.scip api",

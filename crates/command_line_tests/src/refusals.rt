@@ -50,6 +50,22 @@ error: a value is required for '--min-sources <N>' but none was supplied
 index api out --min-sources 1 --min-sources 1
 error: the argument '--min-sources <N>' cannot be used multiple times
 
+index api out --report-format sarif
+error: '--report-format <WORD>' can't be used without '--report <FILE>'
+
+shell api --report-format jsonl
+error: '--report-format <WORD>' can't be used without '--report <FILE>'
+
+index api out --report f --report-format json
+error: invalid value 'json' for '--report-format <WORD>'
+  [possible values: jsonl, sarif]
+
+index api out --report f --report g
+error: the argument '--report <FILE>' cannot be used multiple times
+
+dump --report f
+error: unexpected argument '--report' found
+
 index api out --workers 0
 error: invalid value '0' for '--workers <N>': 0 is not in 1..=16
 

@@ -11,7 +11,8 @@ program_of-requires c =
     ∷ c.max_skipped.result
     ∷ c.min_sources.result
     ∷ [] in
-    c.in_ok-add_tree_options.ensures.local
+    c.in_ok-add_report_options.ensures.local
+    (c.in_ok-add_tree_options.ensures.local
     (All-same IsLocal _ own c.in_ok-args.ensures.items
     (All-from_recursion IsLocal own (
       c.required.ensures.local,
@@ -19,4 +20,4 @@ program_of-requires c =
         c.required-2.ensures.local,
         (c.quiet.ensures.local, (c.max_skipped.ensures.local, (c.min_sources.ensures.local, tt))),
       ),
-    )))
+    ))))

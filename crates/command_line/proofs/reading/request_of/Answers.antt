@@ -1,7 +1,9 @@
 use Rattle.std.proofs.Common.{◌∙◌, ap, ap₂, sym, subst, map, string_bytes, List, Option}
 use Rattle.std.proofs.lemmas.Result.{IfOk-weaker}
 use Rattle.clap.specs.Words.{Kinds, HasKind, Row, Text, fault_of, is_simple, is_simple_and_free, subcommand_of}
-use Rattle.command_line.specs.Asks.{Names}
+use Rattle.command_line.specs.Asks.{AsksFor}
+use Rattle.command_line.specs.Reports.{lacks_report}
+use Rattle.command_line.specs.Values.{rows_in}
 use Rattle.command_line.proofs.AnswerLemmas.{asks_answer, asks_program, command_line_is_simple, command_line_is_walked}
 use Rattle.command_line.proofs.reading.request_of.Goals as goal
 
@@ -14,13 +16,14 @@ returns-in-Ok c =
     let same = ap₂ fault_of is_line words in
     let rows = c.in-Ok.ensures.matches (ap is_simple is_line ∙ command_line_is_walked lists) in
     let program = rows.1 ∙ ap₂ subcommand_of is_line words in
-    IfOk-weaker c.named.result _ _
+    IfOk-weaker c.asked.result _ _
     (λ r names. (
       lists,
       c.new-lists.ensures,
-      asks_program _ _ r (sym same ∙ none) (subst (λ (p : Option (Text × List Row)). Names p r) program names),
+      asks_program _ _ r (sym same ∙ none)
+          (subst (λ (p : Option (Text × List Row)). AsksFor (lacks_report (rows_in p)) p r) program names),
     ))
-    c.named.ensures
+    c.asked.ensures
 
 pub returns-in-Err : goal.returns-in-Err
 returns-in-Err c =

@@ -3,7 +3,7 @@ use Rattle.std.proofs.lemmas.Result.{IfOk-weaker}
 use Rattle.clap.specs.declared.error.kind.ErrorKind.{ErrorKind}
 use Rattle.command_line.specs.Requests.{Prints}
 use Rattle.command_line.proofs.AnswerLemmas.{refuses}
-use Rattle.command_line.proofs.reading.refuse_other_text.Goals as goal
+use Rattle.command_line.proofs.reading.refuse.Goals as goal
 
 pub returns : goal.returns
 returns c = IfOk-weaker c.answer.result _ _

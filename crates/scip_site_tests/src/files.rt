@@ -1,6 +1,6 @@
 //! Files in memory.
 
-use source_files::{FolderEntry, MakeFiles, ReadFiles};
+use source_files::{FolderListing, MakeFiles, ReadFiles};
 use std::alloc::{AllocError, Global};
 use streams::{Std, write_all};
 
@@ -32,7 +32,7 @@ impl ReadFiles for Files {
         _alloc: Global,
         _root: &str,
         _folder: &str,
-    ) -> Result<Option<Vec<FolderEntry>>, AllocError> {
+    ) -> Result<Option<FolderListing>, AllocError> {
         Ok(None)
     }
 

@@ -4,7 +4,7 @@ use Rattle.std.specs.List.{AllZip, flat_map}
 use Rattle.std.proofs.lemmas.List.{append-nil, map-append}
 use Rattle.std.proofs.lemmas.Grind.{flat_map-append}
 use Rattle.source_tree.specs.Files.{SourceFile, paths_of}
-use Rattle.source_files.specs.Entries.{Entry}
+use Rattle.source_files.specs.Listings.{Listing}
 use Rattle.source_files.specs.Roots.{AreBelow, AreBelowEach, no_root, next_root, AreFolders, AddsFolder}
 
 -- one pair more at the end
@@ -15,7 +15,7 @@ zip-push R [] (b ∷ ys) x y all one = absurd all
 zip-push R (a ∷ xs) [] x y all one = absurd all
 zip-push R (a ∷ xs) (b ∷ ys) x y all one = (all.0, zip-push R xs ys x y all.1 one)
 
-module _ (lists : List ℕ → List ℕ → Option (List Entry) → Type 0) (gives : List ℕ → Option (List ℕ) → Type 0) where
+module _ (lists : List ℕ → List ℕ → Option Listing → Type 0) (gives : List ℕ → Option (List ℕ) → Type 0) where
   pub no_folders : AreFolders lists gives [] [] []
   no_folders = record { folders = []; below = tt; files_are = refl; paths_are = refl }
 

@@ -1,6 +1,9 @@
 pub mod KeptLemmas
 pub mod EntryLemmas
+pub mod FoundLemmas
+pub mod ExclusionLemmas
 pub mod PartLemmas
+pub mod PartedLemmas
 pub mod WalkLemmas
 pub mod WalkLawLemmas
 pub mod OneListingLemmas
@@ -8,3 +11,4 @@ pub mod ReadingLemmas
 pub mod LoadLemmas
 pub mod FolderLemmas
 pub mod PlaceLemmas
+pub mod PlainWalkLemmas

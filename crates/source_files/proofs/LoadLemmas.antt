@@ -8,7 +8,7 @@ use Rattle.std.proofs.lemmas.Option.{same_Some, slice_get_within}
 use Rattle.source_tree.specs.Files.{SourceFile, IsByPath}
 use Rattle.source_tree.specs.Laws.{OneSortingByPath}
 use Rattle.source_tree.specs.Refusals.{HaveBadPath, HaveSamePath}
-use Rattle.source_files.specs.Entries.{Entry}
+use Rattle.source_files.specs.Listings.{Listing}
 use Rattle.source_files.specs.Roots.{AreBelow, AreBelowEach, no_root, next_root, IsUnreadableBelow}
 use Rattle.source_files.specs.RootFaults.{MayStop}
 use Rattle.source_files.specs.declared.load_fault.LoadFault.{LoadFault}
@@ -25,7 +25,7 @@ parted_at f xs number x below is =
     ∙ ap (λ l. map f (take number xs) ++ map f l)
     (drop-cons xs number x below ∙ ap₂ (λ y l. y ∷ l) (sym is) (ap (λ n. drop n xs) (sym (add-one number))))
 
-module _ (lists : List ℕ → List ℕ → Option (List Entry) → Type 0) (gives : List ℕ → Option (List ℕ) → Type 0) where
+module _ (lists : List ℕ → List ℕ → Option Listing → Type 0) (gives : List ℕ → Option (List ℕ) → Type 0) where
   -- one root more
   pub below_more : {roots : List (List ℕ)} {sources : List SourceFile} (root : List ℕ) (here : List SourceFile)
       → AreBelowEach lists gives roots sources
@@ -106,7 +106,7 @@ same_path one sources included back number path same by at =
     (one sources same.sorted back same.by_path by) same.first.repeats.numbered_second in
     same_Some path same.first.repeats.second.path (sym at ∙ ap (option_map (λ (file : SourceFile). file.path)) here)
 
-module _ (lists : List ℕ → List ℕ → Option (List Entry) → Type 0) (gives : List ℕ → Option (List ℕ) → Type 0)
+module _ (lists : List ℕ → List ℕ → Option Listing → Type 0) (gives : List ℕ → Option (List ℕ) → Type 0)
     (root : List ℕ)
     (roots : List (List ℕ)) where
   -- what can't be read below the first root isn't loaded

@@ -1,23 +1,25 @@
 -- What is listed below a root is one list, if each folder has one listing.
 use Rattle.std.proofs.Common.{◌≡◌, ◌∙◌, ℕ, suc, ◌+◌, ◌<◌, Bool, false, cond, List, [], ◌∷◌, ◌++◌}
-use Rattle.std.proofs.Common.{get_or, Option, Some, None, inl, inr, refl, sym, ap, ap₂, subst, sum_by, bytes_eq, arith}
+use Rattle.std.proofs.Common.{get_or, length, map, Option, inl, inr, refl, sym, ap, ap₂, subst, sum_by}
+use Rattle.std.proofs.Common.{bytes_eq, arith}
 use Rattle.std.specs.Cmp.Lexicographic.{slice_cmp}
-use Rattle.std.specs.List.{All, Contains}
+use Rattle.std.specs.List.{AllZip, Contains}
 use Rattle.std.specs.List.Sorted.{IsPermutation, IsSorted}
 use Rattle.std.specs.Ordering.{is_lt, nat_cmp}
 use Rattle.std.proofs.lemmas.Bool.{cases_Bool, true≢false}
 use Rattle.std.proofs.lemmas.Cmp.{nat_list_cmp_total}
-use Rattle.std.proofs.lemmas.List.Elements.{All-nil, All-cons, All-contains, All-head}
 use Rattle.std.proofs.lemmas.List.Elements.{Contains-append_left, Contains-append_right, Contains-push}
-use Rattle.std.proofs.lemmas.List.Sorted.{ranks_by, sorted_far, sum_by-IsPermutation}
+use Rattle.std.proofs.lemmas.List.{nil_from_length}
+use Rattle.std.proofs.lemmas.List.Sorted.{length_permutation, ranks_by, sorted_far, sum_by-IsPermutation}
 use Rattle.std.proofs.lemmas.List.Sums.{sum_by-cons}
 use Rattle.std.proofs.lemmas.Map.Lookups.{exact_bytes}
-use Rattle.std.proofs.lemmas.Option.{same_Some}
 use Rattle.std.proofs.lemmas.Slice.Eq.{bytes_eq-Decides}
+use Rattle.source_files.specs.declared.listing.FolderIdentity.{FolderIdentity}
 use Rattle.source_files.specs.Entries.{Entry, Give, nothing, a_source, a_folder, neither}
-use Rattle.source_files.specs.Walks.{Has, AreFound, nowhere, below_next, IsUnlisted, itself, within}
+use Rattle.source_files.specs.Listings.{Listing}
+use Rattle.source_files.specs.Walks.{Had, Holds, unlisted, listed, Has, Keep, none_left, keeps, passes}
+use Rattle.source_files.specs.Walks.{AreByBytes, AreFound, nowhere, next_level}
 use Rattle.source_files.specs.WalkLaws.{OneListing}
-use Rattle.source_files.proofs.WalkLemmas.{next_of}
 use Rattle.source_tree.proofs.OrderLemmas.{neither_less}
 
 -- ---- sorted texts
@@ -107,58 +109,132 @@ give_one (neither source_not folder_not front) (a_source is behind) = absurd (so
 give_one (neither source_not folder_not front) (a_folder is behind) = absurd (folder_not is)
 give_one (neither source_not folder_not front) (neither nor_source nor_folder behind) = give_one front behind
 
-module _ (lists : List ℕ → Option (List Entry) → Type 0)
-    (once : (folder : List ℕ) (one other : Option (List Entry)) → lists folder one → lists folder other → one ≡ other)
+-- ---- what folders have
+
+abbrev had_by : (folder : List ℕ) (folders sources : List (List ℕ)) → Listing → Had
+had_by folder folders sources listing = record {
+  folders = folders;
+  sources = sources;
+  unread = map (λ name. folder ++ name) listing.unnamed;
+  identity = listing.identity;
+}
+
+-- a listing says one thing
+holds_one : {folder : List ℕ} {gave : Option Listing} {had other : Had} → Holds folder gave had
+    → Holds folder gave other → had ≡ other
+holds_one unlisted unlisted = refl
+holds_one {folder = folder} (listed {listing = listing} {folders = folders} {sources = sources} give)
+    (listed {folders = others} {sources = longer} again) =
+    let parts = give_one give again in
+    ap (λ (l : List (List ℕ)). had_by folder l sources listing) parts.0
+    ∙ ap (λ (l : List (List ℕ)). had_by folder others l listing) parts.1
+
+-- what is kept is one
+record SameKept (folders others sources longer unread gone : List (List ℕ)) (after later : List FolderIdentity) : Type 0
   where
-    has_one : {folder : List ℕ} {folders sources others longer : List (List ℕ)} → Has lists folder folders sources
-        → Has lists folder others longer → (folders ≡ others) × (sources ≡ longer)
-    has_one {folder = folder} {others = others} {longer = longer} one other =
-        let same : one.entries ≡ other.entries = same_Some one.entries other.entries
-        (once folder (Some one.entries) (Some other.entries) one.listed other.listed) in
-        give_one one.give (subst (λ (l : List Entry). Give folder l others longer) (sym same) other.give)
+    folders_are : folders ≡ others
+    sources_are : sources ≡ longer
+    unread_are : unread ≡ gone
+    after_are : after ≡ later
 
-    none_found : {found : List (List ℕ)} → AreFound lists [] found → found ≡ []
-    none_found nowhere = refl
+kept_one : {met after later : List FolderIdentity} {all : List Had}
+    {folders others sources longer unread gone : List (List ℕ)} → Keep met all folders sources unread after
+    → Keep met all others longer gone later → SameKept folders others sources longer unread gone after later
+kept_one none_left none_left = record { folders_are = refl; sources_are = refl; unread_are = refl; after_are = refl }
+kept_one (keeps {had = had} new rest) (keeps newly more) =
+    let same = kept_one rest more in
+    record {
+      folders_are = ap (λ (l : List (List ℕ)). had.folders ++ l) same.folders_are;
+      sources_are = ap (λ (l : List (List ℕ)). had.sources ++ l) same.sources_are;
+      unread_are = ap (λ (l : List (List ℕ)). had.unread ++ l) same.unread_are;
+      after_are = same.after_are;
+    }
+kept_one (keeps new rest) (passes known more) = absurd (new known)
+kept_one (passes known rest) (keeps new more) = absurd (new known)
+kept_one (passes known rest) (passes again more) = kept_one rest more
 
-    found_one : {folders found : List (List ℕ)} (other : List (List ℕ)) → AreFound lists folders found
-        → AreFound lists folders other → found ≡ other
-    found_one other nowhere all = sym (none_found all)
-    found_one other (below_next {sources = sources} {below = below} {found = found} has deep next) all =
-        let one = next_of lists all in
-        let same = has_one has one.has in
-        let lower = found_one one.below deep
-        (subst (λ (l : List (List ℕ)). AreFound lists l one.below) (sym same.0) one.deep) in
-        let rest = found_one one.rest next one.next in
-        ap (λ (l : List (List ℕ)). l ++ (below ++ found)) same.1
-        ∙ (ap (λ (l : List (List ℕ)). one.sources ++ (l ++ found)) lower
-        ∙ (ap (λ (l : List (List ℕ)). one.sources ++ (one.below ++ l)) rest ∙ sym one.found_are))
+-- of nothing nothing is kept
+kept_none : {met after : List FolderIdentity} {all : List Had} {folders sources unread : List (List ℕ)} → all ≡ []
+    → Keep met all folders sources unread after → (folders ≡ []) × (sources ≡ []) × (unread ≡ [])
+kept_none none none_left = (refl, refl, refl)
+kept_none none (keeps new rest) = absurd cc
+kept_none none (passes known rest) = absurd cc
 
-    -- a folder that is listed, with all folders below it
-    abbrev IsWhole : List ℕ → Type 0
-    IsWhole folder = IsUnlisted lists folder → ⊥
+-- nothing is put in order as nothing
+none_by_bytes : (folders next : List (List ℕ)) → folders ≡ [] → AreByBytes folders next → next ≡ []
+none_by_bytes folders next none by =
+    nil_from_length next (length_permutation folders next by.complete ∙ ap (λ (l : List (List ℕ)). length l) none)
 
-    whole_one : {folder : List ℕ} {inner sources : List (List ℕ)} → Has lists folder inner sources → All IsWhole inner
-        → IsWhole folder
-    whole_one {folder = folder} has all (itself none) =
-        let never : Some has.entries ≡ None = once folder (Some has.entries) None has.listed none in absurd cc
-    whole_one {inner = inner} has all (within {inner = one} other among un) =
-        All-contains IsWhole inner one all
-        (subst (λ (l : List (List ℕ)). Contains l one) (sym (has_one has other).0) among) un
+-- and all in one way
+by_bytes_one : (folders others next later : List (List ℕ)) → folders ≡ others → AreByBytes folders next
+    → AreByBytes others later → next ≡ later
+by_bytes_one folders others next later same by again =
+    sorted_one next later
+    (λ f. sym (permuted folders next by.complete f)
+    ∙ (ap (sum_by f) same ∙ permuted others later again.complete f)) by.ascends again.ascends
 
-    all_whole : {folders found : List (List ℕ)} → AreFound lists folders found → All IsWhole folders
-    all_whole nowhere = All-nil IsWhole
-    all_whole (below_next {folder = folder} {others = others} has deep next) =
-        All-cons IsWhole folder others (whole_one has (all_whole deep)) (all_whole next)
+module _ (lists : List ℕ → Option Listing → Type 0)
+    (once : (folder : List ℕ) (one other : Option Listing) → lists folder one → lists folder other → one ≡ other)
+  where
+    has_one : {folder : List ℕ} {had other : Had} → Has lists folder had → Has lists folder other → had ≡ other
+    has_one {folder = folder} {had = had} {other = other} one again =
+        holds_one one.holds
+        (subst (λ (l : Option Listing). Holds folder l other)
+        (sym (once folder one.gave again.gave one.listed again.listed)) again.holds)
 
-pub one_listing : (lists : List ℕ → List ℕ → Option (List Entry) → Type 0) → OneListing lists
+    have_one : (level : List (List ℕ)) (all others : List Had) → AllZip (Has lists) level all
+        → AllZip (Has lists) level others → all ≡ others
+    have_one [] [] [] have again = refl
+    have_one [] (had ∷ all) others have again = absurd have
+    have_one [] [] (other ∷ others) have again = absurd again
+    have_one (folder ∷ level) [] others have again = absurd have
+    have_one (folder ∷ level) (had ∷ all) [] have again = absurd again
+    have_one (folder ∷ level) (had ∷ all) (other ∷ others) have again =
+        ap₂ (λ (h : Had) (l : List Had). h ∷ l) (has_one have.0 again.0) (have_one level all others have.1 again.1)
+
+    have_none : (level : List (List ℕ)) (all : List Had) → level ≡ [] → AllZip (Has lists) level all → all ≡ []
+    have_none level [] none have = refl
+    have_none [] (had ∷ all) none have = absurd have
+    have_none (folder ∷ level) (had ∷ all) none have = absurd cc
+
+    none_found : {met : List FolderIdentity} {level sources unread : List (List ℕ)} → level ≡ []
+        → AreFound lists met level sources unread → (sources ≡ []) × (unread ≡ [])
+    none_found none nowhere = (refl, refl)
+    none_found none (next_level {level = level} {folders = folders} {next = next} {here = here} {gone = gone}
+        {sources = sources} {unread = unread} {all = all} have keep by below) =
+        let kept = kept_none (have_none level all none have) keep in
+        let others = none_found (none_by_bytes folders next kept.0 by) below in (
+          ap₂ (λ (l : List (List ℕ)) (m : List (List ℕ)). l ++ m) kept.1 others.0,
+          ap₂ (λ (l : List (List ℕ)) (m : List (List ℕ)). l ++ m) kept.2 others.1,
+        )
+
+    abbrev Same : (sources longer unread gone : List (List ℕ)) → Type 0
+    Same sources longer unread gone = (sources ≡ longer) × (unread ≡ gone)
+
+    found_one : {met : List FolderIdentity} {level sources unread longer gone : List (List ℕ)}
+        → AreFound lists met level sources unread
+        → AreFound lists met level longer gone → Same sources longer unread gone
+    found_one nowhere again = let none = none_found refl again in (sym none.0, sym none.1)
+    found_one (next_level have keep by below) nowhere = none_found refl (next_level have keep by below)
+    found_one {met = met} (next_level {after = after} {level = level} {folders = folders} {next = next} {here = here}
+        {gone = gone} {all = all} have keep by below) (next_level {after = later} {folders = others} {next = coming} {here = near}
+        {gone = away} {sources = longer} {unread = lost} {all = whole} again kept sorted beyond) =
+        let same : all ≡ whole = have_one level all whole have again in
+        let parts = kept_one keep (subst (λ (l : List Had). Keep met l others near away later) (sym same) kept) in
+        let coming_is = by_bytes_one folders others next coming parts.folders_are by sorted in
+        let rest = found_one below
+        (subst (λ (l : List (List ℕ)). AreFound lists after l longer lost) (sym coming_is)
+        (subst (λ (l : List FolderIdentity). AreFound lists l coming longer lost) (sym parts.after_are) beyond)) in (
+          ap₂ (λ (l : List (List ℕ)) (m : List (List ℕ)). l ++ m) parts.sources_are rest.0,
+          ap₂ (λ (l : List (List ℕ)) (m : List (List ℕ)). l ++ m) parts.unread_are rest.1,
+        )
+
+pub one_listing : (lists : List ℕ → List ℕ → Option Listing → Type 0) → OneListing lists
 one_listing lists = record {
-  one = λ once root paths others listed other.
-      let same : listed.found ≡ other.found =
-      found_one (lists root) (once root) other.found listed.below_root other.below_root in
-      sorted_one paths others
-      (λ f. sym (permuted listed.found paths listed.complete f)
-      ∙ (ap (sum_by f) same ∙ permuted other.found others other.complete f)) listed.ascends other.ascends;
-  whole = λ once root paths listed.
-      All-head (λ folder. IsUnlisted (lists root) folder → ⊥) [] []
-      (all_whole (lists root) (once root) listed.below_root);
+  one = λ once root paths others listing other.
+      let same = found_one (lists root) (once root) listing.below_root other.below_root in
+      by_bytes_one listing.found other.found paths others same.0 listing.by_bytes other.by_bytes;
+  whole = λ once root paths listing unlisting.
+      let same = found_one (lists root) (once root) listing.below_root unlisting.walked.below_root in
+      unlisting.some (sym same.1);
 }

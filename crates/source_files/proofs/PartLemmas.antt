@@ -1,77 +1,59 @@
--- What a phase answers of folders, folder by folder.
-use Rattle.std.proofs.Common.{◌≡◌, ◌∙◌, ℕ, zero, suc, ◌<◌, List, [], ◌∷◌, ◌++◌, map, length, Option, None, Result}
-use Rattle.std.proofs.Common.{refl, ap, string_bytes, arith}
-use Rattle.std.specs.List.{flat_map, slice_get}
+-- What a phase answers of folders, folder by folder, and the parts in which folders are listed.
+use Rattle.std.proofs.Common.{◌≡◌, ◌∙◌, ℕ, suc, List, [], ◌∷◌, ◌++◌, map, length, Option, Result, refl, sym, ap}
+use Rattle.std.proofs.Common.{append_assoc, subst, arith}
+use Rattle.std.specs.List.{AllZip, slice_get}
 use Rattle.std.specs.Option.{IfSome}
-use Rattle.std.specs.Prelude.{MatchResult}
-use Rattle.std.proofs.lemmas.List.{flat_map_more, map-append}
-use Rattle.std.proofs.lemmas.List.Elements.{Contains-append_left, Contains-append_right, Contains-push}
-use Rattle.index_pool.specs.Phase.{AnswersEach, IsLeastFault}
-use Rattle.source_files.specs.declared.load_fault.LoadFault.{LoadFault}
-use Rattle.source_files.specs.declared.load_fault.LoadFault.TheVariants as load
-use Rattle.source_files.specs.Entries.{Entry}
+use Rattle.std.specs.Prelude.{IfOk}
+use Rattle.std.proofs.lemmas.List.{append-nil, map-append}
+use Rattle.index_pool.specs.Phase.{AnswersEach}
+use Rattle.source_files.specs.declared.found.Found.{Found}
+use Rattle.source_files.specs.Listings.{Listing}
 use Rattle.source_files.specs.Walks.{Has}
-use Rattle.source_files.specs.WalkSteps.{Have, none_has, next_has, IsStopped, MayNotList}
+use Rattle.source_files.specs.WalkSteps.{HaveEach, had_of}
 
--- texts of one item more
-pub texts_more : {S O : Type 0} (text : S → List ℕ) (items : O → List S) (old new : List S) (all : List O) (one : O)
-    → map text old ≡ flat_map (λ o. map text (items o)) all → new ≡ old ++ items one
-    → map text new ≡ flat_map (λ o. map text (items o)) (all ++ one ∷ [])
-texts_more text items old new all one so_far more =
-    ap (map text) more ∙ map-append text old (items one)
-    ∙ ap (λ (l : List (List ℕ)). l ++ map text (items one)) so_far
-    ∙ flat_map_more (λ o. map text (items o)) [] all one
+zip_append : {X Y : Type 0} (R : X → Y → Type 0) (xs more : List X) (ys longer : List Y) → AllZip R xs ys
+    → AllZip R more longer → AllZip R (xs ++ more) (ys ++ longer)
+zip_append R [] more [] longer front behind = behind
+zip_append R [] more (y ∷ ys) longer front behind = absurd front
+zip_append R (x ∷ xs) more [] longer front behind = absurd front
+zip_append R (x ∷ xs) more (y ∷ ys) longer front behind = (front.0, zip_append R xs more ys longer front.1 behind)
 
-module _ (lists : List ℕ → Option (List Entry) → Type 0) (root : List ℕ) {S O : Type 0} (text : S → List ℕ)
-    (inner sources : O → List (List ℕ)) where
-  abbrev pub gives_each : List S → ℕ → Result O LoadFault → Type 0
-  gives_each folders number result =
-      IfSome (slice_get folders number) (λ folder. MatchResult result
-      (λ found. Has lists (text folder) (inner found) (sources found)) (MayNotList (lists (text folder) None) root))
+module _ (lists : List ℕ → Option Listing → Type 0) where
+  module _ {S : Type 0} (E : Type 0) (text : S → List ℕ) where
+    -- an answer for each folder
+    pub have_each : (folders : List S) (all : List Found)
+        → AnswersEach (λ number (result : Result Found E). IfSome (slice_get folders number) (λ folder. IfOk result
+        (λ found. Has lists (text folder) (had_of found)))) (length folders) all
+        → HaveEach lists (map text folders) all
+    have_each [] [] answers = tt
+    have_each [] (found ∷ all) answers = absurd (omega (arith, answers.0))
+    have_each (folder ∷ folders) [] answers = absurd (omega (arith, answers.0))
+    have_each (folder ∷ folders) (found ∷ all) answers = (
+      answers.1 0 found refl,
+      have_each folders all (omega (arith, answers.0), λ number out at. answers.1 (suc number) out at),
+    )
 
-  -- an answer for each folder
-  pub have_each : (folders : List S) (all : List O) → AnswersEach (gives_each folders) (length folders) all
-      → Have lists (map text folders) (flat_map inner all) (flat_map sources all)
-  have_each [] [] answers = none_has
-  have_each [] (found ∷ all) answers = absurd (omega (arith, answers.0))
-  have_each (folder ∷ folders) [] answers = absurd (omega (arith, answers.0))
-  have_each (folder ∷ folders) (found ∷ all) answers =
-      next_has (answers.1 0 found refl) (have_each folders all
-      (omega (arith, answers.0), λ number out at. answers.1 (suc number) out at))
+  -- what the folders before those that are left have
+  pub record HaveBut (folders rest : List (List ℕ)) (all : List Found) : Type 0 where
+    pub front : List (List ℕ)
+    pub parts : front ++ rest ≡ folders
+    pub have : HaveEach lists front all
 
-  -- the folder that can't be listed
-  one_stops : (folders : List S) (number : ℕ) (name : List ℕ) → number < length folders
-      → IfSome (slice_get folders number) (λ folder. (name ≡ root) × lists (text folder) None)
-      → (name ≡ root) × IsStopped lists (map text folders)
-  one_stops [] number name within stopped = absurd (omega (arith, within))
-  one_stops (folder ∷ folders) zero name within stopped = (
-    stopped.0,
-    (
-      text folder,
-      Contains-append_left (text folder ∷ []) (map text folders) (text folder) (Contains-push [] (text folder)),
-      stopped.1,
-    ),
-  )
-  one_stops (folder ∷ folders) (suc number) name within stopped =
-      let others = one_stops folders number name (omega (arith, within)) stopped in
-      let stop = others.1 in (
-        others.0,
-        (stop.0, Contains-append_right (text folder ∷ []) (map text folders) stop.0 stop.1, stop.2),
-      )
+  pub none_had : (folders : List (List ℕ)) → HaveBut folders folders []
+  none_had folders = record { front = []; parts = refl; have = tt }
 
-  -- no fault but these comes
-  no_other : (folders : List S) (number : ℕ) → number < length folders → IfSome (slice_get folders number) (λ _. ⊥) → ⊥
-  no_other [] number within other = absurd (omega (arith, within))
-  no_other (folder ∷ folders) zero within other = other
-  no_other (folder ∷ folders) (suc number) within other = no_other folders number (omega (arith, within)) other
+  pub part_had : (folders rest part behind : List (List ℕ)) (all more whole : List Found) → part ++ behind ≡ rest
+      → whole ≡ all ++ more → HaveBut folders rest all → HaveEach lists part more → HaveBut folders behind whole
+  part_had folders rest part behind all more whole parts are had here = record {
+    front = had.front ++ part;
+    parts = append_assoc had.front part behind ∙ (ap (λ l. had.front ++ l) parts ∙ had.parts);
+    have = subst (HaveEach lists (had.front ++ part)) (sym are)
+        (subst (AllZip (Has lists) (had.front ++ part)) (sym (map-append had_of all more))
+        (zip_append (Has lists) had.front part (map had_of all) (map had_of more) had.have here));
+  }
 
-  -- the least fault
-  pub stops_at : (folders : List S) (number : ℕ) (fault : LoadFault)
-      → IsLeastFault (gives_each folders) (length folders) number fault
-      → MayNotList (IsStopped lists (map text folders)) root fault
-  stops_at folders number (load.Unreadable name) least =
-      one_stops folders number (string_bytes name) least.0 least.1
-  stops_at folders number load.TooMany least = absurd (no_other folders number least.0 least.1)
-  stops_at folders number (load.BadPath name) least = absurd (no_other folders number least.0 least.1)
-  stops_at folders number (load.SamePath name) least = absurd (no_other folders number least.0 least.1)
-  stops_at folders number load.Memory least = tt
+  pub all_had : (folders rest : List (List ℕ)) (all : List Found) → rest ≡ [] → HaveBut folders rest all
+      → HaveEach lists folders all
+  all_had folders rest all none had =
+      let whole = sym (append-nil had.front) ∙ (ap (λ l. had.front ++ l) (sym none) ∙ had.parts) in
+      subst (λ l. HaveEach lists l all) whole had.have

@@ -8,7 +8,7 @@ use Rattle.std.proofs.lemmas.List.{map-append}
 use Rattle.std.proofs.lemmas.List.Elements.{All-nil, All-cons, All-append}
 use Rattle.index_pool.specs.Phase.{AnswersEach, IsLeastFault}
 use Rattle.source_tree.specs.Files.{SourceFile, paths_of}
-use Rattle.source_files.specs.Entries.{Entry}
+use Rattle.source_files.specs.Listings.{Listing}
 use Rattle.source_files.specs.declared.load_fault.LoadFault.{LoadFault}
 use Rattle.source_files.specs.declared.load_fault.LoadFault.TheVariants as load
 use Rattle.source_files.specs.Roots.{path_below, IsHeld, AreBelow, IsUnreadable, of_root, of_source}
@@ -22,7 +22,7 @@ pub texts_of_parts : {S : Type 0} (text : S → List ℕ) (part behind rest : Li
     → map text part ++ map text behind ≡ map text rest
 texts_of_parts text part behind rest parts = sym (map-append text part behind) ∙ ap (map text) parts
 
-module _ (lists : List ℕ → List ℕ → Option (List Entry) → Type 0) (gives : List ℕ → Option (List ℕ) → Type 0)
+module _ (lists : List ℕ → List ℕ → Option Listing → Type 0) (gives : List ℕ → Option (List ℕ) → Type 0)
     (root : List ℕ) where
   module _ {S : Type 0} (text : S → List ℕ) where
     abbrev pub gives_each : List S → ℕ → Result SourceFile LoadFault → Type 0
@@ -158,7 +158,7 @@ module _ (lists : List ℕ → List ℕ → Option (List Entry) → Type 0) (giv
   stops_if_err Holds paths (Err fault) listed stop = root_stops paths fault listed stop
 
   -- nor are they read if they can't be listed
-  pub unlisted_stops : (fault : LoadFault) → MayNotList (IsUnlisted (lists root) []) root fault
+  pub unlisted_stops : (fault : LoadFault) → MayNotList (IsUnlisted (lists root)) root fault
       → MayStop lists gives root fault
   unlisted_stops (load.Unreadable name) stop =
       subst (IsUnreadable lists gives root) (sym stop.0) (of_root stop.1)

@@ -1,22 +1,18 @@
--- A walk through the folders below a root finds what is listed there, in whatever order it takes them.
-use Rattle.std.proofs.Common.{◌≡◌, ◌∙◌, ℕ, ◌+◌, ◌<◌, List, [], ◌∷◌, ◌++◌, map, length, get_or, Option, true, false}
-use Rattle.std.proofs.Common.{◌==◌}
-use Rattle.std.proofs.Common.{refl, sym, ap, subst, append_assoc, arith}
+-- A walk through the folders below a root, level by level, finds what is listed there.
+use Rattle.std.proofs.Common.{◌≡◌, ◌∙◌, ℕ, ◌+◌, ◌<◌, List, [], ◌∷◌, ◌++◌, map, length, get_or, Option}
+use Rattle.std.proofs.Common.{true, false, ◌==◌, refl, sym, ap, subst, append_assoc, arith, string_bytes}
 use Rattle.std.specs.Cmp.Lexicographic.{slice_cmp}
-use Rattle.std.specs.List.{All, Contains}
-use Rattle.std.specs.List.Sorted.{IsPermutation, IsSorted}
+use Rattle.std.specs.List.Sorted.{IsSorted}
 use Rattle.std.specs.Ordering.{is_lt, nat_cmp}
 use Rattle.std.proofs.lemmas.Bool.{eqb-true}
-use Rattle.std.proofs.lemmas.List.{append-nil, get_or-map, length-map, nil_from_length}
-use Rattle.std.proofs.lemmas.List.Elements.{All-nil, All-cons, All-append, All-contains, All-contains_itself}
-use Rattle.std.proofs.lemmas.List.Elements.{All-weaker, Contains-append_left, Contains-append_right, Contains-push}
-use Rattle.std.proofs.lemmas.List.Sorted.{IsPermutation-append_comm, IsPermutation-append_left}
-use Rattle.std.proofs.lemmas.List.Sorted.{IsPermutation-append_right, IsPermutation-refl, IsPermutation-trans}
-use Rattle.source_files.specs.declared.load_fault.LoadFault.{LoadFault}
-use Rattle.source_files.specs.declared.load_fault.LoadFault.TheVariants as load
-use Rattle.source_files.specs.Entries.{Entry}
-use Rattle.source_files.specs.Walks.{Has, AreFound, nowhere, below_next, IsUnlisted, itself, within, AreListed}
-use Rattle.source_files.specs.WalkSteps.{MayNotList, Have, none_has, next_has, IsStopped, GoesOn}
+use Rattle.std.proofs.lemmas.List.{append-nil, get_or-map, length-map, map-append, nil_from_length}
+use Rattle.source_files.specs.declared.found.Found.{Found}
+use Rattle.source_files.specs.declared.listing.FolderIdentity.{FolderIdentity}
+use Rattle.source_files.specs.declared.walk.Walk.{Walk}
+use Rattle.source_files.specs.Listings.{Listing}
+use Rattle.source_files.specs.Walks.{Had, Keep, none_left, keeps, passes, IsMet, met_with, AreByBytes, AreFound}
+use Rattle.source_files.specs.Walks.{nowhere, next_level, AreWalked}
+use Rattle.source_files.specs.WalkSteps.{GoesOn, KeepsMore, Meets, is_met, is_new, had_of}
 
 -- nothing is there
 pub none_there : {A : Type 0} (xs : List A) (count : ℕ) → length xs ≡ count → (count == 0) ≡ true → xs ≡ []
@@ -38,203 +34,155 @@ sorted_texts text (x ∷ xs) up =
     (subst (λ (t : List ℕ). is_lt (slice_cmp nat_cmp (text (get_or all (k + 1) x)) t) ≡ false) (sym earlier)
     (up k x low inside))
 
--- a list that is found in a place, and its front is taken later
-moved : {X : Type 0} (first front all more behind below : List X) → below ≡ front ++ behind
-    → IsPermutation all (more ++ behind)
-    → IsPermutation (first ++ (front ++ all)) ((first ++ more) ++ below)
-moved first front all more behind below parts same =
-    let inner = IsPermutation-append_right front all (more ++ behind) same in
-    let turned = IsPermutation-append_left behind (front ++ more) (more ++ front)
-    (IsPermutation-append_comm front more) in
-    let named = subst (λ l. IsPermutation l ((more ++ front) ++ behind)) (append_assoc front more behind) turned in
-    let last : (more ++ front) ++ behind ≡ more ++ below =
-    append_assoc more front behind ∙ ap (λ l. more ++ l) (sym parts) in
-    let joined = IsPermutation-trans (front ++ all) (front ++ (more ++ behind)) (more ++ below) inner
-    (subst (λ l. IsPermutation (front ++ (more ++ behind)) l) last named) in
-    subst (λ l. IsPermutation (first ++ (front ++ all)) l) (sym (append_assoc first more below))
-    (IsPermutation-append_right first (front ++ all) (more ++ below) joined)
+-- ---- what is kept of folders
 
-module _ (lists : List ℕ → Option (List Entry) → Type 0) where
-  -- what is found below folders, and behind that what is found below others
-  found_append : {folders others found behind : List (List ℕ)} → AreFound lists folders found
-      → AreFound lists others behind → AreFound lists (folders ++ others) (found ++ behind)
-  found_append nowhere rest = rest
-  found_append {others = others} {behind = behind} (below_next {folder = folder} {others = front} {inner = inner}
-      {sources = sources} {below = below} {found = found} has deep next) rest =
-      subst (AreFound lists (folder ∷ (front ++ others)))
-      (sym (append_assoc sources (below ++ found) behind ∙ ap (λ l. sources ++ l) (append_assoc below found behind)))
-      (below_next has deep (found_append next rest))
+-- what is kept of folders, and then of others
+keep_append : {met between after : List FolderIdentity} {all more : List Had}
+    {folders sources unread inner here gone : List (List ℕ)} → Keep met all folders sources unread between
+    → Keep between more inner here gone after
+    → Keep met (all ++ more) (folders ++ inner) (sources ++ here) (unread ++ gone) after
+keep_append none_left rest = rest
+keep_append {after = after} {more = more} {inner = inner} {here = here} {gone = gone} (keeps {met = met} {had = had}
+    {others = others} {folders = folders} {sources = sources} {unread = unread} new front) rest =
+    let whole = keeps new (keep_append front rest) in
+    subst (λ (l : List (List ℕ)). Keep met (had ∷ (others ++ more)) l ((had.sources ++ sources) ++ here)
+    ((had.unread ++ unread) ++ gone) after) (sym (append_assoc had.folders folders inner))
+    (subst (λ (l : List (List ℕ)). Keep met (had ∷ (others ++ more)) (had.folders ++ (folders ++ inner)) l
+    ((had.unread ++ unread) ++ gone) after) (sym (append_assoc had.sources sources here))
+    (subst (λ (l : List (List ℕ)). Keep met (had ∷ (others ++ more)) (had.folders ++ (folders ++ inner))
+    (had.sources ++ (sources ++ here)) l after) (sym (append_assoc had.unread unread gone)) whole))
+keep_append (passes known front) rest = passes known (keep_append front rest)
 
-  -- what is found below the first of folders, and what below the others
-  pub record Next (folder : List ℕ) (others found : List (List ℕ)) : Type 0 where
-    pub inner : List (List ℕ)
-    pub sources : List (List ℕ)
-    pub below : List (List ℕ)
-    pub rest : List (List ℕ)
-    pub has : Has lists folder inner sources
-    pub deep : AreFound lists inner below
-    pub next : AreFound lists others rest
-    pub found_are : found ≡ sources ++ (below ++ rest)
+-- nothing is added yet
+pub none_kept : (walk : Walk) → KeepsMore [] walk walk
+none_kept walk = record {
+  folders = [];
+  sources = [];
+  unread = [];
+  keep = none_left;
+  folders_are = sym (append-nil (map string_bytes walk.folders.items));
+  sources_are = sym (append-nil (map string_bytes walk.paths.items));
+  unread_are = sym (append-nil (map string_bytes walk.unread.items));
+}
 
-  pub next_of : {folder : List ℕ} {others found : List (List ℕ)} → AreFound lists (folder ∷ others) found
-      → Next folder others found
-  next_of (below_next {inner = inner} {sources = sources} {below = below} {found = rest} has deep next) = record {
-    inner = inner;
-    sources = sources;
-    below = below;
-    rest = rest;
-    has = has;
-    deep = deep;
-    next = next;
-    found_are = refl;
-  }
+-- three parts of a list
+parts_of : {X : Type 0} (front middle behind between whole : List X) → between ≡ front ++ middle
+    → whole ≡ between ++ behind → whole ≡ front ++ (middle ++ behind)
+parts_of front middle behind between whole first second =
+    second ∙ (ap (λ l. l ++ behind) first ∙ append_assoc front middle behind)
 
-  record Parts (folders others found : List (List ℕ)) : Type 0 where
-    front : List (List ℕ)
-    behind : List (List ℕ)
-    found_are : found ≡ front ++ behind
-    first : AreFound lists folders front
-    second : AreFound lists others behind
+-- of more folders more is kept
+pub more_kept : (all more : List Had) (old between new : Walk) → KeepsMore all old between
+    → KeepsMore more between new → KeepsMore (all ++ more) old new
+more_kept all more old between new first second = record {
+  folders = first.folders ++ second.folders;
+  sources = first.sources ++ second.sources;
+  unread = first.unread ++ second.unread;
+  keep = keep_append first.keep second.keep;
+  folders_are = parts_of _ first.folders second.folders _ _ first.folders_are second.folders_are;
+  sources_are = parts_of _ first.sources second.sources _ _ first.sources_are second.sources_are;
+  unread_are = parts_of _ first.unread second.unread _ _ first.unread_are second.unread_are;
+}
 
-  parts_of : (folders others found : List (List ℕ)) → AreFound lists (folders ++ others) found
-      → Parts folders others found
-  parts_of [] others found all = record { front = []; behind = found; found_are = refl; first = nowhere; second = all }
-  parts_of (folder ∷ folders) others found all =
-      let one = next_of all in
-      let parts = parts_of folders others one.rest one.next in
-      record {
-        front = one.sources ++ (one.below ++ parts.front);
-        behind = parts.behind;
-        found_are =
-            one.found_are
-            ∙ (ap (λ (l : List (List ℕ)). one.sources ++ (one.below ++ l)) parts.found_are
-            ∙ sym (append_assoc one.sources (one.below ++ parts.front) parts.behind
-            ∙ ap (λ l. one.sources ++ l) (append_assoc one.below parts.front parts.behind)));
-        first = below_next one.has one.deep parts.first;
-        second = parts.second;
-      }
+-- what is said of a folder that was met, and of one that is new
+met_again : {met after : List FolderIdentity} {identity : Option FolderIdentity} → Meets met identity false after
+    → IsMet met identity × (after ≡ met)
+met_again (is_met known) = (known, refl)
 
-  -- what is found below folders is what they have and what is found below the folders that they have
-  record Deeper (part sources below : List (List ℕ)) : Type 0 where
-    all : List (List ℕ)
-    found : AreFound lists part all
-    same : IsPermutation all (sources ++ below)
+met_newly : {met after : List FolderIdentity} {identity : Option FolderIdentity} → Meets met identity true after
+    → ¬ (IsMet met identity) × (after ≡ met_with met identity)
+met_newly (is_new unknown) = (unknown, refl)
 
-  deeper : {part folders sources : List (List ℕ)} (below : List (List ℕ)) → Have lists part folders sources
-      → AreFound lists folders below → Deeper part sources below
-  deeper below none_has is = record { all = below; found = is; same = IsPermutation-refl below }
-  deeper below (next_has {inner = inner} {others = others} {sources = sources} {more = more} has rest) is =
-      let parts = parts_of inner others below is in
-      let further = deeper parts.behind rest parts.second in
-      record {
-        all = sources ++ (parts.front ++ further.all);
-        found = below_next has parts.first further.found;
-        same = moved sources parts.front further.all more parts.behind below parts.found_are further.same;
-      }
+-- what a folder has that was met isn't kept
+pub met_adds : (found : Found) (old new : Walk) → Meets old.met.items found.identity false new.met.items
+    → new.folders.items ≡ old.folders.items → new.paths.items ≡ old.paths.items
+    → new.unread.items ≡ old.unread.items
+    → KeepsMore (had_of found ∷ []) old new
+met_adds found old new meets folders paths unread =
+    let met = met_again meets in
+    record {
+      folders = [];
+      sources = [];
+      unread = [];
+      keep = subst (Keep old.met.items (had_of found ∷ []) [] [] []) (sym met.1) (passes met.0 none_left);
+      folders_are = ap (map string_bytes) folders
+          ∙ sym (append-nil (map string_bytes old.folders.items));
+      sources_are = ap (map string_bytes) paths
+          ∙ sym (append-nil (map string_bytes old.paths.items));
+      unread_are = ap (map string_bytes) unread
+          ∙ sym (append-nil (map string_bytes old.unread.items));
+    }
 
-  -- If the root can't be listed so long as this folder can't be.
-  abbrev Counts : List ℕ → Type 0
-  Counts folder = IsUnlisted lists folder → IsUnlisted lists []
+-- texts and more texts
+more_texts : {S : Type 0} (text : S → List ℕ) (old here new : List S) → new ≡ old ++ here
+    → map text new ≡ map text old ++ (map text here ++ [])
+more_texts text old here new are =
+    ap (map text) are ∙ (map-append text old here ∙ ap (λ l. map text old ++ l) (sym (append-nil (map text here))))
 
-  -- some folders are left, and some sources were found
-  pub record IsWalk (left found : List (List ℕ)) : Type 0 where
-    pub completes : (below : List (List ℕ)) → AreFound lists left below
-        → (all : List (List ℕ)) × AreFound lists ([] ∷ []) all × IsPermutation all (found ++ below)
-    pub counts : All Counts left
+-- and what a new one has is
+pub new_adds : (found : Found) (old new : Walk) → Meets old.met.items found.identity true new.met.items
+    → new.folders.items ≡ old.folders.items ++ found.folders.items
+    → new.paths.items ≡ old.paths.items ++ found.paths.items
+    → new.unread.items ≡ old.unread.items ++ found.unread.items → KeepsMore (had_of found ∷ []) old new
+new_adds found old new meets folders paths unread =
+    let met = met_newly meets in
+    let had = had_of found in
+    record {
+      folders = had.folders ++ [];
+      sources = had.sources ++ [];
+      unread = had.unread ++ [];
+      keep = subst (Keep old.met.items (had ∷ []) (had.folders ++ []) (had.sources ++ []) (had.unread ++ []))
+          (sym met.1) (keeps met.0 none_left);
+      folders_are = more_texts string_bytes old.folders.items found.folders.items new.folders.items folders;
+      sources_are = more_texts string_bytes old.paths.items found.paths.items new.paths.items paths;
+      unread_are = more_texts string_bytes old.unread.items found.unread.items new.unread.items unread;
+    }
 
-  pub begins : IsWalk ([] ∷ []) []
-  begins = record {
-    completes = λ below is. (below, is, IsPermutation-refl below);
-    counts = All-cons Counts [] [] (λ unlisted. unlisted) (All-nil Counts);
-  }
+-- ---- the levels
 
-  -- of folders that are left those count that come first, and those that come last
-  counts_first : (front part : List (List ℕ)) → All Counts (front ++ part) → All Counts front
-  counts_first front part all =
-      All-weaker (Contains front) Counts
-      (λ folder among. All-contains Counts (front ++ part) folder all (Contains-append_left front part folder among))
-      front
-      (All-contains_itself front)
+module _ (lists : List ℕ → Option Listing → Type 0) where
+  -- what is found from this level on completes what is found below the root
+  abbrev pub IsWalk : Walk → Type 0
+  IsWalk walk =
+      (sources unread : List (List ℕ))
+      → AreFound lists walk.met.items (map string_bytes walk.folders.items) sources unread
+      → AreFound lists [] ([] ∷ []) (map string_bytes walk.paths.items ++ sources)
+      (map string_bytes walk.unread.items ++ unread)
 
-  counts_last : (front part : List (List ℕ)) → All Counts (front ++ part) → All Counts part
-  counts_last front part all =
-      All-weaker (Contains part) Counts
-      (λ folder among. All-contains Counts (front ++ part) folder all (Contains-append_right front part folder among))
-      part
-      (All-contains_itself part)
+  -- the root alone is left
+  pub begins : (walk : Walk) → map string_bytes walk.folders.items ≡ [] ∷ [] → walk.met.items ≡ []
+      → map string_bytes walk.paths.items ≡ [] → map string_bytes walk.unread.items ≡ [] → IsWalk walk
+  begins walk folders met paths unread =
+      λ sources gone is.
+      subst (λ l. AreFound lists [] ([] ∷ []) (l ++ sources) (map string_bytes walk.unread.items ++ gone)) (sym paths)
+      (subst (λ l. AreFound lists [] ([] ∷ []) sources (l ++ gone)) (sym unread)
+      (subst (λ l. AreFound lists [] l sources gone) folders
+      (subst (λ l. AreFound lists l (map string_bytes walk.folders.items) sources gone) met is)))
 
-  -- so do the folders that they have
-  counts_deeper : {part folders sources : List (List ℕ)} → Have lists part folders sources → All Counts part
-      → All Counts folders
-  counts_deeper none_has all = All-nil Counts
-  counts_deeper (next_has {folder = folder} {part = part} {inner = inner} {others = others} has rest) all =
-      All-append Counts inner others
-      (All-weaker (Contains inner) Counts
-      (λ one among unlisted. All-contains Counts (folder ∷ part) folder all
-      (Contains-append_left (folder ∷ []) part folder (Contains-push [] folder)) (within has among unlisted))
-      inner (All-contains_itself inner))
-      (counts_deeper rest (counts_last (folder ∷ []) part all))
-
-  pub goes_on : (left more found longer : List (List ℕ)) → IsWalk left found → GoesOn lists left more found longer
-      → IsWalk more longer
-  goes_on left more found longer walk step =
-      let front = step.front in
-      let part = step.part in
-      let whole : IsWalk (front ++ part) found = subst (λ (l : List (List ℕ)). IsWalk l found) step.left_are walk in
-      subst (λ (l : List (List ℕ)). IsWalk l longer) (sym step.more_are)
-      (subst (λ (l : List (List ℕ)). IsWalk (front ++ step.folders) l) (sym step.longer_are)
-      (record {
-        completes = λ below is.
-            let parts = parts_of front step.folders below is in
-            let further = deeper parts.behind step.have parts.second in
-            let done = whole.completes (parts.front ++ further.all) (found_append parts.first further.found) in (
-              done.0,
-              done.1,
-              IsPermutation-trans done.0 (found ++ (parts.front ++ further.all))
-                  ((found ++ step.sources) ++ below) done.2
-                  (moved found parts.front further.all step.sources parts.behind below parts.found_are further.same),
-            );
-        counts = All-append Counts front step.folders (counts_first front part whole.counts)
-            (counts_deeper step.have (counts_last front part whole.counts));
-      }))
+  pub goes_on : (old new : Walk) → IsWalk old → GoesOn lists old new → IsWalk new
+  goes_on old new walk step =
+      λ sources unread is.
+      let all = walk (step.sources ++ sources) (step.unread ++ unread)
+      (next_level step.have step.keep step.by_bytes is) in
+      let found = sym (append_assoc (map string_bytes old.paths.items) step.sources sources)
+      ∙ ap (λ l. l ++ sources) (sym step.sources_are) in
+      let gone = sym (append_assoc (map string_bytes old.unread.items) step.unread unread)
+      ∙ ap (λ l. l ++ unread) (sym step.unread_are) in
+      subst (λ l. AreFound lists [] ([] ∷ []) l (map string_bytes new.unread.items ++ unread)) found
+      (subst (λ l. AreFound lists [] ([] ∷ []) (map string_bytes old.paths.items ++ (step.sources ++ sources)) l) gone
+      all)
 
   -- no folder is left
-  pub ends : (found paths : List (List ℕ)) → IsWalk [] found → IsPermutation found paths
-      → IsSorted (slice_cmp nat_cmp) paths → AreListed lists paths
-  ends found paths walk same up =
-      let done = walk.completes [] nowhere in
-      record {
-        found = done.0;
-        below_root = done.1;
-        complete = IsPermutation-trans done.0 found paths
-            (subst (λ (l : List (List ℕ)). IsPermutation done.0 l) (append-nil found) done.2) same;
-        ascends = up;
-      }
-
-  -- a folder that is left can't be listed
-  pub stops : (left found : List (List ℕ)) (root : List ℕ) (fault : LoadFault) → IsWalk left found
-      → MayNotList (IsStopped lists left) root fault → MayNotList (IsUnlisted lists []) root fault
-  stops left found root (load.Unreadable text) walk stop =
-      let stopped = stop.1 in (stop.0, All-contains Counts left stopped.0 walk.counts stopped.1 (itself stopped.2))
-  stops left found root load.TooMany walk stop = absurd stop
-  stops left found root (load.BadPath text) walk stop = absurd stop
-  stops left found root (load.SamePath text) walk stop = absurd stop
-  stops left found root load.Memory walk stop = tt
-
-  -- one of the last that are left can't be listed
-  pub stops_in_part : (front part left : List (List ℕ)) (root : List ℕ) (fault : LoadFault) → front ++ part ≡ left
-      → MayNotList (IsStopped lists part) root fault → MayNotList (IsStopped lists left) root fault
-  stops_in_part front part left root (load.Unreadable text) parts stop =
-      let stopped = stop.1 in (
-        stop.0,
-        (
-          stopped.0,
-          subst (λ (l : List (List ℕ)). Contains l stopped.0) parts
-              (Contains-append_right front part stopped.0 stopped.1),
-          stopped.2,
-        ),
-      )
-  stops_in_part front part left root load.TooMany parts stop = absurd stop
-  stops_in_part front part left root (load.BadPath text) parts stop = absurd stop
-  stops_in_part front part left root (load.SamePath text) parts stop = absurd stop
-  stops_in_part front part left root load.Memory parts stop = tt
+  pub ends : (walk : Walk) (paths : List (List ℕ)) → IsWalk walk → walk.folders.items ≡ []
+      → AreByBytes (map string_bytes walk.paths.items) paths
+      → AreWalked lists paths (map string_bytes walk.unread.items)
+  ends walk paths is none by = record {
+    found = map string_bytes walk.paths.items;
+    below_root =
+        let found = map string_bytes walk.paths.items in
+        let unread = map string_bytes walk.unread.items in
+        let left = subst (λ l. AreFound lists walk.met.items (map string_bytes l) [] []) (sym none) nowhere in
+        subst (λ l. AreFound lists [] ([] ∷ []) l unread) (append-nil found)
+        (subst (λ l. AreFound lists [] ([] ∷ []) (found ++ []) l) (append-nil unread) (is [] [] left));
+    by_bytes = by;
+  }

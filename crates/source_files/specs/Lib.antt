@@ -3,7 +3,10 @@ pub mod Source
 pub mod SystemFiles
 -- what folders have, and what is listed below a root
 pub mod Entries
+pub mod Listings
+pub mod Exclusions
 pub mod Walks
+pub mod PlainWalks
 pub mod WalkLaws
 pub mod WalkSteps
 -- what the sources below a root are, and which can't be read

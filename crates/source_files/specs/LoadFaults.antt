@@ -2,7 +2,7 @@
 use Rattle.std.specs.Prelude.{ℕ, ⊤, List, Option, codes, string_bytes}
 use Rattle.source_tree.specs.Files.{SourceFile}
 use Rattle.source_tree.specs.Refusals.{AreTooMany}
-use Rattle.source_files.specs.Entries.{Entry}
+use Rattle.source_files.specs.Listings.{Listing}
 use Rattle.source_files.specs.declared.load_fault.LoadFault.{LoadFault}
 use Rattle.source_files.specs.declared.load_fault.LoadFault.TheVariants.{Unreadable, TooMany, BadPath, SamePath, Memory}
 use Rattle.source_files.specs.Roots.{IsUnreadableBelow}
@@ -17,7 +17,7 @@ name_of (SamePath path) = codes "SamePath"
 name_of Memory = codes "Memory"
 
 -- why files below several roots can't be read
-abbrev pub MayStopBelow : (List ℕ → List ℕ → Option (List Entry) → Type 0) → (List ℕ → Option (List ℕ) → Type 0)
+abbrev pub MayStopBelow : (List ℕ → List ℕ → Option Listing → Type 0) → (List ℕ → Option (List ℕ) → Type 0)
     → (roots : List (List ℕ)) → LoadFault → Type 0
 MayStopBelow lists gives roots (Unreadable name) = IsUnreadableBelow lists gives roots (string_bytes name)
 MayStopBelow lists gives roots Memory = ⊤

@@ -3,7 +3,7 @@ use Rattle.std.specs.Prelude.{◌≡◌, ℕ, ⊤, List, ◌∷◌, Option, stri
 use Rattle.source_tree.specs.Files.{SourceFile, TreeFile, paths_of}
 use Rattle.source_tree.specs.Trees.{IsTreeOf}
 use Rattle.source_tree.specs.Refusals.{AreTooMany, HaveBadPath, HaveSamePath}
-use Rattle.source_files.specs.Entries.{Entry}
+use Rattle.source_files.specs.Listings.{Listing}
 use Rattle.source_files.specs.declared.load_fault.LoadFault.{LoadFault}
 use Rattle.source_files.specs.declared.load_fault.LoadFault.TheVariants.{Unreadable, TooMany, BadPath, SamePath, Memory}
 use Rattle.source_files.specs.Roots.{AreBelow, AreBelowEach, AreFolders, IsUnreadableBelow}
@@ -18,7 +18,7 @@ abbrev pub HasSamePath : (path : List ℕ) → (sources included : List SourceFi
 HasSamePath path sources included =
     (number : ℕ) × (same : HaveSamePath sources included number) × (path ≡ same.first.repeats.second.path)
 
-module _ (lists : List ℕ → List ℕ → Option (List Entry) → Type 0) (gives : List ℕ → Option (List ℕ) → Type 0)
+module _ (lists : List ℕ → List ℕ → Option Listing → Type 0) (gives : List ℕ → Option (List ℕ) → Type 0)
     (root : List ℕ)
     (roots : List (List ℕ)) where
   -- this holds of the sources below the root and the files below the included roots, all of which can be read

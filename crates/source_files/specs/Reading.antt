@@ -1,12 +1,12 @@
 -- Reading the sources with given paths below a root.
 use Rattle.std.specs.Prelude.{◌≡◌, ℕ, ⊤, List, ◌∷◌, ◌++◌, Option, None, Result, Ok, Err, All, string_bytes}
 use Rattle.source_tree.specs.Files.{SourceFile, paths_of}
-use Rattle.source_files.specs.Entries.{Entry}
+use Rattle.source_files.specs.Listings.{Listing}
 use Rattle.source_files.specs.declared.load_fault.LoadFault.{LoadFault}
 use Rattle.source_files.specs.declared.load_fault.LoadFault.TheVariants.{Unreadable, Memory}
 use Rattle.source_files.specs.Roots.{path_below, IsHeld}
 
-module _ (lists : List ℕ → List ℕ → Option (List Entry) → Type 0) (gives : List ℕ → Option (List ℕ) → Type 0)
+module _ (lists : List ℕ → List ℕ → Option Listing → Type 0) (gives : List ℕ → Option (List ℕ) → Type 0)
     (root : List ℕ) where
   -- why the source with a path isn't read: it can't be, and its path is named; nothing is said about memory; and no
   -- other fault comes

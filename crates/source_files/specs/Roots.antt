@@ -2,7 +2,7 @@
 use Rattle.std.specs.Prelude.{◌≡◌, ℕ, List, [], ◌∷◌, ◌++◌, Option, Some, None, All, map}
 use Rattle.std.specs.List.{AllZip, flat_map}
 use Rattle.source_tree.specs.Files.{SourceFile, paths_of}
-use Rattle.source_files.specs.Entries.{Entry}
+use Rattle.source_files.specs.Listings.{Listing}
 use Rattle.source_files.specs.Source.{MayKeep}
 use Rattle.source_files.specs.Walks.{AreListed, IsUnlisted}
 
@@ -10,7 +10,7 @@ use Rattle.source_files.specs.Walks.{AreListed, IsUnlisted}
 abbrev pub path_below : List ℕ → List ℕ → List ℕ
 path_below root path = root ++ (47 ∷ path)
 
-module _ (lists : List ℕ → List ℕ → Option (List Entry) → Type 0) (gives : List ℕ → Option (List ℕ) → Type 0) where
+module _ (lists : List ℕ → List ℕ → Option Listing → Type 0) (gives : List ℕ → Option (List ℕ) → Type 0) where
   -- a source has what its file below the root gave, as far as that is kept
   abbrev pub IsHeld : (root : List ℕ) → SourceFile → Type 0
   IsHeld root source = MayKeep (gives (path_below root source.path)) (Some source.bytes)
@@ -23,7 +23,7 @@ module _ (lists : List ℕ → List ℕ → Option (List Entry) → Type 0) (giv
   -- what can't be read first: the root, if it or a folder found below it can't be listed, or a source, those before
   -- which can be read
   pub data IsUnreadable (root : List ℕ) : List ℕ → Type 0 where
-    of_root : IsUnlisted (lists root) [] → IsUnreadable root root
+    of_root : IsUnlisted (lists root) → IsUnreadable root root
     of_source : (sources : List SourceFile) (path : List ℕ) (behind : List (List ℕ))
         → AreListed (lists root) (paths_of sources ++ path ∷ behind)
         → All (IsHeld root) sources

@@ -1,7 +1,9 @@
 -- What the paths that are listed below a root are like, and that they are one list.
-use Rattle.std.specs.Prelude.{◌≡◌, ℕ, List, [], ◌∷◌, ◌++◌, Option, All, codes}
+use Rattle.std.specs.Prelude.{◌≡◌, ℕ, List, [], ◌∷◌, ◌++◌, Option, Some, None, All, codes}
 use Rattle.std.specs.List.{flat_map}
-use Rattle.source_files.specs.Entries.{Entry, IsName}
+use Rattle.source_files.specs.Entries.{IsName}
+use Rattle.source_files.specs.Listings.{Listing}
+use Rattle.source_files.specs.PlainWalks.{AreListedBelow, CantBeListed}
 use Rattle.source_files.specs.Walks.{AreListed, IsUnlisted}
 
 -- the names of folders, each with `/` behind it
@@ -20,17 +22,28 @@ pub record StaysBelow (path : List ℕ) : Type 0 where
   pub path_is : path ≡ folder_path folders ++ name
 
 -- so it is with each path that is listed below a root
-abbrev pub ListedStayBelow : (List ℕ → List ℕ → Option (List Entry) → Type 0) → Type 0
+abbrev pub ListedStayBelow : (List ℕ → List ℕ → Option Listing → Type 0) → Type 0
 ListedStayBelow lists = (root : List ℕ) (paths : List (List ℕ)) → AreListed (lists root) paths → All StaysBelow paths
 
 -- each folder has one listing at most, or can't be listed
-abbrev pub ListOnce : (List ℕ → List ℕ → Option (List Entry) → Type 0) → Type 0
-ListOnce lists = (root folder : List ℕ) (one other : Option (List Entry)) → lists root folder one
+abbrev pub ListOnce : (List ℕ → List ℕ → Option Listing → Type 0) → Type 0
+ListOnce lists = (root folder : List ℕ) (one other : Option Listing) → lists root folder one
     → lists root folder other → one ≡ other
 
 -- then what is listed below a root is one list at most; and if there is one, no folder there can't be listed
-pub record OneListing (lists : List ℕ → List ℕ → Option (List Entry) → Type 0) : Type 0 where
+pub record OneListing (lists : List ℕ → List ℕ → Option Listing → Type 0) : Type 0 where
   pub one : ListOnce lists → (root : List ℕ) (paths others : List (List ℕ)) → AreListed (lists root) paths
       → AreListed (lists root) others → paths ≡ others
   pub whole : ListOnce lists → (root : List ℕ) (paths : List (List ℕ)) → AreListed (lists root) paths
-      → ¬ (IsUnlisted (lists root) [])
+      → ¬ (IsUnlisted (lists root))
+
+-- no folder says which it is
+abbrev pub NoneIsKnown : (List ℕ → List ℕ → Option Listing → Type 0) → Type 0
+NoneIsKnown lists = (root folder : List ℕ) (listing : Listing) → lists root folder (Some listing)
+    → listing.identity ≡ None
+
+-- then what is listed below a root is so folder by folder; and if something can't be, so it is with a folder there
+pub record PlainListing (lists : List ℕ → List ℕ → Option Listing → Type 0) : Type 0 where
+  pub listed : NoneIsKnown lists → (root : List ℕ) (paths : List (List ℕ)) → AreListed (lists root) paths
+      → AreListedBelow (lists root) paths
+  pub unlisted : NoneIsKnown lists → (root : List ℕ) → IsUnlisted (lists root) → CantBeListed (lists root) []

@@ -1,9 +1,14 @@
 -- The steps of a walk through the folders below a root.
-use Rattle.std.specs.Prelude.{◌≡◌, ℕ, ⊤, List, [], ◌∷◌, ◌++◌, Option, None, Contains, string_bytes}
+use Rattle.std.specs.Prelude.{◌≡◌, ℕ, ⊤, Bool, true, false, List, ◌++◌, Option, map, string_bytes}
+use Rattle.std.specs.List.{AllZip}
+use Rattle.source_files.specs.declared.found.Found.{Found}
+use Rattle.source_files.specs.declared.listing.FolderIdentity.{FolderIdentity}
 use Rattle.source_files.specs.declared.load_fault.LoadFault.{LoadFault}
 use Rattle.source_files.specs.declared.load_fault.LoadFault.TheVariants.{Unreadable, Memory}
+use Rattle.source_files.specs.declared.walk.Walk.{Walk}
 use Rattle.source_files.specs.Entries.{Entry, Give}
-use Rattle.source_files.specs.Walks.{Has}
+use Rattle.source_files.specs.Listings.{Listing}
+use Rattle.source_files.specs.Walks.{Had, Has, IsMet, Keep, AreByBytes, met_with}
 
 -- why folders aren't listed: one can't be, as this says, and the root is named; nothing is said about memory; and no
 -- other fault comes
@@ -21,25 +26,43 @@ pub record AddsEntries (folder : List ℕ) (entries : List Entry) (folders more 
     pub more_are : more ≡ folders ++ given_folders
     pub longer_are : longer ≡ paths ++ given_sources
 
-module _ (lists : List ℕ → Option (List Entry) → Type 0) where
-  -- what folders have, one behind the other
-  pub data Have : (part : List (List ℕ)) → (folders sources : List (List ℕ)) → Type 0 where
-    none_has : Have [] [] []
-    next_has : {folder : List ℕ} {part inner others sources more : List (List ℕ)}
-        → Has lists folder inner sources → Have part others more
-        → Have (folder ∷ part) (inner ++ others) (sources ++ more)
+-- what was found in a folder
+abbrev pub had_of : Found → Had
+had_of found = record {
+  folders = map string_bytes found.folders.items;
+  sources = map string_bytes found.paths.items;
+  unread = map string_bytes found.unread.items;
+  identity = found.identity;
+}
 
-  -- one of these folders can't be listed
-  abbrev pub IsStopped : (folders : List (List ℕ)) → Type 0
-  IsStopped folders = (folder : List ℕ) × Contains folders folder × lists folder None
+-- whether a folder is new; it is then met
+pub data Meets (met : List FolderIdentity) (identity : Option FolderIdentity)
+    : (is_new : Bool) → (after : List FolderIdentity) → Type 0 where
+  is_met : IsMet met identity → Meets met identity false met
+  is_new : ¬ (IsMet met identity) → Meets met identity true (met_with met identity)
 
-  -- the last of the folders that are left are listed: the folders that they have are left, and their sources found
-  pub record GoesOn (left more found longer : List (List ℕ)) : Type 0 where
-    pub front : List (List ℕ)
-    pub part : List (List ℕ)
-    pub folders : List (List ℕ)
-    pub sources : List (List ℕ)
-    pub have : Have part folders sources
-    pub left_are : left ≡ front ++ part
-    pub more_are : more ≡ front ++ folders
-    pub longer_are : longer ≡ found ++ sources
+-- what of these is kept comes behind what is there
+pub record KeepsMore (all : List Had) (old new : Walk) : Type 0 where
+  pub folders : List (List ℕ)
+  pub sources : List (List ℕ)
+  pub unread : List (List ℕ)
+  pub keep : Keep old.met.items all folders sources unread new.met.items
+  pub folders_are : map string_bytes new.folders.items ≡ map string_bytes old.folders.items ++ folders
+  pub sources_are : map string_bytes new.paths.items ≡ map string_bytes old.paths.items ++ sources
+  pub unread_are : map string_bytes new.unread.items ≡ map string_bytes old.unread.items ++ unread
+
+-- what each of these folders has
+abbrev pub HaveEach : (List ℕ → Option Listing → Type 0) → (folders : List (List ℕ)) → List Found → Type 0
+HaveEach lists folders all = AllZip (Has lists) folders (map had_of all)
+
+-- the folders of a level are listed: those that they have are the next level, and what else they have is found
+pub record GoesOn (lists : List ℕ → Option Listing → Type 0) (old new : Walk) : Type 0 where
+  pub all : List Had
+  pub folders : List (List ℕ)
+  pub sources : List (List ℕ)
+  pub unread : List (List ℕ)
+  pub have : AllZip (Has lists) (map string_bytes old.folders.items) all
+  pub keep : Keep old.met.items all folders sources unread new.met.items
+  pub by_bytes : AreByBytes folders (map string_bytes new.folders.items)
+  pub sources_are : map string_bytes new.paths.items ≡ map string_bytes old.paths.items ++ sources
+  pub unread_are : map string_bytes new.unread.items ≡ map string_bytes old.unread.items ++ unread

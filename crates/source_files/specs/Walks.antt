@@ -1,34 +1,89 @@
 -- What is listed below a root, by what listing its folders gave.
-use Rattle.std.specs.Prelude.{ℕ, List, [], ◌∷◌, ◌++◌, Option, Some, None, Contains, IsPermutation}
+use Rattle.std.specs.Prelude.{◌≢◌, ℕ, List, [], ◌∷◌, ◌++◌, Option, Some, None, Contains, IsPermutation, map}
 use Rattle.std.specs.Ordering.{nat_cmp}
 use Rattle.std.specs.Cmp.Lexicographic.{slice_cmp}
+use Rattle.std.specs.List.{AllZip}
 use Rattle.std.specs.List.Sorted.{IsSorted}
-use Rattle.source_files.specs.Entries.{Entry, Give}
+use Rattle.source_files.specs.Entries.{Give}
+use Rattle.source_files.specs.Listings.{Listing}
+use Rattle.source_files.specs.declared.listing.FolderIdentity.{FolderIdentity}
 
--- what listing each folder below the root may give: its entries, or none
-module _ (lists : List ℕ → Option (List Entry) → Type 0) where
-  -- what a folder has: other folders, and sources
-  pub record Has (folder : List ℕ) (folders sources : List (List ℕ)) : Type 0 where
-    pub entries : List Entry
-    pub listed : lists folder (Some entries)
-    pub give : Give folder entries folders sources
+-- what a folder has: other folders, sources, what of it can't be read; and which folder it is, if that is known
+pub record Had : Type 0 where
+  pub folders : List (List ℕ)
+  pub sources : List (List ℕ)
+  pub unread : List (List ℕ)
+  pub identity : Option FolderIdentity
 
-  -- the sources that are found below folders: those that each folder has, and those found below the folders that it has
-  pub data AreFound : (folders found : List (List ℕ)) → Type 0 where
-    nowhere : AreFound [] []
-    below_next : {folder : List ℕ} {others inner sources below found : List (List ℕ)}
-        → Has folder inner sources → AreFound inner below → AreFound others found
-        → AreFound (folder ∷ others) (sources ++ (below ++ found))
+-- this folder was met
+abbrev pub IsMet : (met : List FolderIdentity) → Option FolderIdentity → Type 0
+IsMet met None = ⊥
+IsMet met (Some identity) = Contains met identity
 
-  -- a folder can't be listed, or so it is with one that it has
-  pub data IsUnlisted : (folder : List ℕ) → Type 0 where
-    itself : {folder : List ℕ} → lists folder None → IsUnlisted folder
-    within : {folder inner : List ℕ} {folders sources : List (List ℕ)}
-        → Has folder folders sources → Contains folders inner → IsUnlisted inner → IsUnlisted folder
+-- the folders that were met, and this one
+abbrev pub met_with : (met : List FolderIdentity) → Option FolderIdentity → List FolderIdentity
+met_with met None = met
+met_with met (Some identity) = met ++ identity ∷ []
 
-  -- the paths of the sources found below the root, by their bytes; each as often as its folder's listing has it
-  pub record AreListed (paths : List (List ℕ)) : Type 0 where
+-- of what each of several folders has, what those have that weren't met; each is then met
+pub data Keep : (met : List FolderIdentity) → List Had → (folders sources unread : List (List ℕ))
+    → (after : List FolderIdentity) → Type 0 where
+  none_left : {met : List FolderIdentity} → Keep met [] [] [] [] met
+  keeps : {met after : List FolderIdentity} {had : Had} {others : List Had} {folders sources unread : List (List ℕ)}
+      → ¬ (IsMet met had.identity) → Keep (met_with met had.identity) others folders sources unread after
+      → Keep met (had ∷ others) (had.folders ++ folders) (had.sources ++ sources) (had.unread ++ unread) after
+  passes : {met after : List FolderIdentity} {had : Had} {others : List Had} {folders sources unread : List (List ℕ)}
+      → IsMet met had.identity → Keep met others folders sources unread after
+      → Keep met (had ∷ others) folders sources unread after
+
+-- these are the paths, by their bytes
+pub record AreByBytes (paths sorted : List (List ℕ)) : Type 0 where
+  pub complete : IsPermutation paths sorted
+  pub ascends : IsSorted (slice_cmp nat_cmp) sorted
+
+-- What a folder has by what listing it gave. One that can't be listed is itself unread; of others, what has a name that
+-- isn't UTF-8.
+pub data Holds (folder : List ℕ) : Option Listing → Had → Type 0 where
+  unlisted : Holds folder None (record { folders = []; sources = []; unread = folder ∷ []; identity = None })
+  listed : {listing : Listing} {folders sources : List (List ℕ)} → Give folder listing.entries folders sources
+      → Holds folder (Some listing) (record {
+        folders = folders;
+        sources = sources;
+        unread = map (λ name. folder ++ name) listing.unnamed;
+        identity = listing.identity;
+      })
+
+-- what listing each folder below the root may give, or none
+module _ (lists : List ℕ → Option Listing → Type 0) where
+  pub record Has (folder : List ℕ) (had : Had) : Type 0 where
+    pub gave : Option Listing
+    pub listed : lists folder gave
+    pub holds : Holds folder gave had
+
+  -- What is found from the folders of a level on, the sources and what can't be read: what those have that weren't met,
+  -- and what is found from the folders on that they have, by their bytes.
+  pub data AreFound : (met : List FolderIdentity) → (level sources unread : List (List ℕ)) → Type 0 where
+    nowhere : {met : List FolderIdentity} → AreFound met [] [] []
+    next_level : {met after : List FolderIdentity} {level folders next here gone sources unread : List (List ℕ)}
+        {all : List Had}
+        → AllZip (Has) level all → Keep met all folders here gone after → AreByBytes folders next
+        → AreFound after next sources unread
+        → AreFound met level (here ++ sources) (gone ++ unread)
+
+  -- the paths of the sources found below the root, by their bytes, each as often as its folder's listing has it; and
+  -- what can't be read there
+  pub record AreWalked (paths unread : List (List ℕ)) : Type 0 where
     pub found : List (List ℕ)
-    pub below_root : AreFound ([] ∷ []) found
-    pub complete : IsPermutation found paths
-    pub ascends : IsSorted (slice_cmp nat_cmp) paths
+    pub below_root : AreFound [] ([] ∷ []) found unread
+    pub by_bytes : AreByBytes found paths
+
+  -- the same, if all can be read
+  abbrev pub AreListed : (paths : List (List ℕ)) → Type 0
+  AreListed paths = AreWalked paths []
+
+  -- something found below the root can't be read, or the root itself
+  pub record IsUnlisted : Type 0 where
+    pub paths : List (List ℕ)
+    pub unread : List (List ℕ)
+    pub walked : AreWalked paths unread
+    pub some : unread ≢ []

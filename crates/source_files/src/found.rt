@@ -1,18 +1,28 @@
 //! What the entries of a folder give.
 
-ghost use Rattle.std.specs.Prelude.{◌≡◌, ◌≢◌, ◌↔◌, ◌++◌, [], ◌∷◌, All, IfOk, IsTrue, OnOk, map, string_bytes};
+ghost use Rattle.std.specs.Prelude.{◌≡◌, ◌≢◌, ◌↔◌, ◌++◌, [], ◌∷◌, All, IfOk, IsTrue, OnOk, Some, None};
+ghost use Rattle.std.specs.Prelude.{map, string_bytes};
 ghost use Rattle.source_files.specs.Entries.{Give, IsFolder, IsName, IsSource};
-ghost use Rattle.source_files.specs.WalkSteps.{AddsEntries};
+ghost use Rattle.source_files.specs.Listings.{listing_of};
+ghost use Rattle.source_files.specs.Walks.{Has, Holds};
+ghost use Rattle.source_files.specs.WalkSteps.{AddsEntries, had_of};
 
 use crate::entry::{ENDING, FolderEntry};
+use crate::listing::{FolderIdentity, FolderListing};
+use crate::read_files::ReadFiles;
 use std::alloc::{AllocError, Global};
 
-/// Folders that are still to be listed, among what may be none, by their paths below the root, each with a `/` at its
-/// end; and the paths below the root of the sources found.
+/// What a folder has, by paths below the root.
 #[derive(Drop)]
 pub(crate) struct Found {
+    /// What may be folders, each with a `/` at its end.
     pub(crate) folders: Vec<String>,
+    /// The sources.
     pub(crate) paths: Vec<String>,
+    /// What can't be read.
+    pub(crate) unread: Vec<String>,
+    /// Which folder it is.
+    pub(crate) identity: Option<FolderIdentity>,
 }
 
 /// Whether a name has no `/`.
@@ -81,19 +91,84 @@ fn add_entry(
     Ok(())
 }
 
-/// What the entries of a folder give. Its path below the root is empty for the root itself, and else ends in `/`.
-pub(crate) fn found_in(
+/// What the entries of a folder give: folders, and the sources.
+fn found_in(
     alloc: Global,
     folder: &str,
     entries: &[FolderEntry],
-) -> Result<Found, AllocError>
+) -> Result<(Vec<String>, Vec<String>), AllocError>
     ensures { IfOk result (λ found. Give folder.now entries.now
-        (map string_bytes found.folders.items) (map string_bytes found.paths.items)) }
+        (map string_bytes found.0.items) (map string_bytes found.1.items)) }
 {
     let mut folders = Vec::new(alloc);
     let mut paths = Vec::new(alloc);
     for entry in entries {
         add_entry(alloc, folder, entry, &mut folders, &mut paths)?;
     }
-    Ok(Found { folders, paths })
+    Ok((folders, paths))
+}
+
+/// The paths of what has these names in a folder.
+fn paths_in(alloc: Global, folder: &str, names: &[String]) -> Result<Vec<String>, AllocError>
+    ensures { IfOk result (λ paths. map string_bytes paths.items
+        ≡ map (λ name. folder.now ++ string_bytes name) names.now) }
+{
+    let mut paths = Vec::new(alloc);
+    for name in names {
+        paths.push(path_in(alloc, folder, name.as_str())?)?;
+    }
+    Ok(paths)
+}
+
+/// What is found by listing a folder.
+fn found_by(alloc: Global, folder: &str, listing: &FolderListing) -> Result<Found, AllocError>
+    ensures { IfOk result (λ found. Holds folder.now (Some (listing_of listing.now)) (had_of found)) }
+{
+    let found = found_in(alloc, folder, &listing.entries)?;
+    let unread = paths_in(alloc, folder, &listing.unnamed)?;
+    Ok(Found {
+        folders: found.0,
+        paths: found.1,
+        unread,
+        identity: listing.identity,
+    })
+}
+
+/// A path alone.
+fn one_path(alloc: Global, path: &str) -> Result<Vec<String>, AllocError>
+    ensures { IfOk result (λ paths. map string_bytes paths.items ≡ path.now ∷ []) }
+{
+    let mut paths = Vec::new(alloc);
+    paths.push(String::from_str(alloc, path)?)?;
+    Ok(paths)
+}
+
+/// What is found of a folder that can't be listed.
+fn found_unlisted(alloc: Global, folder: &str) -> Result<Found, AllocError>
+    ensures { IfOk result (λ found. Holds folder.now None (had_of found)) }
+{
+    let folders = Vec::new(alloc);
+    let paths = Vec::new(alloc);
+    let unread = one_path(alloc, folder)?;
+    Ok(Found {
+        folders,
+        paths,
+        unread,
+        identity: None,
+    })
+}
+
+/// What a folder below a root has. Its path is empty for the root itself, and else ends in `/`.
+pub(crate) fn list_one<F: ReadFiles>(
+    alloc: Global,
+    files: &F,
+    root: &str,
+    folder: &str,
+) -> Result<Found, AllocError>
+    ensures { IfOk result (λ found. Has (F.lists files.now root.now) folder.now (had_of found)) }
+{
+    match files.list_folder(alloc, root, folder)? {
+        Some(listing) => found_by(alloc, folder, &listing),
+        None => found_unlisted(alloc, folder),
+    }
 }

@@ -1,6 +1,6 @@
 //! Laws about what is listed below roots, each the contract of an empty function.
 
-ghost use Rattle.source_files.specs.WalkLaws.{ListedStayBelow, OneListing};
+ghost use Rattle.source_files.specs.WalkLaws.{ListedStayBelow, OneListing, PlainListing};
 
 use crate::read_files::ReadFiles;
 
@@ -12,4 +12,9 @@ pub fn listed_paths_stay_below<F: ReadFiles>(files: &F)
 /// If each folder has one listing at most, what is listed below a root is one list at most.
 pub fn roots_have_one_listing<F: ReadFiles>(files: &F)
     ensures { OneListing (F.lists files.now) }
+{}
+
+/// If no folder says which it is, what is listed below a root is found folder by folder.
+pub fn unknown_folders_are_listed_plainly<F: ReadFiles>(files: &F)
+    ensures { PlainListing (F.lists files.now) }
 {}

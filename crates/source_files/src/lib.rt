@@ -6,9 +6,11 @@
 mod cause;
 mod empty_folders;
 mod entry;
+mod excluding;
 mod folders;
 mod found;
 mod laws;
+mod listing;
 mod load;
 mod load_fault;
 mod look_again;
@@ -32,7 +34,11 @@ mod walk;
 pub use cause::{Cause, Caused};
 pub use empty_folders::EmptyFolders;
 pub use entry::FolderEntry;
-pub use laws::{listed_paths_stay_below, roots_have_one_listing};
+pub use excluding::Excluding;
+pub use laws::{
+    listed_paths_stay_below, roots_have_one_listing, unknown_folders_are_listed_plainly,
+};
+pub use listing::{FolderIdentity, FolderListing};
 pub use load::{LoadedTree, load_tree, load_tree_with_paths};
 pub use load_fault::LoadFault;
 pub use look_again::{LookAgain, PassedOver};

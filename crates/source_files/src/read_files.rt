@@ -2,36 +2,35 @@
 
 ghost use Rattle.std.specs.Prelude.{ℕ, List, Option, IfOk};
 ghost use Rattle.std.specs.Option.{option_map};
-ghost use Rattle.source_files.specs.Entries.{Entry};
+ghost use Rattle.source_files.specs.Listings.{Listing, listing_of};
 ghost use Rattle.source_files.specs.Source.{MayKeep};
 
-use crate::entry::FolderEntry;
+use crate::listing::FolderListing;
 use std::alloc::{AllocError, Global};
 
 /// Lists the folders below roots, and reads files.
 ///
-/// A file or a folder can't be read if there is none, or the system doesn't open it, or a read of it fails, or an
-/// entry of the folder has a name that isn't UTF-8.
+/// A file or a folder can't be read if there is none, or the system doesn't open it, or a read of it fails.
 pub trait ReadFiles {
-    // What listing a folder below a root may give: its entries, or none.
-    ghost lists: { Self → List ℕ → List ℕ → Option (List Entry) → Type 0 };
+    // What listing a folder below a root may give: what it lists, or none.
+    ghost lists: { Self → List ℕ → List ℕ → Option Listing → Type 0 };
 
     // What reading the file with a path may give: its bytes, or none.
     ghost gives: { Self → List ℕ → Option (List ℕ) → Type 0 };
 
-    /// The entries of a folder, in any order. None if it can't be read.
+    /// The entries of a folder. None if it can't be read.
     ///
     /// The folder is the root itself if its path below the root is empty; else this ends in `/`. A root may be a link
-    /// to a folder, and can't be read if it is neither. Below it what is a link or no folder has no entries. All
-    /// regular files whose names end in `.proto` are said to be files. Others may be left out, as may links.
+    /// to a folder, and can't be read if it is neither. Below it what is no folder has no entries. All regular files
+    /// whose names end in `.proto` are said to be files. Others may be left out, as may links, or all links are
+    /// followed, and each folder then has its identity.
     fn list_folder(
         &self,
         alloc: Global,
         root: &str,
         folder: &str,
-    ) -> Result<Option<Vec<FolderEntry>>, AllocError>
-        ensures { IfOk result (λ listed. lists self.now root.now folder.now (option_map (λ entries. entries.items)
-            listed)) };
+    ) -> Result<Option<FolderListing>, AllocError>
+        ensures { IfOk result (λ listed. lists self.now root.now folder.now (option_map listing_of listed)) };
 
     /// The bytes of the file with a path. None if it can't be read.
     fn read_file(&self, alloc: Global, path: &str) -> Result<Option<Vec<u8>>, AllocError>

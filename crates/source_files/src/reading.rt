@@ -139,7 +139,7 @@ fn add_part<R: Threads + Wait, G: Gate, F: ReadFiles + Sync>(
 }
 
 /// The first of these paths, as many as a phase has inputs at most, and those behind them.
-fn part_of(paths: &[String]) -> (&[String], &[String])
+pub(crate) fn part_of(paths: &[String]) -> (&[String], &[String])
     ensures parts { result.0.now ++ result.1.now ≡ paths.now }
     ensures few { length result.0.now ≤ MAX_INPUTS }
     ensures fewer { 0 < length paths.now → length result.1.now < length paths.now }

@@ -2,10 +2,13 @@
 
 use crate::cause::Cause;
 use crate::entry::ENDING;
+use crate::listing::FolderIdentity;
 use crate::look_again::PassedOver;
+use crate::system_folders::{followed, identity_of};
+use crate::walk::meet;
 use std::alloc::{AllocError, Global};
 use std::fmt::Write;
-use std::fs::File;
+use std::fs::{File, FileType, Metadata};
 use std::io;
 use std::io::Read;
 use std::rt::Files;
@@ -18,6 +21,10 @@ const NAMES_LENGTH: usize = 16_384;
 pub(crate) struct SecondLook<'a, S: Files> {
     system: &'a S,
     alloc: Global,
+    /// Whether links are followed.
+    follows: bool,
+    /// The folders that were met, if they are.
+    met: Vec<FolderIdentity>,
     /// The paths of the folders that are left.
     left: Vec<String>,
     /// What a walk passes over.
@@ -36,7 +43,7 @@ fn front_of(alloc: Global, path: &str) -> Result<String, AllocError> {
 }
 
 /// Appends a name, with its bytes that aren't UTF-8 in the form `\xe9`.
-fn push_name(out: &mut String, name: &[u8]) -> Result<(), AllocError> {
+pub(crate) fn push_name(out: &mut String, name: &[u8]) -> Result<(), AllocError> {
     for chunk in name.utf8_chunks() {
         out.push_str(chunk.valid())?;
         for byte in chunk.invalid() {
@@ -61,11 +68,14 @@ impl<'a, S: Files> SecondLook<'a, S> {
     pub(crate) fn below(
         system: &'a S,
         alloc: Global,
+        follows: bool,
         root: &str,
     ) -> Result<SecondLook<'a, S>, AllocError> {
         let mut look = SecondLook {
             system,
             alloc,
+            follows,
+            met: Vec::new(alloc),
             left: Vec::new(alloc),
             passed: PassedOver {
                 links: 0,
@@ -79,9 +89,23 @@ impl<'a, S: Files> SecondLook<'a, S> {
             let Some(front) = look.left.pop() else {
                 break;
             };
-            look.see_folder(front.as_str())?;
+            if look.is_new(front.as_str())? {
+                look.see_folder(front.as_str())?;
+            }
         }
         Ok(look)
+    }
+
+    /// Whether the folder whose path has a `/` at its end is to be seen: if links are followed, only the first time.
+    fn is_new(&mut self, front: &str) -> Result<bool, AllocError> {
+        if !self.follows {
+            return Ok(true);
+        }
+        match identity_of(self.system, front) {
+            Ok(identity) => meet(&mut self.met, identity),
+            // Why it can't be read is seen then.
+            Err(_) => Ok(true),
+        }
     }
 
     /// Blames a path, if none is blamed yet.
@@ -147,12 +171,32 @@ impl<'a, S: Files> SecondLook<'a, S> {
         }
     }
 
+    /// What is at a path, or, if links are followed, what the link there leads to. None if it leads nowhere.
+    fn there(&self, path: &str) -> io::Result<Option<Metadata>> {
+        if self.follows {
+            followed(self.system, self.alloc, path)
+        } else {
+            Ok(Some(self.system.symlink_metadata(path)?))
+        }
+    }
+
     /// Sees the entry with a path.
     fn see_entry(&mut self, path: String) -> Result<(), AllocError> {
-        let kind = match self.system.symlink_metadata(path.as_str()) {
-            Ok(there) => there.file_type(),
+        let there = match self.there(path.as_str()) {
+            Ok(there) => there,
             Err(error) => return self.blame(path.as_str(), Cause::of(&error).words()),
         };
+        match there {
+            Some(there) => self.see_kind(path, there.file_type()),
+            None => {
+                self.passed.links = self.passed.links.saturating_add(1);
+                Ok(())
+            }
+        }
+    }
+
+    /// Sees what is of this kind at a path.
+    fn see_kind(&mut self, path: String, kind: FileType) -> Result<(), AllocError> {
         if kind.is_symlink() {
             self.passed.links = self.passed.links.saturating_add(1);
         } else if kind.is_dir() {
@@ -215,11 +259,12 @@ fn is_among(folders: &[String], path: &str) -> bool {
 pub(crate) fn why_unread<S: Files>(
     system: &S,
     alloc: Global,
+    follows: bool,
     folders: &[String],
     path: &str,
 ) -> Result<Option<String>, AllocError> {
     if is_among(folders, path) {
-        Ok(SecondLook::below(system, alloc, path)?.blamed)
+        Ok(SecondLook::below(system, alloc, follows, path)?.blamed)
     } else if folders.is_empty() {
         why_no_file(system, alloc, path)
     } else {

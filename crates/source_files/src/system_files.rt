@@ -3,7 +3,7 @@
 ghost use Rattle.source_files.specs.SystemFiles.{IsGiven};
 
 use crate::empty_folders::EmptyFolders;
-use crate::entry::FolderEntry;
+use crate::listing::FolderListing;
 use crate::look_again::{LookAgain, PassedOver};
 use crate::read_files::ReadFiles;
 use crate::second_look::{SecondLook, why_unread};
@@ -20,12 +20,18 @@ use streams::Std;
 #[derive(Drop)]
 pub struct SystemFiles<'a, S: Files + AllocGlobal + Clone + Drop> {
     system: &'a S,
+    follows: bool,
 }
 
 impl<'a, S: Files + AllocGlobal + Clone + Drop> SystemFiles<'a, S> {
-    /// Those that the system opens.
+    /// Those that the system opens. Below a root no link is followed.
     pub fn new(system: &'a S) -> SystemFiles<'a, S> {
-        SystemFiles { system }
+        SystemFiles::following(system, false)
+    }
+
+    /// Those that the system opens. Below a root links are followed, or not.
+    pub fn following(system: &'a S, follows: bool) -> SystemFiles<'a, S> {
+        SystemFiles { system, follows }
     }
 }
 
@@ -57,8 +63,8 @@ impl<'a, S: Files + AllocGlobal + Clone + Drop> ReadFiles for SystemFiles<'a, S>
         _alloc: Global,
         root: &str,
         folder: &str,
-    ) -> Result<Option<Vec<FolderEntry>>, AllocError> {
-        given(entries_of(self.system, root, folder))
+    ) -> Result<Option<FolderListing>, AllocError> {
+        given(entries_of(self.system, self.follows, root, folder))
     }
 
     fn read_file(&self, _alloc: Global, path: &str) -> Result<Option<Vec<u8>>, AllocError> {
@@ -107,10 +113,16 @@ impl<'a, S: Files + AllocGlobal + Clone + Drop> LookAgain for SystemFiles<'a, S>
     ghost blames = { λ _ _ _ _. ⊤ };
 
     fn passed_over(&self, root: &str) -> Result<PassedOver, AllocError> {
-        Ok(SecondLook::below(self.system, self.system.alloc(), root)?.passed)
+        Ok(SecondLook::below(self.system, self.system.alloc(), self.follows, root)?.passed)
     }
 
     fn why_unread(&self, folders: &[String], path: &str) -> Result<Option<String>, AllocError> {
-        why_unread(self.system, self.system.alloc(), folders, path)
+        why_unread(
+            self.system,
+            self.system.alloc(),
+            self.follows,
+            folders,
+            path,
+        )
     }
 }

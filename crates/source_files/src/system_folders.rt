@@ -1,19 +1,25 @@
 //! The entries of the system's folders.
 
 use crate::entry::{ENDING, FolderEntry};
+use crate::listing::{FolderIdentity, FolderListing};
+use crate::second_look::push_name;
 use std::alloc::{AllocError, Global};
+use std::fs::Metadata;
 use std::io::{Error, ErrorKind, Read};
+use std::os::unix::fs::MetadataExt;
 use std::rt::Files;
 use std::{fs, io};
 
 /// So many bytes of a folder's names are read at once.
 const NAMES_LENGTH: usize = 16_384;
 
-/// What comes before the names of a folder's entries in their paths, and the entries so far.
+/// What comes before the names of a folder's entries in their paths, whether links are followed, and what is listed so
+/// far.
 #[derive(Drop)]
 struct Listing {
     front: String,
-    entries: Vec<FolderEntry>,
+    follows: bool,
+    listed: FolderListing,
 }
 
 /// What comes before the names of the entries of a folder below a root: for the system a path, with a `/` at its end.
@@ -32,6 +38,42 @@ fn is_of_no_folder(error: &Error) -> bool {
         error.kind(),
         ErrorKind::NotADirectory | ErrorKind::FilesystemLoop
     )
+}
+
+/// A name that isn't UTF-8, with each byte that isn't in the form `\xe9`.
+fn unnamed(alloc: Global, name: &[u8]) -> Result<String, AllocError> {
+    let mut text = String::new(alloc);
+    push_name(&mut text, name)?;
+    Ok(text)
+}
+
+/// What is at a path, or what the link there leads to. None if it leads nowhere: to nothing, or back to itself.
+pub(crate) fn followed<S: Files>(
+    system: &S,
+    alloc: Global,
+    path: &str,
+) -> io::Result<Option<Metadata>> {
+    match fs::metadata(system, path) {
+        Ok(there) => Ok(Some(there)),
+        Err(error) => match error.kind() {
+            ErrorKind::NotFound | ErrorKind::NotADirectory => Ok(None),
+            ErrorKind::FilesystemLoop if leads_back(system, alloc, path)? => Ok(None),
+            _ => Err(error),
+        },
+    }
+}
+
+/// Whether a link isn't followed though no other is on the way to it: the system follows so many in all.
+fn leads_back<S: Files>(system: &S, alloc: Global, path: &str) -> io::Result<bool> {
+    let (folder, name) = match path.rsplit_once('/') {
+        Some(parts) => parts,
+        None => return Ok(true),
+    };
+    let folder = system.canonicalize(alloc, folder)?;
+    let mut alone = String::from_str(alloc, folder.as_path().as_str())?;
+    alone.push('/')?;
+    alone.push_str(name)?;
+    Ok(fs::metadata(system, alone.as_str()).is_err())
 }
 
 impl Listing {
@@ -66,36 +108,49 @@ impl Listing {
         match str::from_utf8(name) {
             Ok("" | "." | "..") => Ok(()),
             Ok(name) => self.add_entry(system, name),
-            Err(_) => Err(Error::from(ErrorKind::InvalidFilename)),
+            Err(_) => {
+                self.listed.unnamed.push(unnamed(system.alloc(), name)?)?;
+                Ok(())
+            }
         }
     }
 
-    /// Adds an entry. Only a name that a source may have is looked at: whether another is a folder is seen when it is
-    /// listed.
+    /// Adds an entry, whatever it is by its kind.
     fn add_entry<S: Files + AllocGlobal>(&mut self, system: &S, name: &str) -> io::Result<()> {
-        let alloc = system.alloc();
-        let mut is_file = false;
-        if name.ends_with(ENDING) {
-            let mut path = String::from_str(alloc, self.front.as_str())?;
-            path.push_str(name)?;
-            let kind = fs::symlink_metadata(system, path.as_str())?.file_type();
-            if !kind.is_file() && !kind.is_dir() {
-                return Ok(());
-            }
-            is_file = kind.is_file();
+        if let Some(is_file) = self.kind_of(system, name)? {
+            let name = String::from_str(system.alloc(), name)?;
+            self.listed.entries.push(FolderEntry { name, is_file })?;
         }
-        let name = String::from_str(alloc, name)?;
-        self.entries.push(FolderEntry { name, is_file })?;
         Ok(())
+    }
+
+    /// Whether an entry is a file. None if it is left out.
+    fn kind_of<S: Files + AllocGlobal>(&self, system: &S, name: &str) -> io::Result<Option<bool>> {
+        if !self.follows && !name.ends_with(ENDING) {
+            // Whether it is a folder is seen when it is listed.
+            return Ok(Some(false));
+        }
+        let mut path = String::from_str(system.alloc(), self.front.as_str())?;
+        path.push_str(name)?;
+        let kind = if self.follows {
+            match followed(system, system.alloc(), path.as_str())? {
+                Some(there) => there.file_type(),
+                None => return Ok(None),
+            }
+        } else {
+            fs::symlink_metadata(system, path.as_str())?.file_type()
+        };
+        if kind.is_dir() {
+            return Ok(Some(false));
+        }
+        let is_source = kind.is_file() && name.ends_with(ENDING);
+        Ok(if is_source { Some(true) } else { None })
     }
 }
 
-/// Opens the folder whose entries have this front. None if it is below the root and no folder, or a link.
-fn opened<S: Files>(system: &S, front: &str, is_root: bool) -> io::Result<Option<S::Dir>> {
-    if is_root {
-        // By the `/` a root that is a link is followed.
-        return Ok(Some(system.open_dir(front)?));
-    }
+/// Opens the folder whose entries have this front, below the root, if links aren't followed. None if it is no folder,
+/// or a link.
+fn opened<S: Files>(system: &S, front: &str) -> io::Result<Option<S::Dir>> {
     match system.open_dir(front.trim_end_matches('/')) {
         Ok(folder) => Ok(Some(folder)),
         Err(error) if is_of_no_folder(&error) => Ok(None),
@@ -103,19 +158,47 @@ fn opened<S: Files>(system: &S, front: &str, is_root: bool) -> io::Result<Option
     }
 }
 
-/// The entries of a folder below a root, as `ReadFiles` says.
+/// Which folder is at a path.
+pub(crate) fn identity_of<S: Files>(system: &S, path: &str) -> io::Result<FolderIdentity> {
+    let there = fs::metadata(system, path)?;
+    Ok(FolderIdentity {
+        device: there.dev(),
+        number: there.ino(),
+    })
+}
+
+impl Listing {
+    /// Opens the folder. By the `/` a root that is a link is followed, and any, if links are followed.
+    fn open<S: Files>(&mut self, system: &S, is_root: bool) -> io::Result<Option<S::Dir>> {
+        let front = self.front.as_str();
+        if self.follows {
+            self.listed.identity = Some(identity_of(system, front)?);
+        } else if !is_root {
+            return opened(system, front);
+        }
+        Ok(Some(system.open_dir(front)?))
+    }
+}
+
+/// The entries of a folder below a root, as `ReadFiles` says; with links followed, or not.
 pub(crate) fn entries_of<S: Files + AllocGlobal>(
     system: &S,
+    follows: bool,
     root: &str,
     folder: &str,
-) -> io::Result<Vec<FolderEntry>> {
+) -> io::Result<FolderListing> {
     let alloc = system.alloc();
     let mut listing = Listing {
         front: front_of(alloc, root, folder)?,
-        entries: Vec::new(alloc),
+        follows,
+        listed: FolderListing {
+            entries: Vec::new(alloc),
+            identity: None,
+            unnamed: Vec::new(alloc),
+        },
     };
-    if let Some(open) = opened(system, listing.front.as_str(), folder.is_empty())? {
+    if let Some(open) = listing.open(system, folder.is_empty())? {
         listing.add_all(system, open)?;
     }
-    Ok(listing.entries)
+    Ok(listing.listed)
 }

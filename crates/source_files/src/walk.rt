@@ -1,20 +1,18 @@
-//! The sources below a root are listed, on workers.
+//! The sources below a root are listed, level by level, on workers.
 
-ghost use Rattle.std.specs.Prelude.{◌≡◌, ◌++◌, ◌≤◌, [], ◌∷◌, IfOk, IsPermutation, MatchResult, None, length, map};
-ghost use Rattle.std.specs.Prelude.{string_bytes};
-ghost use Rattle.std.specs.Cmp.Lexicographic.{slice_cmp};
-ghost use Rattle.std.specs.List.{flat_map};
-ghost use Rattle.std.specs.List.Sorted.{IsSorted};
-ghost use Rattle.std.specs.Ordering.{nat_cmp};
+ghost use Rattle.std.specs.Prelude.{◌≡◌, ◌↔◌, ◌≤◌, [], ◌∷◌, Contains, IfOk, IsTrue, MatchResult, OnOk, Some, length};
+ghost use Rattle.std.specs.Prelude.{map, string_bytes};
 ghost use Rattle.index_pool.specs.declared.workers.TheConstants.{MAX_INPUTS};
-ghost use Rattle.source_files.specs.Walks.{AreListed, Has, IsUnlisted};
-ghost use Rattle.source_files.specs.WalkSteps.{GoesOn, Have, IsStopped, MayNotList};
+ghost use Rattle.source_files.specs.Walks.{AreByBytes, AreListed, AreWalked, IsUnlisted};
+ghost use Rattle.source_files.specs.WalkSteps.{GoesOn, HaveEach, KeepsMore, MayNotList, Meets, had_of};
 
-use crate::found::{Found, found_in};
+use crate::found::{Found, list_one};
+use crate::listing::FolderIdentity;
 use crate::load_fault::LoadFault;
 use crate::phases::run_anyway;
 use crate::read_files::ReadFiles;
 use crate::readers::Readers;
+use crate::reading::part_of;
 use index_pool::{Gate, Job, MAX_INPUTS, PoolFault, Ticket, Workers};
 use std::alloc::{AllocError, Global};
 use std::sync::Wait;
@@ -23,24 +21,17 @@ use std::thread::Threads;
 /// A thread is started for so many folders.
 const FOLDERS_OF_A_WORKER: usize = 8;
 
-/// What a folder below a root has.
-fn list_one<F: ReadFiles>(
-    alloc: Global,
-    files: &F,
-    root: &str,
-    folder: &str,
-) -> Result<Found, LoadFault>
-    ensures { MatchResult result (λ found. Has (F.lists files.now root.now) folder.now
-        (map string_bytes found.folders.items) (map string_bytes found.paths.items))
-        (MayNotList (F.lists files.now root.now folder.now None) root.now) }
-{
-    match files.list_folder(alloc, root, folder)? {
-        Some(entries) => Ok(found_in(alloc, folder, &entries)?),
-        None => {
-            let name = String::from_str(alloc, root)?;
-            Err(LoadFault::Unreadable(name))
-        }
-    }
+/// How far a walk is, by paths below the root.
+#[derive(Drop)]
+pub(crate) struct Walk {
+    /// The folders of the next level, each with a `/` at its end, among what may be none.
+    pub(crate) folders: Vec<String>,
+    /// The folders that were met.
+    pub(crate) met: Vec<FolderIdentity>,
+    /// The sources found.
+    pub(crate) paths: Vec<String>,
+    /// What can't be read.
+    pub(crate) unread: Vec<String>,
 }
 
 /// What each of these folders below a root has.
@@ -53,22 +44,20 @@ struct ListEach<'a, F: ReadFiles + Sync> {
 }
 
 impl<'a, F: ReadFiles + Sync> Job for ListEach<'a, F> {
-    ghost use Rattle.std.specs.Prelude.{IfSome, MatchResult, None, length, map, slice_get, string_bytes};
+    ghost use Rattle.std.specs.Prelude.{IfOk, IfSome, length, slice_get, string_bytes};
     ghost use Rattle.source_files.specs.Walks.{Has};
-    ghost use Rattle.source_files.specs.WalkSteps.{MayNotList};
+    ghost use Rattle.source_files.specs.WalkSteps.{had_of};
 
     type Out = Found;
 
-    type Fault = LoadFault;
+    type Fault = AllocError;
 
     ghost inputs = { λ s. length s.folders.now };
 
     ghost gives = { λ s number result. IfSome (slice_get s.folders.now number)
-        (λ folder. MatchResult result (λ found. Has (F.lists s.files.now s.root.now) (string_bytes folder)
-        (map string_bytes found.folders.items) (map string_bytes found.paths.items))
-        (MayNotList (F.lists s.files.now s.root.now (string_bytes folder) None) s.root.now)) };
+        (λ folder. IfOk result (λ found. Has (F.lists s.files.now s.root.now) (string_bytes folder) (had_of found))) };
 
-    fn run(&self, ticket: Ticket) -> Result<Found, LoadFault> {
+    fn run(&self, ticket: Ticket) -> Result<Found, AllocError> {
         let folder = self.folders[ticket.number()].as_str();
         list_one(self.alloc, self.files, self.root, folder)
     }
@@ -81,17 +70,14 @@ fn workers_for(workers: Workers, folders: usize) -> Workers {
 }
 
 /// What each of these folders below a root has.
-fn list_each<R: Threads + Wait, G: Gate, F: ReadFiles + Sync>(
+fn list_part<R: Threads + Wait, G: Gate, F: ReadFiles + Sync>(
     readers: &Readers<'_, R, G, F>,
     root: &str,
     folders: &[String],
-) -> Result<Vec<Found>, LoadFault>
+) -> Result<Vec<Found>, AllocError>
     requires { length folders.now ≤ MAX_INPUTS }
-    ensures { MatchResult result
-        (λ all. Have (F.lists readers.now.files.now root.now) (map string_bytes folders.now)
-        (flat_map (λ found. map string_bytes found.folders.items) all.items)
-        (flat_map (λ found. map string_bytes found.paths.items) all.items))
-        (MayNotList (IsStopped (F.lists readers.now.files.now root.now) (map string_bytes folders.now)) root.now) }
+    ensures { IfOk result (λ all. HaveEach (F.lists readers.now.files.now root.now) (map string_bytes folders.now)
+        all.items) }
 {
     let job = ListEach {
         alloc: readers.alloc,
@@ -108,97 +94,160 @@ fn list_each<R: Threads + Wait, G: Gate, F: ReadFiles + Sync>(
         readers.gate,
     ) {
         Ok(all) => Ok(all),
-        Err(PoolFault::Spawn) => unreachable!(),
-        Err(PoolFault::Memory) => Err(LoadFault::Memory),
-        Err(PoolFault::Job(_, fault)) => Err(fault),
+        Err(_) => Err(AllocError),
     }
 }
 
-/// What folders have, one behind the other.
-fn join(alloc: Global, all: Vec<Found>) -> Result<Found, AllocError>
-    ensures { IfOk result (λ joined.
-        (map string_bytes joined.folders.items ≡ flat_map (λ found. map string_bytes found.folders.items) all.items)
-        × (map string_bytes joined.paths.items ≡ flat_map (λ found. map string_bytes found.paths.items) all.items)) }
-{
-    let mut folders = Vec::new(alloc);
-    let mut paths = Vec::new(alloc);
-    for found in all {
-        let mut found = found;
-        folders.append(&mut found.folders)?;
-        paths.append(&mut found.paths)?;
-    }
-    Ok(Found { folders, paths })
-}
-
-/// Takes the last folders, as many as a phase has inputs at most.
-fn take_part(folders: &mut Vec<String>) -> Result<Vec<String>, AllocError>
-    ensures parts { IfOk result (λ part. folders.new.items ++ part.items ≡ folders.old.items) }
-    ensures few { IfOk result (λ part. length part.items ≤ MAX_INPUTS) }
-{
-    folders.split_off(folders.len().saturating_sub(MAX_INPUTS))
-}
-
-/// Lists the last of the folders that are left.
-fn go_on<R: Threads + Wait, G: Gate, F: ReadFiles + Sync>(
+/// What each of these folders below a root has, listed in parts of so many as a phase has inputs.
+fn list_each<R: Threads + Wait, G: Gate, F: ReadFiles + Sync>(
     readers: &Readers<'_, R, G, F>,
     root: &str,
-    walk: &mut Found,
-) -> Result<(), LoadFault>
-    ensures { MatchResult result (λ _. GoesOn (F.lists readers.now.files.now root.now)
-        (map string_bytes walk.old.folders.items) (map string_bytes walk.new.folders.items)
-        (map string_bytes walk.old.paths.items) (map string_bytes walk.new.paths.items))
-        (MayNotList (IsStopped (F.lists readers.now.files.now root.now) (map string_bytes walk.old.folders.items))
-        root.now) }
+    folders: &[String],
+) -> Result<Vec<Found>, AllocError>
+    ensures { IfOk result (λ all. HaveEach (F.lists readers.now.files.now root.now) (map string_bytes folders.now)
+        all.items) }
 {
-    let part = take_part(&mut walk.folders)?;
-    let all = list_each(readers, root, &part)?;
-    let mut more = join(readers.alloc, all)?;
-    walk.folders.append(&mut more.folders)?;
-    walk.paths.append(&mut more.paths)?;
+    let mut all = Vec::new(readers.alloc);
+    let mut rest = folders;
+    while !rest.is_empty() {
+        let (part, behind) = part_of(rest);
+        let mut more = list_part(readers, root, part)?;
+        all.append(&mut more)?;
+        rest = behind;
+    }
+    Ok(all)
+}
+
+/// Whether a folder was met.
+fn is_met(met: &[FolderIdentity], identity: FolderIdentity) -> bool
+    ensures { IsTrue result ↔ Contains met.now identity }
+{
+    met.contains(&identity)
+}
+
+/// Whether a folder is new; it is then met.
+pub(crate) fn meet(
+    met: &mut Vec<FolderIdentity>,
+    identity: FolderIdentity,
+) -> Result<bool, AllocError>
+    ensures { IfOk result (λ is_new. Meets met.old.items (Some identity) is_new met.new.items) }
+{
+    if is_met(met, identity) {
+        return Ok(false);
+    }
+    met.push(identity)?;
+    Ok(true)
+}
+
+/// The same of a folder of which it may not be known which it is; it is new then.
+fn meet_any(
+    met: &mut Vec<FolderIdentity>,
+    identity: Option<FolderIdentity>,
+) -> Result<bool, AllocError>
+    ensures { IfOk result (λ is_new. Meets met.old.items identity is_new met.new.items) }
+{
+    match identity {
+        Some(identity) => meet(met, identity),
+        None => Ok(true),
+    }
+}
+
+/// Adds what a folder has, if it wasn't met.
+fn keep_one(walk: &mut Walk, found: Found) -> Result<(), AllocError>
+    ensures { OnOk result (KeepsMore (had_of found ∷ []) walk.old walk.new) }
+{
+    if meet_any(&mut walk.met, found.identity)? {
+        let mut found = found;
+        walk.folders.append(&mut found.folders)?;
+        walk.paths.append(&mut found.paths)?;
+        walk.unread.append(&mut found.unread)?;
+    }
     Ok(())
 }
 
-/// The root is left to be listed.
-fn begin(alloc: Global) -> Result<Found, AllocError>
-    ensures { IfOk result (λ walk. (map string_bytes walk.folders.items ≡ [] ∷ [])
-        × (map string_bytes walk.paths.items ≡ [])) }
+/// Adds what folders have that weren't met, one after the other.
+fn keep_each(walk: &mut Walk, all: Vec<Found>) -> Result<(), AllocError>
+    ensures { OnOk result (KeepsMore (map had_of all.items) walk.old walk.new) }
 {
-    let mut folders = Vec::new(alloc);
-    folders.push(String::new(alloc))?;
-    let paths = Vec::new(alloc);
-    Ok(Found { folders, paths })
+    for found in all {
+        keep_one(walk, found)?;
+    }
+    Ok(())
 }
 
 /// Paths by their bytes.
-fn by_bytes(paths: Vec<String>) -> Result<Vec<String>, AllocError>
-    ensures complete { IfOk result (λ sorted. IsPermutation (map string_bytes paths.items)
-        (map string_bytes sorted.items)) }
-    ensures ascends { IfOk result (λ sorted. IsSorted (slice_cmp nat_cmp) (map string_bytes sorted.items)) }
+fn by_bytes(paths: &mut Vec<String>) -> Result<(), AllocError>
+    ensures { OnOk result (AreByBytes (map string_bytes paths.old.items) (map string_bytes paths.new.items)) }
 {
-    let mut paths = paths;
     paths.sort()?;
-    Ok(paths)
+    Ok(())
+}
+
+/// Lists the folders of a level.
+fn go_on<R: Threads + Wait, G: Gate, F: ReadFiles + Sync>(
+    readers: &Readers<'_, R, G, F>,
+    root: &str,
+    walk: &mut Walk,
+) -> Result<(), AllocError>
+    ensures { OnOk result (GoesOn (F.lists readers.now.files.now root.now) walk.old walk.new) }
+{
+    let all = list_each(readers, root, &walk.folders)?;
+    walk.folders.clear();
+    keep_each(walk, all)?;
+    by_bytes(&mut walk.folders)
+}
+
+/// The root is left to be listed.
+fn begin(alloc: Global) -> Result<Walk, AllocError>
+    ensures { IfOk result (λ walk. (map string_bytes walk.folders.items ≡ [] ∷ []) × (walk.met.items ≡ [])
+        × (map string_bytes walk.paths.items ≡ []) × (map string_bytes walk.unread.items ≡ [])) }
+{
+    let mut folders = Vec::new(alloc);
+    folders.push(String::new(alloc))?;
+    Ok(Walk {
+        folders,
+        met: Vec::new(alloc),
+        paths: Vec::new(alloc),
+        unread: Vec::new(alloc),
+    })
+}
+
+/// The paths below a root of the sources found there, by their bytes, and what can't be read there.
+fn walk_root<R: Threads + Wait, G: Gate, F: ReadFiles + Sync>(
+    readers: &Readers<'_, R, G, F>,
+    root: &str,
+) -> Result<(Vec<String>, Vec<String>), AllocError>
+    ensures { IfOk result (λ walked. AreWalked (F.lists readers.now.files.now root.now)
+        (map string_bytes walked.0.items) (map string_bytes walked.1.items)) }
+{
+    let mut walk = begin(readers.alloc)?;
+    // A bound for the proof: each time a level is listed, and there aren't so many.
+    for _ in 0..usize::MAX {
+        if walk.folders.is_empty() {
+            by_bytes(&mut walk.paths)?;
+            return Ok((walk.paths, walk.unread));
+        }
+        go_on(readers, root, &mut walk)?;
+    }
+    Err(AllocError)
 }
 
 /// The paths below a root of the sources found there, by their bytes.
 ///
-/// `Unreadable`, with the root: the root or a folder found below it can't be listed. Beside it `Memory` may come, and
-/// no other fault.
+/// `Unreadable`, with the root: the root or a folder found below it can't be listed, or one there has an entry whose
+/// name isn't UTF-8. Beside it `Memory` may come, and no other fault.
 pub(crate) fn list_sources<R: Threads + Wait, G: Gate, F: ReadFiles + Sync>(
     readers: &Readers<'_, R, G, F>,
     root: &str,
 ) -> Result<Vec<String>, LoadFault>
     ensures { MatchResult result
         (λ paths. AreListed (F.lists readers.now.files.now root.now) (map string_bytes paths.items))
-        (MayNotList (IsUnlisted (F.lists readers.now.files.now root.now) []) root.now) }
+        (MayNotList (IsUnlisted (F.lists readers.now.files.now root.now)) root.now) }
 {
-    let mut walk = begin(readers.alloc)?;
-    // A bound for the proof: each time a folder is listed, and there aren't so many.
-    for _ in 0..usize::MAX {
-        if walk.folders.is_empty() {
-            return Ok(by_bytes(walk.paths)?);
-        }
-        go_on(readers, root, &mut walk)?;
+    let (paths, unread) = walk_root(readers, root)?;
+    if unread.is_empty() {
+        return Ok(paths);
     }
-    Err(LoadFault::Memory)
+    let name = String::from_str(readers.alloc, root)?;
+    Err(LoadFault::Unreadable(name))
 }

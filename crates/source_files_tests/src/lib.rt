@@ -6,6 +6,8 @@ mod closed_streams;
 #[cfg(test)]
 mod displays;
 #[cfg(test)]
+mod excluded;
+#[cfg(test)]
 mod free_folders;
 #[cfg(test)]
 mod numbered;

@@ -70,7 +70,7 @@ pub(crate) fn remove_again<S: Files + AllocGlobal>(system: &S, path: &str) -> io
 }
 
 /// Sees that below a root these sources are read, or what can't be: on one worker and on more.
-fn see_read<R: Threads + Wait + Abort, F: ReadFiles + Sync>(
+pub(crate) fn see_read<R: Threads + Wait + Abort, F: ReadFiles + Sync>(
     rt: &R,
     alloc: Global,
     files: &F,
@@ -140,6 +140,9 @@ const ROOTS: [&str; 4] = ["walk", "walk/", "./walk", "root"];
 /// The sources below `walk`.
 const SOURCES: &str = ".proto a.proto deep/er/c.proto x.proto/b.proto z.proto ";
 
+/// The sources there if links are followed: `link` leads to `deep`, which comes first.
+const FOLLOWED: &str = ".proto a.proto deep/er/c.proto link.proto x.proto/b.proto z.proto ";
+
 /// Roots that can't be listed, and what is told.
 const UNREAD: [(&str, &str); 4] = [
     ("walk/a.proto", "walk/a.proto: Unreadable"),
@@ -165,6 +168,10 @@ fn regular_files_by_path(rt: HostRuntime) -> Result<(), Fail> {
     let files = SystemFiles::new(&rt);
     for root in &ROOTS {
         see_read(&rt, rt.alloc(), &files, *root, SOURCES)?;
+    }
+    let following = SystemFiles::following(&rt, true);
+    for root in &ROOTS {
+        see_read(&rt, rt.alloc(), &following, *root, FOLLOWED)?;
     }
     for (root, due) in &UNREAD {
         see_read(&rt, rt.alloc(), &files, *root, *due)?;

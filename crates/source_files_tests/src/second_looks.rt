@@ -106,12 +106,19 @@ fn what_is_passed_over_and_why_nothing_is_read(rt: HostRuntime) -> Result<(), Fa
     }
     rt.symlink("a.proto", "look/link.proto")?;
     rt.symlink("..", "look/deep/up")?;
+    rt.symlink("nowhere", "look/dangling")?;
     let files = SystemFiles::new(&rt);
     let due = PassedOver {
-        links: 2,
+        links: 3,
         others: 4,
     };
     see(&rt, files.passed_over("look") == Ok(due), "passed over");
+    let due = PassedOver {
+        links: 1,
+        others: 4,
+    };
+    let following = SystemFiles::following(&rt, true);
+    see(&rt, following.passed_over("look") == Ok(due), "passed over");
     for (folder, path, due) in &BLAMED {
         let said = said_of(rt.alloc(), &files, *folder, *path)?;
         see(&rt, said.as_str() == *due, path);

@@ -3,9 +3,8 @@ use Rattle.std.proofs.lemmas.List.Sorted.{IsPermutation-map}
 use Rattle.source_files.proofs.WalkLemmas.{sorted_texts}
 use Rattle.source_files.proofs.walk.by_bytes.Goals as goal
 
-pub returns-clause-complete : goal.returns-clause-complete
-returns-clause-complete c =
-    IsPermutation-map string_bytes c.args.paths.items c.sort.new.self.items c.sort.ensures.permutation
-
-pub returns-clause-ascends : goal.returns-clause-ascends
-returns-clause-ascends c = sorted_texts string_bytes c.sort.new.self.items c.in_ok-sort.ensures.sorted
+pub returns : goal.returns
+returns c = record {
+  complete = IsPermutation-map string_bytes c.args.paths.now.items c.sort.new.self.items c.sort.ensures.permutation;
+  ascends = sorted_texts string_bytes c.sort.new.self.items c.in_ok-sort.ensures.sorted;
+}

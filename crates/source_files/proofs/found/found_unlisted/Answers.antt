@@ -1,0 +1,8 @@
+use Rattle.std.proofs.Common.{string_bytes}
+use Rattle.source_files.proofs.FoundLemmas.{holds_unlisted}
+use Rattle.source_files.proofs.found.found_unlisted.Goals as goal
+
+pub returns : goal.returns
+returns c =
+    holds_unlisted string_bytes c.args.folder.now _ _ c.in_ok-unread.unread.items c.new-folders.ensures.items
+    c.new-paths.ensures.items c.in_ok-unread.ensures

@@ -11,6 +11,11 @@ mod ExplainingLemmas
 -- what an index lacks
 mod LackLemmas
 mod LineLemmas
+-- whether a tree has a path
+mod PathLemmas
+-- what a report tells
+mod FindingLemmas
+mod ReportLemmas
 -- answers to commands
 mod SessionLemmas
 -- the laws

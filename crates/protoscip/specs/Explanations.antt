@@ -1,8 +1,9 @@
 -- What is added to the line of a fault if it is to be explained: the place, a sentence, and the source's line. (The
 -- texts are this project's own.)
-use Rattle.std.specs.Prelude.{◌≡◌, ℕ, ◌-◌, Bool, List, [], ◌++◌, Option, None, Some, take, drop, length, nat_eq, codes}
-use Rattle.std.specs.Prelude.{if◌then◌else◌}
-use Rattle.std.specs.List.{slice_get}
+use Rattle.std.specs.Prelude.{◌≡◌, ℕ, ◌+◌, ◌-◌, Bool, List, [], ◌++◌, Option, None, Some, take, drop, length, nat_eq}
+use Rattle.std.specs.Prelude.{codes, if◌then◌else◌}
+use Rattle.std.specs.List.{list_any, slice_get}
+use Rattle.std.specs.Str.{bytes_eq}
 use Rattle.std.specs.Option.{option_map, unwrap_or}
 use Rattle.excerpts.specs.Excerpts.{excerpt, quoted}
 use Rattle.excerpts.specs.Places.{place_text, token_len}
@@ -111,6 +112,37 @@ abbrev pub AreHintsOf : Dialect → List TreeFile → Fault → (hints : List �
 AreHintsOf dialect tree (Syntax number fault) hints = AreSyntaxHints dialect (bytes_of tree number) fault hints
 AreHintsOf dialect tree fault hints = hints ≡ []
 
+-- ---- sentences, by what the tree holds
+
+-- what an import has between its first quote and its last: its path, if that is one literal
+abbrev pub imported : List TreeFile → FilePlace → List ℕ
+imported tree place = take (place.span.end - place.span.start - 2) (drop (place.span.start + 1) (bytes_of tree place.file))
+
+-- one of the files has a path
+abbrev pub has_path : (path : List ℕ) → List TreeFile → Bool
+has_path path tree = list_any (λ (file : TreeFile). bytes_eq file.path path) tree
+
+-- an import without a file may be of one that is left out
+abbrev pub import_sentence : (is_there : Bool) → List ℕ
+import_sentence is_there =
+    if is_there then codes "the file with this path is left out"
+    else codes "no source has this path, below ROOT or a folder that is included"
+
+-- the token there is the word `edition`
+abbrev pub is_edition : List ℕ → Bool
+is_edition bytes = bytes_eq (take (token_len bytes) bytes) (codes "edition")
+
+abbrev pub met_sentence : (text : List ℕ) → SyntaxFault → List ℕ
+met_sentence text (parsing.NotProto3 at) =
+    if is_edition (drop at text) then codes "editions aren't read, only proto3, and, with `--accept all`, proto2"
+    else syntax_sentence (parsing.NotProto3 at)
+met_sentence text fault = syntax_sentence fault
+
+abbrev pub sentence_in : List TreeFile → Fault → List ℕ
+sentence_in tree (Syntax number fault) = met_sentence (bytes_of tree number) fault
+sentence_in tree (MissingImport place) = import_sentence (has_path (imported tree place) tree)
+sentence_in tree fault = sentence_of fault
+
 -- ---- explanations
 
 -- It begins with a line end. Nothing is said about lack of memory.
@@ -119,9 +151,10 @@ explanation_of tree Memory hints = []
 explanation_of tree (Lex number fault) hints =
     at_token (path_of tree number) (bytes_of tree number) (lex_offset fault) (lex_sentence fault)
 explanation_of tree (Syntax number fault) hints =
-    at_met (path_of tree number) (bytes_of tree number) (syntax_offset fault) (syntax_sentence fault) hints
+    at_met (path_of tree number) (bytes_of tree number) (syntax_offset fault) (met_sentence (bytes_of tree number) fault)
+    hints
 explanation_of tree (Duplicate first second) hints = at_both tree first second (sentence_of (Duplicate first second))
-explanation_of tree (MissingImport place) hints = at_place tree place (sentence_of (MissingImport place))
+explanation_of tree (MissingImport place) hints = at_place tree place (sentence_in tree (MissingImport place))
 explanation_of tree (Unresolved place) hints = at_place tree place (sentence_of (Unresolved place))
 explanation_of tree fault hints = codes "\n" ++ sentence_of fault
 

@@ -10,6 +10,11 @@ pub mod Statuses
 pub mod Explanations
 -- what is reported of what an index lacks
 pub mod ToldLines
+-- what a report tells of it
+pub mod Findings
+pub mod FindingLaws
+-- and what is told of a tree that is refused
+pub mod ToldTrees
 -- the index of a tree and its bytes
 pub mod Indexes
 pub mod Writing

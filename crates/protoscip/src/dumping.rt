@@ -74,7 +74,7 @@ pub fn dump_tree(alloc: Global, bytes: Vec<u8>) -> Result<Tree, AllocError>
 }
 
 /// The settings of a dump.
-fn dump_settings(alloc: Global, dialect: Dialect) -> Result<Settings, AllocError>
+pub(crate) fn dump_settings(alloc: Global, dialect: Dialect) -> Result<Settings, AllocError>
     ensures { IfOk result (λ settings. settings ≡ dump_settings dialect) }
 {
     let parts = [String::new(alloc), String::new(alloc), String::new(alloc)];

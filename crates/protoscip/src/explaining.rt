@@ -20,7 +20,7 @@ ghost use Rattle.protoscip.specs.FaultLines.{HasFile, HasFilesOf, path_of};
 
 use crate::fault::Fault;
 use crate::fault_lines::{fault_line, path_of};
-use crate::sentences::sentence_of;
+use crate::sentences::sentence_in;
 use excerpts::{push_excerpt, push_place, push_quoted, token_len};
 use proto_link::FilePlace;
 use proto_parse::{Dialect, SyntaxFault};
@@ -93,7 +93,7 @@ pub(crate) fn with_explanation(
 }
 
 /// The bytes before an offset; all if it is past the end.
-fn head(bytes: &[u8], at: usize) -> &[u8]
+pub(crate) fn head(bytes: &[u8], at: usize) -> &[u8]
     ensures { result.now ≡ take at bytes.now }
 {
     if at < bytes.len() {
@@ -163,7 +163,7 @@ fn push_explanation(
     requires { HasFilesOf tree.now fault.now }
     ensures { OnOk result (string_bytes out.new ≡ string_bytes out.old ++ explanation_of tree.now fault.now hints.now) }
 {
-    let sentence = sentence_of(fault);
+    let sentence = sentence_in(tree, fault);
     match fault {
         Fault::Memory => Ok(()),
         Fault::Lex(file, fault) => {
@@ -236,7 +236,7 @@ fn push_at_token(
 }
 
 /// The bytes from an offset on; none past the end.
-fn tail(bytes: &[u8], at: usize) -> &[u8]
+pub(crate) fn tail(bytes: &[u8], at: usize) -> &[u8]
     ensures { result.now ≡ drop at bytes.now }
 {
     if at < bytes.len() {

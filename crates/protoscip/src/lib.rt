@@ -27,14 +27,17 @@ mod sentences;
 mod statuses;
 
 // What an index lacks.
+mod findings;
 mod telling;
 mod told_lines;
+mod told_trees;
 
 pub use answering::answer_commands;
 pub use dumping::{SOURCE_PATH, dump, dump_and_keep, dump_tree, dump_with};
 pub use explaining::{explain_in, fault_text};
 pub use fault::Fault;
 pub use fault_lines::fault_line;
+pub use findings::{counts_of, finding_of, findings_come_once, refused_findings, told_findings};
 pub use indexing::{KeptIndex, index_and_keep, index_tree};
 pub use laws::{
     built_has_files, each_use_has_a_target, headline, indexed_has_no_fault, laws_of_names,
@@ -45,8 +48,9 @@ pub use output::write_text;
 pub use recorded::Recorded;
 pub use sessions::session;
 pub use statuses::{MEMORY_STATUS, SOURCES_STATUS, STREAM_STATUS};
-pub use telling::told_text;
+pub use telling::{count_imports, count_skipped, count_skipped_sources, count_uses, told_text};
 pub use told_lines::told_line;
+pub use told_trees::told_of_tree;
 
 // What is made below, for whoever embeds the indexer. (To read an index, `scip_wire` and `scip_query` are needed, too.)
 // Sources and settings,
@@ -57,6 +61,9 @@ pub use scip_model::{Choices, FilePackages, RootPackage};
 pub use scip_symbol::{BadPart, PackageId};
 pub use sequences::{OwnedText, Sequence};
 pub use source_tree::{Source, Tree, TreeFault, is_good_path};
+
+// reports,
+pub use fault_reports::{Counts, Finding, FindingKind, Place, ReportFormat, report_bytes};
 
 // callbacks and their promises,
 pub use index_hooks::{

@@ -1,12 +1,27 @@
 //! A sentence about each fault.
 
 ghost use Rattle.std.specs.Prelude.{◌≡◌};
-ghost use Rattle.protoscip.specs.Explanations.{lex_sentence, sentence_of, syntax_sentence};
+ghost use Rattle.protoscip.specs.Explanations.{
+  has_path,
+  import_sentence,
+  imported,
+  is_edition,
+  lex_sentence,
+  met_sentence,
+  sentence_in,
+  sentence_of,
+  syntax_sentence,
+};
+ghost use Rattle.protoscip.specs.FaultLines.{HasFile, HasFilesOf};
 
+use crate::explaining::{head, tail};
 use crate::fault::Fault;
+use excerpts::token_len;
 use proto_lex::{LexFault, MAX_TEXT_LENGTH};
+use proto_link::FilePlace;
 use proto_parse::{MAX_MESSAGE_DEPTH, SyntaxFault};
 use scip_wire::MAX_INDEX_LEN;
+use source_tree::Tree;
 
 // The numbers in the sentences are the limits.
 const _: () = prove!(
@@ -54,8 +69,91 @@ fn syntax_sentence(fault: &SyntaxFault) -> &'static str
     }
 }
 
-/// For a run's fault; empty for lack of memory. If two places have one full name, it is that of the second.
-pub(crate) fn sentence_of(fault: &Fault) -> &'static str
+/// Whether the token there is the word `edition`.
+fn is_edition(bytes: &[u8]) -> bool
+    ensures { result ≡ is_edition bytes.now }
+{
+    bytes.split_at(token_len(bytes)).0 == b"edition".as_slice()
+}
+
+/// For a fault of the parser, by the text.
+fn met_sentence(text: &[u8], fault: &SyntaxFault) -> &'static str
+    ensures { result.now ≡ met_sentence text.now fault.now }
+{
+    match fault {
+        SyntaxFault::NotProto3(at) => {
+            if is_edition(tail(text, *at)) {
+                return "editions aren't read, only proto3, and, with `--accept all`, proto2";
+            }
+            syntax_sentence(fault)
+        }
+        SyntaxFault::Grammar(_)
+        | SyntaxFault::CustomOption(_)
+        | SyntaxFault::Aggregate(_)
+        | SyntaxFault::Extend(_)
+        | SyntaxFault::TwoPackages(_)
+        | SyntaxFault::ImportEscape(_)
+        | SyntaxFault::TooDeep(_)
+        | SyntaxFault::Memory => syntax_sentence(fault),
+    }
+}
+
+/// What an import has between its first quote and its last: its path, if that is one literal.
+pub(crate) fn imported<'a>(tree: &'a Tree, place: &FilePlace) -> &'a [u8]
+    requires { HasFile tree.now place.now.file }
+    ensures { result.now ≡ imported tree.now place.now }
+{
+    let len = (place.span.end as usize).saturating_sub(place.span.start as usize);
+    let behind = tail(tree.bytes(place.file), place.span.start as usize + 1);
+    head(behind, len.saturating_sub(2))
+}
+
+/// Whether one of the files has a path.
+fn has_path(tree: &Tree, path: &[u8]) -> bool
+    ensures { result ≡ has_path path.now tree.now }
+{
+    for number in 0..tree.file_count() {
+        if *tree.path(number).as_bytes() == *path {
+            return true;
+        }
+    }
+    false
+}
+
+/// For an import without a file: that may be one that is left out.
+fn import_sentence(is_there: bool) -> &'static str
+    ensures { result.now ≡ import_sentence is_there }
+{
+    if is_there {
+        "the file with this path is left out"
+    } else {
+        "no source has this path, below ROOT or a folder that is included"
+    }
+}
+
+/// For a fault of a tree, by what that holds; empty for lack of memory. If two places have one full name, it is that of
+/// the second.
+pub(crate) fn sentence_in(tree: &Tree, fault: &Fault) -> &'static str
+    requires { HasFilesOf tree.now fault.now }
+    ensures { result.now ≡ sentence_in tree.now fault.now }
+{
+    match fault {
+        Fault::Syntax(file, syntax) => met_sentence(tree.bytes(*file), syntax),
+        Fault::MissingImport(place) => import_sentence(has_path(tree, imported(tree, place))),
+        Fault::Spawn
+        | Fault::Memory
+        | Fault::Lex(..)
+        | Fault::Duplicate(..)
+        | Fault::Unresolved(_)
+        | Fault::TooLarge
+        | Fault::Write(_)
+        | Fault::Read
+        | Fault::Answer(_) => sentence_of(fault),
+    }
+}
+
+/// For a run's fault, whatever the tree holds; empty for lack of memory. If two places have one full name, it is that of the second.
+fn sentence_of(fault: &Fault) -> &'static str
     ensures { result.now ≡ sentence_of fault.now }
 {
     match fault {

@@ -56,14 +56,14 @@ fn is_use(fault: &BuildFault) -> bool
 }
 
 /// How many files are left out.
-fn count_skipped(told: &[BuildFault]) -> usize
+pub fn count_skipped(told: &[BuildFault]) -> usize
     ensures { result ≡ count_by is_skipped told.now }
 {
     told.iter().filter(|fault| is_skipped(*fault)).count()
 }
 
-/// How many of them are sources, by how many the tree has.
-fn count_skipped_sources(sources: usize, told: &[BuildFault]) -> usize
+/// How many sources are left out, by how many the tree has.
+pub fn count_skipped_sources(sources: usize, told: &[BuildFault]) -> usize
     ensures { result ≡ count_by (is_skipped_source sources) told.now }
 {
     told.iter()
@@ -72,14 +72,14 @@ fn count_skipped_sources(sources: usize, told: &[BuildFault]) -> usize
 }
 
 /// How many imports have no target.
-fn count_imports(told: &[BuildFault]) -> usize
+pub fn count_imports(told: &[BuildFault]) -> usize
     ensures { result ≡ count_by is_import told.now }
 {
     told.iter().filter(|fault| is_import(*fault)).count()
 }
 
 /// How many uses have none.
-fn count_uses(told: &[BuildFault]) -> usize
+pub fn count_uses(told: &[BuildFault]) -> usize
     ensures { result ≡ count_by is_use told.now }
 {
     told.iter().filter(|fault| is_use(*fault)).count()

@@ -8,6 +8,8 @@ mod dumps;
 #[cfg(test)]
 mod faulty_streams;
 #[cfg(test)]
+mod findings;
+#[cfg(test)]
 mod indexes;
 #[cfg(test)]
 mod laws;

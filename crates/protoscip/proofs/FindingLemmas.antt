@@ -1,0 +1,32 @@
+-- Why what is told of a tree can't be had.
+use Rattle.std.proofs.Common.{◌≡◌, ℕ, List, subst}
+use Rattle.proto_decl.specs.Seen.{Seen}
+use Rattle.index_hooks.specs.declared.choice.Choice.{Choice}
+use Rattle.proto_parse.specs.tree.Dialect.{Dialect}
+use Rattle.source_tree.specs.Files.{TreeFile}
+use Rattle.scip_build.specs.Builds.{IsBuildFault}
+use Rattle.scip_build.specs.declared.settings.Settings.{Settings}
+use Rattle.scip_build.specs.declared.faulty.Faulty.TheVariants.{Skip}
+use Rattle.scip_build.specs.declared.fault.BuildFault.{BuildFault}
+use Rattle.scip_build.specs.declared.fault.BuildFault.TheVariants as build
+use Rattle.scip_build.specs.declared.fault.FileFault.TheVariants as file
+use Rattle.protoscip.specs.Faults.{fault_of_build}
+use Rattle.protoscip.specs.ToldTrees.{MayNotTell, skipping}
+
+-- if faults are skipped, a tree is refused for want of memory or of a thread alone
+unrefused : (allows : Seen → Choice → Type 0) (dialect : Dialect) (tree : List TreeFile) (workers : ℕ)
+    (e : BuildFault) → IsBuildFault allows Skip dialect tree workers e → MayNotTell workers (fault_of_build e)
+unrefused allows dialect tree workers build.Spawn is = is
+unrefused allows dialect tree workers build.Memory is = tt
+unrefused allows dialect tree workers (build.File number (file.Lex e)) is = let never = is.0 in absurd cc
+unrefused allows dialect tree workers (build.File number (file.Syntax e)) is = let never = is.0 in absurd cc
+unrefused allows dialect tree workers (build.Duplicate first second) is = let never = is.0 in absurd cc
+unrefused allows dialect tree workers (build.MissingImport place) is = let never = is.0 in absurd cc
+unrefused allows dialect tree workers (build.Unresolved place) is = let never = is.0 in absurd cc
+
+pub stops_so : (allows : Seen → Choice → Type 0) (settings : Settings) (dialect : Dialect) (tree : List TreeFile)
+    (workers : ℕ) (e : BuildFault) → settings ≡ skipping dialect
+    → IsBuildFault allows settings.faulty settings.dialect tree workers e → MayNotTell workers (fault_of_build e)
+stops_so allows settings dialect tree workers e are refused =
+    unrefused allows dialect tree workers e
+    (subst (λ (s : Settings). IsBuildFault allows s.faulty s.dialect tree workers e) are refused)

@@ -1,0 +1,303 @@
+-- The findings of a report: the files that they name, and that each comes once.
+use Rattle.std.proofs.Common.{◌≡◌, ◌≢◌, ◌∙◌, ℕ, ◌<◌, ◌+◌, Bool, true, false, List, [], ◌∷◌, ◌++◌, length, map}
+use Rattle.std.proofs.Common.{get_or, take, Option, Some, None, ap, sym, refl, subst, arith}
+use Rattle.std.specs.Prelude.{⊤, not, cond, nat_eq, Contains, codes, unwrap_or}
+use Rattle.std.specs.List.{All, filter, slice_get}
+use Rattle.std.specs.Option.{option_map}
+use Rattle.std.specs.Str.{bytes_eq}
+use Rattle.std.specs.declared.cmp.Ordering.TheVariants.{Less}
+use Rattle.std.specs.Ordering.{nat_cmp}
+use Rattle.std.specs.Cmp.{IsTotalOrder, bool_cmp_total}
+use Rattle.std.specs.List.Sorted.{IsStrictlySortedBy}
+use Rattle.std.proofs.lemmas.Cmp.{on_total, then_total, nat_cmp_total}
+use Rattle.std.proofs.lemmas.List.{get_or-map, length-map}
+use Rattle.std.proofs.lemmas.List.Elements.{All-cons, All-contains, All-contains_itself, All-filter, All-map}
+use Rattle.std.proofs.lemmas.List.Elements.{All-weaker, filter_more}
+use Rattle.std.proofs.lemmas.Bool.Decides.{Decides-eqb}
+use Rattle.std.proofs.lemmas.List.Kept.{AllPairs-cons, AllPairs-filter}
+use Rattle.std.proofs.lemmas.Map.Keys.{Less-from_sorted}
+use Rattle.std.proofs.lemmas.Option.{slice_get-get_or}
+use Rattle.proto_decl.specs.Seen.{Seen}
+use Rattle.proto_visibility.specs.declared.fault.LinkFault.{LinkFault}
+use Rattle.proto_visibility.specs.declared.fault.LinkFault.TheVariants as link
+use Rattle.proto_visibility.specs.Kept.{Omissions}
+use Rattle.index_hooks.specs.declared.choice.Choice.{Choice}
+use Rattle.source_tree.specs.Files.{TreeFile}
+use Rattle.source_tree.specs.Trees.{HaveOwnPaths}
+use Rattle.scip_model.proofs.SortLemmas.{not-below}
+use Rattle.scip_build.specs.Builds.{IsBuilt}
+use Rattle.scip_build.specs.Files.{ReadFile}
+use Rattle.scip_build.specs.Kept.{IsLeftFor, IsTold, Key, key_cmp, told_cmp, told_key}
+use Rattle.scip_build.specs.Kept.IsTold.{of_file, of_import, of_use}
+use Rattle.scip_build.specs.declared.settings.Settings.{Settings}
+use Rattle.scip_build.specs.declared.built.Built.{Built}
+use Rattle.scip_build.specs.declared.fault.BuildFault.{BuildFault}
+use Rattle.scip_build.specs.declared.fault.BuildFault.TheVariants as build
+use Rattle.scip_build.specs.declared.fault.FileFault.{FileFault}
+use Rattle.scip_build.specs.declared.fault.FileFault.TheVariants as file
+use Rattle.proto_visibility.specs.declared.place.FilePlace.{FilePlace}
+use Rattle.fault_reports.specs.Findings.{Found, FoundPlace}
+use Rattle.fault_reports.specs.declared.finding.FindingKind.{FindingKind}
+use Rattle.fault_reports.specs.declared.finding.FindingKind.TheVariants as kind
+use Rattle.protoscip.specs.Faults.{fault_of_build}
+use Rattle.protoscip.specs.FaultLines.{HasFile, HasFilesOf, HaveFilesOf, path_of}
+use Rattle.protoscip.specs.FindingLaws.{AreApart, FindingsComeOnce}
+use Rattle.protoscip.specs.Findings.{faults_of, faults_with, finding_of, is_one_place, is_other, kind_of, tells_same}
+use Rattle.protoscip.specs.Findings.{told_findings}
+use Rattle.protoscip.specs.declared.fault.Fault.{Fault}
+use Rattle.protoscip.specs.declared.fault.Fault.TheVariants as fault
+use Rattle.protoscip.proofs.FileLemmas.{files_of_built}
+use Rattle.protoscip.proofs.ListLemmas.{filtered}
+
+-- ---- files
+
+pub have_files : (tree : List TreeFile) (told : List BuildFault) → HaveFilesOf tree told
+    → All (HasFilesOf tree) (faults_of told)
+have_files tree told have = All-map (HasFilesOf tree) fault_of_build told have
+
+pub have_all : (tree : List TreeFile) (own : Fault) (told : List Fault) → HasFilesOf tree own
+    → All (HasFilesOf tree) told → All (HasFilesOf tree) (faults_with own told)
+have_all tree own told has have =
+    All-cons (HasFilesOf tree) own (filter (is_other own) told) has
+    (All-filter (is_other own) (HasFilesOf tree) told have)
+
+-- ---- the faults of a run that is refused
+
+pub one_fault_more : (own : Fault) (all now next : List Fault) (at : ℕ) (d : Fault) → at < length all
+    → now ≡ faults_with own (take at all)
+    → next ≡ now ++ cond (is_other own (get_or all at d)) (get_or all at d ∷ []) []
+    → next ≡ faults_with own (take (at + 1) all)
+one_fault_more own all now next at d within so is =
+    let more : List Fault = cond (is_other own (get_or all at d)) (get_or all at d ∷ []) [] in
+    is ∙ (ap (λ l. l ++ more) so ∙ ap (λ l. own ∷ l) (sym (filter_more (is_other own) all at d within)))
+
+-- ---- where a fault is told
+
+key_total : IsTotalOrder key_cmp
+key_total = then_total
+    (then_total (on_total (λ (x : Key). x.0.0) nat_cmp_total) (on_total (λ (x : Key). x.0.1) nat_cmp_total))
+    (then_total (on_total (λ (x : Key). x.1.0) nat_cmp_total) (on_total (λ (x : Key). x.1.1) bool_cmp_total))
+
+-- what comes later in order isn't at the same place
+keys_differ : (told : List BuildFault) → IsStrictlySortedBy told_cmp told → (i j : ℕ) (d : BuildFault) → i < j
+    → j < length told → told_key (get_or told i d) ≢ told_key (get_or told j d)
+keys_differ told rising i j d before within same =
+    let key = told_key (get_or told i d) in
+    not-below key_total key
+    (subst (λ (other : Key). key_cmp key other ≡ Less) (sym same)
+    (Less-from_sorted told_cmp told i j d rising before within))
+
+-- it is seen from the fault of a run
+abbrev fault_key : Fault → Key
+fault_key (fault.Lex number e) = ((number, 0), (0, false))
+fault_key (fault.Syntax number e) = ((number, 0), (0, false))
+fault_key (fault.Duplicate first second) = ((second.file, 0), (0, false))
+fault_key (fault.MissingImport place) = ((place.file, place.span.start), (place.span.end, false))
+fault_key (fault.Unresolved place) = ((place.file, place.span.start), (place.span.end, true))
+fault_key other = ((0, 0), (0, false))
+
+key_of_fault : (told : BuildFault) → fault_key (fault_of_build told) ≡ told_key told
+key_of_fault build.Spawn = refl
+key_of_fault build.Memory = refl
+key_of_fault (build.File number (file.Lex e)) = refl
+key_of_fault (build.File number (file.Syntax e)) = refl
+key_of_fault (build.Duplicate first second) = refl
+key_of_fault (build.MissingImport place) = refl
+key_of_fault (build.Unresolved place) = refl
+
+faults_apart : (told : List BuildFault) → IsStrictlySortedBy told_cmp told → AreApart (faults_of told)
+faults_apart told rising i j d before within same =
+    let inside : j < length told = subst (λ (n : ℕ). j < n) (length-map told fault_of_build) within in
+    let there : i < length told = omega (arith, before, inside) in
+    let first = get_or-map fault_of_build told i build.Spawn d there in
+    let second = get_or-map fault_of_build told j build.Spawn d inside in
+    keys_differ told rising i j build.Spawn before inside
+    (sym (key_of_fault (get_or told i build.Spawn)) ∙ (ap fault_key (sym first ∙ (same ∙ second))
+    ∙ key_of_fault (get_or told j build.Spawn)))
+
+-- ---- the findings of what is told
+
+-- a fault is of a file
+abbrev IsOfFile : Fault → Type 0
+IsOfFile fault.Spawn = ⊥
+IsOfFile fault.Memory = ⊥
+IsOfFile (fault.Lex number e) = ⊤
+IsOfFile (fault.Syntax number e) = ⊤
+IsOfFile (fault.Duplicate first second) = ⊤
+IsOfFile (fault.MissingImport place) = ⊤
+IsOfFile (fault.Unresolved place) = ⊤
+IsOfFile fault.TooLarge = ⊥
+IsOfFile (fault.Write count) = ⊥
+IsOfFile fault.Read = ⊥
+IsOfFile (fault.Answer count) = ⊥
+
+-- so is what is told
+abbrev IsToldOfFile : BuildFault → Type 0
+IsToldOfFile told = IsOfFile (fault_of_build told)
+
+of_file_fault : (number : ℕ) (e : FileFault) → IsToldOfFile (build.File number e)
+of_file_fault number (file.Lex e) = tt
+of_file_fault number (file.Syntax e) = tt
+
+left_of_file : (all : List ReadFile) (omission : Option LinkFault) (told : BuildFault) → IsLeftFor all omission told
+    → IsToldOfFile told
+left_of_file all None told left = absurd left
+left_of_file all (Some (link.Broken number)) told left = subst IsToldOfFile (sym left.2) (of_file_fault number left.0)
+left_of_file all (Some (link.Duplicate first second)) told left = subst IsToldOfFile (sym left) tt
+left_of_file all (Some (link.MissingImport place)) told left = absurd left
+left_of_file all (Some (link.Unresolved place)) told left = absurd left
+left_of_file all (Some link.Memory) told left = absurd left
+
+told_of_file : (all : List ReadFile) (omissions : Omissions) (told : BuildFault) → IsTold all omissions told
+    → IsToldOfFile told
+told_of_file all omissions told (of_file number omission at left) = left_of_file all omission told left
+told_of_file all omissions _ (of_import place missing) = tt
+told_of_file all omissions _ (of_use place unresolved) = tt
+
+file_of : (tree : List TreeFile) (told : BuildFault) → IsToldOfFile told → HasFilesOf tree (fault_of_build told)
+    → HasFile tree (told_key told).0.0
+file_of tree build.Spawn of have = absurd of
+file_of tree build.Memory of have = absurd of
+file_of tree (build.File number (file.Lex e)) of have = have
+file_of tree (build.File number (file.Syntax e)) of have = have
+file_of tree (build.Duplicate first second) of have = have.1
+file_of tree (build.MissingImport place) of have = have
+file_of tree (build.Unresolved place) of have = have
+
+-- where it is told, by the path of the file; it is seen from its finding
+abbrev PathKey : Type 0
+PathKey = (List ℕ × ℕ) × (ℕ × Bool)
+
+abbrev path_key : List TreeFile → Key → PathKey
+path_key tree key = ((path_of tree key.0.0, key.0.1), key.1)
+
+abbrev no_place : FoundPlace
+no_place = record { path = []; text = []; offset = None; end = None }
+
+abbrev key_at : FindingKind → (is_use : Bool) → FoundPlace → PathKey
+key_at kind.NoTarget is_use place = ((place.path, unwrap_or place.offset 0), (unwrap_or place.end 0, is_use))
+key_at kind.Skipped is_use place = ((place.path, 0), (0, false))
+key_at kind.Fault is_use place = ((place.path, 0), (0, false))
+
+abbrev found_key : Found → PathKey
+found_key found = key_at found.kind (bytes_eq found.name (codes "Unresolved")) (unwrap_or found.place no_place)
+
+abbrev finding : List TreeFile → Fault → Found
+finding tree f = finding_of (kind_of f) tree f
+
+key_found : (tree : List TreeFile) (told : BuildFault) → IsToldOfFile told
+    → found_key (finding tree (fault_of_build told)) ≡ path_key tree (told_key told)
+key_found tree build.Spawn of = absurd of
+key_found tree build.Memory of = absurd of
+key_found tree (build.File number (file.Lex e)) of = refl
+key_found tree (build.File number (file.Syntax e)) of = refl
+key_found tree (build.Duplicate first second) of = refl
+key_found tree (build.MissingImport place) of = refl
+key_found tree (build.Unresolved place) of = refl
+
+module _ (tree : List TreeFile) (own : HaveOwnPaths tree) where
+  -- a path is that of one file
+  one_number : (m n : ℕ) → HasFile tree m → HasFile tree n → path_of tree m ≡ path_of tree n → m ≡ n
+  one_number m n first second same =
+      let none : TreeFile = record { path = []; bytes = []; is_included = false } in
+      let a = slice_get-get_or tree m none first in
+      let b = slice_get-get_or tree n none second in
+      own m n (get_or tree m none) (get_or tree n none) a b
+      (sym (path_at m (get_or tree m none) a) ∙ (same ∙ path_at n (get_or tree n none) b))
+    where
+      path_at : (k : ℕ) (at : TreeFile) → slice_get tree k ≡ Some at → path_of tree k ≡ at.path
+      path_at k at is = ap (λ (o : Option TreeFile). unwrap_or (option_map (λ (f : TreeFile). f.path) o) []) is
+
+  one_key : (k l : Key) → HasFile tree k.0.0 → HasFile tree l.0.0 → path_key tree k ≡ path_key tree l → k ≡ l
+  one_key k l first second same =
+      let number : k.0.0 ≡ l.0.0 = one_number k.0.0 l.0.0 first second (ap (λ (x : PathKey). x.0.0) same) in
+      let start : k.0.1 ≡ l.0.1 = ap (λ (x : PathKey). x.0.1) same in
+      let rest : k.1 ≡ l.1 = ap (λ (x : PathKey). x.1) same in
+      λ i. ((number i, start i), rest i)
+
+  alike : (a b : BuildFault) → IsToldOfFile a → IsToldOfFile b → HasFilesOf tree (fault_of_build a)
+      → HasFilesOf tree (fault_of_build b) → finding tree (fault_of_build a) ≡ finding tree (fault_of_build b)
+      → told_key a ≡ told_key b
+  alike a b of_a of_b have_a have_b same =
+      one_key (told_key a) (told_key b) (file_of tree a of_a have_a) (file_of tree b of_b have_b)
+      (sym (key_found tree a of_a) ∙ (ap found_key same ∙ key_found tree b of_b))
+
+  findings_apart : (told : List BuildFault) → IsStrictlySortedBy told_cmp told → All IsToldOfFile told
+      → HaveFilesOf tree told → AreApart (told_findings tree told)
+  findings_apart told rising of have i j d before within same =
+      let faults = faults_of told in
+      let inside : j < length told = subst (λ (n : ℕ). j < n)
+      (length-map faults (finding tree) ∙ length-map told fault_of_build) within in
+      let there : i < length told = omega (arith, before, inside) in
+      keys_differ told rising i j build.Spawn before inside
+      (alike (get_or told i build.Spawn) (get_or told j build.Spawn)
+      (of i build.Spawn there) (of j build.Spawn inside) (have i build.Spawn there) (have j build.Spawn inside)
+      (sym (at i d there) ∙ (same ∙ at j d inside)))
+    where
+      at : (k : ℕ) (d : Found) → k < length told
+          → get_or (told_findings tree told) k d ≡ finding tree (fault_of_build (get_or told k build.Spawn))
+      at k d within =
+          let faults = faults_of told in
+          get_or-map (finding tree) faults k fault.Spawn d
+          (subst (λ (n : ℕ). k < n) (sym (length-map told fault_of_build)) within)
+          ∙ ap (finding tree) (get_or-map fault_of_build told k build.Spawn fault.Spawn within)
+
+-- ---- the faults of a run that is refused, each once
+
+same_number : (n : ℕ) → nat_eq n n ≡ true
+same_number n = (Decides-eqb n n).1 refl
+
+same_place : (place : FilePlace) → is_one_place place place ≡ true
+same_place place = rw (same_number place.file, same_number place.span.start, same_number place.span.end) refl
+
+same_fault : (own : Fault) → IsOfFile own → tells_same own own ≡ true
+same_fault fault.Spawn of = absurd of
+same_fault fault.Memory of = absurd of
+same_fault (fault.Lex number e) of = same_number number
+same_fault (fault.Syntax number e) of = same_number number
+same_fault (fault.Duplicate first second) of = same_number second.file
+same_fault (fault.MissingImport place) of = same_place place
+same_fault (fault.Unresolved place) of = same_place place
+same_fault fault.TooLarge of = absurd of
+same_fault (fault.Write count) of = absurd of
+same_fault fault.Read of = absurd of
+same_fault (fault.Answer count) of = absurd of
+
+other_so : (own other : Fault) → IsOfFile other → is_other own other ≡ true → own ≢ other
+other_so own other of passes same =
+    let tells : tells_same own other ≡ true =
+    subst (λ (f : Fault). tells_same f other ≡ true) (sym same) (same_fault other of) in
+    let fails : is_other own other ≡ false = ap not tells in
+    absurd cc
+
+refused_apart : (own : Fault) (told : List BuildFault) → IsStrictlySortedBy told_cmp told → All IsToldOfFile told
+    → AreApart (faults_with own (faults_of told))
+refused_apart own told rising of =
+    let faults = faults_of told in
+    let others = filter (is_other own) faults in
+    AllPairs-cons (λ x y. x ≢ y) own others
+    (All-weaker (Contains others) (λ y. own ≢ y)
+    (λ y there. let passed = filtered (is_other own) faults y there in
+    other_so own y (All-contains IsOfFile faults y (All-map IsOfFile fault_of_build told of) passed.0) passed.1)
+    others (All-contains_itself others))
+    (AllPairs-filter (λ x y. x ≢ y) (is_other own) faults (faults_apart told rising))
+
+-- ---- the law
+
+module _ (allows : Seen → Choice → Type 0) (settings : Settings) (tree : List TreeFile) (built : Built)
+    (is : IsBuilt allows settings tree built) where
+  all_of_files : All IsToldOfFile built.told
+  all_of_files =
+      let kept = is.of_files.kept in
+      All-weaker (Contains built.told) IsToldOfFile
+      (λ told there. told_of_file is.all kept.omissions told ((kept.told_is.exact told).0 there))
+      built.told (All-contains_itself built.told)
+
+pub come_once : (allows : Seen → Choice → Type 0) → FindingsComeOnce allows
+come_once allows = record {
+  of_told = λ settings tree built own is.
+      findings_apart tree own built.told is.of_files.kept.told_is.ascends
+      (all_of_files allows settings tree built is) (files_of_built allows settings tree built is);
+  of_refused = λ settings tree built own is.
+      refused_apart own built.told is.of_files.kept.told_is.ascends (all_of_files allows settings tree built is);
+}

@@ -1,0 +1,135 @@
+-- What a report tells of a tree: a finding for each fault, with the name that its line has and the sentence that
+-- explains it.
+use Rattle.std.specs.Prelude.{ℕ, ◌+◌, ◌-◌, Bool, false, not, ◌&&◌, nat_eq, List, ◌∷◌, Option, None, Some, map, take}
+use Rattle.std.specs.Prelude.{drop}
+use Rattle.std.specs.List.{count_by, filter}
+use Rattle.fault_reports.specs.Findings.{Found, FoundPlace}
+use Rattle.fault_reports.specs.declared.finding.Counts.{Counts}
+use Rattle.fault_reports.specs.declared.finding.FindingKind.{FindingKind}
+use Rattle.fault_reports.specs.declared.finding.FindingKind.TheVariants as kind
+use Rattle.proto_lex.specs.FaultNames.{lex_offset}
+use Rattle.proto_parse.specs.FaultNames.{syntax_offset}
+use Rattle.proto_visibility.specs.declared.place.FilePlace.{FilePlace}
+use Rattle.scip_build.specs.declared.fault.BuildFault.{BuildFault}
+use Rattle.source_tree.specs.Files.{TreeFile}
+use Rattle.protoscip.specs.Explanations.{bytes_of, imported, sentence_in}
+use Rattle.protoscip.specs.FaultLines.{name_of, path_of}
+use Rattle.protoscip.specs.Faults.{fault_of_build}
+use Rattle.protoscip.specs.ToldLines.{is_import, is_skipped, is_skipped_source, is_use}
+use Rattle.protoscip.specs.declared.fault.Fault.{Fault}
+use Rattle.protoscip.specs.declared.fault.Fault.TheVariants.{Lex, Syntax, Duplicate, MissingImport, Unresolved}
+
+-- ---- a finding
+
+-- a place of the file with this number, and its end, if that is known
+abbrev pub place_in : List TreeFile → (number : ℕ) → (at end : Option ℕ) → FoundPlace
+place_in tree number at end =
+    record { path = path_of tree number; text = bytes_of tree number; offset = at; end = end }
+
+abbrev pub place_of_span : List TreeFile → FilePlace → FoundPlace
+place_of_span tree place = place_in tree place.file (Some place.span.start) (Some place.span.end)
+
+-- where a fault is: of two places with one full name it is the second
+abbrev pub place_of : List TreeFile → Fault → Option FoundPlace
+place_of tree (Lex number fault) = Some (place_in tree number (lex_offset fault) None)
+place_of tree (Syntax number fault) = Some (place_in tree number (syntax_offset fault) None)
+place_of tree (Duplicate first second) = Some (place_of_span tree second)
+place_of tree (MissingImport place) = Some (place_of_span tree place)
+place_of tree (Unresolved place) = Some (place_of_span tree place)
+place_of tree fault = None
+
+-- and this is the first
+abbrev pub first_of : List TreeFile → Fault → Option FoundPlace
+first_of tree (Duplicate first second) = Some (place_of_span tree first)
+first_of tree fault = None
+
+-- of an import without a file, its path as the source has it
+abbrev pub import_of : List TreeFile → Fault → Option (List ℕ)
+import_of tree (MissingImport place) = Some (imported tree place)
+import_of tree fault = None
+
+abbrev pub finding_of : FindingKind → List TreeFile → Fault → Found
+finding_of kind tree fault = record {
+  kind = kind;
+  name = name_of fault;
+  message = sentence_in tree fault;
+  place = place_of tree fault;
+  first = first_of tree fault;
+  imported = import_of tree fault;
+}
+
+-- ---- all findings
+
+-- what is told of an index is an omission if a file is left out, and else a gap
+abbrev pub kind_of : Fault → FindingKind
+kind_of (Lex number fault) = kind.Skipped
+kind_of (Syntax number fault) = kind.Skipped
+kind_of (Duplicate first second) = kind.Skipped
+kind_of (MissingImport place) = kind.NoTarget
+kind_of (Unresolved place) = kind.NoTarget
+kind_of fault = kind.Fault
+
+abbrev pub faults_of : List BuildFault → List Fault
+faults_of told = map fault_of_build told
+
+abbrev pub told_in : List TreeFile → List Fault → List Found
+told_in tree faults = map (λ fault. finding_of (kind_of fault) tree fault) faults
+
+-- of an index, what is told of it, each thing in its order
+abbrev pub told_findings : List TreeFile → List BuildFault → List Found
+told_findings tree told = told_in tree (faults_of told)
+
+-- ---- the findings of a run that is refused
+
+-- the file with this number would be left out for it
+abbrev pub leaves_out : (number : ℕ) → Fault → Bool
+leaves_out number (Lex other fault) = nat_eq number other
+leaves_out number (Syntax other fault) = nat_eq number other
+leaves_out number (Duplicate first second) = nat_eq number second.file
+leaves_out number fault = false
+
+abbrev pub is_one_place : FilePlace → FilePlace → Bool
+is_one_place a b = nat_eq a.file b.file && (nat_eq a.span.start b.span.start && nat_eq a.span.end b.span.end)
+
+abbrev pub is_import_at : FilePlace → Fault → Bool
+is_import_at place (MissingImport other) = is_one_place place other
+is_import_at place fault = false
+
+abbrev pub is_use_at : FilePlace → Fault → Bool
+is_use_at place (Unresolved other) = is_one_place place other
+is_use_at place fault = false
+
+-- the second tells of the same file, import or use as the first
+abbrev pub tells_same : Fault → Fault → Bool
+tells_same (Lex number fault) other = leaves_out number other
+tells_same (Syntax number fault) other = leaves_out number other
+tells_same (Duplicate first second) other = leaves_out second.file other
+tells_same (MissingImport place) other = is_import_at place other
+tells_same (Unresolved place) other = is_use_at place other
+tells_same fault other = false
+
+abbrev pub is_other : Fault → Fault → Bool
+is_other fault other = not (tells_same fault other)
+
+-- a fault, and then the others
+abbrev pub faults_with : Fault → List Fault → List Fault
+faults_with fault faults = fault ∷ filter (is_other fault) faults
+
+abbrev pub refused_in : List TreeFile → List Fault → List Found
+refused_in tree faults = map (finding_of kind.Fault tree) faults
+
+-- the fault for which the run is refused, and then what else would be told, in its order
+abbrev pub refused_findings : List TreeFile → Fault → List BuildFault → List Found
+refused_findings tree fault told = refused_in tree (faults_with fault (faults_of told))
+
+-- ---- counts
+
+-- as the last line of what is told has them
+abbrev pub counts_of : (sources : ℕ) → List BuildFault → (status : ℕ) → Counts
+counts_of sources told status = record {
+  sources = sources - count_by (is_skipped_source sources) told;
+  skipped = count_by is_skipped told;
+  imports = count_by is_import told;
+  uses = count_by is_use told;
+  status = status;
+}

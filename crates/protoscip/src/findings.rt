@@ -1,0 +1,306 @@
+//! What a report tells of a tree.
+
+ghost use Rattle.std.specs.Prelude.{◌≡◌, ◌++◌, [], ◌∷◌, IfOk, OnOk, option_map, if◌then◌else◌};
+ghost use Rattle.std.specs.List.{All};
+ghost use Rattle.protoscip.specs.FaultLines.{HasFile, HasFilesOf, HaveFilesOf};
+ghost use Rattle.protoscip.specs.FindingLaws.{FindingsComeOnce};
+ghost use Rattle.protoscip.specs.Findings.{
+  counts_of,
+  faults_of,
+  faults_with,
+  finding_of,
+  first_of,
+  import_of,
+  is_import_at,
+  is_one_place,
+  is_other,
+  is_use_at,
+  kind_of,
+  leaves_out,
+  place_in,
+  place_of,
+  place_of_span,
+  refused_findings,
+  refused_in,
+  tells_same,
+  told_findings,
+  told_in,
+};
+
+use crate::fault::Fault;
+use crate::fault_lines::path_of;
+use crate::sentences::{imported, sentence_in};
+use crate::telling::{count_imports, count_skipped, count_skipped_sources, count_uses};
+use fault_reports::{Counts, Finding, FindingKind, Place};
+use index_hooks::Chooses;
+use proto_link::FilePlace;
+use scip_build::BuildFault;
+use source_tree::Tree;
+use std::alloc::{AllocError, Global};
+
+/// A place of one of the tree's files, and its end, if that is known.
+fn place_in(tree: &Tree, file: usize, at: Option<usize>, end: Option<usize>) -> Place<'_>
+    requires { HasFile tree.now file }
+    ensures { result ≡ place_in tree.now file at end }
+{
+    Place {
+        path: path_of(tree, file),
+        text: tree.bytes(file),
+        offset: at,
+        end,
+    }
+}
+
+/// A place of a file, with its end.
+fn place_of_span<'a>(tree: &'a Tree, place: &FilePlace) -> Place<'a>
+    requires { HasFile tree.now place.now.file }
+    ensures { result ≡ place_of_span tree.now place.now }
+{
+    let start = place.span.start as usize;
+    place_in(tree, place.file, Some(start), Some(place.span.end as usize))
+}
+
+/// Where a fault is, if it is of a file.
+fn place_of<'a>(tree: &'a Tree, fault: &Fault) -> Option<Place<'a>>
+    requires { HasFilesOf tree.now fault.now }
+    ensures { result ≡ place_of tree.now fault.now }
+{
+    match fault {
+        Fault::Lex(file, fault) => Some(place_in(tree, *file, fault.offset(), None)),
+        Fault::Syntax(file, fault) => Some(place_in(tree, *file, fault.offset(), None)),
+        Fault::Duplicate(_, second) => Some(place_of_span(tree, second)),
+        Fault::MissingImport(place) => Some(place_of_span(tree, place)),
+        Fault::Unresolved(place) => Some(place_of_span(tree, place)),
+        Fault::Spawn
+        | Fault::Memory
+        | Fault::TooLarge
+        | Fault::Write(_)
+        | Fault::Read
+        | Fault::Answer(_) => None,
+    }
+}
+
+/// Where a full name is first given that is given again.
+fn first_of<'a>(tree: &'a Tree, fault: &Fault) -> Option<Place<'a>>
+    requires { HasFilesOf tree.now fault.now }
+    ensures { result ≡ first_of tree.now fault.now }
+{
+    match fault {
+        Fault::Duplicate(first, _) => Some(place_of_span(tree, first)),
+        _ => None,
+    }
+}
+
+/// What an import without a file has between its quotes.
+fn import_of<'a>(tree: &'a Tree, fault: &Fault) -> Option<&'a [u8]>
+    requires { HasFilesOf tree.now fault.now }
+    ensures { option_map (λ path. path.now) result ≡ import_of tree.now fault.now }
+{
+    match fault {
+        Fault::MissingImport(place) => Some(imported(tree, place)),
+        _ => None,
+    }
+}
+
+/// The finding of a fault of the tree.
+///
+/// The file numbers in the fault have to be below the tree's `file_count`, as `fault_line` asks it.
+pub fn finding_of<'a>(kind: FindingKind, tree: &'a Tree, fault: &Fault) -> Finding<'a>
+    requires { HasFilesOf tree.now fault.now }
+    ensures { result ≡ finding_of kind tree.now fault.now }
+{
+    Finding {
+        kind,
+        name: fault.name(),
+        message: sentence_in(tree, fault),
+        place: place_of(tree, fault),
+        first: first_of(tree, fault),
+        import: import_of(tree, fault),
+    }
+}
+
+/// What a thing that is told of an index is.
+fn kind_of(fault: &Fault) -> FindingKind
+    ensures { result ≡ kind_of fault.now }
+{
+    match fault {
+        Fault::Lex(..) | Fault::Syntax(..) | Fault::Duplicate(..) => FindingKind::Skipped,
+        Fault::MissingImport(_) | Fault::Unresolved(_) => FindingKind::NoTarget,
+        Fault::Spawn
+        | Fault::Memory
+        | Fault::TooLarge
+        | Fault::Write(_)
+        | Fault::Read
+        | Fault::Answer(_) => FindingKind::Fault,
+    }
+}
+
+/// What is told, as faults of a run.
+fn faults_of(alloc: Global, told: &[BuildFault]) -> Result<Vec<Fault>, AllocError>
+    ensures { IfOk result (λ faults. faults.items ≡ faults_of told.now) }
+{
+    let mut faults = Vec::new(alloc);
+    for fault in told {
+        faults.push(Fault::from(*fault))?;
+    }
+    Ok(faults)
+}
+
+/// The findings of faults that are told.
+fn told_in<'a>(
+    alloc: Global,
+    tree: &'a Tree,
+    faults: &[Fault],
+) -> Result<Vec<Finding<'a>>, AllocError>
+    requires { All (HasFilesOf tree.now) faults.now }
+    ensures { IfOk result (λ findings. findings.items ≡ told_in tree.now faults.now) }
+{
+    let mut findings = Vec::new(alloc);
+    for fault in faults {
+        findings.push(finding_of(kind_of(fault), tree, fault))?;
+    }
+    Ok(findings)
+}
+
+/// The findings of what is told of an index of the tree: each thing, in this order.
+///
+/// The file numbers in what is told have to be below the tree's `file_count`, as `told_text` asks it. An error means
+/// that memory was refused.
+pub fn told_findings<'a>(
+    alloc: Global,
+    tree: &'a Tree,
+    told: &[BuildFault],
+) -> Result<Vec<Finding<'a>>, AllocError>
+    requires { HaveFilesOf tree.now told.now }
+    ensures { IfOk result (λ findings. findings.items ≡ told_findings tree.now told.now) }
+{
+    let faults = faults_of(alloc, told)?;
+    told_in(alloc, tree, faults.as_slice())
+}
+
+/// Whether the file with this number would be left out for a fault.
+fn leaves_out(number: usize, fault: &Fault) -> bool
+    ensures { result ≡ leaves_out number fault.now }
+{
+    match fault {
+        Fault::Lex(other, _) | Fault::Syntax(other, _) => number == *other,
+        Fault::Duplicate(_, second) => number == second.file,
+        _ => false,
+    }
+}
+
+/// Whether two places are one.
+fn is_one_place(a: &FilePlace, b: &FilePlace) -> bool
+    ensures { result ≡ is_one_place a.now b.now }
+{
+    a.file == b.file && a.span.start == b.span.start && a.span.end == b.span.end
+}
+
+/// Whether a fault is that of the import at this place.
+fn is_import_at(place: &FilePlace, fault: &Fault) -> bool
+    ensures { result ≡ is_import_at place.now fault.now }
+{
+    match fault {
+        Fault::MissingImport(other) => is_one_place(place, other),
+        _ => false,
+    }
+}
+
+/// Whether a fault is that of the use at this place.
+fn is_use_at(place: &FilePlace, fault: &Fault) -> bool
+    ensures { result ≡ is_use_at place.now fault.now }
+{
+    match fault {
+        Fault::Unresolved(other) => is_one_place(place, other),
+        _ => false,
+    }
+}
+
+/// Whether the second tells of the same file, import or use as the first.
+fn tells_same(fault: &Fault, other: &Fault) -> bool
+    ensures { result ≡ tells_same fault.now other.now }
+{
+    match fault {
+        Fault::Lex(number, _) | Fault::Syntax(number, _) => leaves_out(*number, other),
+        Fault::Duplicate(_, second) => leaves_out(second.file, other),
+        Fault::MissingImport(place) => is_import_at(place, other),
+        Fault::Unresolved(place) => is_use_at(place, other),
+        _ => false,
+    }
+}
+
+/// Appends a fault, unless it tells of the same as this one.
+fn push_other(faults: &mut Vec<Fault>, own: &Fault, fault: &Fault) -> Result<(), AllocError>
+    ensures { OnOk result (faults.new.items
+        ≡ faults.old.items ++ (if is_other own.now fault.now then fault.now ∷ [] else [])) }
+{
+    if tells_same(own, fault) {
+        return Ok(());
+    }
+    Ok(faults.push(*fault)?)
+}
+
+/// A fault, and then the others of these.
+fn faults_with(alloc: Global, own: &Fault, told: &[Fault]) -> Result<Vec<Fault>, AllocError>
+    ensures { IfOk result (λ faults. faults.items ≡ faults_with own.now told.now) }
+{
+    let mut faults = vec![in alloc; *own]?;
+    for fault in told {
+        push_other(&mut faults, own, fault)?;
+    }
+    Ok(faults)
+}
+
+/// The findings of faults: each is one for which a run is refused.
+fn refused_in<'a>(
+    alloc: Global,
+    tree: &'a Tree,
+    faults: &[Fault],
+) -> Result<Vec<Finding<'a>>, AllocError>
+    requires { All (HasFilesOf tree.now) faults.now }
+    ensures { IfOk result (λ findings. findings.items ≡ refused_in tree.now faults.now) }
+{
+    let mut findings = Vec::new(alloc);
+    for fault in faults {
+        findings.push(finding_of(FindingKind::Fault, tree, fault))?;
+    }
+    Ok(findings)
+}
+
+/// The findings of a run that is refused for this fault: the fault, and then what else would be told, as `told_of_tree`
+/// gives it if faults are skipped, in its order. What tells of the same file, import or use isn't told again.
+///
+/// The file numbers in the fault, and in what is told, have to be below the tree's `file_count`. An error means that
+/// memory was refused.
+pub fn refused_findings<'a>(
+    alloc: Global,
+    tree: &'a Tree,
+    fault: &Fault,
+    told: &[BuildFault],
+) -> Result<Vec<Finding<'a>>, AllocError>
+    requires fault { HasFilesOf tree.now fault.now }
+    requires told { HaveFilesOf tree.now told.now }
+    ensures { IfOk result (λ findings. findings.items ≡ refused_findings tree.now fault.now told.now) }
+{
+    let others = faults_of(alloc, told)?;
+    let faults = faults_with(alloc, fault, others.as_slice())?;
+    refused_in(alloc, tree, faults.as_slice())
+}
+
+/// The counts for the last line of a report, of a tree with this many sources, and of a run that ends with this status.
+pub fn counts_of(sources: usize, told: &[BuildFault], status: u8) -> Counts
+    ensures { result ≡ counts_of sources told.now status }
+{
+    Counts {
+        sources: sources.saturating_sub(count_skipped_sources(sources, told)),
+        skipped: count_skipped(told),
+        imports: count_imports(told),
+        uses: count_uses(told),
+        status,
+    }
+}
+
+/// No two findings of what is told are alike, and no two faults of a run that is refused.
+pub fn findings_come_once<C: Chooses>(chooser: &C)
+    ensures { FindingsComeOnce (C.allows chooser.now) }
+{}

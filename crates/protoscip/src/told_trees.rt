@@ -1,0 +1,62 @@
+//! What is told of a tree, without its index.
+
+ghost use Rattle.std.specs.Prelude.{◌≡◌, IfErr, IfOk};
+ghost use Rattle.protoscip.specs.FaultLines.{HaveFilesOf};
+ghost use Rattle.protoscip.specs.ToldTrees.{IsToldOf, MayNotTell, skipping};
+
+use crate::dumping::dump_settings;
+use crate::fault::Fault;
+use index_hooks::Chooses;
+use index_pool::Gate;
+use proto_parse::Dialect;
+use scip_build::{BuildFault, DocumentForm, Faulty, Run, Settings, build_in_form};
+use scip_model::DocumentPlan;
+use sequences::Sequence;
+use source_tree::Tree;
+use std::alloc::{AllocError, Global};
+use std::sync::Wait;
+use std::thread::Threads;
+
+/// Nothing is kept of a document.
+#[derive(Clone, Copy, Debug)]
+struct AsNothing;
+
+impl DocumentForm for AsNothing {
+    ghost use Rattle.std.specs.Prelude.{⊤};
+
+    type Kept = ();
+
+    ghost is_kept = { λ _ _. ⊤ };
+
+    fn keep(&self, _alloc: Global, _document: DocumentPlan<'_, '_>) -> Result<(), AllocError> {
+        Ok(())
+    }
+}
+
+/// Settings by which faults are skipped.
+fn skipping(alloc: Global, dialect: Dialect) -> Result<Settings, AllocError>
+    ensures { IfOk result (λ settings. settings ≡ skipping dialect) }
+{
+    let mut settings = dump_settings(alloc, dialect)?;
+    settings.faulty = Faulty::Skip;
+    Ok(settings)
+}
+
+/// What is told of a tree if faults are skipped: all for which it would be refused, in order of file and place. Its
+/// index is built and let go of, so a run that was refused can say each of its faults.
+///
+/// `Spawn`, `Memory`: that can't be had. File numbers are those of the tree.
+pub fn told_of_tree<R: Threads + Wait, C: Chooses + Sync, G: Gate>(
+    run: &Run<'_, R, G>,
+    tree: &Tree,
+    chooser: &C,
+    dialect: Dialect,
+) -> Result<Sequence<BuildFault>, Fault>
+    ensures told { IfOk result (IsToldOf (C.allows chooser.now) dialect tree.now) }
+    ensures files { IfOk result (HaveFilesOf tree.now) }
+    ensures stops { IfErr result (MayNotTell run.now.workers) }
+{
+    let settings = skipping(run.alloc, dialect)?;
+    let built = build_in_form(run, tree, chooser, &settings, &AsNothing)?;
+    Ok(built.told)
+}

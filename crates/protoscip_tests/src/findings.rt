@@ -1,0 +1,169 @@
+//! Reports of trees with faults: of what is told where faults are skipped, and of the same where they are refused.
+
+ghost use Rattle.std.specs.Prelude.{IfOk};
+ghost use Rattle.protoscip.specs.FaultLines.{HasFilesOf, HaveFilesOf};
+
+use crate::calls::{Desk, Given, WANT, see, writer};
+use index_hooks::Registry;
+use proto_lex::Encoding;
+use protoscip::{
+    Fault, Finding, ReportFormat, counts_of, findings_come_once, index_tree, refused_findings,
+    report_bytes, told_findings, told_of_tree,
+};
+use scip_build::{BuildFault, Faulty};
+use sequences::Sequence;
+use source_tree::Tree;
+use std::alloc::{AllocError, Global};
+use std::process::Abort;
+use std::sync::Wait;
+use std::test::Fail;
+use std::thread::Threads;
+
+/// So many bytes are written of an index.
+const ROOM: usize = 4096;
+
+/// Files, as `test_kit` takes them; the report where faults are skipped; the report where they are refused; and the
+/// last one if nothing is told beside the fault.
+struct Row {
+    files: &'static str,
+    skipped: &'static str,
+    refused: &'static str,
+    alone: &'static str,
+}
+
+// The first row reads: in `a.proto`, the import at byte 26 has no target, nor has the use at byte 49; and `b.proto` can't
+// be read, for which the tree is refused.
+static ROWS: [Row; 2] = [
+    Row {
+        files: "b.proto\n@|\
+a.proto\nsyntax = \"proto3\";\nimport \"e.proto\";\nmessage M { D d = 1; }\n",
+        skipped: "{\"column\":8,\"end\":35,\"first\":null,\"import\":\"e.proto\",\"kind\":\"no target\",\"line\":2,\"message\":\"no source has this path, below ROOT or a folder that is included\",\"name\":\"MissingImport\",\"offset\":26,\"path\":\"a.proto\"}
+{\"column\":13,\"end\":50,\"first\":null,\"import\":null,\"kind\":\"no target\",\"line\":3,\"message\":\"no type that this source sees has this name\",\"name\":\"Unresolved\",\"offset\":49,\"path\":\"a.proto\"}
+{\"column\":1,\"end\":null,\"first\":null,\"import\":null,\"kind\":\"skipped\",\"line\":1,\"message\":\"this character can't be here\",\"name\":\"BadByte\",\"offset\":0,\"path\":\"b.proto\"}
+{\"imports\":1,\"kind\":\"counts\",\"skipped\":1,\"sources\":1,\"status\":0,\"uses\":1}
+",
+        refused: "{\"column\":1,\"end\":null,\"first\":null,\"import\":null,\"kind\":\"fault\",\"line\":1,\"message\":\"this character can't be here\",\"name\":\"BadByte\",\"offset\":0,\"path\":\"b.proto\"}
+{\"column\":8,\"end\":35,\"first\":null,\"import\":\"e.proto\",\"kind\":\"fault\",\"line\":2,\"message\":\"no source has this path, below ROOT or a folder that is included\",\"name\":\"MissingImport\",\"offset\":26,\"path\":\"a.proto\"}
+{\"column\":13,\"end\":50,\"first\":null,\"import\":null,\"kind\":\"fault\",\"line\":3,\"message\":\"no type that this source sees has this name\",\"name\":\"Unresolved\",\"offset\":49,\"path\":\"a.proto\"}
+{\"imports\":1,\"kind\":\"counts\",\"skipped\":1,\"sources\":1,\"status\":1,\"uses\":1}
+",
+        alone: "{\"column\":1,\"end\":null,\"first\":null,\"import\":null,\"kind\":\"fault\",\"line\":1,\"message\":\"this character can't be here\",\"name\":\"BadByte\",\"offset\":0,\"path\":\"b.proto\"}
+{\"imports\":0,\"kind\":\"counts\",\"skipped\":0,\"sources\":2,\"status\":1,\"uses\":0}
+",
+    },
+    Row {
+        files: "a.proto\nsyntax = \"proto3\";\nmessage M {\n  enum A { ZERO = 0; }\n  enum B { ZERO = 0; }\n}\n",
+        skipped: "{\"column\":12,\"end\":69,\"first\":{\"column\":12,\"end\":46,\"line\":3,\"offset\":42,\"path\":\"a.proto\"},\"import\":null,\"kind\":\"skipped\",\"line\":4,\"message\":\"this full name is given already\",\"name\":\"Duplicate\",\"offset\":65,\"path\":\"a.proto\"}
+{\"imports\":0,\"kind\":\"counts\",\"skipped\":1,\"sources\":0,\"status\":0,\"uses\":0}
+",
+        refused: "{\"column\":12,\"end\":69,\"first\":{\"column\":12,\"end\":46,\"line\":3,\"offset\":42,\"path\":\"a.proto\"},\"import\":null,\"kind\":\"fault\",\"line\":4,\"message\":\"this full name is given already\",\"name\":\"Duplicate\",\"offset\":65,\"path\":\"a.proto\"}
+{\"imports\":0,\"kind\":\"counts\",\"skipped\":1,\"sources\":0,\"status\":1,\"uses\":0}
+",
+        alone: "{\"column\":12,\"end\":69,\"first\":{\"column\":12,\"end\":46,\"line\":3,\"offset\":42,\"path\":\"a.proto\"},\"import\":null,\"kind\":\"fault\",\"line\":4,\"message\":\"this full name is given already\",\"name\":\"Duplicate\",\"offset\":65,\"path\":\"a.proto\"}
+{\"imports\":0,\"kind\":\"counts\",\"skipped\":0,\"sources\":1,\"status\":1,\"uses\":0}
+",
+    },
+];
+
+/// The report of these findings of a tree, of which this is told, and of a run with this status.
+fn report_of(
+    alloc: Global,
+    tree: &Tree,
+    findings: &[Finding<'_>],
+    told: &[BuildFault],
+    status: u8,
+) -> Result<Vec<u8>, AllocError> {
+    let counts = counts_of(tree.source_count(), told, status);
+    report_bytes(alloc, ReportFormat::JsonLines, findings, &counts)
+}
+
+/// The report of a tree whose faults are skipped.
+fn skipped(alloc: Global, tree: &Tree, told: &[BuildFault]) -> Result<Vec<u8>, AllocError>
+    requires { HaveFilesOf tree.now told.now }
+{
+    let findings = told_findings(alloc, tree, told)?;
+    report_of(alloc, tree, findings.as_slice(), told, 0)
+}
+
+/// The report of a tree that is refused.
+fn refused(
+    alloc: Global,
+    tree: &Tree,
+    fault: &Fault,
+    told: &[BuildFault],
+) -> Result<Vec<u8>, AllocError>
+    requires fault { HasFilesOf tree.now fault.now }
+    requires told { HaveFilesOf tree.now told.now }
+{
+    let findings = refused_findings(alloc, tree, fault, told)?;
+    report_of(alloc, tree, findings.as_slice(), told, fault.status())
+}
+
+impl<'a, R: Threads + Wait + Abort> Desk<'a, R> {
+    /// What is told of a tree if faults are skipped; none for want of memory or of a thread.
+    fn told(&self, given: &Given) -> Result<Sequence<BuildFault>, AllocError>
+        ensures { IfOk result (HaveFilesOf given.now.tree) }
+    {
+        let dialect = given.settings.dialect;
+        match told_of_tree(&self.run(2), &given.tree, given.registry, dialect) {
+            Ok(told) => Ok(told),
+            Err(_) => Err(AllocError),
+        }
+    }
+
+    /// The report of an index that lacks what is told.
+    fn report_skipped(&self, given: &Given) -> Result<Vec<u8>, AllocError> {
+        let told = self.told(given)?;
+        skipped(self.alloc, &given.tree, told.as_slice())
+    }
+
+    /// The report of a tree that is refused: with what is told of it, or else of the fault alone.
+    fn report_refused(&self, given: &Given, is_alone: bool) -> Result<Vec<u8>, AllocError> {
+        let (tree, settings) = (&given.tree, &given.settings);
+        let mut out = writer(self.alloc, ROOM)?;
+        match index_tree(&self.run(2), tree, given.registry, settings, &mut out) {
+            Ok(_) => Ok(Vec::new(self.alloc)),
+            Err(fault) => {
+                if fault.status() == WANT {
+                    return Err(AllocError);
+                }
+                if is_alone {
+                    return refused(self.alloc, tree, &fault, &[]);
+                }
+                let told = self.told(given)?;
+                refused(self.alloc, tree, &fault, told.as_slice())
+            }
+        }
+    }
+
+    /// Sees the reports of the tree of a row.
+    fn see_reports(&self, registry: &Registry, row: &Row) -> Result<(), AllocError> {
+        let given = self.given(registry, row.files, Encoding::Utf8, Faulty::Refuse)?;
+        let report = self.report_skipped(&given)?;
+        see(
+            self.rt,
+            report.as_slice() == row.skipped.as_bytes(),
+            "skipped",
+        );
+        let report = self.report_refused(&given, false)?;
+        see(
+            self.rt,
+            report.as_slice() == row.refused.as_bytes(),
+            "refused",
+        );
+        let report = self.report_refused(&given, true)?;
+        see(self.rt, report.as_slice() == row.alone.as_bytes(), "alone");
+        Ok(())
+    }
+}
+
+#[test]
+fn reports_of_trees(rt: HostRuntime) -> Result<(), Fail> {
+    let registry = Registry::new(rt.alloc());
+    findings_come_once(&registry);
+    let desk = Desk::new(&rt, rt.alloc());
+    for row in &ROWS {
+        desk.see_reports(&registry, row)?;
+    }
+    Ok(())
+}

@@ -15,8 +15,8 @@ use Rattle.scip_model.specs.Packages.{Root, Packages, ArePackages, with_path, pa
 use Rattle.command_line.specs.declared.options.IndexOptions.{IndexOptions}
 use Rattle.command_line.specs.declared.options.PackageFolder.{PackageFolder}
 use Rattle.source_tree.specs.Files.{SourceFile, TreeFile, paths_of}
-use Rattle.source_files.specs.Entries.{Entry}
-use Rattle.source_files.specs.Roots.{AreBelow, AreBelowEach, AreFolders, no_root, next_root}
+use Rattle.source_files.specs.Listings.{Listing}
+use Rattle.source_files.specs.Roots.{AreBelowEach, AreFolders, no_root, next_root}
 use Rattle.source_files.specs.Loads.{IsTreeBelow}
 use Rattle.programs.specs.Folders.{AreFolders as AreFoldersOf}
 use Rattle.programs.specs.Settings.{package_in}
@@ -24,7 +24,8 @@ use Rattle.programs.specs.Folders.{AddsRoots, AreByFolder, IsRootOf, folder_pack
 use Rattle.programs.specs.Folders.{HasBadFolder, included_in, roots_of}
 use Rattle.programs.specs.Starting.{HasNoPackage, IsBadFolder}
 use Rattle.programs.specs.declared.start_fault.StartFault.{StartFault}
-use Rattle.programs.specs.declared.start_fault.StartFault.TheVariants.{BadPart, BadFolder, Load, IsSource}
+use Rattle.programs.specs.declared.start_fault.StartFault.TheVariants.{BadPart, BadFolder, Load, IsSource, ReportIsSource}
+use Rattle.programs.specs.declared.start_fault.StartFault.TheVariants.{ReportIsOut}
 use Rattle.source_files.specs.declared.load_fault.LoadFault.TheVariants as load
 
 -- ---- the paths of one folder
@@ -265,6 +266,8 @@ bad_one folders before folder behind (Load load.TooMany) split good bad = absurd
 bad_one folders before folder behind (Load (load.BadPath path)) split good bad = absurd bad
 bad_one folders before folder behind (Load (load.SamePath path)) split good bad = absurd bad
 bad_one folders before folder behind (IsSource path) split good bad = absurd bad
+bad_one folders before folder behind (ReportIsSource path) split good bad = absurd bad
+bad_one folders before folder behind (ReportIsOut path) split good bad = absurd bad
 
 pub bad_at : (folders : List PackageFolder) (number : ℕ) (folder : PackageFolder) (fault : StartFault)
     → number < length folders → folder ≡ get_or folders number folder
@@ -277,7 +280,7 @@ bad_at folders number folder fault below is good bad =
 -- ---- the tree of the files below folders
 
 -- the paths of the files below each included folder
-folders_each : (lists : List ℕ → List ℕ → Option (List Entry) → Type 0) (gives : List ℕ → Option (List ℕ) → Type 0)
+folders_each : (lists : List ℕ → List ℕ → Option Listing → Type 0) (gives : List ℕ → Option (List ℕ) → Type 0)
     {roots : List (List ℕ)} {files : List SourceFile} → AreBelowEach lists gives roots files
     → (paths : List (List (List ℕ))) × (AreFolders lists gives roots files paths)
 folders_each lists gives no_root =
@@ -294,7 +297,7 @@ folders_each lists gives (next_root {here = here} below each) =
     )
 
 -- where no folder has a package of its own
-pub folders_of_run : (lists : List ℕ → List ℕ → Option (List Entry) → Type 0)
+pub folders_of_run : (lists : List ℕ → List ℕ → Option Listing → Type 0)
     (gives : List ℕ → Option (List ℕ) → Type 0)
     (options : IndexOptions) (tree : List TreeFile) → options.include_packages.items ≡ []
     → IsPackage (package_in options)

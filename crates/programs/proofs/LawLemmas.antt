@@ -6,9 +6,9 @@ use Rattle.protoscip.proofs.TreeLemmas.{tree_of_files}
 use Rattle.command_line.specs.declared.options.IndexOptions.{IndexOptions}
 use Rattle.programs.specs.OptionLaws.{HeadlineOfFiles}
 use Rattle.programs.specs.Settings.{allowed_by, settings_in}
-use Rattle.source_files.specs.Entries.{Entry}
+use Rattle.source_files.specs.Listings.{Listing}
 
-pub headline_of_files : (lists : List ℕ → List ℕ → Option (List Entry) → Type 0)
+pub headline_of_files : (lists : List ℕ → List ℕ → Option Listing → Type 0)
     (gives : List ℕ → Option (List ℕ) → Type 0)
     (options : IndexOptions) → LawsOfNames → HeadlineOfFiles lists gives options
 headline_of_files lists gives options laws tree ids folders =

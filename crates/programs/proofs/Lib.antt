@@ -8,4 +8,5 @@ mod DumpEndLemmas
 mod QueryLemmas
 mod LawLemmas
 mod PlacingLemmas
+mod ReportLemmas
 mod NavigableLemmas

@@ -6,7 +6,7 @@ use Rattle.proto_parse.specs.fault.SyntaxFault.{SyntaxFault}
 use Rattle.proto_parse.specs.fault.SyntaxFault.TheVariants as parsing
 use Rattle.command_line.specs.declared.options.IndexOptions.{IndexOptions}
 use Rattle.command_line.specs.declared.options.Limits.{Limits}
-use Rattle.source_files.specs.Entries.{Entry}
+use Rattle.source_files.specs.Listings.{Listing}
 use Rattle.source_tree.specs.Files.{TreeFile}
 use Rattle.source_files.specs.declared.load_fault.LoadFault.TheVariants.{Unreadable, TooMany, BadPath, SamePath}
 use Rattle.source_files.specs.declared.load_fault.LoadFault.TheVariants as load
@@ -15,19 +15,19 @@ use Rattle.protoscip.specs.Statuses.{lex_status, syntax_status, status_of}
 use Rattle.protoscip.specs.declared.fault.Fault.{Fault}
 use Rattle.protoscip.specs.declared.fault.Fault.TheVariants.{Spawn, Memory, Lex, Syntax, Duplicate, MissingImport}
 use Rattle.protoscip.specs.declared.fault.Fault.TheVariants.{Unresolved, TooLarge, Write, Read, Answer}
-use Rattle.programs.specs.Indexing.{Indexed, WritesNavigable, not_begun, into_part, too_poor}
+use Rattle.programs.specs.Indexing.{Indexed, WritesNavigable, into_part, too_poor}
 use Rattle.programs.specs.Indexing as indexing
 use Rattle.programs.specs.Limits.{limit_status}
 use Rattle.programs.specs.Messages.{Tells, TellsOne}
 use Rattle.programs.specs.OptionLaws.{HeadlineOfFiles}
 use Rattle.programs.specs.Placing.{Place, filled}
 use Rattle.programs.proofs.PlacingLemmas.{held_now}
-use Rattle.programs.specs.Serving.{AnswersNavigable, Served}
+use Rattle.programs.specs.Serving.{AnswersNavigable, Served, not_begun, not_started, over_tree}
 use Rattle.programs.specs.StartFaults.{status_of as start_status}
 use Rattle.programs.specs.Streams.{Reader}
-use Rattle.programs.specs.TreeRuns.{not_started, over_tree}
 use Rattle.programs.specs.declared.start_fault.StartFault.{StartFault}
-use Rattle.programs.specs.declared.start_fault.StartFault.TheVariants.{BadPart, BadFolder, Load, IsSource}
+use Rattle.programs.specs.declared.start_fault.StartFault.TheVariants.{BadPart, BadFolder, Load, IsSource, ReportIsSource}
+use Rattle.programs.specs.declared.start_fault.StartFault.TheVariants.{ReportIsOut}
 
 -- ---- no fault has the status of a success
 
@@ -81,6 +81,8 @@ start_fails (Load (BadPath path)) = tt
 start_fails (Load (SamePath path)) = tt
 start_fails (Load load.Memory) = tt
 start_fails (IsSource path) = tt
+start_fails (ReportIsSource path) = tt
+start_fails (ReportIsOut path) = tt
 
 told_no_success : {M : Type 0} (line : List ℕ) (due : ℕ) (messages : Writer M) (status : ℕ) → IsFailure due
     → Tells line due messages status → status ≡ 0 → ⊥
@@ -94,21 +96,21 @@ told_one_no_success Due due messages status failure (inr said) none = no_success
 
 -- ---- so after a success there is an index
 
-module _ (lists : List ℕ → List ℕ → Option (List Entry) → Type 0) (gives : List ℕ → Option (List ℕ) → Type 0)
+module _ (lists : List ℕ → List ℕ → Option Listing → Type 0) (gives : List ℕ → Option (List ℕ) → Type 0)
     (options : IndexOptions) (headline : HeadlineOfFiles lists gives options) where
-  pub writes : {P W M : Type 0} (same : List ℕ → Bool → Type 0)
-      (none_found : List TreeFile → Option (List ℕ) → Type 0) (limits : Limits) (path : List ℕ) (at : Place P W)
-      (messages : Writer M) (status : ℕ)
-      → Indexed lists gives same none_found options limits path at messages status
+  pub writes : {P W Q V M : Type 0} (none_found : List TreeFile → Option (List ℕ) → Type 0) (path : List ℕ)
+      (limits : Limits) (at : Place P W) (report : Place Q V) (messages : Writer M) (status : ℕ)
+      → Indexed lists gives none_found
+      (record { options = options; path = path; limits = limits }) at report messages status
       → WritesNavigable lists gives options at status
-  writes same none_found limits path at messages status (indexing.not_started fault may left tells) none =
+  writes none_found path limits at report messages status (indexing.not_started fault may left as_it_was tells) none =
       absurd (told_no_success _ (start_status fault) messages status (start_fails fault) tells none)
-  writes same none_found limits path at messages status
-      (indexing.over_tree tree ids named folders (not_begun fault may left tells)) none =
+  writes none_found path limits at report messages status
+      (indexing.over_tree tree ids named folders (indexing.not_begun fault may left as_it_was tells)) none =
       absurd (told_no_success _ (start_status fault) messages status (start_fails fault) tells none)
-  writes same none_found limits path at messages status
+  writes none_found path limits at report messages status
       (indexing.over_tree tree ids named folders
-      (into_part (Ok recorded) apart (filled begun whole nothing keeps runs put) ends)) none =
+      (into_part (Ok recorded) apart (filled begun whole nothing keeps runs told put) ends)) none =
       record {
         tree = tree;
         ids = ids;
@@ -129,24 +131,33 @@ module _ (lists : List ℕ → List ℕ → Option (List Entry) → Type 0) (giv
           },
         );
       }
-  writes same none_found limits path at messages status
+  writes none_found path limits at report messages status
       (indexing.over_tree tree ids named folders (into_part (Err fault) apart fills ends)) none =
       absurd (told_one_no_success _ (status_of fault) messages status (fails fault) ends none)
-  writes same none_found limits path at messages status
+  writes none_found path limits at report messages status
       (indexing.over_tree tree ids named folders (too_poor recorded fault apart forgoes breaks ends)) none =
       absurd (told_no_success _ limit_status _ status tt ends.2 none)
 
-  pub answers : {R W M : Type 0} (none_found : List TreeFile → Option (List ℕ) → Type 0) (commands : Reader R) (written : Writer W) (messages : Writer M) (status : ℕ)
-      → Served lists gives none_found options commands written messages status
+  pub answers : {Q V R W M : Type 0} (none_found : List TreeFile → Option (List ℕ) → Type 0)
+      (report : Place Q V) (commands : Reader R) (written : Writer W) (messages : Writer M) (status : ℕ)
+      → Served lists gives none_found options report commands written messages status
       → AnswersNavigable lists gives options commands written status
-  answers none_found commands written messages status (not_started fault may untouched tells) none =
+  answers none_found report commands written messages status (not_started fault may untouched tells) none =
       absurd (told_no_success _ (start_status fault) messages status (start_fails fault) tells none)
-  answers none_found commands written messages status (over_tree tree ids (Ok recorded) named folders runs ends) none = record {
-    tree = tree;
-    ids = ids;
-    recorded = recorded;
-    folders = folders;
-    navigable = (runs.bytes, runs.indexed.index, headline tree ids folders recorded runs.bytes runs.indexed, runs.are);
-  }
-  answers none_found commands written messages status (over_tree tree ids (Err fault) named folders runs ends) none =
+  answers none_found report commands written messages status
+      (not_begun tree ids fault named folders may untouched tells) none =
+      absurd (told_no_success _ (start_status fault) messages status (start_fails fault) tells none)
+  answers none_found report commands written messages status
+      (over_tree tree ids (Ok recorded) (Ok done) named folders apart runs told ends) none = record {
+        tree = tree;
+        ids = ids;
+        recorded = recorded;
+        folders = folders;
+        navigable = (runs.bytes, runs.indexed.index, headline tree ids folders recorded runs.bytes runs.indexed, runs.are);
+      }
+  answers none_found report commands written messages status
+      (over_tree tree ids (Ok recorded) (Err fault) named folders apart runs told ends) none =
+      absurd (told_one_no_success _ (status_of fault) messages status (fails fault) ends none)
+  answers none_found report commands written messages status
+      (over_tree tree ids (Err fault) reported named folders apart runs told ends) none =
       absurd (told_one_no_success _ (status_of fault) messages status (fails fault) ends none)

@@ -7,7 +7,8 @@ use Rattle.source_files.specs.Places.{IsBegun}
 use Rattle.protoscip.specs.declared.fault.Fault.{Fault}
 use Rattle.protoscip.specs.declared.recorded.Recorded.{Recorded}
 use Rattle.programs.specs.Placing.{Place, Fills, Finishes, Forgoes}
-use Rattle.programs.specs.Placing.{filled, refused, unmade}
+use Rattle.programs.specs.Placing.{filled, refused, unmade, unreported}
+use Rattle.programs.specs.Settled.{settled}
 use Rattle.programs.specs.declared.limits.LimitFault.{LimitFault}
 use Rattle.programs.proofs.TreeRunLemmas.{part_of}
 
@@ -19,36 +20,52 @@ held_now (Some some) None held bytes known appends put = absurd appends
 held_now (Some some) (Some all) held bytes known appends put =
     put ∙ ap (λ (l : List ℕ). Some l) (appends ∙ ap (λ (l : List ℕ). l ++ bytes) (same_Some some [] known))
 
-module _ {P W A : Type 0} (at : Place P W) (whole : W) where
+module _ {P W A : Type 0} (at : Place P W) (whole : W) (f : A → Recorded)
+    (runs : W → W → Result Recorded Fault → Type 0)
+    (reports : Result Recorded Fault → (reported : Result (Unit {0}) Fault) → Type 0) (begun : W)
+    (nothing : IsBegun at.contents at.failures begun) where
   -- what becomes of the place, if no limit is broken
-  pub fills : (f : A → Recorded) (keeps : Recorded → Type 0) (runs : W → W → Result Recorded Fault → Type 0) (begun : W)
-      (ran done : Result A Fault)
-      → IsBegun at.contents at.failures begun → IfOk ran (λ a. keeps (f a))
-      → MatchResult ran (λ a. runs begun whole (Ok (f a))) (λ e. runs begun whole (Err e))
-      → Finishes at whole ran None done → Fills at keeps runs (part_of f done)
-  fills f keeps runs begun (Ok made) (Ok kept) nothing kept_are holds finishes =
-      filled begun whole nothing (subst (λ a. keeps (f a)) (sym finishes.0) kept_are)
-      (subst (λ a. runs begun whole (Ok (f a))) (sym finishes.0) holds) finishes.1
-  fills f keeps runs begun (Ok made) (Err fault) nothing kept_are holds finishes =
-      subst (λ (e : Fault). Fills at keeps runs (Err e)) (sym finishes.0)
-      (refused {recorded = f made} {count = 0} begun whole nothing kept_are holds finishes.1)
-  fills f keeps runs begun (Err fault) (Ok kept) nothing kept_are holds finishes = absurd finishes
-  fills f keeps runs begun (Err fault) (Err other) nothing kept_are holds finishes =
-      subst (λ (e : Fault). Fills at keeps runs (Err e)) (sym finishes.0) (unmade begun whole nothing holds finishes.1)
+  pub fills : (keeps : Recorded → Type 0) (ran : Result A Fault) (reported : Result (Unit {0}) Fault)
+      (done : Result A Fault) → MatchResult ran (λ a. runs begun whole (Ok (f a))) (λ e. runs begun whole (Err e))
+      → reports (part_of f ran) reported → IfOk (settled ran reported) (λ a. keeps (f a))
+      → Finishes at whole (settled ran reported) None done → Fills at keeps runs reports (part_of f done)
+  fills keeps (Ok made) (Ok one) (Ok kept) holds told kept_are finishes =
+      subst (λ a. Fills at keeps runs reports (Ok (f a))) (sym finishes.0)
+      (filled begun whole nothing kept_are holds told finishes.1)
+  fills keeps (Ok made) (Ok one) (Err fault) holds told kept_are finishes =
+      subst (λ (e : Fault). Fills at keeps runs reports (Err e)) (sym finishes.0)
+      (refused {recorded = f made} {count = 0} begun whole nothing kept_are holds told finishes.1)
+  fills keeps (Ok made) (Err stop) (Ok kept) holds told kept_are finishes = absurd finishes
+  fills keeps (Ok made) (Err stop) (Err other) holds told kept_are finishes =
+      subst (λ (e : Fault). Fills at keeps runs reports (Err e)) (sym finishes.0)
+      (unreported {recorded = f made} begun whole nothing holds told finishes.1)
+  fills keeps (Err fault) reported (Ok kept) holds told kept_are finishes = absurd finishes
+  fills keeps (Err fault) reported (Err other) holds told kept_are finishes =
+      subst (λ (e : Fault). Fills at keeps runs reports (Err e)) (sym finishes.0)
+      (unmade {reported = reported} begun whole nothing holds told finishes.1)
 
   -- and if one is
-  pub forgoes : (f : A → Recorded) (breaks : Recorded → Option LimitFault → Type 0)
-      (runs : W → W → Result Recorded Fault → Type 0) (begun : W) (limit : LimitFault) (ran done : Result A Fault)
-      → IsBegun at.contents at.failures begun
-      → IfOk ran (λ a. breaks (f a) (Some limit)) → IfErr ran (λ _. Some limit ≡ None)
+  pub forgoes : (breaks : Recorded → Option LimitFault → Type 0) (limit : LimitFault) (ran : Result A Fault)
+      (reported : Result (Unit {0}) Fault) (done : Result A Fault)
       → MatchResult ran (λ a. runs begun whole (Ok (f a))) (λ e. runs begun whole (Err e))
-      → Finishes at whole ran (Some limit) done
-      → (made : A) × (done ≡ Ok made) × Forgoes at runs (f made) × breaks (f made) (Some limit)
-  forgoes f breaks runs begun limit (Ok made) (Ok kept) nothing broken none holds finishes = (
+      → reports (part_of f ran) reported
+      → IfOk (settled ran reported) (λ a. breaks (f a) (Some limit))
+      → IfErr (settled ran reported) (λ _. Some limit ≡ None)
+      → Finishes at whole (settled ran reported) (Some limit) done
+      → (made : A) × (done ≡ Ok made) × Forgoes at runs reports (f made) × breaks (f made) (Some limit)
+  forgoes breaks limit (Ok made) (Ok one) (Ok kept) holds told broken none finishes = (
     made,
     ap Ok finishes.0,
-    record { begun = begun; whole = whole; nothing = nothing; ran = holds; given_up = finishes.1 },
+    record {
+      begun = begun;
+      whole = whole;
+      nothing = nothing;
+      ran = holds;
+      reported = told;
+      given_up = finishes.1;
+    },
     broken,
   )
-  forgoes f breaks runs begun limit (Ok made) (Err fault) nothing broken none holds finishes = absurd finishes
-  forgoes f breaks runs begun limit (Err fault) done nothing broken none holds finishes = absurd cc
+  forgoes breaks limit (Ok made) (Ok one) (Err fault) holds told broken none finishes = absurd finishes
+  forgoes breaks limit (Ok made) (Err stop) done holds told broken none finishes = absurd cc
+  forgoes breaks limit (Err fault) reported done holds told broken none finishes = absurd cc

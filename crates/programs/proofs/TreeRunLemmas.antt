@@ -10,9 +10,8 @@ use Rattle.protoscip.specs.declared.fault.Fault.{Fault}
 use Rattle.proto_decl.specs.Seen.{Seen}
 use Rattle.index_hooks.specs.declared.choice.Choice.{Choice}
 use Rattle.scip_build.specs.declared.settings.Settings.{Settings}
-use Rattle.command_line.specs.declared.options.IndexOptions.{IndexOptions}
-use Rattle.command_line.specs.declared.options.Limits.{Limits}
 use Rattle.protoscip.specs.Explanations.{explain_in}
+use Rattle.programs.specs.Asked.{Asked}
 use Rattle.programs.specs.Indexing.{IndexesInto, not_begun, into_part, too_poor}
 use Rattle.programs.specs.Messages.{SaysOfSuccess}
 use Rattle.programs.specs.Placing.{Place}
@@ -39,24 +38,23 @@ ends_alike f told_of says none_found explain tree (Ok a) messages status ends = 
 ends_alike f told_of says none_found explain tree (Err e) messages status ends = ends
 
 -- a tree is indexed alike, if the line of none found is one of which `none_found` holds
-pub into_of : {P W M : Type 0} (same : List ℕ → Bool → Type 0) (none_found : List TreeFile → Option (List ℕ) → Type 0)
-    (options : IndexOptions) (limits : Limits) (path : List ℕ) (allows : Seen → Choice → Type 0) (settings : Settings)
-    (workers : ℕ) (tree : List TreeFile) (at : Place P W) (messages : Writer M) (status : ℕ) (line : Option (List ℕ))
-    → none_found tree line
-    → IndexesInto same (λ _ l. l ≡ line) options limits path allows settings workers tree at messages status
-    → IndexesInto same none_found options limits path allows settings workers tree at messages status
-into_of same none_found options limits path allows settings workers tree at messages status line found
-    (not_begun fault may left tells) = not_begun fault may left tells
-into_of same none_found options limits path allows settings workers tree at messages status line found
+pub into_of : {P W Q V M : Type 0} (none_found : List TreeFile → Option (List ℕ) → Type 0) (asked : Asked)
+    (allows : Seen → Choice → Type 0) (settings : Settings) (workers : ℕ) (tree : List TreeFile) (at : Place P W)
+    (report : Place Q V) (messages : Writer M) (status : ℕ) (line : Option (List ℕ)) → none_found tree line
+    → IndexesInto (λ _ l. l ≡ line) asked allows settings workers tree at report messages status
+    → IndexesInto none_found asked allows settings workers tree at report messages status
+into_of none_found asked allows settings workers tree at report messages status line found
+    (not_begun fault may left as_it_was tells) = not_begun fault may left as_it_was tells
+into_of none_found asked allows settings workers tree at report messages status line found
     (into_part done apart fills ends) =
     into_part done apart fills
-    (ends_of SaysOfSuccess (none_found tree) (explain_in options.explain settings.dialect) tree messages status
+    (ends_of SaysOfSuccess (none_found tree) (explain_in asked.options.explain settings.dialect) tree messages status
     (λ recorded. recorded.told) done line found ends)
-into_of same none_found options limits path allows settings workers tree at messages status line found
+into_of none_found asked allows settings workers tree at report messages status line found
     (too_poor recorded fault apart forgoes breaks ends) =
     too_poor recorded fault apart forgoes breaks (
       ends.0,
-      lacks_of SaysOfSuccess (none_found tree) (explain_in options.explain settings.dialect) tree
+      lacks_of SaysOfSuccess (none_found tree) (explain_in asked.options.explain settings.dialect) tree
           (record messages { after = ends.0 }) 0 line found recorded.told ends.1,
       ends.2,
     )

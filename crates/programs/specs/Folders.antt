@@ -4,7 +4,7 @@ use Rattle.std.specs.Prelude.{◌≡◌, ℕ, List, [], ◌∷◌, ◌++◌, Opt
 use Rattle.std.specs.List.{AllZip, list_any}
 use Rattle.std.specs.Str.{bytes_eq}
 use Rattle.source_tree.specs.Files.{TreeFile}
-use Rattle.source_files.specs.Entries.{Entry}
+use Rattle.source_files.specs.Listings.{Listing}
 use Rattle.source_files.specs.Loads.{IsLoadedBelow}
 use Rattle.scip_symbol.specs.Package.{Package, IsPackage}
 use Rattle.scip_model.specs.Packages.{Root, Packages, ArePackages, package_among, package_of_path}
@@ -63,7 +63,7 @@ pub record AreByFolder (options : IndexOptions) (own : List (List ℕ)) (others 
       ≡ package_among (package_in options) path (roots_of (packages_in options) (own ∷ others))
 
 -- the tree is that of the files below the folders, and these are the packages of its files
-pub record AreFolders (lists : List ℕ → List ℕ → Option (List Entry) → Type 0)
+pub record AreFolders (lists : List ℕ → List ℕ → Option Listing → Type 0)
     (gives : List ℕ → Option (List ℕ) → Type 0)
     (options : IndexOptions) (tree : List TreeFile) (ids : Packages) : Type 0 where
   pub own : List (List ℕ)

@@ -22,10 +22,14 @@ pub mod StartFaults
 pub mod StartExplanations
 pub mod Starting
 pub mod NoSources
+pub mod Searches
+pub mod Settled
 pub mod TreeRuns
 pub mod Dumping
 pub mod Limits
+pub mod Asked
 pub mod Placing
+pub mod Reporting
 pub mod Indexing
 pub mod Serving
 -- the laws

@@ -1,6 +1,7 @@
 -- The limits that an index has to keep: how many files may be left out, and how many sources have to be indexed.
 -- (The texts are this project's own.)
-use Rattle.std.specs.Prelude.{◌≡◌, ℕ, ◌-◌, Bool, List, ◌++◌, Option, None, Some, codes, if◌then◌else◌, nat_lt}
+use Rattle.std.specs.Prelude.{◌≡◌, ℕ, ◌-◌, Bool, List, ◌++◌, Option, None, Some, Result, Ok, Err}
+use Rattle.std.specs.Prelude.{codes, if◌then◌else◌, nat_lt}
 use Rattle.std.specs.Fmt.{decimal}
 use Rattle.std.specs.List.{count_by}
 use Rattle.std.specs.Option.{option_or}
@@ -11,8 +12,10 @@ use Rattle.scip_build.specs.declared.fault.BuildFault.{BuildFault}
 use Rattle.scip_snapshot.specs.Showing.{Writer}
 use Rattle.command_line.specs.declared.options.Limits.{Limits}
 use Rattle.protoscip.specs.Lines.{plain_line}
+use Rattle.protoscip.specs.declared.fault.Fault.{Fault}
 use Rattle.protoscip.specs.ToldLines.{is_skipped, is_skipped_source}
 use Rattle.protoscip.specs.declared.statuses.TheConstants.{SOURCES_STATUS}
+use Rattle.programs.specs.declared.limits.TheConstants.{NO_LIMITS}
 use Rattle.programs.specs.declared.limits.LimitFault.{LimitFault}
 use Rattle.programs.specs.declared.limits.LimitFault.TheVariants.{TooManySkipped, TooFewSources}
 use Rattle.programs.specs.Messages.{SaysOfSuccess, Tells}
@@ -40,6 +43,14 @@ broken_by limits sources told =
 -- the limit that an index of a tree breaks which lacks this, if it breaks one
 abbrev pub Breaks : Limits → List TreeFile → List BuildFault → Option LimitFault → Type 0
 Breaks limits tree told broken = (sources : ℕ) × IsSourceCount tree sources × (broken ≡ broken_by limits sources told)
+
+-- the limit that the index of a run breaks; without an index it breaks none
+abbrev pub IsBrokenBy : Limits → List TreeFile → (ran : Result (List BuildFault) Fault) → Option LimitFault → Type 0
+IsBrokenBy limits tree (Ok told) broken = Breaks limits tree told broken
+IsBrokenBy limits tree (Err fault) broken = broken ≡ None
+
+abbrev pub no_limits : Limits
+no_limits = NO_LIMITS
 
 -- ---- what is said of it
 

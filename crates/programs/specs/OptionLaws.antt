@@ -9,11 +9,11 @@ use Rattle.protoscip.specs.declared.recorded.Recorded.{Recorded}
 use Rattle.command_line.specs.declared.options.IndexOptions.{IndexOptions}
 use Rattle.programs.specs.Settings.{allowed_by, settings_in}
 use Rattle.programs.specs.Folders.{AreFolders}
-use Rattle.source_files.specs.Entries.{Entry}
+use Rattle.source_files.specs.Listings.{Listing}
 
 -- The headline, of the tree of the files below the roots of the options, and of the choices and the settings that these
 -- say.
-abbrev pub HeadlineOfFiles : (lists : List ℕ → List ℕ → Option (List Entry) → Type 0)
+abbrev pub HeadlineOfFiles : (lists : List ℕ → List ℕ → Option Listing → Type 0)
     → (gives : List ℕ → Option (List ℕ) → Type 0) → IndexOptions → Type 0
 HeadlineOfFiles lists gives options =
     (tree : List TreeFile) (ids : Packages) → AreFolders lists gives options tree ids

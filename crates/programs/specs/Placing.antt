@@ -1,7 +1,7 @@
--- Where the program `index` puts an index.
--- `same` is what asking whether the file with a path is the one at the place may answer.
-use Rattle.std.specs.Prelude.{◌≡◌, ℕ, Bool, true, List, [], ◌∷◌, Option, None, Some, Result, Ok, Err}
-use Rattle.std.specs.Prelude.{string_bytes}
+-- Where the program `index` puts an index, and its report.
+use Rattle.std.specs.Prelude.{◌≡◌, ◌⊎◌, ℕ, Bool, true, false, List, [], ◌∷◌, Option, None, Some, Result, Ok, Err}
+use Rattle.std.specs.Prelude.{string_bytes, IfSome}
+use Rattle.std.specs.Option.{option_map}
 use Rattle.streams.specs.WholeWrites.{IsWritten}
 use Rattle.source_tree.specs.Files.{TreeFile}
 use Rattle.source_files.specs.Places.{IsAsked, IsBegun}
@@ -10,16 +10,18 @@ use Rattle.command_line.specs.declared.options.IndexOptions.{IndexOptions}
 use Rattle.protoscip.specs.declared.fault.Fault.{Fault}
 use Rattle.protoscip.specs.declared.fault.Fault.TheVariants.{Write}
 use Rattle.protoscip.specs.declared.recorded.Recorded.{Recorded}
+use Rattle.programs.specs.Asked.{Asked}
 use Rattle.programs.specs.Folders.{included_in}
 use Rattle.programs.specs.declared.limits.LimitFault.{LimitFault}
 use Rattle.programs.specs.declared.start_fault.StartFault.{StartFault}
-use Rattle.programs.specs.declared.start_fault.StartFault.TheVariants.{IsSource, Load}
+use Rattle.programs.specs.declared.start_fault.StartFault.TheVariants.{IsSource, Load, ReportIsOut, ReportIsSource}
 
--- a place around a call, and what its trait says: what it holds; what is known of a part that it refuses, and of one
--- that it is told to give up; and of a part, which is put there when it is whole, what that holds, and how many writes
--- to it failed
+-- a place around a call, and what its trait says: what it holds; what asking whether the file with a path is the one
+-- there may answer; what is known of a part that it refuses, and of one that it is told to give up; and of a part,
+-- which is put there when it is whole, what that holds, and how many writes to it failed
 pub record Place (P W : Type 0) : Type 1 where
   pub holds : P → Option (List ℕ)
+  pub same : P → List ℕ → Bool → Type 0
   pub refuses : P → W → Type 0
   pub gives_up : P → W → Type 0
   pub contents : W → Option (List ℕ)
@@ -27,10 +29,11 @@ pub record Place (P W : Type 0) : Type 1 where
   pub before : P
   pub after : P
 
-abbrev pub place : {P W : Type 0} → (P → Option (List ℕ)) → (refuses gives_up : P → W → Type 0)
-    → (contents : W → Option (List ℕ)) → (failures : W → ℕ) → P → P → Place P W
-place holds refuses gives_up contents failures before after = record {
+abbrev pub place : {P W : Type 0} → (P → Option (List ℕ)) → (same : P → List ℕ → Bool → Type 0)
+    → (refuses gives_up : P → W → Type 0) → (contents : W → Option (List ℕ)) → (failures : W → ℕ) → P → P → Place P W
+place holds same refuses gives_up contents failures before after = record {
   holds = holds;
+  same = same;
   refuses = refuses;
   gives_up = gives_up;
   contents = contents;
@@ -56,25 +59,34 @@ abbrev pub IsFilled : {P W : Type 0} → Place P W → (part : W) → Type 0
 IsFilled at part = at.holds at.after ≡ at.contents part
 
 -- What becomes of a place by a run that writes to a part of it; `runs` says what the run answers of the part before and
--- after. If there is an index that `keeps` the limits, the part is put there; or the place refuses it, as a write is
--- refused. If there is none, the part is given up.
+-- after, and `reports` what becomes of its report. If there is an index that `keeps` the limits, and the report isn't
+-- refused, the part is put there; or the place refuses it, as a write is refused. Else the part is given up.
 pub data Fills {P W : Type 0} (at : Place P W) (keeps : Recorded → Type 0)
-    (runs : W → W → Result Recorded Fault → Type 0) : Result Recorded Fault → Type 0 where
+    (runs : W → W → Result Recorded Fault → Type 0)
+    (reports : Result Recorded Fault → (reported : Result (Unit {0}) Fault) → Type 0)
+    : Result Recorded Fault → Type 0 where
   filled : {recorded : Recorded} (begun whole : W) → IsBegun at.contents at.failures begun → keeps recorded
-      → runs begun whole (Ok recorded) → IsFilled at whole → Fills at keeps runs (Ok recorded)
+      → runs begun whole (Ok recorded) → reports (Ok recorded) (Ok tt) → IsFilled at whole
+      → Fills at keeps runs reports (Ok recorded)
   refused : {recorded : Recorded} {count : ℕ} (begun whole : W) → IsBegun at.contents at.failures begun
-      → keeps recorded → runs begun whole (Ok recorded) → IsRefused at whole
-      → Fills at keeps runs (Err (Write count))
-  unmade : {fault : Fault} (begun left : W) → IsBegun at.contents at.failures begun
-      → runs begun left (Err fault) → IsGivenUp at left → Fills at keeps runs (Err fault)
+      → keeps recorded → runs begun whole (Ok recorded) → reports (Ok recorded) (Ok tt) → IsRefused at whole
+      → Fills at keeps runs reports (Err (Write count))
+  unreported : {recorded : Recorded} {fault : Fault} (begun whole : W) → IsBegun at.contents at.failures begun
+      → runs begun whole (Ok recorded) → reports (Ok recorded) (Err fault) → IsGivenUp at whole
+      → Fills at keeps runs reports (Err fault)
+  unmade : {fault : Fault} {reported : Result (Unit {0}) Fault} (begun left : W)
+      → IsBegun at.contents at.failures begun → runs begun left (Err fault) → reports (Err fault) reported
+      → IsGivenUp at left → Fills at keeps runs reports (Err fault)
 
--- There is an index, written whole, but the part is given up.
+-- There is an index, written whole, and its report isn't refused, but the part is given up.
 pub record Forgoes {P W : Type 0} (at : Place P W) (runs : W → W → Result Recorded Fault → Type 0)
-    (recorded : Recorded) : Type 0 where
+    (reports : Result Recorded Fault → (reported : Result (Unit {0}) Fault) → Type 0) (recorded : Recorded)
+    : Type 0 where
   pub begun : W
   pub whole : W
   pub nothing : IsBegun at.contents at.failures begun
   pub ran : runs begun whole (Ok recorded)
+  pub reported : reports (Ok recorded) (Ok tt)
   pub given_up : IsGivenUp at whole
 
 -- what becomes of a place and of the part `whole`, to which a run wrote that answered `ran`; `broken` is the limit that
@@ -102,11 +114,42 @@ pub record IsPut {P W : Type 0} (at : Place P W) (bytes : List ℕ) : Type 0 whe
 abbrev pub roots_in : IndexOptions → List (List ℕ)
 roots_in options = string_bytes options.root ∷ included_in options
 
--- why no part is begun for a tree: one of the files that were read is said to be the one at the place, whose path is
+-- whether one of the files that were read is said to be the one at a place
+abbrev pub IsRead : {P W : Type 0} → Place P W → IndexOptions → List TreeFile → Bool → Type 0
+IsRead at options tree answer = IsAsked (at.same at.before) (roots_in options) tree answer
+
+-- None of the files that were read is said to be the one at the place of the index, nor, if a report is asked for, the
+-- one at its place; and the two have different paths, and aren't said to be one.
+pub record AreApart {P W Q V : Type 0} (at : Place P W) (report : Place Q V) (asked : Asked) (tree : List TreeFile)
+    : Type 0 where
+  pub index : IsRead at asked.options tree false
+  pub reported : IfSome asked.options.report.path (λ _. IsRead report asked.options tree false)
+  pub two : IfSome asked.options.report.path (λ path. (string_bytes path ≡ asked.path → ⊥)
+      × at.same at.before (string_bytes path) false)
+
+-- why no report is made of a tree: one of the files that were read is said to be the one at its place, whose path is
 -- named; or memory ran out
-abbrev pub MayNotBegin : (same : List ℕ → Bool → Type 0) → IndexOptions → (path : List ℕ) → List TreeFile
-    → StartFault → Type 0
-MayNotBegin same options path tree (IsSource named) =
-    (string_bytes named ≡ path) × IsAsked same (roots_in options) tree true
-MayNotBegin same options path tree (Load load.Memory) = Unit {0}
-MayNotBegin same options path tree fault = ⊥
+abbrev pub MayNotReport : {Q V : Type 0} → Place Q V → IndexOptions → List TreeFile → StartFault → Type 0
+MayNotReport at options tree (ReportIsSource named) =
+    (option_map string_bytes options.report.path ≡ Some (string_bytes named)) × IsRead at options tree true
+MayNotReport at options tree (Load load.Memory) = Unit {0}
+MayNotReport at options tree fault = ⊥
+
+-- why the report can't go to its place: it is that of the index, by its path or as that is asked; or memory ran out
+abbrev pub IsOneFile : (same : List ℕ → Bool → Type 0) → Asked → StartFault → Type 0
+IsOneFile same asked (ReportIsOut named) =
+    (option_map string_bytes asked.options.report.path ≡ Some (string_bytes named))
+    × ((string_bytes named ≡ asked.path) ⊎ same (string_bytes named) true)
+IsOneFile same asked (Load load.Memory) = Unit {0}
+IsOneFile same asked fault = ⊥
+
+-- why no part is begun for a tree: one of the files that were read is said to be the one at a place, whose path is
+-- named; or the report would go to the place of the index; or memory ran out
+abbrev pub MayNotBegin : {P W Q V : Type 0} → Place P W → Place Q V → Asked → List TreeFile → StartFault → Type 0
+MayNotBegin at report asked tree (IsSource named) =
+    (string_bytes named ≡ asked.path) × IsRead at asked.options tree true
+MayNotBegin at report asked tree (ReportIsSource named) =
+    MayNotReport report asked.options tree (ReportIsSource named)
+MayNotBegin at report asked tree (ReportIsOut named) = IsOneFile (at.same at.before) asked (ReportIsOut named)
+MayNotBegin at report asked tree (Load load.Memory) = Unit {0}
+MayNotBegin at report asked tree fault = ⊥

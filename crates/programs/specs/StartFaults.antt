@@ -3,7 +3,8 @@ use Rattle.std.specs.Prelude.{ℕ, List, codes, string_bytes}
 use Rattle.source_files.specs.LoadFaults.{name_of as load_name}
 use Rattle.source_files.specs.declared.load_fault.LoadFault.TheVariants.{Unreadable, TooMany, BadPath, SamePath, Memory}
 use Rattle.programs.specs.declared.start_fault.StartFault.{StartFault}
-use Rattle.programs.specs.declared.start_fault.StartFault.TheVariants.{BadPart, BadFolder, Load, IsSource}
+use Rattle.programs.specs.declared.start_fault.StartFault.TheVariants.{BadPart, BadFolder, Load, IsSource, ReportIsSource}
+use Rattle.programs.specs.declared.start_fault.StartFault.TheVariants.{ReportIsOut}
 use Rattle.programs.specs.declared.statuses.TheConstants.{COMMAND_LINE_STATUS}
 use Rattle.protoscip.specs.Lines.{path_line, plain_line}
 use Rattle.protoscip.specs.declared.statuses.TheConstants.{MEMORY_STATUS, SOURCES_STATUS, STREAM_STATUS}
@@ -14,6 +15,8 @@ name_of BadPart = codes "BadPart"
 name_of (BadFolder path) = codes "BadPart"
 name_of (Load fault) = load_name fault
 name_of (IsSource path) = codes "IsSource"
+name_of (ReportIsSource path) = codes "IsSource"
+name_of (ReportIsOut path) = codes "IsOut"
 
 abbrev pub line_of : StartFault → List ℕ
 line_of BadPart = plain_line (name_of BadPart)
@@ -24,6 +27,8 @@ line_of (Load (BadPath path)) = path_line (string_bytes path) (load_name (BadPat
 line_of (Load (SamePath path)) = path_line (string_bytes path) (load_name (SamePath path))
 line_of (Load Memory) = plain_line (load_name Memory)
 line_of (IsSource path) = path_line (string_bytes path) (name_of (IsSource path))
+line_of (ReportIsSource path) = path_line (string_bytes path) (name_of (ReportIsSource path))
+line_of (ReportIsOut path) = path_line (string_bytes path) (name_of (ReportIsOut path))
 
 abbrev pub status_of : StartFault → ℕ
 status_of BadPart = COMMAND_LINE_STATUS
@@ -34,3 +39,5 @@ status_of (Load (BadPath path)) = SOURCES_STATUS
 status_of (Load (SamePath path)) = SOURCES_STATUS
 status_of (Load Memory) = MEMORY_STATUS
 status_of (IsSource path) = STREAM_STATUS
+status_of (ReportIsSource path) = STREAM_STATUS
+status_of (ReportIsOut path) = STREAM_STATUS

@@ -1,4 +1,4 @@
--- What the programs about a tree do: `index` and `shell`.
+-- How the programs about a tree end: `index` and `shell`.
 -- `lists` and `gives` are what the system of files gives, and `messages` is the stream of messages. `none_found` says
 -- which line, if any, is said of a tree whose index lacks nothing: that it has no source.
 use Rattle.std.specs.Prelude.{ℕ, List, [], ◌∷◌, Option, Result, Ok, Err}
@@ -11,19 +11,15 @@ use Rattle.scip_records.specs.declared.records.Index.{Index}
 use Rattle.scip_snapshot.specs.Showing.{Writer}
 use Rattle.protoscip.specs.declared.fault.Fault.{Fault}
 use Rattle.protoscip.specs.declared.recorded.Recorded.{Recorded}
-use Rattle.protoscip.specs.Explanations.{IsFaultText, explain_in}
+use Rattle.protoscip.specs.Explanations.{IsFaultText}
 use Rattle.protoscip.specs.Headline.{IsNavigable}
 use Rattle.protoscip.specs.Statuses.{status_of}
 use Rattle.protoscip.specs.ToldLines.{IsToldText}
 use Rattle.command_line.specs.declared.options.IndexOptions.{IndexOptions}
-use Rattle.programs.specs.declared.start_fault.StartFault.{StartFault}
-use Rattle.programs.specs.Messages.{SaysIfAny, Tells, TellsOne}
-use Rattle.programs.specs.Folders.{AreFolders, NamePackages}
+use Rattle.programs.specs.Messages.{SaysIfAny, TellsOne}
+use Rattle.programs.specs.Folders.{AreFolders}
 use Rattle.programs.specs.Settings.{allowed_by, settings_in}
-use Rattle.programs.specs.StartExplanations.{told as start_told}
-use Rattle.programs.specs.StartFaults.{status_of as start_status}
-use Rattle.programs.specs.Starting.{MayNotStart}
-use Rattle.source_files.specs.Entries.{Entry}
+use Rattle.source_files.specs.Listings.{Listing}
 
 -- the end of a run that made an index which lacks this; `says` says how a text with a property is written after a
 -- success. If it lacks nothing, the line of none found is said, if there is one; else a line for each, and then their
@@ -47,27 +43,9 @@ Ends says none_found explain tree told_of (Ok done) messages status =
 Ends says none_found explain tree told_of (Err fault) messages status =
     TellsOne (IsFaultText explain tree fault) (status_of fault) messages status
 
--- Either the program doesn't start, leaves all but the stream of messages `untouched`, and says why; or there is a
--- tree of the files, and the run over it ends. `runs` says what the run answers.
-pub data IsRun {M : Type 0} (lists : List ℕ → List ℕ → Option (List Entry) → Type 0)
-    (gives : List ℕ → Option (List ℕ) → Type 0)
-    (says : (List ℕ → Type 0) → Writer M → (status : ℕ) → Type 0)
-    (none_found : List TreeFile → Option (List ℕ) → Type 0) (options : IndexOptions) (untouched : Type 0)
-    (runs : List TreeFile → Packages → Result Recorded Fault → Type 0)
-    (messages : Writer M) (status : ℕ) : Type 0 where
-  not_started : (fault : StartFault) → MayNotStart lists gives options fault → untouched
-      → Tells (start_told options.explain fault) (start_status fault) messages status
-      → IsRun lists gives says none_found options untouched runs messages status
-  over_tree : (tree : List TreeFile) (ids : Packages) (done : Result Recorded Fault) → NamePackages options
-      → AreFolders lists gives options tree ids
-      → runs tree ids done
-      → Ends says (none_found tree) (explain_in options.explain (settings_in options ids).dialect) tree
-      (λ recorded. recorded.told) done messages status
-      → IsRun lists gives says none_found options untouched runs messages status
-
 -- There is a tree of the files that the options name, and an index of it by what they allow and say navigates it;
 -- `goes` says what becomes of its bytes and of it.
-pub record AreNavigable (lists : List ℕ → List ℕ → Option (List Entry) → Type 0)
+pub record AreNavigable (lists : List ℕ → List ℕ → Option Listing → Type 0)
     (gives : List ℕ → Option (List ℕ) → Type 0)
     (options : IndexOptions) (goes : (bytes : List ℕ) → Index → Type 0) : Type 0 where
   pub tree : List TreeFile

@@ -1,16 +1,18 @@
 //! The program `index`.
 
-ghost use Rattle.std.specs.Prelude.{◌≡◌, None, false, IfErr, IfOk, IfSome, string_bytes};
+ghost use Rattle.std.specs.Prelude.{◌≡◌, None, Some, [], false, IfErr, IfOk, IfSome, MatchResult, string_bytes};
 ghost use Rattle.std.specs.Option.{option_map};
 ghost use Rattle.protoscip.specs.FaultLines.{HasFilesOf};
 ghost use Rattle.protoscip.specs.ToldLines.{IsTextOfLacks};
-ghost use Rattle.source_files.specs.Places.{IsAsked, IsBegun};
+ghost use Rattle.source_files.specs.Places.{IsBegun};
+ghost use Rattle.programs.specs.Asked.{asked_by};
 ghost use Rattle.programs.specs.Choices.{IsChosenBy};
 ghost use Rattle.programs.specs.Indexing.{Indexed, IndexesInto, WritesNavigable};
 ghost use Rattle.programs.specs.Limits.{Breaks};
 ghost use Rattle.programs.specs.Messages.{Says, SaysIfAny, SaysOfSuccess};
 ghost use Rattle.programs.specs.NoSources.{NoneFoundBy};
-ghost use Rattle.programs.specs.Placing.{Finishes, MayNotBegin, place, roots_in};
+ghost use Rattle.programs.specs.Searches.{searched_by};
+ghost use Rattle.programs.specs.Placing.{AreApart, Finishes, IsOneFile, MayNotBegin, place};
 ghost use Rattle.scip_snapshot.specs.Showing.{writer};
 ghost use Rattle.programs.specs.TreeRuns.{Ends};
 
@@ -20,14 +22,17 @@ use crate::host::Host;
 use crate::laws::headline_of_options;
 use crate::limits::{LimitFault, broken_by, report_limit};
 use crate::messages::report;
+use crate::places::Places;
 use crate::progress::{LineWiped, Progress};
+use crate::reporting::{Reporter, fault_in, report_run, see_report, settle};
 use crate::start_explanations::report_start;
 use crate::start_fault::StartFault;
 use crate::starting::{TreeRun, start};
 use command_line::{IndexOptions, Limits};
 use proto_parse::Dialect;
 use protoscip::{Fault, KeptIndex, explain_in, index_and_keep};
-use source_files::{LookAgain, OutPlace, ReadFiles, is_read_from};
+use scip_build::BuildFault;
+use source_files::{Excluding, LookAgain, OutPlace, ReadFiles, is_read_from};
 use source_tree::Tree;
 use std::alloc::Global;
 use std::mem::forget;
@@ -97,23 +102,48 @@ fn beginning<R: Clock, F>(host: &Host<'_, R, F>, quiet: bool) -> Option<Instant>
     Instant::now(host.rt).ok()
 }
 
-/// Begins the part that the index goes to. `IsSource`: one of the files that were read is the one at its place.
-fn begin<P: OutPlace>(
+/// Sees, if a report is asked for, that it doesn't go to the place of the index. `ReportIsOut`: it does.
+fn see_two<P: OutPlace>(alloc: Global, request: &IndexRequest<'_>, at: &P) -> Result<(), StartFault>
+    ensures two { IfOk result (λ _. IfSome request.now.options.now.report.path (λ path. (string_bytes path ≡ request.now.path.now → ⊥)
+        × P.same at.now (string_bytes path) false)) }
+    ensures stops { IfErr result (λ fault. IsOneFile (P.same at.now) (asked_by request.now.options.now request.now.path.now request.now.limits) fault) }
+{
+    let Some(path) = &request.options.report.path else {
+        return Ok(());
+    };
+    if path.as_str() == request.path || at.is_file(path.as_str()) {
+        let path = String::from_str(alloc, path.as_str())?;
+        return Err(StartFault::ReportIsOut(path));
+    }
+    Ok(())
+}
+
+/// Begins the part that the index goes to. `IsSource`: one of the files that were read is the one at its place;
+/// `ReportIsOut`, `ReportIsSource`: the report can't go to its own.
+fn begin<P: OutPlace, Q: OutPlace>(
     alloc: Global,
     request: &IndexRequest<'_>,
     tree: &Tree,
-    out: &P,
+    places: &Places<P, Q>,
 ) -> Result<P::Part, StartFault>
     ensures begun { IfOk result (IsBegun P.Part.contents P.Part.failures) }
-    ensures apart { IfOk result (λ _. IsAsked (P.same out.now) (roots_in request.now.options.now) tree.now false) }
-    ensures stops { IfErr result (MayNotBegin (P.same out.now) request.now.options.now request.now.path.now tree.now) }
+    ensures apart { IfOk result (λ _. AreApart (place P.holds P.same P.refuses P.gives_up P.Part.contents
+        P.Part.failures places.now.file places.now.file) (place Q.holds Q.same Q.refuses Q.gives_up Q.Part.contents
+        Q.Part.failures places.now.report places.now.report)
+        (asked_by request.now.options.now request.now.path.now request.now.limits) tree.now) }
+    ensures stops { IfErr result (MayNotBegin (place P.holds P.same P.refuses P.gives_up P.Part.contents
+        P.Part.failures places.now.file places.now.file) (place Q.holds Q.same Q.refuses Q.gives_up Q.Part.contents
+        Q.Part.failures places.now.report places.now.report)
+        (asked_by request.now.options.now request.now.path.now request.now.limits) tree.now) }
 {
     let folders = folders_read(alloc, request.options)?;
-    if is_read_from(alloc, out, &folders, tree)? {
+    if is_read_from(alloc, &places.file, &folders, tree)? {
         let path = String::from_str(alloc, request.path)?;
         return Err(StartFault::IsSource(path));
     }
-    Ok(out.begin(alloc)?)
+    see_two(alloc, request, &places.file)?;
+    see_report(alloc, request.options, tree, &places.report)?;
+    Ok(places.file.begin(alloc)?)
 }
 
 /// The limit that an index breaks, if there is one and it breaks one.
@@ -131,6 +161,16 @@ fn broken_limit(
     }
 }
 
+/// What an index lacks; nothing if there is none.
+fn told_in<'a>(ran: &'a Result<KeptIndex<'_>, Fault>) -> &'a [BuildFault]
+    ensures { MatchResult ran.now (λ kept. result.now ≡ kept.built.told) (λ _. result.now ≡ []) }
+{
+    match ran {
+        Ok(kept) => kept.built.told.as_slice(),
+        Err(_) => &[],
+    }
+}
+
 /// Puts what was written at its place, if it is a whole index that breaks no limit, and else gives it up. `Write`: the
 /// place refuses it.
 fn finish<'a, P: OutPlace>(
@@ -139,7 +179,7 @@ fn finish<'a, P: OutPlace>(
     part: P::Part,
     out: &mut P,
 ) -> Result<KeptIndex<'a>, Fault>
-    ensures { Finishes (place P.holds P.refuses P.gives_up P.Part.contents P.Part.failures out.old out.new) part
+    ensures { Finishes (place P.holds P.same P.refuses P.gives_up P.Part.contents P.Part.failures out.old out.new) part
         done.entry broken result }
 {
     let is_kept = done.is_ok() && broken.is_none();
@@ -156,42 +196,47 @@ fn finish<'a, P: OutPlace>(
     }
 }
 
-/// Builds the index of the sources of a tree, writes it beside its place, puts it there, and gives the exit status.
-/// What the index lacks is said; or why it stops, if it does. An index that breaks a limit isn't put there, and the
-/// limit is said, too.
-fn index_over<R, F, P: OutPlace, M: Sink>(
+/// Builds the index of the sources of a tree, writes it beside its place, makes its report, puts the index there, and
+/// gives the exit status. What the index lacks is said; or why it stops, if it does. An index whose report can't be
+/// written isn't put there, nor one that breaks a limit; the limit is said, too.
+fn index_over<R, F, P: OutPlace, Q: OutPlace, M: Sink>(
     host: &Host<'_, R, F>,
     request: &IndexRequest<'_>,
     begun: Option<Instant>,
     run: &TreeRun,
-    out: &mut P,
+    places: &mut Places<P, Q>,
     messages: &mut M,
 ) -> u8
 where
     R: Threads + Wait + Clock + Eprint + Sync,
-    ensures { IndexesInto (P.same out.old) (λ _ line. line ≡ option_map string_bytes run.now.none_found)
-        request.now.options.now request.now.limits request.now.path.now
+    ensures { IndexesInto (λ _ line. line ≡ option_map string_bytes run.now.none_found)
+        (asked_by request.now.options.now request.now.path.now request.now.limits)
         (IsChosenBy (option_map (λ f. string_bytes f.promise.0) run.now.choices.filter) (option_map (λ r. r.promise.0)
         run.now.choices.rule)) run.now.settings run.now.workers run.now.tree
-        (place P.holds P.refuses P.gives_up P.Part.contents P.Part.failures out.old out.new)
-        (writer M.contents M.failures messages.old messages.new) result }
+        (place P.holds P.same P.refuses P.gives_up P.Part.contents P.Part.failures places.old.file places.new.file)
+        (place Q.holds Q.same Q.refuses Q.gives_up Q.Part.contents Q.Part.failures places.old.report
+        places.new.report) (writer M.contents M.failures messages.old messages.new) result }
 {
     let explain = request.options.explain;
-    let mut part = match begin(host.alloc, request, &run.tree, out) {
+    let mut part = match begin(host.alloc, request, &run.tree, places) {
         Ok(part) => part,
         Err(fault) => return report_start(host.alloc, &fault, explain, messages),
     };
     let gate = Progress::over(host.alloc, host.rt, begun, &run.tree);
-    let done = index_and_keep(
-        &run.over(host.rt, host.alloc, &gate),
-        &run.tree,
-        &run.choices,
-        &run.settings,
-        explain,
-        &mut part,
-    );
+    let work = run.over(host.rt, host.alloc, &gate);
+    let (tree, choices, settings) = (&run.tree, &run.choices, &run.settings);
+    let ran = index_and_keep(&work, tree, choices, settings, explain, &mut part);
+    let reporter = Reporter {
+        rt: host.rt,
+        alloc: host.alloc,
+        run,
+        options: &request.options.report,
+        limits: request.limits,
+    };
+    let reported = report_run(&reporter, told_in(&ran), fault_in(&ran), &mut places.report);
+    let done = settle(ran, reported);
     let broken = broken_limit(request.limits, &run.tree, &done);
-    let done = finish(done, broken, part, out);
+    let done = finish(done, broken, part, &mut places.file);
     let wiped = gate.wipe();
     let dialect = explain_in(explain, run.settings.dialect);
     let status = end(wiped, host.alloc, run, done, dialect, messages);
@@ -202,32 +247,36 @@ where
 }
 
 /// Reads the sources below the root of the options and the files below their included roots, builds
-/// the index of the sources, writes it to a part of `out`, puts that there, and gives the exit status. What the index
-/// lacks is said, or that there are no sources, where somebody is told; or why it stops, if it does: after every fault
-/// `out` is as it was, and if the index breaks a limit. The memory of the tree and of what was made of it isn't given
-/// back: the program ends.
+/// the index of the sources, writes it to a part of its place, makes its report if one is asked for, puts the index
+/// there, and gives the exit status. What the index lacks is said, or that there are no sources, where somebody is
+/// told; or why it stops, if it does: after every fault the place of the index is as it was, and if the index breaks a
+/// limit. The memory of the tree and of what was made of it isn't given back: the program ends.
 ///
 /// Of the faults the first is said: a bad part of the package; what can't be read; that the files make
-/// no tree; that one of them is the file at `out`; and those of `index_tree`. Want of memory may come at any step.
+/// no tree; that one of them is the file at the place of the index; that the report would go there, or that one of them
+/// is the file at its place; those of `index_tree`; and that the report can't be made, or written. Want of memory may
+/// come at any step.
 ///
 /// Where standard error is a terminal, and it isn't to be quiet, a line there shows after a second how far the
 /// run is; it is wiped before anything is said.
-pub(crate) fn index<R, F: ReadFiles + LookAgain + Sync, P: OutPlace, M: Sink>(
+fn index<R, F: ReadFiles + LookAgain + Sync, P: OutPlace, Q: OutPlace, M: Sink>(
     host: &Host<'_, R, F>,
     request: &IndexRequest<'_>,
-    out: &mut P,
+    places: &mut Places<P, Q>,
     messages: &mut M,
 ) -> u8
 where
     R: Threads + Wait + Clock + Eprint + Sync,
-    ensures indexed { Indexed (F.lists host.now.files.now) (F.gives host.now.files.now) (P.same out.old)
+    ensures indexed { Indexed (F.lists host.now.files.now) (F.gives host.now.files.now)
         (NoneFoundBy (F.passes host.now.files.now) host.now.is_watched request.now.options.now)
-        request.now.options.now request.now.limits request.now.path.now
-        (place P.holds P.refuses P.gives_up P.Part.contents P.Part.failures out.old out.new)
-        (writer M.contents M.failures messages.old messages.new) result }
+        (asked_by request.now.options.now request.now.path.now request.now.limits)
+        (place P.holds P.same P.refuses P.gives_up P.Part.contents P.Part.failures places.old.file places.new.file)
+        (place Q.holds Q.same Q.refuses Q.gives_up Q.Part.contents Q.Part.failures places.old.report
+        places.new.report) (writer M.contents M.failures messages.old messages.new) result }
     ensures navigable { WritesNavigable (F.lists host.now.files.now) (F.gives host.now.files.now)
         request.now.options.now
-        (place P.holds P.refuses P.gives_up P.Part.contents P.Part.failures out.old out.new) result }
+        (place P.holds P.same P.refuses P.gives_up P.Part.contents P.Part.failures places.old.file places.new.file)
+        result }
 {
     let options = request.options;
     headline_of_options(host.files, options);
@@ -236,7 +285,41 @@ where
         Ok(start) => start,
         Err(fault) => return report_start(host.alloc, &fault, options.explain, messages),
     };
-    let status = index_over(host, request, begun, &run, out, messages);
+    let status = index_over(host, request, begun, &run, places, messages);
     forget(run);
     status
+}
+
+/// The same of the files that the options don't exclude.
+pub(crate) fn index_searched<R, F: ReadFiles + LookAgain + Sync, P: OutPlace, Q: OutPlace, M: Sink>(
+    host: &Host<'_, R, F>,
+    request: &IndexRequest<'_>,
+    places: &mut Places<P, Q>,
+    messages: &mut M,
+) -> u8
+where
+    R: Threads + Wait + Clock + Eprint + Sync,
+    ensures indexed { Indexed (searched_by request.now.options.now (F.lists host.now.files.now))
+        (F.gives host.now.files.now)
+        (NoneFoundBy (F.passes host.now.files.now) host.now.is_watched request.now.options.now)
+        (asked_by request.now.options.now request.now.path.now request.now.limits)
+        (place P.holds P.same P.refuses P.gives_up P.Part.contents P.Part.failures places.old.file places.new.file)
+        (place Q.holds Q.same Q.refuses Q.gives_up Q.Part.contents Q.Part.failures places.old.report
+        places.new.report) (writer M.contents M.failures messages.old messages.new) result }
+    ensures navigable { WritesNavigable (searched_by request.now.options.now (F.lists host.now.files.now))
+        (F.gives host.now.files.now) request.now.options.now
+        (place P.holds P.same P.refuses P.gives_up P.Part.contents P.Part.failures places.old.file places.new.file)
+        result }
+{
+    let files = Excluding {
+        files: host.files,
+        patterns: &request.options.exclude,
+    };
+    let searched = Host {
+        rt: host.rt,
+        alloc: host.alloc,
+        files: &files,
+        is_watched: host.is_watched,
+    };
+    index(&searched, request, places, messages)
 }

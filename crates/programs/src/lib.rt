@@ -3,6 +3,7 @@
 
 // The programs, and what they run over.
 mod host;
+mod places;
 mod running;
 
 // `dump`: a source is read, indexed and listed.
@@ -32,11 +33,12 @@ mod start_explanations;
 mod start_fault;
 mod starting;
 
-// `index`: the index of a tree goes to a file.
+// `index`: the index of a tree goes to a file, and its report, too.
 mod asking_ahead;
 mod indexing;
 mod limits;
 mod progress;
+mod reporting;
 
 // `shell`: the index of a tree answers commands.
 mod serving;
@@ -53,5 +55,6 @@ pub use choices::OptionChoices;
 pub use host::Host;
 pub use laws::headline_of_options;
 pub use messages::report;
+pub use places::Places;
 pub use progress::{LineWiped, Progress};
-pub use running::{out_path, run};
+pub use running::{links_followed, out_path, report_path, run};

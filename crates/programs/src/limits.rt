@@ -1,8 +1,6 @@
 //! The limits that an index has to keep.
 
 ghost use Rattle.std.specs.Prelude.{◌≡◌, IfOk, string_bytes};
-ghost use Rattle.std.specs.List.{count_by};
-ghost use Rattle.protoscip.specs.ToldLines.{is_skipped, is_skipped_source};
 ghost use Rattle.scip_snapshot.specs.Showing.{writer};
 ghost use Rattle.programs.specs.Limits.{
   broken_by,
@@ -18,10 +16,16 @@ ghost use Rattle.programs.specs.Messages.{Tells};
 
 use crate::messages::report;
 use command_line::Limits;
-use protoscip::{SOURCES_STATUS, plain_line};
+use protoscip::{SOURCES_STATUS, count_skipped, count_skipped_sources, plain_line};
 use scip_build::BuildFault;
 use std::alloc::{AllocError, Global};
 use streams::Sink;
+
+/// No limits.
+pub(crate) const NO_LIMITS: Limits = Limits {
+    max_skipped: None,
+    min_sources: None,
+};
 
 /// The limit that an index breaks.
 #[derive(Clone, Copy, Debug, PartialEq, Eq)]
@@ -91,40 +95,6 @@ impl LimitFault {
         text.push_str(sentence.as_str())?;
         Ok(text)
     }
-}
-
-/// Whether a file is left out.
-fn is_skipped(fault: &BuildFault) -> bool
-    ensures { result ≡ is_skipped fault.now }
-{
-    matches!(fault, BuildFault::File(..) | BuildFault::Duplicate(..))
-}
-
-/// Whether it is a source, by how many the tree has.
-fn is_skipped_source(sources: usize, fault: &BuildFault) -> bool
-    ensures { result ≡ is_skipped_source sources fault.now }
-{
-    match fault {
-        BuildFault::File(number, _) => *number < sources,
-        BuildFault::Duplicate(_, second) => second.file < sources,
-        _ => false,
-    }
-}
-
-/// How many files are left out.
-fn count_skipped(told: &[BuildFault]) -> usize
-    ensures { result ≡ count_by is_skipped told.now }
-{
-    told.iter().filter(|fault| is_skipped(*fault)).count()
-}
-
-/// How many of them are sources, by how many the tree has.
-fn count_skipped_sources(sources: usize, told: &[BuildFault]) -> usize
-    ensures { result ≡ count_by (is_skipped_source sources) told.now }
-{
-    told.iter()
-        .filter(|fault| is_skipped_source(sources, *fault))
-        .count()
 }
 
 /// More files are left out than may be, if that is limited.

@@ -1,11 +1,10 @@
 //! What the program does with its files and streams, and the exit status that it ends with.
 
-ghost use Rattle.std.specs.Prelude.{◌≡◌, [], None, Result, IfSome, IfOk, IfErr};
+ghost use Rattle.std.specs.Prelude.{◌≡◌, [], None, Result, IfSome, IfOk, IfErr, string_bytes};
 ghost use Rattle.scip_snapshot.specs.Showing.{maker, writer};
 ghost use Rattle.command_line.specs.Requests.{
   dump_options,
   explains,
-  index_limits,
   index_options,
   index_path,
   out_path,
@@ -21,6 +20,7 @@ ghost use Rattle.protoscip.specs.Dump.{IsDumped, LeavesReader};
 ghost use Rattle.protoscip.specs.Explanations.{explain_in};
 ghost use Rattle.programs.specs.declared.query_fault.QueryFault.{QueryFault};
 ghost use Rattle.programs.specs.Answering.{Answers};
+ghost use Rattle.programs.specs.Asked.{asked_of, report_path};
 ghost use Rattle.programs.specs.Dumping.{EndsDump};
 ghost use Rattle.programs.specs.Indexing.{Indexed, WritesNavigable};
 ghost use Rattle.programs.specs.Messages.{Tells, memory_line, memory_status};
@@ -29,6 +29,7 @@ ghost use Rattle.programs.specs.Paging.{RunsPages};
 ghost use Rattle.programs.specs.Placing.{place};
 ghost use Rattle.programs.specs.Printing.{Prints, Refuses, is_closed};
 ghost use Rattle.programs.specs.Queries.{Queried};
+ghost use Rattle.programs.specs.Searches.{links_followed, searched_by};
 ghost use Rattle.programs.specs.Serving.{AnswersNavigable, Served};
 ghost use Rattle.programs.specs.Settings.{dialect_of};
 ghost use Rattle.programs.specs.Snapshotting.{RunsSnapshot};
@@ -36,16 +37,17 @@ ghost use Rattle.programs.specs.Streams.{reader};
 
 use crate::dumping::dump_source;
 use crate::host::Host;
-use crate::indexing::{IndexRequest, index};
+use crate::indexing::{IndexRequest, index_searched};
 use crate::messages::report;
 use crate::output::print;
 use crate::paging::pages;
+use crate::places::Places;
 use crate::query_explanations::report_query;
 use crate::querying::query;
-use crate::serving::shell;
+use crate::serving::shell_searched;
 use crate::snapshotting::snapshot;
 use crate::statuses::COMMAND_LINE_STATUS;
-use command_line::Request;
+use command_line::{LinksWord, ReportOptions, Request};
 use protoscip::{MEMORY_STATUS, plain_line};
 use source_files::{Caused, EmptyFolders, LookAgain, MakeFiles, OutPlace, ReadFiles};
 use std::alloc::AllocError;
@@ -95,29 +97,65 @@ pub fn out_path(asked: &Result<Request, AllocError>) -> &str
     }
 }
 
-/// Does what was asked for, and gives the exit status. An index goes to the place `file`, which makes the files
-/// of snapshots and of pages too; everything else goes to `out`. Where memory ran out while the command
-/// line was read, it says so.
-pub fn run<R, F, I: Feed, W: Sink + Caused, O: OutPlace + MakeFiles, M: Sink>(
+/// The path of a report; empty if none is asked for.
+fn path_of(report: &ReportOptions) -> &str
+    ensures path { IfSome report.now.path (λ path. result.now ≡ string_bytes path) }
+    ensures none { report.now.path ≡ None → result.now ≡ [] }
+{
+    match &report.path {
+        Some(path) => path.as_str(),
+        None => "",
+    }
+}
+
+/// The path of the file that a report is to be written to; empty if none is asked for.
+pub fn report_path(asked: &Result<Request, AllocError>) -> &str
+    ensures path { IfOk asked.now (λ request. IfSome (report_path request) (λ path. result.now ≡ path)) }
+    ensures none { IfOk asked.now (λ request. report_path request ≡ None → result.now ≡ []) }
+    ensures unread { IfErr asked.now (λ _. result.now ≡ []) }
+{
+    match asked {
+        Ok(Request::Index(options, _, _, _)) => path_of(&options.report),
+        Ok(Request::Shell(options)) => path_of(&options.report),
+        _ => "",
+    }
+}
+
+/// Whether links below the folders whose sources are read are to be followed.
+pub fn links_followed(asked: &Result<Request, AllocError>) -> bool
+    ensures { result ≡ links_followed asked.now }
+{
+    match asked {
+        Ok(Request::Index(options, _, _, _)) => matches!(options.links, LinksWord::Follow),
+        Ok(Request::Shell(options)) => matches!(options.links, LinksWord::Follow),
+        _ => false,
+    }
+}
+
+/// Does what was asked for, and gives the exit status. An index goes to the first of the places, which makes the files
+/// of snapshots and of pages too; a report goes to the other; everything else goes to `out`. Where memory ran out while
+/// the command line was read, it says so.
+pub fn run<R, F, I: Feed, W: Sink + Caused, O: OutPlace + MakeFiles, Q: OutPlace, M: Sink>(
     host: &Host<'_, R, F>,
     asked: &Result<Request, AllocError>,
     input: &mut I,
     out: &mut W,
-    file: &mut O,
+    places: &mut Places<O, Q>,
     messages: &mut M,
 ) -> u8
 where
     R: Threads + Wait + Clock + Eprint + Sync,
     F: ReadFiles + EmptyFolders + LookAgain + Sync,
-    // Help and the version are printed. Of this, a listing and snapshots nothing is said where the pipe is closed.
+    // Help and the version are printed. Where the pipe is closed, nothing is said of this; nor of a listing, nor of
+    // snapshots.
     ensures printed { IfOk asked.now (λ request. IfSome (printed_text request) (λ text.
         Prints W.cause text (writer W.contents W.failures out.old out.new)
         (writer M.contents M.failures messages.old messages.new) result
-        × (input.new ≡ input.old) × (file.new ≡ file.old))) }
+        × (input.new ≡ input.old) × (places.new ≡ places.old))) }
     // It says why a command line is refused.
     ensures refused { IfOk asked.now (λ request. IfSome (refused_text request) (λ text.
         Refuses text (writer M.contents M.failures messages.old messages.new) result
-        × (input.new ≡ input.old) × (out.new ≡ out.old) × (file.new ≡ file.old))) }
+        × (input.new ≡ input.old) × (out.new ≡ out.old) × (places.new ≡ places.old))) }
     // What `dump` promises of its answer, and what becomes of that.
     ensures dumped { IfOk asked.now (λ request. IfSome (dump_options request) (λ options.
         ((done : Result (Unit {0}) Fault)
@@ -127,51 +165,52 @@ where
         × IsReadBriefly I.reads input.old input.new
         × EndsDump I.remaining (explain_in options.explain (dialect_of options.accept options.custom_options))
         (is_closed (W.cause out.new)) input.old done (writer M.contents M.failures messages.old messages.new) result)
-        × (file.new ≡ file.old))) }
+        × (places.new ≡ places.old))) }
     // What `query` promises of its answers, and what becomes of that.
     ensures queried { IfOk asked.now (λ request. IfSome (index_path request) (λ path. ((done : Result (Unit {0})
         QueryFault)
         × Queried (F.gives host.now.files.now path) (reader I.remaining I.failures I.reads I.ends input.old input.new)
         (writer W.contents W.failures out.old out.new) done
         × Answers (explains request) path done (writer M.contents M.failures messages.old messages.new) result)
-        × (file.new ≡ file.old))) }
+        × (places.new ≡ places.old))) }
     // What `index` does.
-    ensures indexed { IfOk asked.now (λ request. IfSome (index_options request) (λ options.
-        IfSome (index_limits request) (λ limits. IfSome (out_path request) (λ path.
-        Indexed (F.lists host.now.files.now) (F.gives host.now.files.now) (O.same file.old)
-        (NoneFoundBy (F.passes host.now.files.now) host.now.is_watched options) options limits path
-        (place O.holds O.refuses O.gives_up O.Part.contents O.Part.failures file.old file.new)
-        (writer M.contents M.failures messages.old messages.new) result))
+    ensures indexed { IfOk asked.now (λ request. IfSome (asked_of request) (λ asked.
+        Indexed (searched_by asked.options (F.lists host.now.files.now)) (F.gives host.now.files.now)
+        (NoneFoundBy (F.passes host.now.files.now) host.now.is_watched asked.options) asked
+        (place O.holds O.same O.refuses O.gives_up O.Part.contents O.Part.failures places.old.file places.new.file)
+        (place Q.holds Q.same Q.refuses Q.gives_up Q.Part.contents Q.Part.failures places.old.report places.new.report)
+        (writer M.contents M.failures messages.old messages.new) result
         × (input.new ≡ input.old) × (out.new ≡ out.old))) }
     // What `shell` does.
     ensures served { IfOk asked.now (λ request. IfSome (shell_options request) (λ options.
-        Served (F.lists host.now.files.now) (F.gives host.now.files.now)
+        Served (searched_by options (F.lists host.now.files.now)) (F.gives host.now.files.now)
         (NoneFoundBy (F.passes host.now.files.now) host.now.is_watched options) options
+        (place Q.holds Q.same Q.refuses Q.gives_up Q.Part.contents Q.Part.failures places.old.report places.new.report)
         (reader I.remaining I.failures I.reads I.ends input.old input.new)
         (writer W.contents W.failures out.old out.new) (writer M.contents M.failures messages.old messages.new) result
-        × (file.new ≡ file.old))) }
+        × (places.new.file ≡ places.old.file))) }
     // After a success of either, queries over what is written, or answered from, are exact.
     ensures navigable { IfOk asked.now (λ request. IfSome (index_options request) (λ options.
-        WritesNavigable (F.lists host.now.files.now) (F.gives host.now.files.now) options
-        (place O.holds O.refuses O.gives_up O.Part.contents O.Part.failures file.old file.new) result)
+        WritesNavigable (searched_by options (F.lists host.now.files.now)) (F.gives host.now.files.now) options
+        (place O.holds O.same O.refuses O.gives_up O.Part.contents O.Part.failures places.old.file places.new.file) result)
         × IfSome (shell_options request) (λ options.
-        AnswersNavigable (F.lists host.now.files.now) (F.gives host.now.files.now) options
+        AnswersNavigable (searched_by options (F.lists host.now.files.now)) (F.gives host.now.files.now) options
         (reader I.remaining I.failures I.reads I.ends input.old input.new)
         (writer W.contents W.failures out.old out.new) result)) }
     // What `snapshot` does.
     ensures snapshotted { IfOk asked.now (λ request. IfSome (snapshot_options request) (λ options.
         RunsSnapshot (F.gives host.now.files.now) W.cause options (writer W.contents W.failures out.old out.new)
-        (maker O.made file.old file.new) (writer M.contents M.failures messages.old messages.new) result
-        × (input.new ≡ input.old))) }
+        (maker O.made places.old.file places.new.file) (writer M.contents M.failures messages.old messages.new) result
+        × (input.new ≡ input.old) × (places.new.report ≡ places.old.report))) }
     // What `pages` does.
     ensures paged { IfOk asked.now (λ request. IfSome (pages_options request) (λ options.
         RunsPages (F.frees host.now.files.now) (F.gives host.now.files.now) options
-        (maker O.made file.old file.new) (writer M.contents M.failures messages.old messages.new) result
-        × (input.new ≡ input.old) × (out.new ≡ out.old))) }
+        (maker O.made places.old.file places.new.file) (writer M.contents M.failures messages.old messages.new) result
+        × (input.new ≡ input.old) × (out.new ≡ out.old) × (places.new.report ≡ places.old.report))) }
     // Nothing was asked for, since memory ran out, and that is said.
     ensures unknown { IfErr asked.now (λ _.
         Tells memory_line memory_status (writer M.contents M.failures messages.old messages.new) result
-        × (input.new ≡ input.old) × (out.new ≡ out.old) × (file.new ≡ file.old)) }
+        × (input.new ≡ input.old) × (out.new ≡ out.old) × (places.new ≡ places.old)) }
 {
     match asked {
         Ok(request) => match request {
@@ -179,8 +218,10 @@ where
             Request::Query(path, explain) => {
                 answer(host, path.as_str(), *explain, input, out, messages)
             }
-            Request::Snapshot(options) => snapshot(host, options, out, file, messages),
-            Request::Pages(options) => pages(host, options, file, messages),
+            Request::Snapshot(options) => {
+                snapshot(host, options, out, &mut places.file, messages)
+            }
+            Request::Pages(options) => pages(host, options, &mut places.file, messages),
             Request::Index(options, path, quiet, limits) => {
                 let index_request = IndexRequest {
                     options,
@@ -188,9 +229,11 @@ where
                     quiet: *quiet,
                     limits: *limits,
                 };
-                index(host, &index_request, file, messages)
+                index_searched(host, &index_request, places, messages)
             }
-            Request::Shell(options) => shell(host, options, input, out, messages),
+            Request::Shell(options) => {
+                shell_searched(host, options, input, out, &mut places.report, messages)
+            }
             Request::Print(text) => print(host.alloc, text.as_str(), out, messages),
             Request::Refuse(text) => refuse(text.as_str(), messages),
         },

@@ -1,10 +1,12 @@
 //! The program `shell`.
 
-ghost use Rattle.std.specs.Prelude.{◌≡◌, IfErr, IfOk, string_bytes};
+ghost use Rattle.std.specs.Prelude.{◌≡◌, [], None, Some, IfErr, IfOk, MatchResult, string_bytes};
 ghost use Rattle.std.specs.Option.{option_map};
 ghost use Rattle.protoscip.specs.FaultLines.{HasFilesOf, HaveFilesOf};
 ghost use Rattle.programs.specs.Messages.{TellsOfSuccess};
 ghost use Rattle.programs.specs.NoSources.{NoneFoundBy};
+ghost use Rattle.programs.specs.Placing.{place};
+ghost use Rattle.programs.specs.Searches.{searched_by};
 ghost use Rattle.programs.specs.Serving.{AnswersNavigable, Served};
 ghost use Rattle.programs.specs.Streams.{reader};
 ghost use Rattle.scip_snapshot.specs.Showing.{writer};
@@ -13,13 +15,16 @@ ghost use Rattle.programs.specs.TreeRuns.{Ends};
 use crate::ending::{stop, tell};
 use crate::host::Host;
 use crate::laws::headline_of_options;
+use crate::limits::NO_LIMITS;
+use crate::reporting::{Reporter, fault_in, report_run, see_report, settle};
 use crate::start_explanations::report_start;
 use crate::starting::{TreeRun, start};
 use command_line::IndexOptions;
 use index_pool::NoGate;
 use proto_parse::Dialect;
 use protoscip::{Fault, Recorded, explain_in, session};
-use source_files::{LookAgain, ReadFiles};
+use scip_build::BuildFault;
+use source_files::{Excluding, LookAgain, OutPlace, ReadFiles};
 use std::alloc::Global;
 use std::sync::Wait;
 use std::thread::Threads;
@@ -49,25 +54,48 @@ fn end<M: Sink>(
     }
 }
 
+/// What an index lacked; nothing if there was none.
+fn told_in(ran: &Result<Recorded, Fault>) -> &[BuildFault]
+    ensures { MatchResult ran.now (λ recorded. result.now ≡ recorded.told) (λ _. result.now ≡ []) }
+{
+    match ran {
+        Ok(recorded) => recorded.told.as_slice(),
+        Err(_) => &[],
+    }
+}
+
 /// Reads the sources below the root of the options and the files below their included roots, builds the index of the
-/// sources, answers commands about it, one a line, as `session` does, and gives the exit status. Once all commands
-/// are answered, it reports what the index lacks, or that there are no sources, where somebody is told. If it stops
-/// early, it reports why.
+/// sources, answers commands about it, one a line, as `session` does, makes its report if one is asked for, and gives
+/// the exit status. Once all commands are answered, it says what the index lacks, or that there are no sources, where
+/// somebody is told. If it stops early, it says why.
 ///
-/// If there are several faults, it reports the first: those of `index` in its order, up to `TooLarge`, after which
-/// nothing was read or written; then `Read` or `Answer`. Memory may run out at any step.
-pub(crate) fn shell<R: Threads + Wait, F: ReadFiles + LookAgain + Sync, I: Feed, W: Sink, M: Sink>(
+/// If there are several faults, it says the first: those of `index` in its order, up to `TooLarge`, after which
+/// nothing was read or answered; then `Read` or `Answer`; then that the report can't be made, or written. Memory may
+/// run out at any step.
+fn shell<
+    R: Threads + Wait,
+    F: ReadFiles + LookAgain + Sync,
+    I: Feed,
+    W: Sink,
+    Q: OutPlace,
+    M: Sink,
+>(
     host: &Host<'_, R, F>,
     options: &IndexOptions,
     commands: &mut I,
     answers: &mut W,
+    report: &mut Q,
     messages: &mut M,
 ) -> u8
     ensures served { Served (F.lists host.now.files.now) (F.gives host.now.files.now)
-        (NoneFoundBy (F.passes host.now.files.now) host.now.is_watched options.now) options.now (reader I.remaining
-        I.failures I.reads I.ends commands.old commands.new) (writer W.contents W.failures answers.old answers.new)
+        (NoneFoundBy (F.passes host.now.files.now) host.now.is_watched options.now)
+        options.now
+        (place Q.holds Q.same Q.refuses Q.gives_up Q.Part.contents Q.Part.failures report.old report.new)
+        (reader I.remaining I.failures I.reads I.ends commands.old commands.new)
+        (writer W.contents W.failures answers.old answers.new)
         (writer M.contents M.failures messages.old messages.new) result }
-    ensures navigable { AnswersNavigable (F.lists host.now.files.now) (F.gives host.now.files.now) options.now
+    ensures navigable { AnswersNavigable (F.lists host.now.files.now) (F.gives host.now.files.now)
+        options.now
         (reader I.remaining I.failures I.reads I.ends commands.old commands.new) (writer W.contents W.failures
         answers.old answers.new) result }
 {
@@ -76,15 +104,59 @@ pub(crate) fn shell<R: Threads + Wait, F: ReadFiles + LookAgain + Sync, I: Feed,
         Ok(start) => start,
         Err(fault) => return report_start(host.alloc, &fault, options.explain, messages),
     };
+    match see_report(host.alloc, options, &run.tree, report) {
+        Ok(()) => {}
+        Err(fault) => return report_start(host.alloc, &fault, options.explain, messages),
+    }
     let work = run.over(host.rt, host.alloc, &NoGate);
-    let done = session(
-        &work,
-        &run.tree,
-        &run.choices,
-        &run.settings,
-        commands,
-        answers,
-    );
+    let (tree, choices, settings) = (&run.tree, &run.choices, &run.settings);
+    let ran = session(&work, tree, choices, settings, commands, answers);
+    let reporter = Reporter {
+        rt: host.rt,
+        alloc: host.alloc,
+        run: &run,
+        options: &options.report,
+        limits: NO_LIMITS,
+    };
+    let reported = report_run(&reporter, told_in(&ran), fault_in(&ran), report);
+    let done = settle(ran, reported);
     let explain = explain_in(options.explain, run.settings.dialect);
     end(host.alloc, &run, &done, explain, messages)
+}
+
+/// The same of the files that the options don't exclude.
+pub(crate) fn shell_searched<R, F: ReadFiles + LookAgain + Sync, I: Feed, W: Sink, Q, M>(
+    host: &Host<'_, R, F>,
+    options: &IndexOptions,
+    commands: &mut I,
+    answers: &mut W,
+    report: &mut Q,
+    messages: &mut M,
+) -> u8
+where
+    R: Threads + Wait,
+    Q: OutPlace,
+    M: Sink,
+    ensures served { Served (searched_by options.now (F.lists host.now.files.now)) (F.gives host.now.files.now)
+        (NoneFoundBy (F.passes host.now.files.now) host.now.is_watched options.now) options.now
+        (place Q.holds Q.same Q.refuses Q.gives_up Q.Part.contents Q.Part.failures report.old report.new)
+        (reader I.remaining I.failures I.reads I.ends commands.old commands.new)
+        (writer W.contents W.failures answers.old answers.new)
+        (writer M.contents M.failures messages.old messages.new) result }
+    ensures navigable { AnswersNavigable (searched_by options.now (F.lists host.now.files.now))
+        (F.gives host.now.files.now) options.now
+        (reader I.remaining I.failures I.reads I.ends commands.old commands.new) (writer W.contents W.failures
+        answers.old answers.new) result }
+{
+    let files = Excluding {
+        files: host.files,
+        patterns: &options.exclude,
+    };
+    let searched = Host {
+        rt: host.rt,
+        alloc: host.alloc,
+        files: &files,
+        is_watched: host.is_watched,
+    };
+    shell(&searched, options, commands, answers, report, messages)
 }

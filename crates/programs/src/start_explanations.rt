@@ -36,6 +36,10 @@ fn explanation_of(fault: &StartFault) -> &'static str
         StartFault::IsSource(_) => {
             "\nit is a source that was read, or a link to one; the index would replace it"
         }
+        StartFault::ReportIsSource(_) => {
+            "\nit is a source that was read, or a link to one; the report would replace it"
+        }
+        StartFault::ReportIsOut(_) => "\nthe index goes there, so its report can't",
     }
 }
 

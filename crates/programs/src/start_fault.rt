@@ -19,6 +19,10 @@ pub(crate) enum StartFault {
     Load(LoadFault),
     /// The file with this path, which the index would go to, is one of those that were read (`index` alone).
     IsSource(String),
+    /// The file with this path, which the report would go to, is one of those that were read.
+    ReportIsSource(String),
+    /// The report would go to this path, which is that of the index (`index` alone).
+    ReportIsOut(String),
 }
 
 impl From<AllocError> for StartFault {
@@ -50,7 +54,8 @@ impl StartFault {
         match self {
             StartFault::BadPart | StartFault::BadFolder(_) => "BadPart",
             StartFault::Load(fault) => fault.name(),
-            StartFault::IsSource(_) => "IsSource",
+            StartFault::IsSource(_) | StartFault::ReportIsSource(_) => "IsSource",
+            StartFault::ReportIsOut(_) => "IsOut",
         }
     }
 
@@ -69,6 +74,8 @@ impl StartFault {
                 LoadFault::TooMany | LoadFault::Memory => plain_line(alloc, name),
             },
             StartFault::IsSource(path) => path_line(alloc, path.as_str(), name),
+            StartFault::ReportIsSource(path) => path_line(alloc, path.as_str(), name),
+            StartFault::ReportIsOut(path) => path_line(alloc, path.as_str(), name),
         }
     }
 
@@ -84,7 +91,8 @@ impl StartFault {
                     SOURCES_STATUS,
                 LoadFault::Memory => MEMORY_STATUS,
             },
-            StartFault::IsSource(_) => STREAM_STATUS,
+            StartFault::IsSource(_) | StartFault::ReportIsSource(_) | StartFault::ReportIsOut(_) =>
+                STREAM_STATUS,
         }
     }
 }

@@ -1,6 +1,6 @@
 //! Files in memory.
 
-use source_files::{EmptyFolders, FolderEntry, LookAgain, PassedOver, ReadFiles};
+use source_files::{EmptyFolders, FolderEntry, FolderListing, LookAgain, PassedOver, ReadFiles};
 use source_tree::read_source;
 use std::alloc::{AllocError, Global};
 use streams::Std;
@@ -110,12 +110,16 @@ impl ReadFiles for Files {
         alloc: Global,
         root: &str,
         _folder: &str,
-    ) -> Result<Option<Vec<FolderEntry>>, AllocError> {
+    ) -> Result<Option<FolderListing>, AllocError> {
         let entries = listed(alloc, root)?;
         if entries.is_empty() && root != "links" && root != "empty" {
             return Ok(None);
         }
-        Ok(Some(entries))
+        Ok(Some(FolderListing {
+            entries,
+            identity: None,
+            unnamed: Vec::new(alloc),
+        }))
     }
 
     fn read_file(&self, alloc: Global, path: &str) -> Result<Option<Vec<u8>>, AllocError> {

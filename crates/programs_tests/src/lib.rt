@@ -14,6 +14,8 @@ mod progress;
 #[cfg(test)]
 mod report;
 #[cfg(test)]
+mod reports;
+#[cfg(test)]
 mod runs;
 #[cfg(test)]
 mod shared;

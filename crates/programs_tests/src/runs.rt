@@ -7,7 +7,7 @@ use crate::pipe::Pipe;
 use crate::shared::{see, words_of};
 use crate::written::Written;
 use command_line::{Request, request_of};
-use programs::{Host, out_path, run};
+use programs::{Host, Places, out_path, report_path, run};
 use source_files::SystemStream;
 use std::alloc::{AllocError, Global};
 use std::process::Abort;
@@ -20,17 +20,20 @@ use streams::Std;
 /// The most bytes that a run prints, writes to a file or says in these tests.
 pub(crate) const ROOM: usize = 512;
 
-/// A command line and an input; how many bytes of an index are taken, and whether its place then is refused; and what
-/// the run ends with. The output and the file have room for what is printed and written alone: a `\0` is room for a
-/// byte that doesn't come. The output may be a pipe that is closed once its room is used.
+/// A command line and an input; how many bytes of an index are taken, and whether its place then is refused; the same
+/// of a report; and what the run ends with. The output and the files have room for what is printed and written alone: a
+/// `\0` is room for a byte that doesn't come. The output may be a pipe that is closed once its room is used.
 pub(crate) struct Row {
     pub words: &'static str,
     pub input: &'static str,
     pub fits: usize,
     pub is_refused: bool,
+    pub report_fits: usize,
+    pub report_is_refused: bool,
     pub closes: bool,
     pub printed: &'static str,
     pub written: &'static [u8],
+    pub reported: &'static str,
     pub status: u8,
     pub said: &'static str,
 }
@@ -40,15 +43,18 @@ pub(crate) const SILENT: Row = Row {
     input: "",
     fits: ROOM,
     is_refused: false,
+    report_fits: ROOM,
+    report_is_refused: false,
     closes: false,
     printed: "\0",
     written: b"\0",
+    reported: "\0",
     status: 0,
     said: "",
 };
 
 // The second row reads: there is no program `nothing`, which is said, with status 2.
-static ROWS: [Row; 45] = [
+static ROWS: [Row; 47] = [
     Row {
         words: "--version",
         printed: "protoscip 1\n\0",
@@ -398,6 +404,20 @@ protoscip: TooFewSources\n",
         said: "protoscip: no sources below links (3 symbolic links, 12 files with other names)\n",
         ..SILENT
     },
+    // what is left out: two sources with one path, and one with a bad path
+    Row {
+        words: "index bad out --exclude x --exclude a?.proto",
+        written: b"\n\x1C\x12\x0E\n\x09protoscip\x12\x011\x1A\x08file:/// \x01\0",
+        said: "protoscip: no sources below bad\n",
+        ..SILENT
+    },
+    Row {
+        words: "shell twice --exclude /c.proto",
+        input: "sym c.proto",
+        printed: "? no document\n\0",
+        said: "protoscip: no sources below twice\n",
+        ..SILENT
+    },
     Row {
         words: "shell empty --include api",
         input: "sym a.proto",
@@ -407,26 +427,47 @@ protoscip: TooFewSources\n",
     },
 ];
 
+/// Room for what a run prints, for the files that it writes, and for its report.
+#[derive(Drop)]
+struct Rooms<'a> {
+    printed: &'a mut [u8],
+    written: &'a mut [u8],
+    reported: &'a mut [u8],
+}
+
 /// Runs what was asked for. Gives the status, and whether what is due is said.
 fn ended<R: Threads + Wait + Clock + Eprint + Sync>(
     rt: &R,
     alloc: Global,
     asked: &Result<Request, AllocError>,
     row: &Row,
-    printed: &mut [u8],
-    written: &mut [u8],
+    rooms: Rooms<'_>,
 ) -> (u8, bool) {
+    let Rooms {
+        printed,
+        written,
+        reported,
+    } = rooms;
     let mut input = Std::new(row.input.as_bytes());
     let mut out = SystemStream::new(Pipe {
         room: printed,
         closes: row.closes,
     });
-    let mut file = Written {
-        room: Std::new(written),
-        path: out_path(asked),
-        fits: row.fits,
-        is_refused: row.is_refused,
-        refusals: 0,
+    let mut places = Places {
+        file: Written {
+            room: Std::new(written),
+            path: out_path(asked),
+            fits: row.fits,
+            is_refused: row.is_refused,
+            refusals: 0,
+        },
+        report: Written {
+            room: Std::new(reported),
+            path: report_path(asked),
+            fits: row.report_fits,
+            is_refused: row.report_is_refused,
+            refusals: 0,
+        },
     };
     let mut told = [0u8; ROOM];
     let mut messages = Std::new(told.as_mut_slice());
@@ -436,7 +477,14 @@ fn ended<R: Threads + Wait + Clock + Eprint + Sync>(
         files: &Files,
         is_watched: true,
     };
-    let status = run(&host, asked, &mut input, &mut out, &mut file, &mut messages);
+    let status = run(
+        &host,
+        asked,
+        &mut input,
+        &mut out,
+        &mut places,
+        &mut messages,
+    );
     let count = ROOM - messages.into_inner().len().min(ROOM);
     (status, told.split_at(count).0 == row.said.as_bytes())
 }
@@ -452,11 +500,20 @@ fn ends_so<R: Threads + Wait + Clock + Eprint + Sync>(
     let printed = printed.split_at_mut(row.printed.len().min(ROOM)).0;
     let mut written = [0u8; ROOM];
     let written = written.split_at_mut(row.written.len().min(ROOM)).0;
-    let (status, is_said) = ended(rt, alloc, asked, row, printed, written);
+    let mut reported = [0u8; ROOM];
+    let reported = reported.split_at_mut(row.reported.len().min(ROOM)).0;
+    let rooms = Rooms {
+        printed: &mut *printed,
+        written: &mut *written,
+        reported: &mut *reported,
+    };
+    let (status, is_said) = ended(rt, alloc, asked, row, rooms);
     if status == 4 && row.status != 4 {
         return None;
     }
-    let is_out = *printed == *row.printed.as_bytes() && *written == *row.written;
+    let is_out = *printed == *row.printed.as_bytes()
+        && *written == *row.written
+        && *reported == *row.reported.as_bytes();
     Some(status == row.status && is_said && is_out)
 }
 

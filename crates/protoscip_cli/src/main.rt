@@ -2,7 +2,7 @@
 #![tactic(auto)]
 
 use command_line::request_of_process;
-use programs::{Host, out_path, run};
+use programs::{Host, Places, links_followed, out_path, report_path, run};
 use source_files::{OutFile, SystemFiles, SystemStream};
 use std::io::IsTerminal;
 use std::process::ExitCode;
@@ -13,8 +13,11 @@ use streams::Std;
 fn main(rt: HostRuntime) -> ExitCode {
     let words = std::env::args(&rt).and_then(|words| Ok(words.collect(rt.alloc())?));
     let asked = request_of_process(rt.alloc(), words);
-    let files = SystemFiles::new(&rt);
-    let mut file = OutFile::new(&rt, out_path(&asked));
+    let files = SystemFiles::following(&rt, links_followed(&asked));
+    let mut places = Places {
+        file: OutFile::new(&rt, out_path(&asked)),
+        report: OutFile::new(&rt, report_path(&asked)),
+    };
     let mut input = Std::new(rt.stdin());
     let mut out = SystemStream::new(rt.stdout());
     let mut messages = Std::new(rt.stderr());
@@ -29,7 +32,7 @@ fn main(rt: HostRuntime) -> ExitCode {
         &asked,
         &mut input,
         &mut out,
-        &mut file,
+        &mut places,
         &mut messages,
     );
     ExitCode::from(status)

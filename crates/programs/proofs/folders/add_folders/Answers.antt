@@ -1,7 +1,7 @@
 use Rattle.std.proofs.Common.{rules, ◌≡◌, ◌⊎◌, inl, inr, length, sym, ◌∙◌}
 use Rattle.std.specs.Vec.Iter.{into_iter_items}
 use Rattle.std.specs.Iterator.Adapters.{zip_first, zip_second}
-use Rattle.programs.proofs.FolderLemmas.{none_added, one_added, all_added}
+use Rattle.programs.proofs.FolderLemmas.{one_added, all_added}
 use Rattle.programs.proofs.folders.add_folders.Goals as goal
 
 pub loop-id-preserved : goal.loop-id-preserved

@@ -5,8 +5,13 @@ use Rattle.programs.proofs.indexing.begin.Goals as goal
 
 pub returns-clause-apart : goal.returns-clause-apart
 returns-clause-apart g c =
-    let same = g.P.OutPlace.same c.args.out.now in
+    let same = g.P.OutPlace.same c.args.places.now.file in
     let tree = c.args.tree.now in
     let Spares : List (List ℕ) → Type 0 = λ roots. IsAsked same roots tree false in
-    subst Spares (ap (λ folders. map string_bytes folders) c.deref.ensures.value ∙ c.in_ok-folders.ensures)
-    (subst (IsAsked same (map string_bytes c.deref.result.now) tree) c.if-branch.false c.in_ok-is_read_from.ensures)
+    record {
+      index = subst Spares (ap (λ folders. map string_bytes folders) c.deref.ensures.value ∙ c.in_ok-folders.ensures)
+          (subst (IsAsked same (map string_bytes c.deref.result.now) tree) c.if-branch.false
+          c.in_ok-is_read_from.ensures);
+      reported = c.in_ok-see_report.ensures.apart;
+      two = c.in_ok-see_two.ensures.two;
+    }

@@ -4,6 +4,7 @@ use Rattle.std.specs.String.{string_bytes}
 use Rattle.index_hooks.specs.declared.choice.DocChoice.{DocChoice}
 use Rattle.scip_build.specs.declared.settings.Settings.{Settings}
 use Rattle.scip_snapshot.specs.Showing.{writer}
+use Rattle.programs.specs.Asked.{asked_by}
 use Rattle.programs.specs.Choices.{IsChosenBy}
 use Rattle.programs.specs.Indexing.{IndexesInto, not_started, over_tree}
 use Rattle.programs.specs.NoSources.{NoneFoundBy}
@@ -16,27 +17,24 @@ use Rattle.programs.proofs.indexing.index.Goals as goal
 
 pub returns-in-Err-clause-indexed : goal.returns-in-Err-clause-indexed
 returns-in-Err-clause-indexed g c =
-    not_started c.in-Err.fault c.in-Err.ensures.stops refl c.report_start.ensures
+    not_started c.in-Err.fault c.in-Err.ensures.stops refl refl c.report_start.ensures
 
 pub returns-clause-indexed : goal.returns-clause-indexed
 returns-clause-indexed g c =
     let run = c.in-Ok.start in
+    let asked = asked_by c.args.request.now.options.now c.args.request.now.path.now c.args.request.now.limits in
+    let options = asked.options in
+    let at = place g.P.OutPlace.holds g.P.OutPlace.same g.P.OutPlace.refuses g.P.OutPlace.gives_up
+    g.P.Part.Sink.contents g.P.Part.Sink.failures c.args.places.now.file c.index_over-status.new.places.file in
+    let report = place g.Q.OutPlace.holds g.Q.OutPlace.same g.Q.OutPlace.refuses g.Q.OutPlace.gives_up
+    g.Q.Part.Sink.contents g.Q.Part.Sink.failures c.args.places.now.report c.index_over-status.new.places.report in
+    let messages = writer g.M.Sink.contents g.M.Sink.failures c.args.messages.now c.index_over-status.new.messages in
     let Into : Option (List ℕ) → Option DocChoice → Settings → ℕ → Type 0 = λ only doc settings workers.
-    IndexesInto (g.P.OutPlace.same c.args.out.now) (λ _ line. line ≡ option_map string_bytes run.none_found)
-    c.args.request.now.options.now c.args.request.now.limits c.args.request.now.path.now
-    (IsChosenBy only doc) settings workers run.tree
-    (place g.P.OutPlace.holds g.P.OutPlace.refuses g.P.OutPlace.gives_up g.P.Part.Sink.contents
-    g.P.Part.Sink.failures c.args.out.now c.index_over-status.new.out)
-    (writer g.M.Sink.contents g.M.Sink.failures c.args.messages.now c.index_over-status.new.messages)
-    c.index_over-status.result in
-    let options = c.args.request.now.options.now in
+    IndexesInto (λ _ line. line ≡ option_map string_bytes run.none_found) asked (IsChosenBy only doc) settings workers
+    run.tree at report messages c.index_over-status.result in
     over_tree run.tree run.settings.package c.in-Ok.ensures.named c.in-Ok.ensures.folders
-    (into_of (g.P.OutPlace.same c.args.out.now)
-    (NoneFoundBy (g.F.LookAgain.passes c.args.host.now.files.now) c.args.host.now.is_watched options) options
-    c.args.request.now.limits c.args.request.now.path.now (allowed_by options) (settings_in options run.settings.package) options.workers run.tree
-    (place g.P.OutPlace.holds g.P.OutPlace.refuses g.P.OutPlace.gives_up g.P.Part.Sink.contents
-    g.P.Part.Sink.failures c.args.out.now c.index_over-status.new.out)
-    (writer g.M.Sink.contents g.M.Sink.failures c.args.messages.now c.index_over-status.new.messages)
+    (into_of (NoneFoundBy (g.F.LookAgain.passes c.args.host.now.files.now) c.args.host.now.is_watched options) asked
+    (allowed_by options) (settings_in options run.settings.package) options.workers run.tree at report messages
     c.index_over-status.result (option_map string_bytes run.none_found) c.in-Ok.ensures.none_found
     (moved4 Into c.in-Ok.ensures.only c.in-Ok.ensures.doc c.in-Ok.ensures.settings c.in-Ok.ensures.workers
     c.index_over-status.ensures))
@@ -45,22 +43,28 @@ returns-clause-indexed g c =
 
 pub returns-in-Err-clause-navigable : goal.returns-in-Err-clause-navigable
 returns-in-Err-clause-navigable g c =
+    let asked = asked_by c.args.request.now.options.now c.args.request.now.path.now c.args.request.now.limits in
     writes (g.F.ReadFiles.lists c.args.host.now.files.now) (g.F.ReadFiles.gives c.args.host.now.files.now)
-    c.args.request.now.options.now c.headline_of_options.ensures.files (g.P.OutPlace.same c.args.out.now)
-    (NoneFoundBy (g.F.LookAgain.passes c.args.host.now.files.now) c.args.host.now.is_watched
-    c.args.request.now.options.now) c.args.request.now.limits c.args.request.now.path.now
-    (place g.P.OutPlace.holds g.P.OutPlace.refuses g.P.OutPlace.gives_up g.P.Part.Sink.contents
-    g.P.Part.Sink.failures c.args.out.now c.args.out.now)
+    asked.options c.headline_of_options.ensures.files
+    (NoneFoundBy (g.F.LookAgain.passes c.args.host.now.files.now) c.args.host.now.is_watched asked.options) asked.path
+    asked.limits
+    (place g.P.OutPlace.holds g.P.OutPlace.same g.P.OutPlace.refuses g.P.OutPlace.gives_up g.P.Part.Sink.contents
+    g.P.Part.Sink.failures c.args.places.now.file c.args.places.now.file)
+    (place g.Q.OutPlace.holds g.Q.OutPlace.same g.Q.OutPlace.refuses g.Q.OutPlace.gives_up g.Q.Part.Sink.contents
+    g.Q.Part.Sink.failures c.args.places.now.report c.args.places.now.report)
     (writer g.M.Sink.contents g.M.Sink.failures c.args.messages.now c.report_start.new.messages) c.report_start.result
     (returns-in-Err-clause-indexed g c)
 
 pub returns-clause-navigable : goal.returns-clause-navigable
 returns-clause-navigable g c =
+    let asked = asked_by c.args.request.now.options.now c.args.request.now.path.now c.args.request.now.limits in
     writes (g.F.ReadFiles.lists c.args.host.now.files.now) (g.F.ReadFiles.gives c.args.host.now.files.now)
-    c.args.request.now.options.now c.headline_of_options.ensures.files (g.P.OutPlace.same c.args.out.now)
-    (NoneFoundBy (g.F.LookAgain.passes c.args.host.now.files.now) c.args.host.now.is_watched
-    c.args.request.now.options.now) c.args.request.now.limits c.args.request.now.path.now
-    (place g.P.OutPlace.holds g.P.OutPlace.refuses g.P.OutPlace.gives_up g.P.Part.Sink.contents
-    g.P.Part.Sink.failures c.args.out.now c.index_over-status.new.out)
+    asked.options c.headline_of_options.ensures.files
+    (NoneFoundBy (g.F.LookAgain.passes c.args.host.now.files.now) c.args.host.now.is_watched asked.options) asked.path
+    asked.limits
+    (place g.P.OutPlace.holds g.P.OutPlace.same g.P.OutPlace.refuses g.P.OutPlace.gives_up g.P.Part.Sink.contents
+    g.P.Part.Sink.failures c.args.places.now.file c.index_over-status.new.places.file)
+    (place g.Q.OutPlace.holds g.Q.OutPlace.same g.Q.OutPlace.refuses g.Q.OutPlace.gives_up g.Q.Part.Sink.contents
+    g.Q.Part.Sink.failures c.args.places.now.report c.index_over-status.new.places.report)
     (writer g.M.Sink.contents g.M.Sink.failures c.args.messages.now c.index_over-status.new.messages)
     c.index_over-status.result (returns-clause-indexed g c)

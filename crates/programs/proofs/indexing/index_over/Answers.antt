@@ -1,61 +1,77 @@
-use Rattle.std.proofs.Common.{◌≡◌, refl, subst, ℕ, Option, None, Result, Ok, Err}
-use Rattle.std.specs.Prelude.{MatchResult}
+use Rattle.std.proofs.Common.{◌≡◌, refl, subst, sym, ℕ, Option, None, Result, Ok, Err}
+use Rattle.std.specs.Prelude.{IfErr, MatchResult}
 use Rattle.std.specs.Option.{option_map}
 use Rattle.std.specs.String.{string_bytes}
 use Rattle.proto_parse.specs.tree.Dialect.{Dialect}
 use Rattle.scip_snapshot.specs.Showing.{writer}
 use Rattle.protoscip.specs.Explanations.{explain_in}
+use Rattle.protoscip.specs.FaultLines.{HasFilesOf}
 use Rattle.protoscip.specs.Indexes.{Indexes, recorded_of}
 use Rattle.protoscip.specs.declared.fault.Fault.{Fault}
 use Rattle.protoscip.specs.declared.indexing.KeptIndex.{KeptIndex}
 use Rattle.protoscip.specs.declared.recorded.Recorded.{Recorded}
+use Rattle.programs.specs.Asked.{asked_by}
 use Rattle.programs.specs.Choices.{IsChosenBy}
 use Rattle.programs.specs.Indexing.{not_begun, into_part, too_poor}
 use Rattle.programs.specs.Limits.{Breaks}
 use Rattle.programs.specs.Messages.{SaysOfSuccess}
 use Rattle.programs.specs.Placing.{place}
+use Rattle.programs.specs.Reporting.{Reports, ran_of, told_by}
 use Rattle.programs.specs.TreeRuns.{Ends}
 use Rattle.programs.proofs.LackLemmas.{is_success}
 use Rattle.programs.proofs.PlacingLemmas.{fills, forgoes}
+use Rattle.programs.proofs.ReportLemmas.{finished_files, reported_by, reported_files, settled_files}
 use Rattle.programs.proofs.TreeRunLemmas.{part_of, ends_alike}
 use Rattle.programs.proofs.indexing.index_over.Goals as goal
 
 pub returns-in-Err : goal.returns-in-Err
-returns-in-Err g c = not_begun c.in-Err.fault c.in-Err.ensures.stops refl c.report_start.ensures
+returns-in-Err g c = not_begun c.in-Err.fault c.in-Err.ensures.stops refl refl c.report_start.ensures
 
 -- the index breaks a limit
 
 pub returns-in-Some : goal.returns-in-Some
 returns-in-Some g c =
     let run = c.args.run.now in
+    let asked = asked_by c.args.request.now.options.now c.args.request.now.path.now c.args.request.now.limits in
     let contents = g.P.Part.Sink.contents in
     let failures = g.P.Part.Sink.failures in
-    let there = place g.P.OutPlace.holds g.P.OutPlace.refuses g.P.OutPlace.gives_up contents failures c.args.out.now
-    c.finish-done.new.out in
-    let limits = c.args.request.now.limits in
+    let there = place g.P.OutPlace.holds g.P.OutPlace.same g.P.OutPlace.refuses g.P.OutPlace.gives_up contents failures
+    c.args.places.now.file c.finish-done.new.out in
+    let report = place g.Q.OutPlace.holds g.Q.OutPlace.same g.Q.OutPlace.refuses g.Q.OutPlace.gives_up
+    g.Q.Part.Sink.contents g.Q.Part.Sink.failures c.args.places.now.report c.report_run-reported.new.at in
     let messages = writer g.M.Sink.contents g.M.Sink.failures c.args.messages.now c.end-status.new.messages in
     let allows = IsChosenBy (option_map (λ f. string_bytes f.promise.0) run.choices.filter)
     (option_map (λ r. r.promise.0) run.choices.rule) in
     let recorded : KeptIndex → Recorded = λ index. recorded_of index.built.choices index.built.told in
-    let ran = c.index_and_keep-done.result in
-    let whole = c.index_and_keep-done.new.out in
+    let ran = c.index_and_keep-ran.result in
+    let reported = c.report_run-reported.result in
+    let whole = c.index_and_keep-ran.new.out in
+    let runs : _ → _ → Result Recorded Fault → Type 0 = λ begun written ended.
+    Indexes contents failures allows run.settings run.tree run.workers begun written ended in
+    let told : Result Recorded Fault → Result (Unit {0}) Fault → Type 0 = λ ended.
+    Reports report asked.options.report asked.limits allows run.settings run.workers run.tree (told_by ended) in
     let By : ℕ → Type 0 = λ workers. MatchResult ran
     (λ kept. Indexes contents failures allows run.settings run.tree workers c.in-Ok.part whole (Ok (recorded kept)))
     (λ fault. Indexes contents failures allows run.settings run.tree workers c.in-Ok.part whole (Err fault)) in
-    let made = forgoes there whole recorded (λ r broken. Breaks limits run.tree r.told broken)
-    (λ begun written ended. Indexes contents failures allows run.settings run.tree run.workers begun written ended)
-    c.in-Ok.part c.in-Some.fault ran c.finish-done.result c.in-Ok.ensures.begun
-    (rw c.in-Some.is at c.broken_limit-broken.ensures.made) (rw c.in-Some.is at c.broken_limit-broken.ensures.unmade)
-    (subst By c.over.ensures c.index_and_keep-done.ensures.indexed) (rw c.in-Some.is at c.finish-done.ensures) in
+    let made = forgoes there whole recorded runs told c.in-Ok.part c.in-Ok.ensures.begun
+    (λ r broken. Breaks asked.limits run.tree r.told broken) c.in-Some.fault ran reported c.finish-done.result
+    (subst By c.over-work.ensures c.index_and_keep-ran.ensures.indexed)
+    (reported_by recorded ran _ _ (λ told_is. Reports report asked.options.report asked.limits
+    allows run.settings run.workers run.tree told_is reported) c.told_in.ensures c.fault_in.ensures
+    c.report_run-reported.ensures)
+    (rw (c.settle-done.ensures, c.in-Some.is) at c.broken_limit-broken.ensures.made)
+    (rw (c.settle-done.ensures, c.in-Some.is) at c.broken_limit-broken.ensures.unmade)
+    (rw (c.settle-done.ensures, c.in-Some.is) at c.finish-done.ensures) in
     let Ended : Option Dialect → Result KeptIndex Fault → Type 0 = λ dialect done.
     Ends SaysOfSuccess (λ line. line ≡ option_map string_bytes run.none_found) dialect run.tree
     (λ kept. kept.built.told) done messages c.end-status.result in
-    let told = made.0.built.told in
-    too_poor (recorded made.0) c.in-Some.fault c.in-Ok.ensures.apart made.2 made.3 (
+    let lacks = made.0.built.told in
+    let apart = c.in-Ok.ensures.apart in
+    too_poor (recorded made.0) c.in-Some.fault (record { index = apart.index; reported = apart.reported; two = apart.two }) made.2 made.3 (
       c.end-status.new.messages,
       is_success (λ line. line ≡ option_map string_bytes run.none_found)
-          (explain_in c.args.request.now.options.now.explain run.settings.dialect) run.tree messages
-          c.end-status.result told
+          (explain_in asked.options.explain run.settings.dialect) run.tree messages
+          c.end-status.result lacks
           (subst (λ dialect. Ended dialect (Ok made.0)) c.explain_in-dialect.ensures
           (subst (Ended c.explain_in-dialect.result) made.1 c.end-status.ensures)),
       c.report_limit.ensures,
@@ -66,17 +82,24 @@ returns-in-Some g c =
 pub returns-in-None : goal.returns-in-None
 returns-in-None g c =
     let run = c.args.run.now in
+    let asked = asked_by c.args.request.now.options.now c.args.request.now.path.now c.args.request.now.limits in
     let contents = g.P.Part.Sink.contents in
     let failures = g.P.Part.Sink.failures in
-    let there = place g.P.OutPlace.holds g.P.OutPlace.refuses g.P.OutPlace.gives_up contents failures c.args.out.now
-    c.finish-done.new.out in
-    let limits = c.args.request.now.limits in
+    let there = place g.P.OutPlace.holds g.P.OutPlace.same g.P.OutPlace.refuses g.P.OutPlace.gives_up contents failures
+    c.args.places.now.file c.finish-done.new.out in
+    let report = place g.Q.OutPlace.holds g.Q.OutPlace.same g.Q.OutPlace.refuses g.Q.OutPlace.gives_up
+    g.Q.Part.Sink.contents g.Q.Part.Sink.failures c.args.places.now.report c.report_run-reported.new.at in
     let messages = writer g.M.Sink.contents g.M.Sink.failures c.args.messages.now c.end-status.new.messages in
     let allows = IsChosenBy (option_map (λ f. string_bytes f.promise.0) run.choices.filter)
     (option_map (λ r. r.promise.0) run.choices.rule) in
     let recorded : KeptIndex → Recorded = λ index. recorded_of index.built.choices index.built.told in
-    let ran = c.index_and_keep-done.result in
-    let whole = c.index_and_keep-done.new.out in
+    let ran = c.index_and_keep-ran.result in
+    let reported = c.report_run-reported.result in
+    let whole = c.index_and_keep-ran.new.out in
+    let runs : _ → _ → Result Recorded Fault → Type 0 = λ begun written ended.
+    Indexes contents failures allows run.settings run.tree run.workers begun written ended in
+    let told : Result Recorded Fault → Result (Unit {0}) Fault → Type 0 = λ ended.
+    Reports report asked.options.report asked.limits allows run.settings run.workers run.tree (told_by ended) in
     let By : ℕ → Type 0 = λ workers. MatchResult ran
     (λ kept. Indexes contents failures allows run.settings run.tree workers c.in-Ok.part whole (Ok (recorded kept)))
     (λ fault. Indexes contents failures allows run.settings run.tree workers c.in-Ok.part whole (Err fault)) in
@@ -84,11 +107,35 @@ returns-in-None g c =
     let Ended : Option Dialect → Type 0 = λ dialect.
     Ends SaysOfSuccess (λ line. line ≡ option_map string_bytes run.none_found) dialect run.tree (λ r. r.told)
     (part_of recorded done) messages c.end-status.result in
-    into_part (part_of recorded done) c.in-Ok.ensures.apart
-    (fills there whole recorded (λ r. Breaks limits run.tree r.told None)
-    (λ begun written ended. Indexes contents failures allows run.settings run.tree run.workers begun written ended)
-    c.in-Ok.part ran done c.in-Ok.ensures.begun (rw c.in-None.is at c.broken_limit-broken.ensures.made)
-    (subst By c.over.ensures c.index_and_keep-done.ensures.indexed) (rw c.in-None.is at c.finish-done.ensures))
+    let apart = c.in-Ok.ensures.apart in
+    into_part (part_of recorded done) (record { index = apart.index; reported = apart.reported; two = apart.two })
+    (fills there whole recorded runs told c.in-Ok.part c.in-Ok.ensures.begun
+    (λ r. Breaks asked.limits run.tree r.told None) ran reported done
+    (subst By c.over-work.ensures c.index_and_keep-ran.ensures.indexed)
+    (reported_by recorded ran _ _ (λ told_is. Reports report asked.options.report asked.limits
+    allows run.settings run.workers run.tree told_is reported) c.told_in.ensures c.fault_in.ensures
+    c.report_run-reported.ensures)
+    (rw (c.settle-done.ensures, c.in-None.is) at c.broken_limit-broken.ensures.made)
+    (rw (c.settle-done.ensures, c.in-None.is) at c.finish-done.ensures))
     (subst Ended c.explain_in-dialect.ensures
     (ends_alike recorded (λ r. r.told) SaysOfSuccess (λ line. line ≡ option_map string_bytes run.none_found)
     c.explain_in-dialect.result run.tree done messages c.end-status.result c.end-status.ensures))
+
+-- each fault names files of the tree
+
+pub end-status-requires-clause-files : goal.end-status-requires-clause-files
+end-status-requires-clause-files g c =
+    let run = c.args.run.now in
+    let there = place g.P.OutPlace.holds g.P.OutPlace.same g.P.OutPlace.refuses g.P.OutPlace.gives_up
+    g.P.Part.Sink.contents g.P.Part.Sink.failures c.args.places.now.file c.finish-done.new.out in
+    let report = place g.Q.OutPlace.holds g.Q.OutPlace.same g.Q.OutPlace.refuses g.Q.OutPlace.gives_up
+    g.Q.Part.Sink.contents g.Q.Part.Sink.failures c.args.places.now.report c.report_run-reported.new.at in
+    let allows = IsChosenBy (option_map (λ f. string_bytes f.promise.0) run.choices.filter)
+    (option_map (λ r. r.promise.0) run.choices.rule) in
+    let reported = c.report_run-reported.result in
+    finished_files there c.index_and_keep-ran.new.out run.tree c.settle-done.result c.broken_limit-broken.result
+    c.finish-done.result c.finish-done.ensures
+    (subst (λ (r : Result KeptIndex Fault). IfErr r (HasFilesOf run.tree)) (sym c.settle-done.ensures)
+    (settled_files run.tree c.index_and_keep-ran.result reported c.index_and_keep-ran.ensures.files
+    (reported_files report c.args.request.now.options.now.report c.args.request.now.limits allows run.settings
+    run.workers run.tree (ran_of c.told_in.result.now c.fault_in.result) reported c.report_run-reported.ensures)))

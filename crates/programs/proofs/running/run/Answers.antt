@@ -3,17 +3,17 @@ use Rattle.std.proofs.Common.{◌≡◌, refl, subst, sym, ℕ, List}
 use Rattle.std.specs.Prelude.{IfOk, IfSome, Result}
 use Rattle.std.specs.declared.alloc.AllocError.{AllocError}
 use Rattle.scip_snapshot.specs.Showing.{maker, writer}
-use Rattle.command_line.specs.Requests.{index_limits, index_options, out_path, pages_options, printed_text}
-use Rattle.command_line.specs.Requests.{refused_text, shell_options, snapshot_options}
-use Rattle.command_line.specs.declared.options.IndexOptions.{IndexOptions}
-use Rattle.command_line.specs.declared.options.Limits.{Limits}
+use Rattle.command_line.specs.Requests.{index_options, pages_options, printed_text, refused_text, shell_options}
+use Rattle.command_line.specs.Requests.{snapshot_options}
 use Rattle.command_line.specs.declared.request.Request.{Request}
+use Rattle.programs.specs.Asked.{Asked, asked_of}
 use Rattle.programs.specs.Indexing.{Indexed, WritesNavigable}
 use Rattle.programs.specs.Messages.{memory_line}
 use Rattle.programs.specs.NoSources.{NoneFoundBy}
 use Rattle.programs.specs.Paging.{RunsPages}
 use Rattle.programs.specs.Placing.{Place, place}
 use Rattle.programs.specs.Printing.{Prints, Refuses}
+use Rattle.programs.specs.Searches.{searched_by}
 use Rattle.programs.specs.Serving.{AnswersNavigable, Served}
 use Rattle.programs.specs.Snapshotting.{RunsSnapshot}
 use Rattle.programs.specs.Streams.{reader}
@@ -26,7 +26,7 @@ returns-in-Print-clause-printed g c =
     Prints g.W.Caused.cause text (writer g.W.Sink.contents g.W.Sink.failures c.args.out.now c.print.new.out)
     (writer g.M.Sink.contents g.M.Sink.failures c.args.messages.now c.print.new.messages) c.print.result in
     let Here : Request → Type 0 = λ request. IfSome (printed_text request) (λ text. Printed text
-    × (c.args.input.now ≡ c.args.input.now) × (c.args.file.now ≡ c.args.file.now)) in
+    × (c.args.input.now ≡ c.args.input.now) × (c.args.places.now ≡ c.args.places.now)) in
     subst (λ (asked : Result Request AllocError). IfOk asked Here) (sym c.in-Ok.is)
     (subst Here (sym c.in-Print.is) (subst Printed c.as_str-in-Print.ensures.value c.print.ensures, refl, refl))
 
@@ -37,7 +37,7 @@ returns-in-Refuse-clause-refused g c =
     in
     let Here : Request → Type 0 = λ request. IfSome (refused_text request) (λ text. Refused text
     × (c.args.input.now ≡ c.args.input.now) × (c.args.out.now ≡ c.args.out.now)
-    × (c.args.file.now ≡ c.args.file.now)) in
+    × (c.args.places.now ≡ c.args.places.now)) in
     subst (λ (asked : Result Request AllocError). IfOk asked Here) (sym c.in-Ok.is)
     (subst Here (sym c.in-Refuse.is) (subst Refused c.as_str-in-Refuse.ensures.value c.refuse.ensures, refl, refl, refl))
 
@@ -45,19 +45,23 @@ pub returns-in-Index-clause-indexed : goal.returns-in-Index-clause-indexed
 returns-in-Index-clause-indexed g c =
     let lists = g.F.ReadFiles.lists c.args.host.now.files.now in
     let gives = g.F.ReadFiles.gives c.args.host.now.files.now in
-    let there : Place _ _ = place g.O.OutPlace.holds g.O.OutPlace.refuses g.O.OutPlace.gives_up g.O.Part.Sink.contents
-    g.O.Part.Sink.failures c.args.file.now c.index.new.out in
-    let By : IndexOptions → Limits → List ℕ → Type 0 = λ options limits path.
-    Indexed lists gives (g.O.OutPlace.same c.args.file.now)
-    (NoneFoundBy (g.F.LookAgain.passes c.args.host.now.files.now) c.args.host.now.is_watched options) options limits
-    path there
-    (writer g.M.Sink.contents g.M.Sink.failures c.args.messages.now c.index.new.messages) c.index.result in
-    let Here : Request → Type 0 = λ request. IfSome (index_options request) (λ options.
-    IfSome (index_limits request) (λ limits. IfSome (out_path request) (λ path. By options limits path))
+    let at : Place _ _ = place g.O.OutPlace.holds g.O.OutPlace.same g.O.OutPlace.refuses g.O.OutPlace.gives_up
+    g.O.Part.Sink.contents g.O.Part.Sink.failures c.args.places.now.file c.index_searched.new.places.file in
+    let report : Place _ _ = place g.Q.OutPlace.holds g.Q.OutPlace.same g.Q.OutPlace.refuses g.Q.OutPlace.gives_up
+    g.Q.Part.Sink.contents g.Q.Part.Sink.failures c.args.places.now.report c.index_searched.new.places.report in
+    let By : Asked → Type 0 = λ asked.
+    Indexed (searched_by asked.options lists) gives
+    (NoneFoundBy (g.F.LookAgain.passes c.args.host.now.files.now) c.args.host.now.is_watched asked.options) asked at
+    report (writer g.M.Sink.contents g.M.Sink.failures c.args.messages.now c.index_searched.new.messages) c.index_searched.result in
+    let Here : Request → Type 0 = λ request. IfSome (asked_of request) (λ asked. By asked
     × (c.args.input.now ≡ c.args.input.now) × (c.args.out.now ≡ c.args.out.now)) in
     subst (λ (asked : Result Request AllocError). IfOk asked Here) (sym c.in-Ok.is)
     (subst Here (sym c.in-Index.is) (
-      subst (By c.in-Index.options c.in-Index.limits) c.as_str-in-Index.ensures.value c.index.ensures.indexed,
+      subst (λ (path : List ℕ). By (record {
+        options = c.in-Index.options;
+        path = path;
+        limits = c.in-Index.limits;
+      })) c.as_str-in-Index.ensures.value c.index_searched.ensures.indexed,
       refl,
       refl,
     ))
@@ -65,65 +69,68 @@ returns-in-Index-clause-indexed g c =
 pub returns-in-Shell-clause-served : goal.returns-in-Shell-clause-served
 returns-in-Shell-clause-served g c =
     let Here : Request → Type 0 = λ request. IfSome (shell_options request) (λ options.
-    Served (g.F.ReadFiles.lists c.args.host.now.files.now) (g.F.ReadFiles.gives c.args.host.now.files.now)
+    Served (searched_by options (g.F.ReadFiles.lists c.args.host.now.files.now)) (g.F.ReadFiles.gives c.args.host.now.files.now)
     (NoneFoundBy (g.F.LookAgain.passes c.args.host.now.files.now) c.args.host.now.is_watched options) options
-    (reader g.I.Feed.remaining g.I.Feed.failures g.I.Feed.reads g.I.Feed.ends c.args.input.now c.shell.new.commands)
-    (writer g.W.Sink.contents g.W.Sink.failures c.args.out.now c.shell.new.answers)
-    (writer g.M.Sink.contents g.M.Sink.failures c.args.messages.now c.shell.new.messages) c.shell.result
-    × (c.args.file.now ≡ c.args.file.now)) in
+    (place g.Q.OutPlace.holds g.Q.OutPlace.same g.Q.OutPlace.refuses g.Q.OutPlace.gives_up
+    g.Q.Part.Sink.contents g.Q.Part.Sink.failures c.args.places.now.report c.shell_searched.new.report)
+    (reader g.I.Feed.remaining g.I.Feed.failures g.I.Feed.reads g.I.Feed.ends c.args.input.now c.shell_searched.new.commands)
+    (writer g.W.Sink.contents g.W.Sink.failures c.args.out.now c.shell_searched.new.answers)
+    (writer g.M.Sink.contents g.M.Sink.failures c.args.messages.now c.shell_searched.new.messages) c.shell_searched.result
+    × (c.args.places.now.file ≡ c.args.places.now.file)) in
     subst (λ (asked : Result Request AllocError). IfOk asked Here) (sym c.in-Ok.is)
-    (subst Here (sym c.in-Shell.is) (c.shell.ensures.served, refl))
+    (subst Here (sym c.in-Shell.is) (c.shell_searched.ensures.served, refl))
 
 pub returns-in-Index-clause-navigable : goal.returns-in-Index-clause-navigable
 returns-in-Index-clause-navigable g c =
     let lists = g.F.ReadFiles.lists c.args.host.now.files.now in
     let gives = g.F.ReadFiles.gives c.args.host.now.files.now in
     let Here : Request → Type 0 = λ request.
-    IfSome (index_options request) (λ options. WritesNavigable lists gives options
-    (place g.O.OutPlace.holds g.O.OutPlace.refuses g.O.OutPlace.gives_up g.O.Part.Sink.contents
-    g.O.Part.Sink.failures c.args.file.now c.index.new.out)
-    c.index.result)
-    × IfSome (shell_options request) (λ options. AnswersNavigable lists gives options
+    IfSome (index_options request) (λ options. WritesNavigable (searched_by options lists) gives options
+    (place g.O.OutPlace.holds g.O.OutPlace.same g.O.OutPlace.refuses g.O.OutPlace.gives_up g.O.Part.Sink.contents
+    g.O.Part.Sink.failures c.args.places.now.file c.index_searched.new.places.file)
+    c.index_searched.result)
+    × IfSome (shell_options request) (λ options. AnswersNavigable (searched_by options lists) gives options
     (reader g.I.Feed.remaining g.I.Feed.failures g.I.Feed.reads g.I.Feed.ends c.args.input.now c.args.input.now)
-    (writer g.W.Sink.contents g.W.Sink.failures c.args.out.now c.args.out.now) c.index.result) in
+    (writer g.W.Sink.contents g.W.Sink.failures c.args.out.now c.args.out.now) c.index_searched.result) in
     subst (λ (asked : Result Request AllocError). IfOk asked Here) (sym c.in-Ok.is)
-    (subst Here (sym c.in-Index.is) (c.index.ensures.navigable, tt))
+    (subst Here (sym c.in-Index.is) (c.index_searched.ensures.navigable, tt))
 
 pub returns-in-Shell-clause-navigable : goal.returns-in-Shell-clause-navigable
 returns-in-Shell-clause-navigable g c =
     let lists = g.F.ReadFiles.lists c.args.host.now.files.now in
     let gives = g.F.ReadFiles.gives c.args.host.now.files.now in
     let Here : Request → Type 0 = λ request.
-    IfSome (index_options request) (λ options. WritesNavigable lists gives options
-    (place g.O.OutPlace.holds g.O.OutPlace.refuses g.O.OutPlace.gives_up g.O.Part.Sink.contents
-    g.O.Part.Sink.failures c.args.file.now c.args.file.now)
-    c.shell.result)
-    × IfSome (shell_options request) (λ options. AnswersNavigable lists gives options
-    (reader g.I.Feed.remaining g.I.Feed.failures g.I.Feed.reads g.I.Feed.ends c.args.input.now c.shell.new.commands)
-    (writer g.W.Sink.contents g.W.Sink.failures c.args.out.now c.shell.new.answers) c.shell.result) in
+    IfSome (index_options request) (λ options. WritesNavigable (searched_by options lists) gives options
+    (place g.O.OutPlace.holds g.O.OutPlace.same g.O.OutPlace.refuses g.O.OutPlace.gives_up g.O.Part.Sink.contents
+    g.O.Part.Sink.failures c.args.places.now.file c.args.places.now.file)
+    c.shell_searched.result)
+    × IfSome (shell_options request) (λ options. AnswersNavigable (searched_by options lists) gives options
+    (reader g.I.Feed.remaining g.I.Feed.failures g.I.Feed.reads g.I.Feed.ends c.args.input.now c.shell_searched.new.commands)
+    (writer g.W.Sink.contents g.W.Sink.failures c.args.out.now c.shell_searched.new.answers) c.shell_searched.result) in
     subst (λ (asked : Result Request AllocError). IfOk asked Here) (sym c.in-Ok.is)
-    (subst Here (sym c.in-Shell.is) (tt, c.shell.ensures.navigable))
+    (subst Here (sym c.in-Shell.is) (tt, c.shell_searched.ensures.navigable))
 
 pub returns-in-Snapshot-clause-snapshotted : goal.returns-in-Snapshot-clause-snapshotted
 returns-in-Snapshot-clause-snapshotted g c =
     let Here : Request → Type 0 = λ request. IfSome (snapshot_options request) (λ options.
     RunsSnapshot (g.F.ReadFiles.gives c.args.host.now.files.now) g.W.Caused.cause options
     (writer g.W.Sink.contents g.W.Sink.failures c.args.out.now c.snapshot.new.out)
-    (maker g.O.MakeFiles.made c.args.file.now c.snapshot.new.made)
+    (maker g.O.MakeFiles.made c.args.places.now.file c.snapshot.new.made)
     (writer g.M.Sink.contents g.M.Sink.failures c.args.messages.now c.snapshot.new.messages) c.snapshot.result
-    × (c.args.input.now ≡ c.args.input.now)) in
+    × (c.args.input.now ≡ c.args.input.now) × (c.args.places.now.report ≡ c.args.places.now.report)) in
     subst (λ (asked : Result Request AllocError). IfOk asked Here) (sym c.in-Ok.is)
-    (subst Here (sym c.in-Snapshot.is) (c.snapshot.ensures, refl))
+    (subst Here (sym c.in-Snapshot.is) (c.snapshot.ensures, refl, refl))
 
 pub returns-in-Pages-clause-paged : goal.returns-in-Pages-clause-paged
 returns-in-Pages-clause-paged g c =
     let Here : Request → Type 0 = λ request. IfSome (pages_options request) (λ options.
     RunsPages (g.F.EmptyFolders.frees c.args.host.now.files.now) (g.F.ReadFiles.gives c.args.host.now.files.now) options
-    (maker g.O.MakeFiles.made c.args.file.now c.pages.new.made)
+    (maker g.O.MakeFiles.made c.args.places.now.file c.pages.new.made)
     (writer g.M.Sink.contents g.M.Sink.failures c.args.messages.now c.pages.new.messages) c.pages.result
-    × (c.args.input.now ≡ c.args.input.now) × (c.args.out.now ≡ c.args.out.now)) in
+    × (c.args.input.now ≡ c.args.input.now) × (c.args.out.now ≡ c.args.out.now)
+    × (c.args.places.now.report ≡ c.args.places.now.report)) in
     subst (λ (asked : Result Request AllocError). IfOk asked Here) (sym c.in-Ok.is)
-    (subst Here (sym c.in-Pages.is) (c.pages.ensures, refl, refl))
+    (subst Here (sym c.in-Pages.is) (c.pages.ensures, refl, refl, refl))
 
 pub returns-in-Err-clause-unknown : goal.returns-in-Err-clause-unknown
 returns-in-Err-clause-unknown g c =

@@ -1,6 +1,7 @@
 use Rattle.std.specs.Option.{option_map}
 use Rattle.std.specs.String.{string_bytes}
-use Rattle.std.proofs.Common.{◌≡◌, ◌∙◌, ap, refl, subst, ℕ, List, Option}
+use Rattle.std.proofs.Common.{◌≡◌, ◌∙◌, ap, refl, subst, sym, ℕ, List, Option, Result}
+use Rattle.std.specs.Prelude.{IfErr}
 use Rattle.proto_parse.specs.tree.Dialect.{Dialect}
 use Rattle.index_hooks.specs.declared.choice.DocChoice.{DocChoice}
 use Rattle.scip_build.specs.declared.settings.Settings.{Settings}
@@ -10,18 +11,35 @@ use Rattle.programs.specs.Choices.{IsChosenBy}
 use Rattle.programs.specs.Messages.{TellsOfSuccess}
 use Rattle.programs.specs.NoSources.{NoneFoundBy}
 use Rattle.programs.specs.Settings.{settings_in}
-use Rattle.programs.specs.TreeRuns.{Ends, not_started, over_tree}
+use Rattle.programs.specs.Limits.{no_limits}
+use Rattle.programs.specs.Placing.{place}
+use Rattle.programs.specs.Reporting.{Reports, ran_of, told_by}
+use Rattle.programs.specs.Serving.{not_begun, not_started, over_tree}
+use Rattle.programs.specs.Settled.{settled}
+use Rattle.programs.specs.TreeRuns.{Ends}
 use Rattle.programs.proofs.LackLemmas.{ends_of}
 use Rattle.programs.proofs.MoveLemmas.{moved4}
 use Rattle.programs.proofs.NavigableLemmas.{answers}
+use Rattle.programs.proofs.ReportLemmas.{reported_files, reported_of, settled_files}
 use Rattle.protoscip.specs.Explanations.{explain_in}
+use Rattle.protoscip.specs.FaultLines.{HasFilesOf}
+use Rattle.protoscip.specs.declared.fault.Fault.{Fault}
+use Rattle.protoscip.specs.declared.recorded.Recorded.{Recorded}
 use Rattle.protoscip.specs.Sessions.{Serves}
 use Rattle.programs.proofs.serving.shell.Goals as goal
 
 pub returns-in-Err-clause-served : goal.returns-in-Err-clause-served
 returns-in-Err-clause-served g c =
-    not_started c.in-Err.fault c.in-Err.ensures.stops (record { unread = refl; unwritten = refl })
+    not_started c.in-Err.fault c.in-Err.ensures.stops (record { unread = refl; unwritten = refl }, refl)
     c.report_start.ensures
+
+-- the report can't go to its place
+
+pub returns-in-Err-see_report-clause-served : goal.returns-in-Err-see_report-clause-served
+returns-in-Err-see_report-clause-served g c =
+    let run = c.in-Ok.start in
+    not_begun run.tree run.settings.package c.in-Err-see_report.fault c.in-Ok.ensures.named c.in-Ok.ensures.folders
+    c.in-Err-see_report.ensures.stops (record { unread = refl; unwritten = refl }, refl) c.report_start-in-Err-see_report.ensures
 
 pub returns-clause-served : goal.returns-clause-served
 returns-clause-served g c =
@@ -29,23 +47,35 @@ returns-clause-served g c =
     let line = option_map string_bytes run.none_found in
     let messages = writer g.M.Sink.contents g.M.Sink.failures c.args.messages.now c.end.new.messages in
     let options = c.args.options.now in
+    let report = place g.Q.OutPlace.holds g.Q.OutPlace.same g.Q.OutPlace.refuses g.Q.OutPlace.gives_up
+    g.Q.Part.Sink.contents g.Q.Part.Sink.failures c.args.report.now c.report_run-reported.new.at in
+    let ran = c.session-ran.result in
+    let reported = c.report_run-reported.result in
     let By : Option (List ℕ) → Option DocChoice → Settings → ℕ → Type 0 = λ only doc settings workers.
     Serves g.I.Feed.remaining g.I.Feed.failures g.I.Feed.reads g.I.Feed.ends g.W.Sink.contents g.W.Sink.failures
     (IsChosenBy only doc) settings run.tree workers
-    c.args.commands.now c.session-done.new.commands c.args.answers.now c.session-done.new.answers c.session-done.result
-    in
+    c.args.commands.now c.session-ran.new.commands c.args.answers.now c.session-ran.new.answers ran in
+    let Told : Option (List ℕ) → Option DocChoice → Settings → ℕ → Type 0 = λ only doc settings workers.
+    Reports report c.args.options.now.report no_limits (IsChosenBy only doc) settings workers run.tree (told_by ran)
+    reported in
     let Ended : Option Dialect → Type 0 = λ explain.
-    Ends TellsOfSuccess (λ l. l ≡ line) explain run.tree (λ r. r.told) c.session-done.result messages c.end.result in
-    over_tree run.tree run.settings.package c.session-done.result c.in-Ok.ensures.named c.in-Ok.ensures.folders
+    Ends TellsOfSuccess (λ l. l ≡ line) explain run.tree (λ r. r.told) (settled ran reported) messages c.end.result in
+    over_tree run.tree run.settings.package ran reported c.in-Ok.ensures.named c.in-Ok.ensures.folders
+    c.in-Ok-see_report.ensures.apart
     (moved4 By c.in-Ok.ensures.only c.in-Ok.ensures.doc c.in-Ok.ensures.settings
-    (c.over-work.ensures ∙ c.in-Ok.ensures.workers) c.session-done.ensures.served)
+    (c.over-work.ensures ∙ c.in-Ok.ensures.workers) c.session-ran.ensures.served)
+    (moved4 Told c.in-Ok.ensures.only c.in-Ok.ensures.doc c.in-Ok.ensures.settings c.in-Ok.ensures.workers
+    (reported_of ran _ _ (λ told_is. Reports report c.args.options.now.report no_limits
+    (IsChosenBy (option_map (λ f. string_bytes f.promise.0) run.choices.filter)
+    (option_map (λ r. r.promise.0) run.choices.rule)) run.settings run.workers run.tree told_is reported)
+    c.told_in.ensures c.fault_in.ensures c.report_run-reported.ensures))
     (ends_of TellsOfSuccess
     (NoneFoundBy (g.F.LookAgain.passes c.args.host.now.files.now) c.args.host.now.is_watched options run.tree)
     (explain_in options.explain (settings_in options run.settings.package).dialect) run.tree messages c.end.result
-    (λ r. r.told) c.session-done.result line c.in-Ok.ensures.none_found (subst Ended
+    (λ r. r.told) (settled ran reported) line c.in-Ok.ensures.none_found (subst Ended
     (c.explain_in-explain.ensures
     ∙ ap (λ (s : Settings). explain_in options.explain s.dialect) c.in-Ok.ensures.settings)
-    c.end.ensures))
+    (rw c.settle-done.ensures at c.end.ensures)))
 
 -- what is so in either case
 
@@ -53,19 +83,53 @@ pub returns-in-Err-clause-navigable : goal.returns-in-Err-clause-navigable
 returns-in-Err-clause-navigable g c =
     answers (g.F.ReadFiles.lists c.args.host.now.files.now) (g.F.ReadFiles.gives c.args.host.now.files.now)
     c.args.options.now c.headline_of_options.ensures.files
-    (NoneFoundBy (g.F.LookAgain.passes c.args.host.now.files.now) c.args.host.now.is_watched c.args.options.now)
+    (NoneFoundBy (g.F.LookAgain.passes c.args.host.now.files.now) c.args.host.now.is_watched
+    c.args.options.now)
+    (place g.Q.OutPlace.holds g.Q.OutPlace.same g.Q.OutPlace.refuses g.Q.OutPlace.gives_up g.Q.Part.Sink.contents
+    g.Q.Part.Sink.failures c.args.report.now c.args.report.now)
     (reader g.I.Feed.remaining g.I.Feed.failures g.I.Feed.reads g.I.Feed.ends c.args.commands.now c.args.commands.now)
     (writer g.W.Sink.contents g.W.Sink.failures c.args.answers.now c.args.answers.now)
     (writer g.M.Sink.contents g.M.Sink.failures c.args.messages.now c.report_start.new.messages) c.report_start.result
     (returns-in-Err-clause-served g c)
 
+pub returns-in-Err-see_report-clause-navigable : goal.returns-in-Err-see_report-clause-navigable
+returns-in-Err-see_report-clause-navigable g c =
+    answers (g.F.ReadFiles.lists c.args.host.now.files.now) (g.F.ReadFiles.gives c.args.host.now.files.now)
+    c.args.options.now c.headline_of_options.ensures.files
+    (NoneFoundBy (g.F.LookAgain.passes c.args.host.now.files.now) c.args.host.now.is_watched
+    c.args.options.now)
+    (place g.Q.OutPlace.holds g.Q.OutPlace.same g.Q.OutPlace.refuses g.Q.OutPlace.gives_up g.Q.Part.Sink.contents
+    g.Q.Part.Sink.failures c.args.report.now c.args.report.now)
+    (reader g.I.Feed.remaining g.I.Feed.failures g.I.Feed.reads g.I.Feed.ends c.args.commands.now c.args.commands.now)
+    (writer g.W.Sink.contents g.W.Sink.failures c.args.answers.now c.args.answers.now)
+    (writer g.M.Sink.contents g.M.Sink.failures c.args.messages.now c.report_start-in-Err-see_report.new.messages) c.report_start-in-Err-see_report.result
+    (returns-in-Err-see_report-clause-served g c)
+
 pub returns-clause-navigable : goal.returns-clause-navigable
 returns-clause-navigable g c =
     answers (g.F.ReadFiles.lists c.args.host.now.files.now) (g.F.ReadFiles.gives c.args.host.now.files.now)
     c.args.options.now c.headline_of_options.ensures.files
-    (NoneFoundBy (g.F.LookAgain.passes c.args.host.now.files.now) c.args.host.now.is_watched c.args.options.now)
+    (NoneFoundBy (g.F.LookAgain.passes c.args.host.now.files.now) c.args.host.now.is_watched
+    c.args.options.now)
+    (place g.Q.OutPlace.holds g.Q.OutPlace.same g.Q.OutPlace.refuses g.Q.OutPlace.gives_up g.Q.Part.Sink.contents
+    g.Q.Part.Sink.failures c.args.report.now c.report_run-reported.new.at)
     (reader g.I.Feed.remaining g.I.Feed.failures g.I.Feed.reads g.I.Feed.ends c.args.commands.now
-    c.session-done.new.commands)
-    (writer g.W.Sink.contents g.W.Sink.failures c.args.answers.now c.session-done.new.answers)
+    c.session-ran.new.commands)
+    (writer g.W.Sink.contents g.W.Sink.failures c.args.answers.now c.session-ran.new.answers)
     (writer g.M.Sink.contents g.M.Sink.failures c.args.messages.now c.end.new.messages) c.end.result
     (returns-clause-served g c)
+
+-- each fault names files of the tree
+
+pub end-requires-clause-files : goal.end-requires-clause-files
+end-requires-clause-files g c =
+    let run = c.in-Ok.start in
+    let report = place g.Q.OutPlace.holds g.Q.OutPlace.same g.Q.OutPlace.refuses g.Q.OutPlace.gives_up
+    g.Q.Part.Sink.contents g.Q.Part.Sink.failures c.args.report.now c.report_run-reported.new.at in
+    let allows = IsChosenBy (option_map (λ f. string_bytes f.promise.0) run.choices.filter)
+    (option_map (λ r. r.promise.0) run.choices.rule) in
+    let reported = c.report_run-reported.result in
+    subst (λ (r : Result Recorded Fault). IfErr r (HasFilesOf run.tree)) (sym c.settle-done.ensures)
+    (settled_files run.tree c.session-ran.result reported c.session-ran.ensures.files
+    (reported_files report c.args.options.now.report no_limits allows run.settings run.workers run.tree
+    (ran_of c.told_in.result.now c.fault_in.result) reported c.report_run-reported.ensures))

@@ -1,0 +1,27 @@
+-- How folders are searched, by the options.
+use Rattle.std.specs.Prelude.{ℕ, Bool, true, false, List, Option, Result, Ok, Err, map, string_bytes}
+use Rattle.std.specs.declared.alloc.AllocError.{AllocError}
+use Rattle.command_line.specs.declared.options.IndexOptions.{IndexOptions}
+use Rattle.command_line.specs.declared.options.LinksWord.{LinksWord}
+use Rattle.command_line.specs.declared.options.LinksWord.TheVariants.{Ignore, Follow}
+use Rattle.command_line.specs.declared.request.Request.{Request}
+use Rattle.command_line.specs.declared.request.Request.TheVariants as request
+use Rattle.source_files.specs.Exclusions.{ListsWithout}
+use Rattle.source_files.specs.Listings.{Listing}
+
+-- whether links are followed, by a word of `--links`
+abbrev pub follows : LinksWord → Bool
+follows Ignore = false
+follows Follow = true
+
+-- by what is asked for: an index may follow them
+abbrev pub links_followed : Result Request AllocError → Bool
+links_followed (Ok (request.Index options out quiet limits)) = follows options.links
+links_followed (Ok (request.Shell options)) = follows options.links
+links_followed (Ok other) = false
+links_followed (Err refused) = false
+
+-- what listing folders may give, without what `--exclude` leaves out
+abbrev pub searched_by : IndexOptions → (List ℕ → List ℕ → Option Listing → Type 0)
+    → (List ℕ → List ℕ → Option Listing → Type 0)
+searched_by options lists = ListsWithout lists (map string_bytes options.exclude.items)

@@ -95,20 +95,20 @@ fn push_documented<'t>(
     Ok(())
 }
 
-/// What a file's items declare, with the comments that document it, and which types they use, at a surrounding. Each
-/// item is let go when it has been walked, and its outlines when its declarations are made.
+/// What a file's items declare, with the comments that document it, and which types they use, at a surrounding. The
+/// outlines of each item are let go when its declarations are made.
 fn declared_at<'t>(
     alloc: Global,
     lexed: &Tokens<'_, 't>,
     text: &'t str,
     surrounding: &Surrounding<'t>,
-    items: Vec<FileItem>,
+    items: &[FileItem],
 ) -> Result<(Vec<Declaration<'t>>, Vec<Use<'t>>), AllocError>
-    requires { All (OfItem (IsPart text.now)) items.items }
+    requires { All (OfItem (IsPart text.now)) items.now }
     ensures declarations { IfOk result (λ made. AllZip (IsDeclaration lexed.now)
-        (flat_map (in_item text.now surrounding.now) items.items) made.0.items) }
+        (flat_map (in_item text.now surrounding.now) items.now) made.0.items) }
     ensures uses { IfOk result (λ made. made.1.items
-        ≡ flat_map (uses_in_item text.now surrounding.now.scope) items.items) }
+        ≡ flat_map (uses_in_item text.now surrounding.now.scope) items.now) }
 {
     let mut uses = Vec::new(alloc);
     let mut declared = Declared {
@@ -132,13 +132,13 @@ fn declared_in<'t>(
     lexed: &Tokens<'_, 't>,
     text: &'t str,
     scope: OwnedText,
-    items: Vec<FileItem>,
+    items: &[FileItem],
 ) -> Result<(Vec<Declaration<'t>>, Vec<Use<'t>>), AllocError>
-    requires { All (OfItem (IsPart text.now)) items.items }
+    requires { All (OfItem (IsPart text.now)) items.now }
     ensures declarations { IfOk result (λ made. AllZip (IsDeclaration lexed.now)
-        (flat_map (in_item text.now (record { scope = scope; path = [] })) items.items) made.0.items) }
+        (flat_map (in_item text.now (record { scope = scope; path = [] })) items.now) made.0.items) }
     ensures uses { IfOk result (λ made. made.1.items
-        ≡ flat_map (uses_in_item text.now scope) items.items) }
+        ≡ flat_map (uses_in_item text.now scope) items.now) }
 {
     let surrounding = Surrounding::new(alloc, scope, Sequence::new(alloc))?;
     declared_at(alloc, lexed, text, &surrounding, items)
@@ -147,21 +147,20 @@ fn declared_in<'t>(
 /// The facts of the file with this number, whose tree these tokens derive by some dialect.
 ///
 /// The tree must be that of these tokens: its spans are read off their text, of which the names of the
-/// facts are parts. It is refused only for want of memory. Each item of the tree is let go when what it declares
-/// is known.
+/// facts are parts. It is refused only for want of memory. The facts hold nothing of the tree.
 pub fn declare<'t>(
     alloc: Global,
     number: usize,
     lexed: &Tokens<'_, 't>,
-    file: File,
+    file: &File,
 ) -> Result<FileFacts<'t>, AllocError>
-    requires { (dialect : Dialect) × Derives dialect lexed.now.text lexed.now.tokens file }
-    ensures { IfOk result (AreFactsOf number lexed.now file) }
+    requires { (dialect : Dialect) × Derives dialect lexed.now.text lexed.now.tokens file.now }
+    ensures { IfOk result (AreFactsOf number lexed.now file.now) }
 {
     are_lexed(lexed);
-    spans_of_tree(lexed, &file);
+    spans_of_tree(lexed, file);
     let text = lexed.text().as_str();
-    let package_name = package_spans(&file);
+    let package_name = package_spans(file);
     let scope = package_scope(alloc, text, package_name)?;
     let package_name = components_at(alloc, text, package_name)?;
     let imports = imports_of(alloc, text, file.imports.as_slice())?;
@@ -170,7 +169,7 @@ pub fn declare<'t>(
         lexed,
         text,
         scope,
-        file.items.into_vec(),
+        file.items.as_slice(),
     )?;
     declarations.shrink_to_fit();
     uses.shrink_to_fit();

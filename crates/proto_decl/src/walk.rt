@@ -159,23 +159,23 @@ fn walk_item<'t>(
     }
 }
 
-/// What an item of a file declares, and which types it uses, behind uses that were found before. The item is let go.
+/// What an item of a file declares, and which types it uses, behind uses that were found before.
 pub(crate) fn walk_last<'t>(
     alloc: Global,
     text: &'t str,
     surrounding: &Surrounding<'t>,
-    item: FileItem,
+    item: &FileItem,
     uses: Vec<Use<'t>>,
 ) -> Result<Found<'t>, AllocError>
-    requires { OfItem (IsPart text.now) item }
-    ensures outlines { IfOk result (λ found. found.outlines.items ≡ in_item text.now surrounding.now item) }
+    requires { OfItem (IsPart text.now) item.now }
+    ensures outlines { IfOk result (λ found. found.outlines.items ≡ in_item text.now surrounding.now item.now) }
     ensures uses { IfOk result (λ found. found.uses.items
-        ≡ uses.entry.items ++ uses_in_item text.now surrounding.now.scope item) }
+        ≡ uses.entry.items ++ uses_in_item text.now surrounding.now.scope item.now) }
 {
     let mut found = Found {
         outlines: Vec::new(alloc),
         uses,
     };
-    walk_item(alloc, text, surrounding, &item, &mut found)?;
+    walk_item(alloc, text, surrounding, item, &mut found)?;
     Ok(found)
 }

@@ -10,7 +10,7 @@ use test_kit::{text_of, tokens_of};
 /// The facts of tokens, of the file with the number 7; nothing if they derive no tree, or if memory runs out.
 fn facts_once<'t>(alloc: Global, tokens: &Tokens<'_, 't>) -> Option<FileFacts<'t>> {
     match parse(alloc, tokens) {
-        Ok(file) => declare(alloc, 7, tokens, file).ok(),
+        Ok(file) => declare(alloc, 7, tokens, &file).ok(),
         Err(_) => None,
     }
 }

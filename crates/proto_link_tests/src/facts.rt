@@ -17,7 +17,7 @@ fn some_of<'t>(facts: Made<FileFacts<'t>>) -> Facts<'t> {
 /// The facts of tokens.
 fn facts_of_tokens<'t>(alloc: Global, number: usize, tokens: &Tokens<'_, 't>) -> Facts<'t> {
     match parse(alloc, tokens) {
-        Ok(file) => some_of(declare(alloc, number, tokens, file)),
+        Ok(file) => some_of(declare(alloc, number, tokens, &file)),
         Err(SyntaxFault::Memory) => Err(AllocError),
         Err(_) => Ok(None),
     }

@@ -65,7 +65,7 @@ fn facts_of<'a>(
         Ok(tree) => tree,
         Err(fault) => return Err(unparsed(number, fault)),
     };
-    Ok(declare(alloc, number, &lexed, tree)?)
+    Ok(declare(alloc, number, &lexed, &tree)?)
 }
 
 /// The contents of the file with this number and these bytes.

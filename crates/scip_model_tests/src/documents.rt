@@ -35,7 +35,7 @@ fn facts_of<'t>(alloc: Global, text: &Text<'t>) -> Result<FileFacts<'t>, AllocEr
     let Ok(tree) = parse(alloc, &lexed) else {
         return Err(AllocError);
     };
-    declare(alloc, 0, &lexed, tree)
+    declare(alloc, 0, &lexed, &tree)
 }
 
 const KEPT: Choice = Choice {

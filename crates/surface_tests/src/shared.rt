@@ -22,7 +22,7 @@ pub(crate) fn facts_of<'t>(
     let text = Text::new(alloc, source.as_bytes())?;
     let tokens = lex(alloc, &text)?;
     let file = parse(alloc, &tokens)?;
-    Ok(declare(alloc, number, &tokens, file)?)
+    Ok(declare(alloc, number, &tokens, &file)?)
 }
 
 /// The package with this manager, name and version.

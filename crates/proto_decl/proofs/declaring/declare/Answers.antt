@@ -4,7 +4,7 @@ use Rattle.proto_decl.proofs.declaring.declare.Goals as goal
 pub new-requires : goal.new-requires
 new-requires c = record {
   lexed = c.args.lexed.now;
-  file = c.args.file;
+  file = c.args.file.now;
   dialect = c.requires.0;
   is_lexed = c.are_lexed.ensures;
   derives = c.requires.1;

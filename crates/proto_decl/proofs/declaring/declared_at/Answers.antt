@@ -1,8 +1,7 @@
-use Rattle.std.proofs.Common.{◌≡◌, ◌∙◌, ◌++◌, ◌∷◌, [], List, ap, subst, All}
+use Rattle.std.proofs.Common.{◌≡◌, ◌∙◌, ◌++◌, ◌∷◌, ◌+◌, ◌<◌, [], ℕ, List, ap, get_or, length, subst, sym, take}
 use Rattle.std.specs.List.{AllZip, flat_map}
-use Rattle.std.specs.Vec.Iter.{into_iter_items}
-use Rattle.std.proofs.lemmas.List.{flat_map_more}
-use Rattle.std.proofs.lemmas.List.Elements.{All-head, All-tail}
+use Rattle.std.proofs.lemmas.List.{flat_map_more, take_more}
+use Rattle.std.proofs.lemmas.List.Elements.{All-get_or}
 use Rattle.proto_lex.specs.Lexed.{IsPart}
 use Rattle.proto_decl.specs.Spans.{OfItem}
 use Rattle.proto_decl.specs.Outlines.{in_item}
@@ -10,33 +9,40 @@ use Rattle.proto_decl.specs.Uses.{uses_in_item}
 use Rattle.proto_decl.specs.Declares.{IsDeclaration}
 use Rattle.proto_decl.proofs.declaring.declared_at.Goals as goal
 
+-- one item more comes behind those before it
+one_taken : {X : Type 0} (xs : List X) (i : ℕ) (x : X) → i < length xs → x ≡ get_or xs i x
+    → take i xs ++ x ∷ [] ≡ take (i + 1) xs
+one_taken xs i x within is = ap (λ y. take i xs ++ y ∷ []) is ∙ sym (take_more xs i x within)
+
 -- what one item more gives is behind what the items before it give
-one_more : {X A : Type 0} (f : X → List A) (xs : List X) (x : X) (old new : List A) → old ≡ flat_map f xs
-    → new ≡ old ++ f x → new ≡ flat_map f (xs ++ x ∷ [])
-one_more f xs x old new before grown = grown ∙ (ap (λ l. l ++ f x) before ∙ flat_map_more f [] xs x)
+one_more : {X A : Type 0} (f : X → List A) (xs : List X) (i : ℕ) (x : X) (old new : List A) → i < length xs
+    → x ≡ get_or xs i x → old ≡ flat_map f (take i xs) → new ≡ old ++ f x → new ≡ flat_map f (take (i + 1) xs)
+one_more f xs i x old new within is before grown =
+    grown ∙ (ap (λ l. l ++ f x) before ∙ (flat_map_more f [] (take i xs) x ∙ ap (flat_map f) (one_taken xs i x within is)))
 
 -- so do the declarations of what one item more gives
-declare_more : {X A B : Type 0} (R : A → B → Type 0) (f : X → List A) (xs : List X) (x : X) (os : List A) (ys : List B)
-    → os ≡ f x → AllZip R (flat_map f xs ++ os) ys → AllZip R (flat_map f (xs ++ x ∷ [])) ys
-declare_more R f xs x os ys same all = subst (λ l. AllZip R l ys)
-    (ap (λ l. flat_map f xs ++ l) same ∙ flat_map_more f [] xs x) all
+declare_more : {X A B : Type 0} (R : A → B → Type 0) (f : X → List A) (xs : List X) (i : ℕ) (x : X) (os : List A)
+    (ys : List B) → i < length xs → x ≡ get_or xs i x → os ≡ f x → AllZip R (flat_map f (take i xs) ++ os) ys
+    → AllZip R (flat_map f (take (i + 1) xs)) ys
+declare_more R f xs i x os ys within is same all = subst (λ l. AllZip R l ys)
+    (ap (λ l. flat_map f (take i xs) ++ l) same
+    ∙ (flat_map_more f [] (take i xs) x ∙ ap (flat_map f) (one_taken xs i x within is))) all
 
 pub walk_last-requires : goal.walk_last-requires
 walk_last-requires c =
     let of_item = OfItem (IsPart c.args.text.now) in
-    All-head of_item c.in-Some.item (into_iter_items c.next.new.self)
-    (subst (All of_item) c.in-Some.ensures.steps.0 c.loop-item.invariant.parts)
+    subst of_item (sym c.item-item.is)
+    (All-get_or of_item c.args.items.now c.loop-item.item-index c.item-item.result c.loop-item-test.true c.requires)
 
 pub loop-item-preserved : goal.loop-item-preserved
 loop-item-preserved c =
-    let of_item = OfItem (IsPart c.args.text.now) in
+    let items = c.args.items.now in
+    let i = c.loop-item.item-index in
     let declares = in_item c.args.text.now c.args.surrounding.now in
-    let before = flat_map declares c.loop-item.yielded in
     record {
-      declarations = declare_more (IsDeclaration c.args.lexed.now) declares c.loop-item.yielded c.in-Some.item _ _
-          c.in_ok-found.ensures.outlines (c.in_ok-push_documented.ensures before c.loop-item.invariant.declarations);
-      uses = one_more (uses_in_item c.args.text.now c.args.surrounding.now.scope) c.loop-item.yielded c.in-Some.item
-          _ _ c.loop-item.invariant.uses c.in_ok-found.ensures.uses;
-      parts = All-tail of_item c.in-Some.item (into_iter_items c.next.new.self)
-          (subst (All of_item) c.in-Some.ensures.steps.0 c.loop-item.invariant.parts);
+      declarations = declare_more (IsDeclaration c.args.lexed.now) declares items i c.item-item.result _ _
+          c.loop-item-test.true c.item-item.is c.in_ok-found.ensures.outlines
+          (c.in_ok-push_documented.ensures (flat_map declares (take i items)) c.loop-item.invariant.declarations);
+      uses = one_more (uses_in_item c.args.text.now c.args.surrounding.now.scope) items i c.item-item.result _ _
+          c.loop-item-test.true c.item-item.is c.loop-item.invariant.uses c.in_ok-found.ensures.uses;
     }

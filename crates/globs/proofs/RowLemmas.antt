@@ -63,13 +63,13 @@ IsNext piece text row count all next =
     → IsFront (pieces ++ piece ∷ []) text count next
     × (IsTrue all ↔ Matches (pieces ++ piece ∷ []) (take count text))
 
-pub next_begins : (piece : Piece) (text : List ℕ) (row : List Bool) (all given : Bool)
-    → (IsTrue all ↔ (IsTrue (get_or row 0 given) × MayBeEmpty piece)) → IsNext piece text row 0 all (all ∷ [])
-next_begins piece text row all given both =
+pub next_begins : (piece : Piece) (text : List ℕ) (reached : List Bool) (all given : Bool)
+    → (IsTrue all ↔ (IsTrue (get_or reached 0 given) × MayBeEmpty piece)) → IsNext piece text reached 0 all (all ∷ [])
+next_begins piece text reached all given both =
     λ pieces are.
-    let here : IsTrue (get_or row 0 given) ↔ Matches pieces [] =
+    let here : IsTrue (get_or reached 0 given) ↔ Matches pieces [] =
     subst (λ (b : Bool). IsTrue b ↔ Matches pieces [])
-    (get_or_default row 0 false given (omega (arith, are.long))) (are.each 0 (omega arith)) in
+    (get_or_default reached 0 false given (omega (arith, are.long))) (are.each 0 (omega arith)) in
     let whole : IsTrue all ↔ Matches (pieces ++ piece ∷ []) [] = (
       (λ yes.
           let parts = both.0 yes in empty_to piece pieces (here.0 parts.0) parts.1),

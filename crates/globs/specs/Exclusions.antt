@@ -3,7 +3,7 @@ use Rattle.std.specs.Prelude.{◌≢◌, ℕ, List, [], ◌∷◌, ◌++◌, All
 use Rattle.std.specs.Prelude.{if◌then◌else◌, nat_eq}
 use Rattle.globs.specs.Pieces.{IsSpelled}
 
--- a `/` at the begin of a pattern for paths says nothing
+-- a `/` at the start of a pattern for paths says nothing
 abbrev pub without_slash : List ℕ → List ℕ
 without_slash [] = []
 without_slash (byte ∷ bytes) = if nat_eq byte 47 then bytes else byte ∷ bytes

@@ -13,7 +13,7 @@ fn has_no_slash(pattern: &str) -> bool
     pattern.as_bytes().iter().all(|byte| *byte != b'/')
 }
 
-/// A pattern without a `/` at its begin.
+/// A pattern without a `/` at its start.
 fn without_slash(pattern: &[u8]) -> &[u8]
     ensures { result.now ≡ without_slash pattern.now }
 {

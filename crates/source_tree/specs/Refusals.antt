@@ -1,5 +1,5 @@
 -- Why sources and included files make no tree, and what is handed back.
-use Rattle.std.specs.Prelude.{◌≡◌, ℕ, ◌+◌, ◌<◌, ◌≤◌, ⊤, List, ◌++◌, Some, length, take, slice_get}
+use Rattle.std.specs.Prelude.{◌≡◌, ℕ, ◌+◌, ◌<◌, ◌≤◌, List, ◌++◌, Some, length, take, slice_get}
 use Rattle.source_tree.specs.Path.{IsGoodPath}
 use Rattle.source_tree.specs.declared.fault.TreeFault.{TreeFault}
 use Rattle.source_tree.specs.declared.fault.TreeFault.TheVariants.{TooMany, BadPath, SamePath, Memory}
@@ -35,12 +35,13 @@ pub record HaveSamePath (sources included : List SourceFile) (number : ℕ) : Ty
   pub by_path : IsByPath sources sorted
   pub first : IsFirstRepeat sorted number
 
--- each fault comes if it holds and none of those before it does; nothing is said about memory
+-- each fault comes if it holds and none of those before it does; memory is asked for once there are few enough files and
+-- their paths are good
 abbrev pub MayRefuse : List SourceFile → List SourceFile → TreeFault → Type 0
 MayRefuse sources included TooMany = AreTooMany sources included
 MayRefuse sources included (BadPath number) = HaveBadPath sources included number
 MayRefuse sources included (SamePath number) = HaveSamePath sources included number
-MayRefuse sources included Memory = ⊤
+MayRefuse sources included Memory = (length sources + length included ≤ max_files) × HaveGoodPaths (sources ++ included)
 
 -- the sources come back sorted by path if two have one path, and else as they were
 abbrev pub ComeBack : List SourceFile → TreeFault → List SourceFile → Type 0

@@ -1,6 +1,8 @@
 mod CharacterLemmas
+mod CountingLemmas
 mod JoinLemmas
 mod LiteralLemmas
+mod LiteralTextLemmas
 mod MarkLemmas
 mod ShownLemmas
 mod TameLemmas

@@ -4,6 +4,11 @@ pub mod Shown
 -- a place in a source, and its line
 pub mod Places
 pub mod Excerpts
+-- how a place is counted
+pub mod Counting
+-- blanks and comments, and literals with these between them
+pub mod Gaps
+pub mod Literals
 pub mod Laws
 -- what no public contract names
 pub mod Tables

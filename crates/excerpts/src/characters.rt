@@ -5,7 +5,7 @@ ghost use Rattle.std.specs.List.{prefix_len};
 ghost use Rattle.excerpts.specs.Characters.{characters, goes_on};
 
 /// Whether the byte goes on with a character.
-fn goes_on(byte: u8) -> bool
+pub(crate) fn goes_on(byte: u8) -> bool
     ensures { result ≡ goes_on byte }
 {
     matches!(byte, 128..192)

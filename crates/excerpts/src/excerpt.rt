@@ -20,7 +20,8 @@ ghost use Rattle.excerpts.specs.Excerpts.{
 ghost use Rattle.excerpts.specs.Shown.{marks, shown_text};
 
 use crate::characters::{count_characters, skip_characters};
-use crate::line::{cut, first_line, last_line, line_number};
+use crate::counter::LineCounter;
+use crate::line::{cut, first_line, last_line};
 use crate::shown::{push_marks, push_shown};
 use std::alloc::{AllocError, Global};
 
@@ -171,18 +172,20 @@ fn push_below(
     push_mark_line(out, before, marked, behind)
 }
 
-/// Appends the line of an offset in a source, with its number, and marks this many bytes from the offset on.
+/// Appends the line of an offset in the counter's text, with its number, and marks this many bytes from the offset on.
 pub fn push_excerpt(
     alloc: Global,
     out: &mut String,
-    text: &[u8],
+    counter: &mut LineCounter<'_>,
     at: usize,
     len: usize,
 ) -> Result<(), AllocError>
-    ensures { OnOk result (string_bytes out.new ≡ string_bytes out.old ++ excerpt text.now at len) }
+    ensures excerpt { OnOk result (string_bytes out.new ≡ string_bytes out.old ++ excerpt counter.old at len) }
+    ensures same { counter.new ≡ counter.old }
 {
-    let (front, back) = cut(text, at);
-    let number = format!(in alloc; "{}", line_number(front))?;
+    let (line, _) = counter.line_and_column(at);
+    let (front, back) = cut(counter.text(), at);
+    let number = format!(in alloc; "{line}")?;
     let before = last_line(front);
     let (marked, behind) = cut(first_line(back), len);
     push_numbered(out, number.as_str(), before, marked, behind)?;

@@ -1,16 +1,14 @@
 //! The line of a place.
 
 ghost use Rattle.std.specs.Prelude.{◌≡◌, ◌+◌, ◌≤◌, ◌++◌, [], ◌∷◌, MatchOption, OnOk, false, length, take, drop, not};
-ghost use Rattle.std.specs.List.{after_last, before_first, count_by, prefix_len, suffix_len};
+ghost use Rattle.std.specs.List.{after_last, before_first, prefix_len, suffix_len};
 ghost use Rattle.std.specs.String.{string_bytes};
 ghost use Rattle.proto_lex.specs.Bytes.{is_quote, is_word};
 ghost use Rattle.proto_lex.specs.Position.{is_line_end};
 ghost use Rattle.excerpts.specs.Characters.{characters};
 ghost use Rattle.excerpts.specs.Places.{
   closing_len,
-  column,
   first_len,
-  line_number,
   place_text,
   sign_len,
   token_len,
@@ -18,12 +16,13 @@ ghost use Rattle.excerpts.specs.Places.{
 };
 ghost use Rattle.excerpts.specs.Tables.Steps.{closes, escapes};
 
-use crate::characters::{count_characters, first_character};
+use crate::characters::first_character;
+use crate::counter::LineCounter;
 use crate::shown::push_text;
 use std::alloc::AllocError;
 
 /// Whether the byte ends a line.
-fn is_line_end(byte: u8) -> bool
+pub(crate) fn is_line_end(byte: u8) -> bool
     ensures { result ≡ is_line_end byte }
 {
     byte == b'\n'
@@ -46,21 +45,6 @@ pub(crate) fn cut(bytes: &[u8], at: usize) -> (&[u8], &[u8])
     } else {
         (bytes, &[])
     }
-}
-
-/// How many lines end in a text.
-fn count_line_ends(text: &[u8]) -> usize
-    ensures count { result ≡ count_by is_line_end text.now }
-    ensures within { result ≤ length text.now }
-{
-    text.iter().filter(|byte| is_line_end(**byte)).count()
-}
-
-/// The number of the line in which a text ends.
-pub(crate) fn line_number(text: &[u8]) -> usize
-    ensures { result ≡ count_by is_line_end text.now + 1 }
-{
-    count_line_ends(text) + 1
 }
 
 /// How many bytes come after the last line end.
@@ -89,7 +73,7 @@ fn without_return(line: &[u8]) -> &[u8]
 }
 
 /// How many bytes come before the first line end.
-fn line_len(text: &[u8]) -> usize
+pub(crate) fn line_len(text: &[u8]) -> usize
     ensures value { result ≡ prefix_len (λ byte. not (is_line_end byte)) text.now }
     ensures within { result ≤ length text.now }
 {
@@ -112,7 +96,7 @@ fn word_len(bytes: &[u8]) -> usize
 }
 
 /// Whether the byte opens a string literal.
-fn is_quote(byte: u8) -> bool
+pub(crate) fn is_quote(byte: u8) -> bool
     ensures { result ≡ is_quote byte }
 {
     matches!(byte, b'"' | b'\'')
@@ -199,22 +183,18 @@ pub fn token_len(bytes: &[u8]) -> usize
     if len > 0 { len } else { sign_len(bytes) }
 }
 
-/// The line of an offset, from 1, and its column, from 1 in characters. Past the end it is that of the end.
-pub fn line_and_column(text: &[u8], at: usize) -> (usize, usize)
-    ensures line { result.0 ≡ line_number text.now at }
-    ensures column { result.1 ≡ column text.now at }
+/// Appends the place of an offset of the counter's text: `PATH:LINE:COLUMN: `, the path as it is shown.
+pub fn push_place(
+    out: &mut String,
+    path: &str,
+    counter: &mut LineCounter<'_>,
+    at: usize,
+) -> Result<(), AllocError>
+    ensures place { OnOk result (string_bytes out.new
+        ≡ string_bytes out.old ++ place_text path.now counter.old at) }
+    ensures same { counter.new ≡ counter.old }
 {
-    let (front, _) = cut(text, at);
-    let line = line_number(front);
-    let column = count_characters(last_line(front)) + 1;
-    (line, column)
-}
-
-/// Appends the place of an offset: `PATH:LINE:COLUMN: `, the path as it is shown.
-pub fn push_place(out: &mut String, path: &str, text: &[u8], at: usize) -> Result<(), AllocError>
-    ensures { OnOk result (string_bytes out.new ≡ string_bytes out.old ++ place_text path.now text.now at) }
-{
-    let (line, column) = line_and_column(text, at);
+    let (line, column) = counter.line_and_column(at);
     push_text(out, path)?;
     write!(out, ":{line}:{column}: ")
 }

@@ -2,22 +2,23 @@
 use Rattle.std.proofs.Common.{◌≡◌, ◌||◌, ℕ, false, List, [], ◌∷◌, map, Option, Some, None, ap, ap₂, refl}
 use Rattle.serde_json.specs.View.{items_of}
 use Rattle.serde_json.specs.Written.{has_float, items_have_float, members_have_float}
-use Rattle.fault_reports.specs.Findings.{Found, FoundPlace}
+use Rattle.fault_reports.specs.declared.finding.Point.{Point}
+use Rattle.fault_reports.specs.Findings.{Found, FoundPlace, end_of, start_of}
 use Rattle.fault_reports.specs.Sarif.{locations_value, log_value, new_names, region_members, related_value, result_value}
 use Rattle.fault_reports.specs.Sarif.{rule_value}
 
-of_region : (text : List ℕ) (at end : Option ℕ) → members_have_float (region_members text at end) ≡ false
-of_region text None end = refl
-of_region text (Some at) None = refl
-of_region text (Some at) (Some end) = refl
+of_region : (start end : Option Point) → members_have_float (region_members start end) ≡ false
+of_region None end = refl
+of_region (Some start) None = refl
+of_region (Some start) (Some end) = refl
 
 of_locations : (place : Option FoundPlace) → has_float (locations_value place) ≡ false
 of_locations None = refl
-of_locations (Some place) = ap (λ b. (b || false) || false) (of_region place.text place.offset place.end)
+of_locations (Some place) = ap (λ b. (b || false) || false) (of_region (start_of place) (end_of place))
 
 of_related : (place : Option FoundPlace) → has_float (related_value place) ≡ false
 of_related None = refl
-of_related (Some place) = ap (λ b. (b || false) || false) (of_region place.text place.offset place.end)
+of_related (Some place) = ap (λ b. (b || false) || false) (of_region (start_of place) (end_of place))
 
 of_result : (found : Found) → has_float (result_value found) ≡ false
 of_result found = ap₂ (λ a b. a || (b || false)) (of_locations found.place) (of_related found.first)

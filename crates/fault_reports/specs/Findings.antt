@@ -4,6 +4,7 @@ use Rattle.std.specs.Option.{option_map}
 use Rattle.excerpts.specs.Places.{column, line_number}
 use Rattle.fault_reports.specs.declared.finding.FindingKind.{FindingKind}
 use Rattle.fault_reports.specs.declared.finding.FindingKind.TheVariants.{Fault, Skipped, NoTarget}
+use Rattle.fault_reports.specs.declared.finding.Point.{Point}
 
 -- a file, what it holds, and how many bytes of that come before a place, and before its end, if that is known; without
 -- an offset, the whole file
@@ -14,7 +15,7 @@ pub record FoundPlace : Type 0 where
   pub end : Option ℕ
 
 -- One thing: the name of the fault, a sentence about it, and where it is; where a full name is first given that is
--- given again; and the path of an import that names no file.
+-- given again; and the string literals of an import that names no file, which spell its path together.
 pub record Found : Type 0 where
   pub kind : FindingKind
   pub name : List ℕ
@@ -23,12 +24,23 @@ pub record Found : Type 0 where
   pub first : Option FoundPlace
   pub imported : Option (List ℕ)
 
--- the line of a place and its column, each from 1, as editors show them: columns count characters
+-- an offset of a text, its line and its column, each from 1, as editors show them: columns count characters
+abbrev pub point_in : (text : List ℕ) → (at : ℕ) → Point
+point_in text at = record { at = at; line = line_number text at; column = column text at }
+
+-- where a place begins, and where it ends
+abbrev pub start_of : FoundPlace → Option Point
+start_of place = option_map (point_in place.text) place.offset
+
+abbrev pub end_of : FoundPlace → Option Point
+end_of place = option_map (point_in place.text) place.end
+
+-- the line of a place and its column
 abbrev pub line_at : FoundPlace → Option ℕ
-line_at place = option_map (line_number place.text) place.offset
+line_at place = option_map (λ (point : Point). point.line) (start_of place)
 
 abbrev pub column_at : FoundPlace → Option ℕ
-column_at place = option_map (column place.text) place.offset
+column_at place = option_map (λ (point : Point). point.column) (start_of place)
 
 -- what a kind is called in a line of JSON
 abbrev pub word_of : FindingKind → List ℕ

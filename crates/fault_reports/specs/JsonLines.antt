@@ -4,6 +4,7 @@ use Rattle.std.specs.Prelude.{ℕ, List, ◌++◌, Option, None, Some, codes}
 use Rattle.std.specs.Str.Lossy.{utf8_lossy}
 use Rattle.std.specs.List.{flat_map}
 use Rattle.std.specs.Option.{option_and_then, option_map}
+use Rattle.excerpts.specs.Literals.{joined}
 use Rattle.serde_json.specs.Data.{Data, null, number, unsigned, string, object, member, no_members}
 use Rattle.serde_json.specs.Written.{compact_text}
 use Rattle.fault_reports.specs.declared.finding.Counts.{Counts}
@@ -33,7 +34,7 @@ value_of found = object
     (member (codes "column") (number_or_null (option_and_then column_at found.place))
     (member (codes "end") (number_or_null (option_and_then (λ (place : FoundPlace). place.end) found.place))
     (member (codes "first") (first_value found.first)
-    (member (codes "import") (text_or_null (option_map utf8_lossy found.imported))
+    (member (codes "import") (text_or_null (option_map utf8_lossy (option_map joined found.imported)))
     (member (codes "kind") (string (word_of found.kind))
     (member (codes "line") (number_or_null (option_and_then line_at found.place))
     (member (codes "message") (string found.message)
@@ -52,7 +53,7 @@ counts_value counts = object
     (member (codes "status") (number (unsigned counts.status))
     (member (codes "uses") (number (unsigned counts.uses)) no_members))))))
 
--- the line of a value: its text with no space, and a line end
+-- the line of a value: its text, without spaces between tokens, and a line end
 abbrev pub line_of : Data → List ℕ
 line_of value = compact_text value ++ codes "\n"
 

@@ -1,5 +1,5 @@
--- A whole report: which findings it tells, in which form. Both forms tell just these, each once for each time it is in
--- the list, in its order.
+-- A whole report: which findings it tells, in which form. Both forms tell just these, each as often as it is in the
+-- list, in its order.
 use Rattle.std.specs.Prelude.{ℕ, List}
 use Rattle.fault_reports.specs.declared.finding.Counts.{Counts}
 use Rattle.fault_reports.specs.declared.report.ReportFormat.{ReportFormat}

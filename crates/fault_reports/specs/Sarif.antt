@@ -3,51 +3,52 @@
 use Rattle.std.specs.Prelude.{ℕ, ◌-◌, Bool, List, [], ◌∷◌, ◌++◌, Option, None, Some, codes, map, if◌then◌else◌}
 use Rattle.std.specs.List.{list_any}
 use Rattle.std.specs.Str.{bytes_eq}
-use Rattle.excerpts.specs.Places.{column, line_number}
 use Rattle.percent_encoding.specs.Percent.{percent_encode}
 use Rattle.serde_json.specs.Data.{Data, number, unsigned, string, array, item, no_items}
 use Rattle.serde_json.specs.Data.{object, Members, member, no_members}
 use Rattle.serde_json.specs.View.{items_of}
 use Rattle.fault_reports.specs.declared.sarif.TheConstants.{ESCAPED}
-use Rattle.fault_reports.specs.Findings.{Found, FoundPlace, level_of}
+use Rattle.fault_reports.specs.declared.finding.Point.{Point}
+use Rattle.fault_reports.specs.Findings.{Found, FoundPlace, end_of, level_of, start_of}
 
 -- a text in a message (3.11)
 abbrev pub message_value : List ℕ → Data
 message_value text = object (member (codes "text") (string text) no_members)
 
--- a place in a text: its line and its column, and how many bytes come before it (3.30.5, 3.30.6, 3.30.11)
-abbrev pub point_value : (text : List ℕ) → (at : ℕ) → Data
-point_value text at = object
-    (member (codes "byteOffset") (number (unsigned at))
-    (member (codes "startColumn") (number (unsigned (column text at)))
-    (member (codes "startLine") (number (unsigned (line_number text at))) no_members)))
+-- from a place to the end of its line: its line and its column, and how many bytes come before it (3.30.5, 3.30.6,
+-- 3.30.8, 3.30.11)
+abbrev pub point_value : Point → Data
+point_value start = object
+    (member (codes "byteOffset") (number (unsigned start.at))
+    (member (codes "startColumn") (number (unsigned start.column))
+    (member (codes "startLine") (number (unsigned start.line)) no_members)))
 
--- the same, and how many bytes it has, and where it ends (3.30.7, 3.30.8, 3.30.12)
-abbrev pub range_value : (text : List ℕ) → (at end : ℕ) → Data
-range_value text at end = object
-    (member (codes "byteLength") (number (unsigned (end - at)))
-    (member (codes "byteOffset") (number (unsigned at))
-    (member (codes "endColumn") (number (unsigned (column text end)))
-    (member (codes "endLine") (number (unsigned (line_number text end)))
-    (member (codes "startColumn") (number (unsigned (column text at)))
-    (member (codes "startLine") (number (unsigned (line_number text at))) no_members))))))
+-- to where it ends, and how many bytes it has (3.30.7, 3.30.8, 3.30.12)
+abbrev pub range_value : (start end : Point) → Data
+range_value start end = object
+    (member (codes "byteLength") (number (unsigned (end.at - start.at)))
+    (member (codes "byteOffset") (number (unsigned start.at))
+    (member (codes "endColumn") (number (unsigned end.column))
+    (member (codes "endLine") (number (unsigned end.line))
+    (member (codes "startColumn") (number (unsigned start.column))
+    (member (codes "startLine") (number (unsigned start.line)) no_members))))))
 
 -- its end only where it is known
-abbrev pub region_value : (text : List ℕ) → (at : ℕ) → (end : Option ℕ) → Data
-region_value text at None = point_value text at
-region_value text at (Some end) = range_value text at end
+abbrev pub region_value : (start : Point) → (end : Option Point) → Data
+region_value start None = point_value start
+region_value start (Some end) = range_value start end
 
 -- only where there is an offset
-abbrev pub region_members : (text : List ℕ) → (at end : Option ℕ) → Members
-region_members text None end = no_members
-region_members text (Some at) end = member (codes "region") (region_value text at end) no_members
+abbrev pub region_members : (start end : Option Point) → Members
+region_members None end = no_members
+region_members (Some start) end = member (codes "region") (region_value start end) no_members
 
 -- a file by its path, escaped as a relative reference is (3.4.3), and a place of it (3.29)
 abbrev pub physical_value : FoundPlace → Data
 physical_value place = object
     (member (codes "artifactLocation")
     (object (member (codes "uri") (string (percent_encode ESCAPED place.path)) no_members))
-    (region_members place.text place.offset place.end))
+    (region_members (start_of place) (end_of place)))
 
 -- where a finding is (3.28), none if it is of no file
 abbrev pub locations_value : Option FoundPlace → Data

@@ -2,9 +2,17 @@
 
 ghost use Rattle.std.specs.Prelude.{◌≡◌};
 ghost use Rattle.std.specs.Option.{option_and_then, option_map};
-ghost use Rattle.fault_reports.specs.Findings.{column_at, level_of, line_at, word_of};
+ghost use Rattle.fault_reports.specs.Findings.{
+  column_at,
+  end_of,
+  level_of,
+  line_at,
+  point_in,
+  start_of,
+  word_of,
+};
 
-use excerpts::line_and_column;
+use excerpts::LineCounter;
 use std::marker::Model;
 
 /// What a finding is.
@@ -18,32 +26,41 @@ pub enum FindingKind {
     NoTarget,
 }
 
+/// An offset of a text: how many bytes come before it, its line from 1, and its column from 1 in characters.
+#[derive(Clone, Copy, Debug, PartialEq, Eq)]
+pub(crate) struct Point {
+    pub(crate) at: usize,
+    pub(crate) line: usize,
+    pub(crate) column: usize,
+}
+
 /// A file, and a place in it.
 ///
-/// Contracts see its path and its text as lists of bytes.
+/// Contracts see its path and its text as lists of bytes, and of where it begins and where it ends how many bytes come
+/// before.
 #[derive(Drop)]
 pub struct Place<'a> {
-    /// The path of the file below its root.
-    pub path: &'a str,
-    /// What the file holds; nothing if it couldn't be read.
-    pub text: &'a [u8],
-    /// How many bytes of the text come before the place. Without one, the whole file is meant.
-    pub offset: Option<usize>,
-    /// How many bytes of the text come before its end, if that is known.
-    pub end: Option<usize>,
+    path: &'a str,
+    text: &'a [u8],
+    start: Option<Point>,
+    end: Option<Point>,
 }
 
 impl<'a> Model for Place<'a> {
+    ghost use Rattle.std.specs.Option.{option_map};
     ghost use Rattle.fault_reports.specs.Findings.{FoundPlace};
+    ghost use Rattle.fault_reports.specs.Points.{ArePointsOf};
 
     ghost Value = { FoundPlace };
 
     ghost view = { λ place. record {
       path = place.path.now;
       text = place.text.now;
-      offset = place.offset;
-      end = place.end;
+      offset = option_map (λ point. point.at) place.start;
+      end = option_map (λ point. point.at) place.end;
     } };
+
+    ghost invariant = { λ place. ArePointsOf place.text.now place.start place.end };
 }
 
 /// One thing that a report tells.
@@ -61,7 +78,7 @@ pub struct Finding<'a> {
     pub place: Option<Place<'a>>,
     /// Where a full name is first given that is given again here.
     pub first: Option<Place<'a>>,
-    /// The path of an import that names no file, as the source has it.
+    /// The string literals of an import that names no file, as the source has them: they spell its path together.
     pub import: Option<&'a [u8]>,
 }
 
@@ -119,25 +136,129 @@ impl FindingKind {
     }
 }
 
-impl Place<'_> {
-    /// The line of its offset, from 1.
-    pub(crate) fn line(&self) -> Option<usize>
-        ensures { result ≡ line_at self.now }
+/// The point of an offset of the counter's text.
+fn point_at(counter: &mut LineCounter<'_>, at: usize) -> Point
+    ensures point { result ≡ point_in counter.old at }
+    ensures same { counter.new ≡ counter.old }
+{
+    let (line, column) = counter.line_and_column(at);
+    Point { at, line, column }
+}
+
+/// The same, if there is an offset.
+fn point_of(counter: &mut LineCounter<'_>, at: Option<usize>) -> Option<Point>
+    ensures point { result ≡ option_map (point_in counter.old) at }
+    ensures same { counter.new ≡ counter.old }
+{
+    match at {
+        Some(at) => Some(point_at(counter, at)),
+        None => None,
+    }
+}
+
+impl<'a> Place<'a> {
+    /// A place of the file with this path below its root, and with the counter's text, which is empty if the file
+    /// couldn't be read. It begins behind `offset` bytes of the text, and ends behind `end`, if that is known. Without
+    /// an offset, the whole file is meant.
+    pub fn new(
+        path: &'a str,
+        counter: &mut LineCounter<'a>,
+        offset: Option<usize>,
+        end: Option<usize>,
+    ) -> Place<'a>
+        ensures path { result.path ≡ path.now }
+        ensures text { result.text ≡ counter.old }
+        ensures offset { result.offset ≡ offset }
+        ensures end { result.end ≡ end }
+        ensures same { counter.new ≡ counter.old }
     {
-        match self.offset {
-            Some(at) => Some(line_and_column(self.text, at).0),
-            None => None,
+        let start = point_of(counter, offset);
+        let end = point_of(counter, end);
+        Place {
+            path,
+            text: counter.text(),
+            start,
+            end,
         }
     }
 
-    /// The column of its offset, from 1 in characters.
+    /// The path of the file.
+    pub(crate) fn path(&self) -> &'a str
+        ensures { result.now ≡ self.now.path }
+    {
+        self.path
+    }
+
+    /// Where it begins.
+    pub(crate) fn start(&self) -> Option<Point>
+        ensures { result ≡ start_of self.now }
+    {
+        self.start
+    }
+
+    /// Where it ends, if that is known.
+    pub(crate) fn end(&self) -> Option<Point>
+        ensures { result ≡ end_of self.now }
+    {
+        self.end
+    }
+
+    /// How many bytes come before it.
+    pub(crate) fn offset(&self) -> Option<usize>
+        ensures { result ≡ self.now.offset }
+    {
+        offset_of(self.start)
+    }
+
+    /// How many bytes come before its end, if that is known.
+    pub(crate) fn end_offset(&self) -> Option<usize>
+        ensures { result ≡ self.now.end }
+    {
+        offset_of(self.end)
+    }
+
+    /// Its line, from 1.
+    pub(crate) fn line(&self) -> Option<usize>
+        ensures { result ≡ line_at self.now }
+    {
+        line_of(self.start())
+    }
+
+    /// Its column, from 1 in characters.
     pub(crate) fn column(&self) -> Option<usize>
         ensures { result ≡ column_at self.now }
     {
-        match self.offset {
-            Some(at) => Some(line_and_column(self.text, at).1),
-            None => None,
-        }
+        column_of(self.start())
+    }
+}
+
+/// The offset of a point.
+fn offset_of(point: Option<Point>) -> Option<usize>
+    ensures { result ≡ option_map (λ point. point.at) point }
+{
+    match point {
+        Some(point) => Some(point.at),
+        None => None,
+    }
+}
+
+/// Its line.
+fn line_of(point: Option<Point>) -> Option<usize>
+    ensures { result ≡ option_map (λ point. point.line) point }
+{
+    match point {
+        Some(point) => Some(point.line),
+        None => None,
+    }
+}
+
+/// Its column.
+fn column_of(point: Option<Point>) -> Option<usize>
+    ensures { result ≡ option_map (λ point. point.column) point }
+{
+    match point {
+        Some(point) => Some(point.column),
+        None => None,
     }
 }
 
@@ -154,7 +275,7 @@ impl<'a> Finding<'a> {
         ensures { option_map (λ path. path.now) result ≡ option_map (λ place. place.path) self.now.place }
     {
         match &self.place {
-            Some(place) => Some(place.path),
+            Some(place) => Some(place.path()),
             None => None,
         }
     }
@@ -164,7 +285,7 @@ impl<'a> Finding<'a> {
         ensures { result ≡ option_and_then (λ place. place.offset) self.now.place }
     {
         match &self.place {
-            Some(place) => place.offset,
+            Some(place) => place.offset(),
             None => None,
         }
     }
@@ -174,7 +295,7 @@ impl<'a> Finding<'a> {
         ensures { result ≡ option_and_then (λ place. place.end) self.now.place }
     {
         match &self.place {
-            Some(place) => place.end,
+            Some(place) => place.end_offset(),
             None => None,
         }
     }

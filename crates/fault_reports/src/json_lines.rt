@@ -4,6 +4,7 @@ ghost use Rattle.std.specs.Prelude.{◌≡◌, ◌++◌, IfOk, OnOk, false};
 ghost use Rattle.std.specs.Str.Lossy.{utf8_lossy};
 ghost use Rattle.std.specs.List.{flat_map};
 ghost use Rattle.std.specs.Option.{option_map};
+ghost use Rattle.excerpts.specs.Literals.{joined};
 ghost use Rattle.serde_json.specs.Data.{put as with_member, string};
 ghost use Rattle.serde_json.specs.View.{members_view, view};
 ghost use Rattle.serde_json.specs.Written.{has_float};
@@ -18,6 +19,7 @@ ghost use Rattle.fault_reports.specs.JsonLines.{
 
 use crate::finding::{Counts, Finding, Place};
 use crate::values::{number_or_null, text_or_null};
+use excerpts::push_joined;
 use serde_json::{Map, Value, json, put};
 use std::alloc::{AllocError, Global};
 
@@ -30,24 +32,28 @@ fn first_value(alloc: Global, first: &Option<Place<'_>>) -> Result<Value, AllocE
     };
     let line = number_or_null(place.line());
     let column = number_or_null(place.column());
-    let offset = number_or_null(place.offset);
-    let end = number_or_null(place.end);
+    let offset = number_or_null(place.offset());
+    let end = number_or_null(place.end_offset());
     json!(in alloc; {
         "column": column,
         "end": end,
         "line": line,
         "offset": offset,
-        "path": place.path
+        "path": place.path()
     })
 }
 
 /// The value of an import's path.
 fn import_value(alloc: Global, import: &Option<&[u8]>) -> Result<Value, AllocError>
     ensures { IfOk result (λ value. view value
-        ≡ text_or_null (option_map utf8_lossy (option_map (λ path. path.now) import.now))) }
+        ≡ text_or_null (option_map utf8_lossy (option_map joined (option_map (λ texts. texts.now) import.now)))) }
 {
     match import {
-        Some(path) => Ok(Value::from(String::from_utf8_lossy(alloc, path)?)),
+        Some(literals) => {
+            let mut path = Vec::new(alloc);
+            push_joined(&mut path, literals)?;
+            Ok(Value::from(String::from_utf8_lossy(alloc, path.as_slice())?))
+        }
         None => Ok(Value::Null),
     }
 }

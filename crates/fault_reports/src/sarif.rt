@@ -24,8 +24,7 @@ ghost use Rattle.fault_reports.specs.Sarif.{
   with_name,
 };
 
-use crate::finding::{Finding, Place};
-use excerpts::line_and_column;
+use crate::finding::{Finding, Place, Point};
 use percent_encoding::{AsciiSet, NON_ALPHANUMERIC, ascii_set, percent_encode};
 use serde_json::{Value, json};
 use std::alloc::{AllocError, Global};
@@ -57,42 +56,38 @@ fn reference_to(alloc: Global, path: &str) -> Result<String, AllocError>
     Ok(text)
 }
 
-/// The value of a place in a text.
-fn point_value(alloc: Global, text: &[u8], at: usize) -> Result<Value, AllocError>
-    ensures { IfOk result (λ value. view value ≡ point_value text.now at) }
+/// The value of a place, up to the end of its line.
+fn point_value(alloc: Global, start: Point) -> Result<Value, AllocError>
+    ensures { IfOk result (λ value. view value ≡ point_value start) }
 {
-    let (line, column) = line_and_column(text, at);
-    json!(in alloc; {"byteOffset": at, "startColumn": column, "startLine": line})
-}
-
-/// The value of a place in a text, and of its end.
-fn range_value(alloc: Global, text: &[u8], at: usize, end: usize) -> Result<Value, AllocError>
-    ensures { IfOk result (λ value. view value ≡ range_value text.now at end) }
-{
-    let (line, column) = line_and_column(text, at);
-    let (end_line, end_column) = line_and_column(text, end);
     json!(in alloc; {
-        "byteLength": end.saturating_sub(at),
-        "byteOffset": at,
-        "endColumn": end_column,
-        "endLine": end_line,
-        "startColumn": column,
-        "startLine": line
+        "byteOffset": start.at,
+        "startColumn": start.column,
+        "startLine": start.line
     })
 }
 
-/// The value of a place in a text, with its end if it is known.
-fn region_value(
-    alloc: Global,
-    text: &[u8],
-    at: usize,
-    end: Option<usize>,
-) -> Result<Value, AllocError>
-    ensures { IfOk result (λ value. view value ≡ region_value text.now at end) }
+/// The value of a place up to its end.
+fn range_value(alloc: Global, start: Point, end: Point) -> Result<Value, AllocError>
+    ensures { IfOk result (λ value. view value ≡ range_value start end) }
+{
+    json!(in alloc; {
+        "byteLength": end.at.saturating_sub(start.at),
+        "byteOffset": start.at,
+        "endColumn": end.column,
+        "endLine": end.line,
+        "startColumn": start.column,
+        "startLine": start.line
+    })
+}
+
+/// The value of a place, up to its end if that is known.
+fn region_value(alloc: Global, start: Point, end: Option<Point>) -> Result<Value, AllocError>
+    ensures { IfOk result (λ value. view value ≡ region_value start end) }
 {
     match end {
-        Some(end) => range_value(alloc, text, at, end),
-        None => point_value(alloc, text, at),
+        Some(end) => range_value(alloc, start, end),
+        None => point_value(alloc, start),
     }
 }
 
@@ -100,10 +95,10 @@ fn region_value(
 fn physical_value(alloc: Global, place: &Place<'_>) -> Result<Value, AllocError>
     ensures { IfOk result (λ value. view value ≡ physical_value place.now) }
 {
-    let uri = reference_to(alloc, place.path)?;
-    match place.offset {
-        Some(at) => {
-            let region = region_value(alloc, place.text, at, place.end)?;
+    let uri = reference_to(alloc, place.path())?;
+    match place.start() {
+        Some(start) => {
+            let region = region_value(alloc, start, place.end())?;
             json!(in alloc; {"artifactLocation": {"uri": uri}, "region": region})
         }
         None => json!(in alloc; {"artifactLocation": {"uri": uri}}),

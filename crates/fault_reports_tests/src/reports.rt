@@ -1,5 +1,6 @@
 //! Reports of three findings, in both forms, and of none.
 
+use excerpts::LineCounter;
 use fault_reports::{Counts, Finding, FindingKind, Place, ReportFormat, report_bytes};
 use std::alloc::{AllocError, Global};
 use std::process::Abort;
@@ -55,12 +56,12 @@ fn see(rt: &impl Abort, holds: bool, case: &str) {
 
 /// A place of the source, and its end, if that is known.
 fn at(offset: usize, end: Option<usize>) -> Place<'static> {
-    Place {
-        path: "a b.proto",
-        text: TEXT.as_bytes(),
-        offset: Some(offset),
+    Place::new(
+        "a b.proto",
+        &mut LineCounter::new(TEXT.as_bytes()),
+        Some(offset),
         end,
-    }
+    )
 }
 
 /// A full name that is given again.
@@ -83,7 +84,7 @@ fn absent() -> Finding<'static> {
         message: "no source",
         place: Some(at(2, None)),
         first: None,
-        import: Some(b"b.proto"),
+        import: Some(b"'b.' /* ' */ \"proto\""),
     }
 }
 

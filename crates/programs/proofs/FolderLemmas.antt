@@ -14,13 +14,12 @@ use Rattle.scip_symbol.specs.Package.{Package, IsPackage}
 use Rattle.scip_model.specs.Packages.{Root, Packages, ArePackages, with_path, package_among, package_of_path}
 use Rattle.command_line.specs.declared.options.IndexOptions.{IndexOptions}
 use Rattle.command_line.specs.declared.options.PackageFolder.{PackageFolder}
-use Rattle.source_tree.specs.Files.{SourceFile, TreeFile, paths_of}
+use Rattle.source_tree.specs.Files.{TreeFile, paths_of}
 use Rattle.source_files.specs.Listings.{Listing}
-use Rattle.source_files.specs.Roots.{AreBelowEach, AreFolders, no_root, next_root}
+use Rattle.source_files.specs.Roots.{AreFilesBelow, FilesBelow}
 use Rattle.source_files.specs.Loads.{IsTreeBelow}
-use Rattle.programs.specs.Folders.{AreFolders as AreFoldersOf}
-use Rattle.programs.specs.Settings.{package_in}
-use Rattle.programs.specs.Folders.{AddsRoots, AreByFolder, IsRootOf, folder_package, included_packages, packages_in}
+use Rattle.programs.specs.Settings.{leaves_out, package_in}
+use Rattle.programs.specs.Folders.{AddsRoots, AreByFolder, AreFolders, IsRootOf, folder_package, included_packages, packages_in}
 use Rattle.programs.specs.Folders.{HasBadFolder, included_in, roots_of}
 use Rattle.programs.specs.Starting.{HasNoPackage, IsBadFolder}
 use Rattle.programs.specs.declared.start_fault.StartFault.{StartFault}
@@ -279,46 +278,29 @@ bad_at folders number folder fault below is good bad =
 
 -- ---- the tree of the files below folders
 
--- the paths of the files below each included folder
-folders_each : (lists : List ℕ → List ℕ → Option Listing → Type 0) (gives : List ℕ → Option (List ℕ) → Type 0)
-    {roots : List (List ℕ)} {files : List SourceFile} → AreBelowEach lists gives roots files
-    → (paths : List (List (List ℕ))) × (AreFolders lists gives roots files paths)
-folders_each lists gives no_root =
-    ([], record { folders = []; below = tt; files_are = refl; paths_are = refl })
-folders_each lists gives (next_root {here = here} below each) =
-    let rest = folders_each lists gives each in (
-      paths_of here ∷ rest.0,
-      record {
-        folders = here ∷ rest.1.folders;
-        below = (below, rest.1.below);
-        files_are = ap (λ (l : List SourceFile). here ++ l) rest.1.files_are;
-        paths_are = ap (λ (l : List (List (List ℕ))). paths_of here ∷ l) rest.1.paths_are;
-      },
-    )
-
 -- where no folder has a package of its own
 pub folders_of_run : (lists : List ℕ → List ℕ → Option Listing → Type 0)
     (gives : List ℕ → Option (List ℕ) → Type 0)
-    (options : IndexOptions) (tree : List TreeFile) → options.include_packages.items ≡ []
+    (options : IndexOptions) (tree : List TreeFile) (unread : List (List ℕ)) → options.include_packages.items ≡ []
     → IsPackage (package_in options)
-    → IsTreeBelow lists gives (string_bytes options.root) (map string_bytes options.include.items) tree
-    → AreFoldersOf lists gives options tree (record { run = package_in options; roots = [] })
-folders_of_run lists gives options tree none good of =
-    let each = folders_each lists gives of.below_included in
+    → IsTreeBelow lists gives (leaves_out options.faulty) (string_bytes options.root)
+    (map string_bytes options.include.items) tree unread
+    → AreFolders lists gives options tree unread (record { run = package_in options; roots = [] })
+folders_of_run lists gives options tree unread none good of =
     let roots : included_in options ≡ map string_bytes options.include.items =
     ap (λ (folders : List PackageFolder). map string_bytes options.include.items
     ++ map (λ folder. string_bytes folder.folder) folders) none ∙ append-nil (map string_bytes options.include.items) in
+    let each = map (λ (below : FilesBelow). paths_of below.files) of.others in
     record {
-      own = paths_of of.sources;
-      others = each.0;
+      own = paths_of of.own.files;
+      others = each;
       below = record {
-        sources = of.sources;
-        included = of.included;
+        own = of.own;
+        others = of.others;
         below = of.below;
-        below_each = subst (λ (names : List (List ℕ)). AreFolders lists gives names of.included each.0) (sym roots)
-            each.1;
-        tree_is = of.holds;
-        own_are = refl;
+        below_each = subst (λ (names : List (List ℕ)). AllZip (AreFilesBelow lists gives (leaves_out options.faulty))
+            names of.others) (sym roots) of.below_each;
+        holds = (of.holds, refl, refl);
       };
-      by = by_no_folder options (paths_of of.sources) each.0 none good;
+      by = by_no_folder options (paths_of of.own.files) each none good;
     }

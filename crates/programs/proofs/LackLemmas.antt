@@ -1,51 +1,75 @@
 -- What is said of an index, by what it lacks.
-use Rattle.std.proofs.Common.{◌≡◌, ℕ, true, false, List, [], ◌∷◌, Option, Some, None, Result, Ok, Err, length, ◌==◌}
-use Rattle.std.proofs.Common.{arith, refl, suc, subst, sym}
+use Rattle.std.proofs.Common.{◌≡◌, ℕ, suc, Bool, true, false, List, [], ◌∷◌, Option, Some, None, Result, Ok, Err}
+use Rattle.std.proofs.Common.{length, ◌==◌, ◌&&◌, ◌∙◌, ◌+◌, ◌-◌, ◌++◌, ap, arith, map, refl, subst, sym}
+use Rattle.std.specs.List.{count_by}
 use Rattle.std.specs.Prelude.{IfSome}
 use Rattle.std.specs.Option.{option_map}
 use Rattle.std.proofs.lemmas.Bool.{eqb-true}
 use Rattle.std.proofs.lemmas.Option.{same_Some}
 use Rattle.proto_parse.specs.tree.Dialect.{Dialect}
 use Rattle.source_tree.specs.Files.{TreeFile}
-use Rattle.source_tree.specs.Trees.{IsSourceCount}
 use Rattle.scip_build.specs.declared.fault.BuildFault.{BuildFault}
 use Rattle.scip_snapshot.specs.Showing.{Writer}
-use Rattle.protoscip.specs.ToldLines.{IsTextOfLacks, IsToldText}
+use Rattle.protoscip.specs.ToldLines.{IsTextOfAllLacks, IsToldText, IsToldTextWith, is_import, is_skipped}
+use Rattle.protoscip.specs.ToldLines.{is_skipped_source, is_use, numbers_line}
 use Rattle.protoscip.specs.declared.fault.Fault.{Fault}
 use Rattle.programs.specs.Messages.{Says, SaysIfAny, SaysOfSuccess}
-use Rattle.programs.specs.TreeRuns.{Ends, Lacks}
+use Rattle.programs.specs.TreeRuns.{Ends, Lacks, SaysAll}
+
+-- where all could be read, the text of what an index lacks is the whole text
+all_read : (explain : Option Dialect) (tree : List TreeFile) (sources : ℕ) (told : List BuildFault) (text : List ℕ)
+    → IsToldText explain tree sources told text → IsToldTextWith explain tree sources [] told text
+all_read explain tree sources told text is =
+    let skipped = count_by is_skipped told in
+    let none : skipped ≡ 0 + skipped = omega arith in (
+      is.0,
+      is.1,
+      is.2 ∙ ap (λ (n : ℕ). is.0 ++ numbers_line (sources - count_by (is_skipped_source sources) told) n
+          (count_by is_import told) (count_by is_use told)) none,
+    )
+
+no_items : (n : ℕ) → (suc n == 0) ≡ true → ⊥
+no_items n none = let never : suc n ≡ 0 = eqb-true (suc n) 0 none in absurd (omega (arith, never))
+
+first_holds : (a b : Bool) → (a && b) ≡ true → a ≡ true
+first_holds true b both = refl
+first_holds false b both = both
 
 module _ {M : Type 0} (says : (List ℕ → Type 0) → Writer M → (status : ℕ) → Type 0)
     (none_found : Option (List ℕ) → Type 0) (explain : Option Dialect)
     (tree : List TreeFile) (messages : Writer M) (status : ℕ) where
-  -- it lacks nothing
-  pub lacks_nothing : (told : List BuildFault) → (length told == 0) ≡ true
-      → (line : Option (List ℕ)) → none_found line → SaysIfAny line messages status
-      → Lacks says none_found explain tree told messages status
-  lacks_nothing [] none line found said = (line, found, said)
-  lacks_nothing (first ∷ others) none line found said =
-      let never : suc (length others) ≡ 0 = eqb-true (suc (length others)) 0 none in absurd (omega (arith, never))
+  module _ {X : Type 0} (path_of : X → List ℕ) where
+    -- nothing is lacking
+    pub nothing : (unread : List X) (told : List BuildFault) → (length unread == 0 && length told == 0) ≡ true
+        → (line : Option (List ℕ)) → none_found line → SaysIfAny line messages status
+        → Lacks says none_found explain tree (map path_of unread) told messages status
+    nothing [] [] none line found said = (line, found, said)
+    nothing [] (first ∷ others) none line found said = absurd (no_items (length others) none)
+    nothing (path ∷ unread) told none line found said =
+        absurd (no_items (length unread) (first_holds (suc (length unread) == 0) (length told == 0) none))
 
-  -- it lacks something
-  pub lacks_some : (told : List BuildFault) → (length told == 0) ≡ false
-      → ((sources : ℕ) × IsSourceCount tree sources
-      × says (IsToldText explain tree sources told) messages status)
-      → Lacks says none_found explain tree told messages status
-  lacks_some [] some tells = absurd cc
-  lacks_some (first ∷ others) some tells = tells
+    -- something is
+    pub something : (unread : List X) (told : List BuildFault) → (length unread == 0 && length told == 0) ≡ false
+        → SaysAll says explain tree (map path_of unread) told messages status
+        → Lacks says none_found explain tree (map path_of unread) told messages status
+    something [] [] some tells = absurd cc
+    something [] (first ∷ others) some tells = tells
+    something (path ∷ unread) told some tells = tells
 
   -- the line of none found is one of which `none_found` holds
-  pub lacks_of : (line : Option (List ℕ)) → none_found line → (told : List BuildFault)
-      → Lacks says (λ l. l ≡ line) explain tree told messages status
-      → Lacks says none_found explain tree told messages status
-  lacks_of line found [] lacks = (lacks.0, subst none_found (sym lacks.1) found, lacks.2)
-  lacks_of line found (first ∷ others) lacks = lacks
+  pub lacks_of : (line : Option (List ℕ)) → none_found line → (unread : List (List ℕ)) (told : List BuildFault)
+      → Lacks says (λ l. l ≡ line) explain tree unread told messages status
+      → Lacks says none_found explain tree unread told messages status
+  lacks_of line found [] [] lacks = (lacks.0, subst none_found (sym lacks.1) found, lacks.2)
+  lacks_of line found [] (first ∷ others) lacks = lacks
+  lacks_of line found (path ∷ unread) told lacks = lacks
 
-  pub ends_of : {A : Type 0} (told_of : A → List BuildFault) (done : Result A Fault) (line : Option (List ℕ))
-      → none_found line → Ends says (λ l. l ≡ line) explain tree told_of done messages status
-      → Ends says none_found explain tree told_of done messages status
-  ends_of told_of (Ok made) line found ends = lacks_of line found (told_of made) ends
-  ends_of told_of (Err fault) line found ends = ends
+  pub ends_of : {A : Type 0} (unread : List (List ℕ)) (told_of : A → List BuildFault) (done : Result A Fault)
+      (line : Option (List ℕ)) → none_found line
+      → Ends says (λ l. l ≡ line) explain tree unread told_of done messages status
+      → Ends says none_found explain tree unread told_of done messages status
+  ends_of unread told_of (Ok made) line found ends = lacks_of line found unread (told_of made) ends
+  ends_of unread told_of (Err fault) line found ends = ends
 
 -- a line that is said after a success, with whatever status, is said with the status 0
 any_success : {M : Type 0} (messages : Writer M) (status : ℕ) (line : Option (List ℕ))
@@ -55,26 +79,40 @@ any_success messages status (Some text) said = (refl, said.1)
 
 -- a success has the status 0
 pub is_success : {M : Type 0} (none_found : Option (List ℕ) → Type 0) (explain : Option Dialect)
-    (tree : List TreeFile) (messages : Writer M) (status : ℕ) (told : List BuildFault)
-    → Lacks SaysOfSuccess none_found explain tree told messages status
-    → Lacks SaysOfSuccess none_found explain tree told messages 0
-is_success none_found explain tree messages status [] lacks =
+    (tree : List TreeFile) (messages : Writer M) (status : ℕ) (unread : List (List ℕ)) (told : List BuildFault)
+    → Lacks SaysOfSuccess none_found explain tree unread told messages status
+    → Lacks SaysOfSuccess none_found explain tree unread told messages 0
+is_success none_found explain tree messages status [] [] lacks =
     (lacks.0, lacks.1, any_success messages status lacks.0 lacks.2)
-is_success none_found explain tree messages status (first ∷ others) says =
+is_success none_found explain tree messages status [] (first ∷ others) says =
+    (says.0, says.1, (says.2.0, says.2.1, (refl, says.2.2.1)))
+is_success none_found explain tree messages status (path ∷ unread) told says =
     (says.0, says.1, (says.2.0, says.2.1, (refl, says.2.2.1)))
 
 -- the text that was made of it is said; or, if there is none, the line of none found
 pub text_is_said : {M T : Type 0} (bytes : T → List ℕ) (explain : Option Dialect) (tree : List TreeFile)
-    (messages : Writer M) (status : ℕ) (line : Option (List ℕ)) (told : List BuildFault) (text : Option T)
-    → IsTextOfLacks explain tree told (option_map bytes text)
+    (messages : Writer M) (status : ℕ) (line : Option (List ℕ)) (unread : List (List ℕ)) (told : List BuildFault)
+    (text : Option T)
+    → IsTextOfAllLacks explain tree unread told (option_map bytes text)
     → IfSome text (λ (t : T). Says (bytes t) 0 messages status)
     → (text ≡ None → SaysIfAny line messages status)
-    → Lacks SaysOfSuccess (λ l. l ≡ line) explain tree told messages status
-text_is_said bytes explain tree messages status line [] None is said silent = (line, refl, silent refl)
-text_is_said bytes explain tree messages status line [] (Some t) is said silent = absurd cc
-text_is_said bytes explain tree messages status line (first ∷ others) None is said silent =
+    → Lacks SaysOfSuccess (λ l. l ≡ line) explain tree unread told messages status
+text_is_said bytes explain tree messages status line [] [] None is said silent = (line, refl, silent refl)
+text_is_said bytes explain tree messages status line [] [] (Some t) is said silent = absurd cc
+text_is_said bytes explain tree messages status line [] (first ∷ others) None is said silent =
     let never = is.2.2 in absurd cc
-text_is_said bytes explain tree messages status line (first ∷ others) (Some t) is said silent = (
+text_is_said bytes explain tree messages status line [] (first ∷ others) (Some t) is said silent = (
+  is.0,
+  is.1,
+  (
+    is.2.0,
+    all_read explain tree is.0 (first ∷ others) is.2.0 is.2.1,
+    subst (λ (l : List ℕ). Says l 0 messages status) (same_Some (bytes t) is.2.0 is.2.2) said,
+  ),
+)
+text_is_said bytes explain tree messages status line (path ∷ unread) told None is said silent =
+    let never = is.2.2 in absurd cc
+text_is_said bytes explain tree messages status line (path ∷ unread) told (Some t) is said silent = (
   is.0,
   is.1,
   (

@@ -7,10 +7,12 @@ use Rattle.command_line.specs.declared.options.IndexOptions.{IndexOptions}
 use Rattle.programs.specs.OptionLaws.{HeadlineOfFiles}
 use Rattle.programs.specs.Settings.{allowed_by, settings_in}
 use Rattle.source_files.specs.Listings.{Listing}
+use Rattle.source_files.specs.Roots.{files_of}
 
 pub headline_of_files : (lists : List ℕ → List ℕ → Option Listing → Type 0)
     (gives : List ℕ → Option (List ℕ) → Type 0)
     (options : IndexOptions) → LawsOfNames → HeadlineOfFiles lists gives options
-headline_of_files lists gives options laws tree ids folders =
+headline_of_files lists gives options laws tree unread ids folders =
+    let of = folders.below in
     headline (allowed_by options) laws (settings_in options ids) tree
-    (tree_of_files folders.below.sources folders.below.included tree folders.below.tree_is) folders.by.good
+    (tree_of_files of.own.files (files_of of.others) tree of.holds.0.tree_is) folders.by.good

@@ -1,5 +1,6 @@
 mod MoveLemmas
 mod MessageLemmas
+mod CauseLemmas
 mod FolderLemmas
 mod LackLemmas
 mod NoSourceLemmas
@@ -8,5 +9,7 @@ mod DumpEndLemmas
 mod QueryLemmas
 mod LawLemmas
 mod PlacingLemmas
+mod FolderPlaceLemmas
 mod ReportLemmas
+mod StartReportLemmas
 mod NavigableLemmas

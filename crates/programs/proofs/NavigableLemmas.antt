@@ -98,28 +98,31 @@ told_one_no_success Due due messages status failure (inr said) none = no_success
 
 module _ (lists : List ℕ → List ℕ → Option Listing → Type 0) (gives : List ℕ → Option (List ℕ) → Type 0)
     (options : IndexOptions) (headline : HeadlineOfFiles lists gives options) where
-  pub writes : {P W Q V M : Type 0} (none_found : List TreeFile → Option (List ℕ) → Type 0) (path : List ℕ)
+  pub writes : {P W Q V M : Type 0} (blames : List ℕ → Option (List ℕ) → Type 0)
+      (none_found : List TreeFile → Option (List ℕ) → Type 0) (suspects : Bool → Type 0) (path : List ℕ)
       (limits : Limits) (at : Place P W) (report : Place Q V) (messages : Writer M) (status : ℕ)
-      → Indexed lists gives none_found
+      → Indexed lists gives blames none_found suspects
       (record { options = options; path = path; limits = limits }) at report messages status
       → WritesNavigable lists gives options at status
-  writes none_found path limits at report messages status (indexing.not_started fault may left as_it_was tells) none =
+  writes blames none_found suspects path limits at report messages status
+      (indexing.not_started fault said is_out may left out reported tells) none =
+      absurd (told_one_no_success _ (start_status said) messages status (start_fails said) tells none)
+  writes blames none_found suspects path limits at report messages status
+      (indexing.over_tree tree unread ids named folders (indexing.not_begun fault may left as_it_was tells)) none =
       absurd (told_no_success _ (start_status fault) messages status (start_fails fault) tells none)
-  writes none_found path limits at report messages status
-      (indexing.over_tree tree ids named folders (indexing.not_begun fault may left as_it_was tells)) none =
-      absurd (told_no_success _ (start_status fault) messages status (start_fails fault) tells none)
-  writes none_found path limits at report messages status
-      (indexing.over_tree tree ids named folders
+  writes blames none_found suspects path limits at report messages status
+      (indexing.over_tree tree unread ids named folders
       (into_part (Ok recorded) apart (filled begun whole nothing keeps runs told put) ends)) none =
       record {
         tree = tree;
+        unread = unread;
         ids = ids;
         recorded = recorded;
         folders = folders;
         navigable = (
           runs.0,
           runs.1.index,
-          headline tree ids folders recorded runs.0 runs.1,
+          headline tree unread ids folders recorded runs.0 runs.1,
           record {
             begun = begun;
             whole = whole;
@@ -131,33 +134,36 @@ module _ (lists : List ℕ → List ℕ → Option Listing → Type 0) (gives : 
           },
         );
       }
-  writes none_found path limits at report messages status
-      (indexing.over_tree tree ids named folders (into_part (Err fault) apart fills ends)) none =
+  writes blames none_found suspects path limits at report messages status
+      (indexing.over_tree tree unread ids named folders (into_part (Err fault) apart fills ends)) none =
       absurd (told_one_no_success _ (status_of fault) messages status (fails fault) ends none)
-  writes none_found path limits at report messages status
-      (indexing.over_tree tree ids named folders (too_poor recorded fault apart forgoes breaks ends)) none =
+  writes blames none_found suspects path limits at report messages status
+      (indexing.over_tree tree unread ids named folders (too_poor recorded fault apart forgoes breaks ends)) none =
       absurd (told_no_success _ limit_status _ status tt ends.2 none)
 
-  pub answers : {Q V R W M : Type 0} (none_found : List TreeFile → Option (List ℕ) → Type 0)
+  pub answers : {Q V R W M : Type 0} (blames : List ℕ → Option (List ℕ) → Type 0)
+      (none_found : List TreeFile → Option (List ℕ) → Type 0) (suspects : Bool → Type 0)
       (report : Place Q V) (commands : Reader R) (written : Writer W) (messages : Writer M) (status : ℕ)
-      → Served lists gives none_found options report commands written messages status
+      → Served lists gives blames none_found suspects options report commands written messages status
       → AnswersNavigable lists gives options commands written status
-  answers none_found report commands written messages status (not_started fault may untouched tells) none =
+  answers blames none_found suspects report commands written messages status
+      (not_started fault said may untouched reported tells) none =
+      absurd (told_one_no_success _ (start_status said) messages status (start_fails said) tells none)
+  answers blames none_found suspects report commands written messages status
+      (not_begun tree unread ids fault named folders may untouched tells) none =
       absurd (told_no_success _ (start_status fault) messages status (start_fails fault) tells none)
-  answers none_found report commands written messages status
-      (not_begun tree ids fault named folders may untouched tells) none =
-      absurd (told_no_success _ (start_status fault) messages status (start_fails fault) tells none)
-  answers none_found report commands written messages status
-      (over_tree tree ids (Ok recorded) (Ok done) named folders apart runs told ends) none = record {
+  answers blames none_found suspects report commands written messages status
+      (over_tree tree unread ids (Ok recorded) (Ok done) named folders apart runs told ends) none = record {
         tree = tree;
+        unread = unread;
         ids = ids;
         recorded = recorded;
         folders = folders;
-        navigable = (runs.bytes, runs.indexed.index, headline tree ids folders recorded runs.bytes runs.indexed, runs.are);
+        navigable = (runs.bytes, runs.indexed.index, headline tree unread ids folders recorded runs.bytes runs.indexed, runs.are);
       }
-  answers none_found report commands written messages status
-      (over_tree tree ids (Ok recorded) (Err fault) named folders apart runs told ends) none =
+  answers blames none_found suspects report commands written messages status
+      (over_tree tree unread ids (Ok recorded) (Err fault) named folders apart runs told ends) none =
       absurd (told_one_no_success _ (status_of fault) messages status (fails fault) ends none)
-  answers none_found report commands written messages status
-      (over_tree tree ids (Err fault) reported named folders apart runs told ends) none =
+  answers blames none_found suspects report commands written messages status
+      (over_tree tree unread ids (Err fault) reported named folders apart runs told ends) none =
       absurd (told_one_no_success _ (status_of fault) messages status (fails fault) ends none)

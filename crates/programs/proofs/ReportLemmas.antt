@@ -1,5 +1,7 @@
 -- What is reported of a run, by what it answers, and where the report goes.
-use Rattle.std.proofs.Common.{◌≡◌, ◌∙◌, ap, refl, subst, sym, ℕ, true, List, [], Option, None, Some, Result, Ok, Err}
+use Rattle.std.proofs.Common.{◌≡◌, ◌∙◌, ◌+◌, ap, arith, refl, subst, sym, ℕ, true, List, [], Option, None, Some}
+use Rattle.std.proofs.Common.{Result, Ok, Err}
+use Rattle.std.specs.List.{count_by}
 use Rattle.std.specs.Prelude.{IfErr, IfSome, MatchResult, is_some}
 use Rattle.std.specs.Option.{option_map}
 use Rattle.proto_decl.specs.Seen.{Seen}
@@ -11,8 +13,9 @@ use Rattle.scip_build.specs.declared.settings.Settings.{Settings}
 use Rattle.fault_reports.specs.Reports.{report_of}
 use Rattle.fault_reports.specs.declared.report.ReportFormat.{ReportFormat}
 use Rattle.protoscip.specs.FaultLines.{HasFilesOf}
-use Rattle.protoscip.specs.Findings.{counts_of, refused_findings, told_findings}
+use Rattle.protoscip.specs.Findings.{all_findings, counts_of, counts_with, refused_findings}
 use Rattle.protoscip.specs.Statuses.{status_of}
+use Rattle.protoscip.specs.ToldLines.{is_skipped}
 use Rattle.protoscip.specs.ToldTrees.{MayNotTell}
 use Rattle.protoscip.specs.declared.fault.Fault.{Fault}
 use Rattle.protoscip.specs.declared.fault.Fault.TheVariants.{Spawn, Memory, Lex, Syntax, Duplicate, MissingImport}
@@ -53,13 +56,21 @@ any_if_some P (Some a) p = p
 
 -- ---- what is reported
 
-module _ (allows : Seen → Choice → Type 0) (settings : Settings) (tree : List TreeFile) (format : ReportFormat)
-    (status : ℕ) (bytes : List ℕ) where
+-- the counts where all could be read
+counts_alone : (told : List BuildFault) (status : ℕ) → counts_of 0 told status ≡ counts_with 0 [] told status
+counts_alone told status =
+    let skipped = count_by is_skipped told in
+    let none : skipped ≡ 0 + skipped = omega arith in
+    ap (λ (n : ℕ). record (counts_of 0 told status) { skipped = n }) none
+
+module _ (allows : Seen → Choice → Type 0) (settings : Settings) (tree : List TreeFile)
+    (unread : List (List ℕ)) (format : ReportFormat) (status : ℕ) (bytes : List ℕ) where
   pub of_an_index : (told : List BuildFault) (sources : ℕ) → IsSourceCount tree sources
-      → bytes ≡ report_of format (told_findings tree told) (counts_of sources told status)
-      → IsReport allows settings tree format (Ok told) status bytes
+      → bytes ≡ report_of format (all_findings tree unread told) (counts_with sources unread told status)
+      → IsReport allows settings tree unread format (Ok told) status bytes
   of_an_index told sources counted are = record {
-    findings = told_findings tree told;
+    findings = all_findings tree unread told;
+    skipped = unread;
     told = told;
     sources = sources;
     found = of_index;
@@ -70,15 +81,18 @@ module _ (allows : Seen → Choice → Type 0) (settings : Settings) (tree : Lis
   pub of_a_fault : (fault : Fault) (told : List BuildFault) → IsToldBeside allows settings tree fault told
       → status ≡ status_of fault
       → bytes ≡ report_of format (refused_findings tree fault told) (counts_of 0 told (status_of fault))
-      → IsReport allows settings tree format (Err fault) status bytes
+      → IsReport allows settings tree unread format (Err fault) status bytes
   of_a_fault fault told beside same are = record {
     findings = refused_findings tree fault told;
+    skipped = [];
     told = told;
     sources = 0;
     found = of_fault beside;
     sources_are = refl;
-    bytes_are = are
-        ∙ ap (λ (s : ℕ). report_of format (refused_findings tree fault told) (counts_of 0 told s)) (sym same);
+    bytes_are =
+        let findings = refused_findings tree fault told in
+        are ∙ (ap (λ (s : ℕ). report_of format findings (counts_of 0 told s)) (sym same)
+        ∙ ap (report_of format findings) (counts_alone told status));
   }
 
 -- ---- where it goes
@@ -134,11 +148,11 @@ asked_files at options Is workers tree (Some path) reported goes =
 
 pub reported_files : {Q V : Type 0} (at : Place Q V) (options : ReportOptions) (limits : Limits)
     (allows : Seen → Choice → Type 0) (settings : Settings) (workers : ℕ) (tree : List TreeFile)
-    (ran : Result (List BuildFault) Fault) (reported : Result (Unit {0}) Fault)
-    → Reports at options limits allows settings workers tree ran reported → IfErr reported (HasFilesOf tree)
-reported_files at options limits allows settings workers tree ran reported reports =
+    (unread : List (List ℕ)) (ran : Result (List BuildFault) Fault) (reported : Result (Unit {0}) Fault)
+    → Reports at options limits allows settings workers tree unread ran reported → IfErr reported (HasFilesOf tree)
+reported_files at options limits allows settings workers tree unread ran reported reports =
     asked_files at options
-    (λ format. IsReport allows settings tree format ran (due_status ran reports.0)) workers tree (path_asked options)
+    (λ format. IsReport allows settings tree unread format ran (due_status ran reports.0)) workers tree (path_asked options)
     reported reports.2
 
 pub settled_files : {A : Type 0} (tree : List TreeFile) (ran : Result A Fault) (reported : Result (Unit {0}) Fault)

@@ -1,5 +1,5 @@
 -- What `index` is asked for, and where a report goes.
-use Rattle.std.specs.Prelude.{ℕ, List, [], Option, None, Some, string_bytes}
+use Rattle.std.specs.Prelude.{ℕ, List, Option, None, Some, string_bytes}
 use Rattle.std.specs.Option.{option_map}
 use Rattle.command_line.specs.declared.options.IndexOptions.{IndexOptions}
 use Rattle.command_line.specs.declared.options.Limits.{Limits}

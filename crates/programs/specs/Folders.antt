@@ -10,7 +10,7 @@ use Rattle.scip_symbol.specs.Package.{Package, IsPackage}
 use Rattle.scip_model.specs.Packages.{Root, Packages, ArePackages, package_among, package_of_path}
 use Rattle.command_line.specs.declared.options.IndexOptions.{IndexOptions}
 use Rattle.command_line.specs.declared.options.PackageFolder.{PackageFolder}
-use Rattle.programs.specs.Settings.{package_in}
+use Rattle.programs.specs.Settings.{leaves_out, package_in}
 
 -- the package that the files below a folder belong to
 abbrev pub folder_package : PackageFolder → Package
@@ -62,13 +62,15 @@ pub record AreByFolder (options : IndexOptions) (own : List (List ℕ)) (others 
   pub each : (path : List ℕ) → package_of_path ids path
       ≡ package_among (package_in options) path (roots_of (packages_in options) (own ∷ others))
 
--- the tree is that of the files below the folders, and these are the packages of its files
+-- the tree is that of the files below the folders, this couldn't be read there and was left out, and these are the
+-- packages of the tree's files
 pub record AreFolders (lists : List ℕ → List ℕ → Option Listing → Type 0)
     (gives : List ℕ → Option (List ℕ) → Type 0)
-    (options : IndexOptions) (tree : List TreeFile) (ids : Packages) : Type 0 where
+    (options : IndexOptions) (tree : List TreeFile) (unread : List (List ℕ)) (ids : Packages) : Type 0 where
   pub own : List (List ℕ)
   pub others : List (List (List ℕ))
-  pub below : IsLoadedBelow lists gives (string_bytes options.root) (included_in options) tree own others
+  pub below : IsLoadedBelow lists gives (leaves_out options.faulty) (string_bytes options.root) (included_in options)
+      tree own others unread
   pub by : AreByFolder options own others ids
 
 -- the options name packages

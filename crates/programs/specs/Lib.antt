@@ -3,6 +3,8 @@ pub mod Streams
 -- what is printed and said, and the exit status
 pub mod Messages
 pub mod Printing
+-- why the system refuses
+pub mod Causes
 -- `query`
 pub mod QueryFaults
 pub mod QueryExplanations
@@ -30,6 +32,8 @@ pub mod Limits
 pub mod Asked
 pub mod Placing
 pub mod Reporting
+-- and what is reported of a run that doesn't start
+pub mod StartReports
 pub mod Indexing
 pub mod Serving
 -- the laws

@@ -13,7 +13,7 @@ use Rattle.scip_snapshot.specs.Showing.{Writer}
 use Rattle.command_line.specs.declared.options.Limits.{Limits}
 use Rattle.protoscip.specs.Lines.{plain_line}
 use Rattle.protoscip.specs.declared.fault.Fault.{Fault}
-use Rattle.protoscip.specs.ToldLines.{is_skipped, is_skipped_source}
+use Rattle.protoscip.specs.ToldLines.{is_skipped_source, left_out}
 use Rattle.protoscip.specs.declared.statuses.TheConstants.{SOURCES_STATUS}
 use Rattle.programs.specs.declared.limits.TheConstants.{NO_LIMITS}
 use Rattle.programs.specs.declared.limits.LimitFault.{LimitFault}
@@ -33,21 +33,23 @@ abbrev pub too_few : (least : Option ℕ) → (indexed : ℕ) → Option LimitFa
 too_few None indexed = None
 too_few (Some least) indexed = if nat_lt indexed least then Some (TooFewSources indexed least) else None
 
--- The limit that an index breaks which lacks this, of a tree with this many sources: that of what is left out, or else
--- the other one. Both count as the line with the numbers does.
-abbrev pub broken_by : Limits → (sources : ℕ) → List BuildFault → Option LimitFault
-broken_by limits sources told =
-    option_or (too_many limits.max_skipped (count_by is_skipped told))
+-- The limit that an index breaks which lacks this, of a tree with this many sources, without what couldn't be read:
+-- that of what is left out, or else the other one. Both count as the line with the numbers does.
+abbrev pub broken_by : Limits → (sources : ℕ) → (unread : List (List ℕ)) → List BuildFault → Option LimitFault
+broken_by limits sources unread told =
+    option_or (too_many limits.max_skipped (left_out unread told))
     (too_few limits.min_sources (sources - count_by (is_skipped_source sources) told))
 
 -- the limit that an index of a tree breaks which lacks this, if it breaks one
-abbrev pub Breaks : Limits → List TreeFile → List BuildFault → Option LimitFault → Type 0
-Breaks limits tree told broken = (sources : ℕ) × IsSourceCount tree sources × (broken ≡ broken_by limits sources told)
+abbrev pub Breaks : Limits → List TreeFile → (unread : List (List ℕ)) → List BuildFault → Option LimitFault → Type 0
+Breaks limits tree unread told broken =
+    (sources : ℕ) × IsSourceCount tree sources × (broken ≡ broken_by limits sources unread told)
 
 -- the limit that the index of a run breaks; without an index it breaks none
-abbrev pub IsBrokenBy : Limits → List TreeFile → (ran : Result (List BuildFault) Fault) → Option LimitFault → Type 0
-IsBrokenBy limits tree (Ok told) broken = Breaks limits tree told broken
-IsBrokenBy limits tree (Err fault) broken = broken ≡ None
+abbrev pub IsBrokenBy : Limits → List TreeFile → (unread : List (List ℕ)) → (ran : Result (List BuildFault) Fault)
+    → Option LimitFault → Type 0
+IsBrokenBy limits tree unread (Ok told) broken = Breaks limits tree unread told broken
+IsBrokenBy limits tree unread (Err fault) broken = broken ≡ None
 
 abbrev pub no_limits : Limits
 no_limits = NO_LIMITS
@@ -78,7 +80,8 @@ limit_status = SOURCES_STATUS
 -- the end of a run whose index lacks this and breaks a limit: what it lacks is said as after a success, and then the
 -- limit; `dialect` is the one with which the former is explained
 abbrev pub EndsShort : {M : Type 0} → (none_found : Option (List ℕ) → Type 0) → (explain : Bool)
-    → (dialect : Option Dialect) → List TreeFile → List BuildFault → LimitFault → Writer M → (status : ℕ) → Type 0
-EndsShort {M} none_found explain dialect tree lacks fault messages status =
-    (said : M) × Lacks SaysOfSuccess none_found dialect tree lacks (record messages { after = said }) 0
+    → (dialect : Option Dialect) → List TreeFile → (unread : List (List ℕ)) → List BuildFault → LimitFault → Writer M
+    → (status : ℕ) → Type 0
+EndsShort {M} none_found explain dialect tree unread lacks fault messages status =
+    (said : M) × Lacks SaysOfSuccess none_found dialect tree unread lacks (record messages { after = said }) 0
     × Tells (told explain fault) limit_status (record messages { before = said }) status

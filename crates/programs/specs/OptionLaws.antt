@@ -16,7 +16,7 @@ use Rattle.source_files.specs.Listings.{Listing}
 abbrev pub HeadlineOfFiles : (lists : List ℕ → List ℕ → Option Listing → Type 0)
     → (gives : List ℕ → Option (List ℕ) → Type 0) → IndexOptions → Type 0
 HeadlineOfFiles lists gives options =
-    (tree : List TreeFile) (ids : Packages) → AreFolders lists gives options tree ids
+    (tree : List TreeFile) (unread : List (List ℕ)) (ids : Packages) → AreFolders lists gives options tree unread ids
     → (recorded : Recorded) (bytes : List ℕ)
     → (indexed : IsIndexed (allowed_by options) (settings_in options ids) tree recorded bytes)
     → Navigates (allowed_by options) (settings_in options ids) tree recorded bytes indexed.index

@@ -17,7 +17,7 @@ use Rattle.fault_reports.specs.Findings.{Found}
 use Rattle.fault_reports.specs.Reports.{report_of}
 use Rattle.fault_reports.specs.declared.report.ReportFormat.{ReportFormat}
 use Rattle.fault_reports.specs.declared.report.ReportFormat.TheVariants.{JsonLines, Sarif}
-use Rattle.protoscip.specs.Findings.{counts_of, refused_findings, told_findings}
+use Rattle.protoscip.specs.Findings.{all_findings, counts_with, refused_findings}
 use Rattle.protoscip.specs.ToldTrees.{IsToldOf, MayNotTell}
 use Rattle.protoscip.specs.Statuses.{status_of}
 use Rattle.protoscip.specs.declared.recorded.Recorded.{Recorded}
@@ -63,12 +63,17 @@ abbrev pub IsToldBeside : (allows : Seen → Choice → Type 0) → Settings →
 IsToldBeside allows settings tree fault told =
     (is_of_files fault ≡ true → IsToldOf allows settings.dialect tree told) × (is_of_files fault ≡ false → told ≡ [])
 
--- its findings, and what they are counted by: what the index lacks; or the fault, and what is told beside it
+-- its findings, and what they are counted by: what couldn't be read, and what the index lacks; or the fault, and what
+-- is told beside it. Of a run that is refused nothing is told that couldn't be read: if that isn't the fault itself, the
+-- run leaves it out, and tells its fault alone.
 pub data Finds (allows : Seen → Choice → Type 0) (settings : Settings) (tree : List TreeFile)
-    : (ran : Result (List BuildFault) Fault) → List Found → (told : List BuildFault) → Type 0 where
-  of_index : {told : List BuildFault} → Finds allows settings tree (Ok told) (told_findings tree told) told
+    (unread : List (List ℕ))
+    : (ran : Result (List BuildFault) Fault) → List Found → (skipped : List (List ℕ)) → (told : List BuildFault)
+    → Type 0 where
+  of_index : {told : List BuildFault}
+      → Finds allows settings tree unread (Ok told) (all_findings tree unread told) unread told
   of_fault : {fault : Fault} {told : List BuildFault} → IsToldBeside allows settings tree fault told
-      → Finds allows settings tree (Err fault) (refused_findings tree fault told) told
+      → Finds allows settings tree unread (Err fault) (refused_findings tree fault told) [] told
 
 -- so many sources its counts begin with: without an index, none is indexed
 abbrev pub AreCounted : List TreeFile → (ran : Result (List BuildFault) Fault) → (sources : ℕ) → Type 0
@@ -77,13 +82,15 @@ AreCounted tree (Err fault) sources = sources ≡ 0
 
 -- the bytes of a report of a run that is to end with a status
 pub record IsReport (allows : Seen → Choice → Type 0) (settings : Settings) (tree : List TreeFile)
-    (format : ReportFormat) (ran : Result (List BuildFault) Fault) (status : ℕ) (bytes : List ℕ) : Type 0 where
+    (unread : List (List ℕ)) (format : ReportFormat) (ran : Result (List BuildFault) Fault) (status : ℕ)
+    (bytes : List ℕ) : Type 0 where
   pub findings : List Found
+  pub skipped : List (List ℕ)
   pub told : List BuildFault
   pub sources : ℕ
-  pub found : Finds allows settings tree ran findings told
+  pub found : Finds allows settings tree unread ran findings skipped told
   pub sources_are : AreCounted tree ran sources
-  pub bytes_are : bytes ≡ report_of format findings (counts_of sources told status)
+  pub bytes_are : bytes ≡ report_of format findings (counts_with sources skipped told status)
 
 -- the status that a run is to end with, if its place takes the index
 abbrev pub due_status : (ran : Result (List BuildFault) Fault) → (broken : Option LimitFault) → ℕ
@@ -121,9 +128,9 @@ path_asked options = option_map string_bytes options.path
 
 -- what becomes of the report of a run whose index has to keep limits
 abbrev pub Reports : {Q V : Type 0} → Place Q V → ReportOptions → Limits → (allows : Seen → Choice → Type 0)
-    → Settings → (workers : ℕ) → List TreeFile → (ran : Result (List BuildFault) Fault)
+    → Settings → (workers : ℕ) → List TreeFile → (unread : List (List ℕ)) → (ran : Result (List BuildFault) Fault)
     → (reported : Result (Unit {0}) Fault) → Type 0
-Reports at options limits allows settings workers tree ran reported =
-    (broken : Option LimitFault) × IsBrokenBy limits tree ran broken
-    × GoesIfAsked at options (λ format. IsReport allows settings tree format ran (due_status ran broken)) workers
-    (path_asked options) reported
+Reports at options limits allows settings workers tree unread ran reported =
+    (broken : Option LimitFault) × IsBrokenBy limits tree unread ran broken
+    × GoesIfAsked at options (λ format. IsReport allows settings tree unread format ran (due_status ran broken))
+    workers (path_asked options) reported

@@ -8,6 +8,7 @@ use Rattle.command_line.specs.declared.request.Request.{Request}
 use Rattle.command_line.specs.declared.request.Request.TheVariants as request
 use Rattle.source_files.specs.Exclusions.{ListsWithout}
 use Rattle.source_files.specs.Listings.{Listing}
+use Rattle.programs.specs.Placing.{roots_in}
 
 -- whether links are followed, by a word of `--links`
 abbrev pub follows : LinksWord → Bool
@@ -25,3 +26,8 @@ links_followed (Err refused) = false
 abbrev pub searched_by : IndexOptions → (List ℕ → List ℕ → Option Listing → Type 0)
     → (List ℕ → List ℕ → Option Listing → Type 0)
 searched_by options lists = ListsWithout lists (map string_bytes options.exclude.items)
+
+-- what may be said of why a path can't be read, below the folders that are read, without what `--exclude` leaves out
+abbrev pub blamed_by : IndexOptions → (List (List ℕ) → List (List ℕ) → List ℕ → Option (List ℕ) → Type 0)
+    → (List ℕ → Option (List ℕ) → Type 0)
+blamed_by options blames = blames (roots_in options) (map string_bytes options.exclude.items)

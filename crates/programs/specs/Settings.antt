@@ -1,5 +1,5 @@
 -- What the options of `index` and `shell` say about the run.
-use Rattle.std.specs.Prelude.{string_bytes}
+use Rattle.std.specs.Prelude.{Bool, true, false, string_bytes}
 use Rattle.std.specs.Option.{option_map}
 use Rattle.proto_lex.specs.declared.position.Encoding.{Encoding}
 use Rattle.proto_lex.specs.declared.position.Encoding.TheVariants as encoding
@@ -44,6 +44,11 @@ dialect_of accept.All custom_options = dialect.All
 abbrev pub faulty_of : FaultyWord → Faulty
 faulty_of faulty_word.Refuse = faulty.Refuse
 faulty_of faulty_word.Skip = faulty.Skip
+
+-- if what has faults is skipped, what can't be read below the folders is left out
+abbrev pub leaves_out : FaultyWord → Bool
+leaves_out faulty_word.Refuse = false
+leaves_out faulty_word.Skip = true
 
 -- the package that symbols name
 abbrev pub package_in : IndexOptions → Package

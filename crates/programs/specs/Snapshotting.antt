@@ -1,5 +1,6 @@
 -- What the program `snapshot` does.
--- `gives` is what reading a file may give, `cause` why the last write failed, and `messages` the stream of messages.
+-- `gives` is what reading a file may give, `blames` what may be said of why it can't be read, `cause` why the last
+-- write failed, and `messages` the stream of messages.
 use Rattle.std.specs.Prelude.{◌≡◌, ◌&&◌, ℕ, Bool, true, false, List, Option, None, Some, Result, Ok, Err, string_bytes}
 use Rattle.std.specs.Option.{option_map}
 use Rattle.scip_records.specs.declared.records.Index.{Index}
@@ -9,10 +10,10 @@ use Rattle.scip_snapshot.specs.declared.show_fault.ShowFault.TheVariants.{Write}
 use Rattle.source_files.specs.declared.cause.Cause.{Cause}
 use Rattle.command_line.specs.declared.options.SnapshotOptions.{SnapshotOptions}
 use Rattle.programs.specs.declared.query_fault.QueryFault.{QueryFault}
-use Rattle.programs.specs.Messages.{IsSilent, Tells}
+use Rattle.programs.specs.Messages.{IsSilent, Tells, TellsOne}
 use Rattle.programs.specs.Printing.{EndsCut, is_closed}
 use Rattle.programs.specs.Queries.{IsReadFrom}
-use Rattle.programs.specs.QueryExplanations.{told as query_told}
+use Rattle.programs.specs.QueryExplanations.{IsTold as IsQueryTold}
 use Rattle.programs.specs.QueryFaults.{status_of as query_status}
 use Rattle.programs.specs.ShowFaults.{told, status_of}
 
@@ -54,13 +55,14 @@ pub record ShowsAndEnds {W O M : Type 0} (gives : List ℕ → Option (List ℕ)
 
 -- the index of the file with a path can't be read, and nothing is printed or made; or it is read, and its documents are
 -- shown
-pub data RunsSnapshot {W O M : Type 0} (gives : List ℕ → Option (List ℕ) → Type 0) (cause : W → Option Cause)
+pub data RunsSnapshot {W O M : Type 0} (gives blames : List ℕ → Option (List ℕ) → Type 0) (cause : W → Option Cause)
     (options : SnapshotOptions) (out : Writer W) (files : Maker O) (messages : Writer M) (status : ℕ)
     : Type 0 where
   unread : (fault : QueryFault) → IsReadFrom (gives (string_bytes options.index)) (Err fault)
       → out.after ≡ out.before → files.after ≡ files.before
-      → Tells (query_told options.explain (string_bytes options.index) fault) (query_status fault) messages status
-      → RunsSnapshot gives cause options out files messages status
+      → TellsOne (IsQueryTold blames options.explain (string_bytes options.index) fault) (query_status fault) messages
+      status
+      → RunsSnapshot gives blames cause options out files messages status
   read : (index : Index) → IsReadFrom (gives (string_bytes options.index)) (Ok index)
       → ShowsAndEnds gives cause options index out files messages status
-      → RunsSnapshot gives cause options out files messages status
+      → RunsSnapshot gives blames cause options out files messages status

@@ -1,24 +1,42 @@
 -- What is added to the line of why a program about a tree doesn't start, if that is to be explained. (The texts are
 -- this project's own.)
-use Rattle.std.specs.Prelude.{Bool, ℕ, List, [], ◌++◌, codes, if◌then◌else◌}
+use Rattle.std.specs.Prelude.{Bool, true, ℕ, List, [], ◌++◌, Option, None, Some, codes, string_bytes, if◌then◌else◌}
 use Rattle.source_files.specs.declared.load_fault.LoadFault.TheVariants.{Unreadable, TooMany, BadPath, SamePath, Memory}
 use Rattle.programs.specs.declared.start_fault.StartFault.{StartFault}
 use Rattle.programs.specs.declared.start_fault.StartFault.TheVariants.{BadPart, BadFolder, Load, IsSource, ReportIsSource}
 use Rattle.programs.specs.declared.start_fault.StartFault.TheVariants.{ReportIsOut}
+use Rattle.programs.specs.Causes.{IsReasoned}
 use Rattle.programs.specs.StartFaults.{line_of}
 
--- nothing for a fault of the command line, and for lack of memory
+-- a sentence about it
+abbrev pub sentence_of : StartFault → List ℕ
+sentence_of BadPart = codes "a part of the package begins with a space or is `.`"
+sentence_of (BadFolder path) = codes "a part of the package of this folder begins with a space or is `.`"
+sentence_of (Load (Unreadable name)) = codes "it isn't there, or can't be read, or an entry's name isn't UTF-8"
+sentence_of (Load TooMany) = codes "the sources and the included files are at most 65536"
+sentence_of (Load (BadPath path)) = codes "a path has at most 4096 bytes, and no character below U+0020"
+sentence_of (Load (SamePath path)) = codes "two sources have this path"
+sentence_of (Load Memory) = codes "memory ran out"
+sentence_of (IsSource path) = codes "it is a source that was read, or a link to one; the index would replace it"
+sentence_of (ReportIsSource path) = codes "it is a source that was read, or a link to one; the report would replace it"
+sentence_of (ReportIsOut path) = codes "the index goes there, so its report can't"
+
+-- it is said behind a line end; but not of a fault of the command line, nor of lack of memory
 abbrev pub explanation_of : StartFault → List ℕ
 explanation_of BadPart = []
 explanation_of (BadFolder path) = []
-explanation_of (Load (Unreadable name)) = codes "\nit isn't there, or can't be read, or an entry's name isn't UTF-8"
-explanation_of (Load TooMany) = codes "\nthe sources and the included files are at most 65536"
-explanation_of (Load (BadPath path)) = codes "\na path has at most 4096 bytes, and no character below U+0020"
-explanation_of (Load (SamePath path)) = codes "\ntwo sources have this path"
 explanation_of (Load Memory) = []
-explanation_of (IsSource path) = codes "\nit is a source that was read, or a link to one; the index would replace it"
-explanation_of (ReportIsSource path) = codes "\nit is a source that was read, or a link to one; the report would replace it"
-explanation_of (ReportIsOut path) = codes "\nthe index goes there, so its report can't"
+explanation_of fault = codes "\n" ++ sentence_of fault
 
 abbrev pub told : (explain : Bool) → StartFault → List ℕ
 told explain fault = line_of fault ++ (if explain then explanation_of fault else [])
+
+-- the path of what can't be read, if that is to be explained
+abbrev pub unread_path : (explain : Bool) → StartFault → Option (List ℕ)
+unread_path true (Load (Unreadable name)) = Some (string_bytes name)
+unread_path explain fault = None
+
+-- and so it is told, with why that can't be read; `blames` is what may be said of a path
+abbrev pub IsTold : (blames : List ℕ → Option (List ℕ) → Type 0) → (explain : Bool) → StartFault → (text : List ℕ)
+    → Type 0
+IsTold blames explain fault text = IsReasoned blames (unread_path explain fault) (told explain fault) text

@@ -10,7 +10,7 @@ use Rattle.command_line.specs.declared.options.PackageFolder.{PackageFolder}
 use Rattle.programs.specs.declared.start_fault.StartFault.{StartFault}
 use Rattle.programs.specs.declared.start_fault.StartFault.TheVariants.{BadPart, BadFolder, Load, IsSource, ReportIsSource}
 use Rattle.programs.specs.declared.start_fault.StartFault.TheVariants.{ReportIsOut}
-use Rattle.programs.specs.Settings.{package_in}
+use Rattle.programs.specs.Settings.{leaves_out, package_in}
 use Rattle.programs.specs.Folders.{folder_package, included_in, NamePackages, HasBadFolder}
 
 -- the options name no package of the run; or memory ran out
@@ -53,7 +53,7 @@ MayNotStart lists gives options (BadFolder path) =
     IsPackage (package_in options) × HasBadFolder options.include_packages.items (string_bytes path)
 MayNotStart lists gives options (Load load.Memory) = Unit {0}
 MayNotStart lists gives options (Load fault) = NamePackages options
-    × MayNotLoad lists gives (string_bytes options.root) (included_in options) fault
+    × MayNotLoad lists gives (leaves_out options.faulty) (string_bytes options.root) (included_in options) fault
 MayNotStart lists gives options (IsSource path) = ⊥
 MayNotStart lists gives options (ReportIsSource path) = ⊥
 MayNotStart lists gives options (ReportIsOut path) = ⊥

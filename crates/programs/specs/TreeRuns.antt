@@ -14,42 +14,52 @@ use Rattle.protoscip.specs.declared.recorded.Recorded.{Recorded}
 use Rattle.protoscip.specs.Explanations.{IsFaultText}
 use Rattle.protoscip.specs.Headline.{IsNavigable}
 use Rattle.protoscip.specs.Statuses.{status_of}
-use Rattle.protoscip.specs.ToldLines.{IsToldText}
+use Rattle.protoscip.specs.ToldLines.{IsToldTextWith}
 use Rattle.command_line.specs.declared.options.IndexOptions.{IndexOptions}
 use Rattle.programs.specs.Messages.{SaysIfAny, TellsOne}
 use Rattle.programs.specs.Folders.{AreFolders}
 use Rattle.programs.specs.Settings.{allowed_by, settings_in}
 use Rattle.source_files.specs.Listings.{Listing}
 
--- the end of a run that made an index which lacks this; `says` says how a text with a property is written after a
--- success. If it lacks nothing, the line of none found is said, if there is one; else a line for each, and then their
--- numbers
-abbrev pub Lacks : {M : Type 0} → (says : (List ℕ → Type 0) → Writer M → (status : ℕ) → Type 0)
-    → (none_found : Option (List ℕ) → Type 0) → (explain : Option Dialect) → List TreeFile → List BuildFault
-    → Writer M → (status : ℕ) → Type 0
-Lacks says none_found explain tree [] messages status =
-    (line : Option (List ℕ)) × none_found line × SaysIfAny line messages status
-Lacks says none_found explain tree (first ∷ others) messages status =
+-- `says` says how a text with a property is written after a success: here a line for each thing that couldn't be read
+-- or that an index lacks, and then their numbers
+abbrev pub SaysAll : {M : Type 0} → (says : (List ℕ → Type 0) → Writer M → (status : ℕ) → Type 0)
+    → (explain : Option Dialect) → List TreeFile → (unread : List (List ℕ)) → List BuildFault → Writer M
+    → (status : ℕ) → Type 0
+SaysAll says explain tree unread told messages status =
     (sources : ℕ) × IsSourceCount tree sources
-    × says (IsToldText explain tree sources (first ∷ others)) messages status
+    × says (IsToldTextWith explain tree sources unread told) messages status
 
--- the end of a run over a tree: after a success, what is told of it is said; after a fault, the line of the fault,
--- explained if that is asked for, with its status
+-- the end of a run that made an index which lacks this, of a tree without what couldn't be read. If nothing is lacking,
+-- the line of none found is said, if there is one; else all that is
+abbrev pub Lacks : {M : Type 0} → (says : (List ℕ → Type 0) → Writer M → (status : ℕ) → Type 0)
+    → (none_found : Option (List ℕ) → Type 0) → (explain : Option Dialect) → List TreeFile
+    → (unread : List (List ℕ)) → List BuildFault → Writer M → (status : ℕ) → Type 0
+Lacks says none_found explain tree [] [] messages status =
+    (line : Option (List ℕ)) × none_found line × SaysIfAny line messages status
+Lacks says none_found explain tree [] (first ∷ others) messages status =
+    SaysAll says explain tree [] (first ∷ others) messages status
+Lacks says none_found explain tree (path ∷ unread) told messages status =
+    SaysAll says explain tree (path ∷ unread) told messages status
+
+-- the end of a run over a tree: after a success, what is told of it is said; after a fault, the line of the fault
+-- alone, explained if that is asked for, with its status
 abbrev pub Ends : {M A : Type 0} → (says : (List ℕ → Type 0) → Writer M → (status : ℕ) → Type 0)
-    → (none_found : Option (List ℕ) → Type 0) → (explain : Option Dialect) → List TreeFile → (A → List BuildFault)
-    → Result A Fault → Writer M → (status : ℕ) → Type 0
-Ends says none_found explain tree told_of (Ok done) messages status =
-    Lacks says none_found explain tree (told_of done) messages status
-Ends says none_found explain tree told_of (Err fault) messages status =
+    → (none_found : Option (List ℕ) → Type 0) → (explain : Option Dialect) → List TreeFile
+    → (unread : List (List ℕ)) → (A → List BuildFault) → Result A Fault → Writer M → (status : ℕ) → Type 0
+Ends says none_found explain tree unread told_of (Ok done) messages status =
+    Lacks says none_found explain tree unread (told_of done) messages status
+Ends says none_found explain tree unread told_of (Err fault) messages status =
     TellsOne (IsFaultText explain tree fault) (status_of fault) messages status
 
--- There is a tree of the files that the options name, and an index of it by what they allow and say navigates it;
+-- There is a tree of the files that the options name, but for what couldn't be read, and an index of it by what they allow and say navigates it;
 -- `goes` says what becomes of its bytes and of it.
 pub record AreNavigable (lists : List ℕ → List ℕ → Option Listing → Type 0)
     (gives : List ℕ → Option (List ℕ) → Type 0)
     (options : IndexOptions) (goes : (bytes : List ℕ) → Index → Type 0) : Type 0 where
   pub tree : List TreeFile
+  pub unread : List (List ℕ)
   pub ids : Packages
   pub recorded : Recorded
-  pub folders : AreFolders lists gives options tree ids
+  pub folders : AreFolders lists gives options tree unread ids
   pub navigable : IsNavigable goes (allowed_by options) (settings_in options ids) tree recorded

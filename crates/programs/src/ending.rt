@@ -1,6 +1,6 @@
 //! How a program about a tree ends.
 
-ghost use Rattle.std.specs.Prelude.{◌≡◌, string_bytes};
+ghost use Rattle.std.specs.Prelude.{◌≡◌, map, string_bytes};
 ghost use Rattle.std.specs.Option.{option_map};
 ghost use Rattle.protoscip.specs.Explanations.{IsFaultText};
 ghost use Rattle.protoscip.specs.FaultLines.{HasFilesOf, HaveFilesOf};
@@ -10,32 +10,41 @@ ghost use Rattle.programs.specs.Messages.{SaysIfAny, TellsOfSuccess, TellsOne};
 ghost use Rattle.programs.specs.TreeRuns.{Lacks};
 
 use crate::messages::report;
+use crate::starting::TreeRun;
 use proto_parse::Dialect;
-use protoscip::{Fault, fault_text, told_text};
+use protoscip::{Fault, Telling, fault_text, lacks_nothing, told_text_with};
 use scip_build::BuildFault;
 use scip_snapshot::say;
 use source_tree::Tree;
 use std::alloc::Global;
 use streams::Sink;
 
-/// Says what an index of the tree lacks, if it lacks anything, and else the line that says that there are no sources,
-/// if there is one; and gives the exit status.
+/// Says what couldn't be read, and what an index of the tree lacks, if anything is lacking, and else the line that says
+/// that there are no sources, if there is one; and gives the exit status.
 pub(crate) fn tell<M: Sink>(
     alloc: Global,
-    tree: &Tree,
+    run: &TreeRun,
     told: &[BuildFault],
-    none_found: &Option<String>,
     explain: Option<Dialect>,
     messages: &mut M,
 ) -> u8
-    requires { HaveFilesOf tree.now told.now }
-    ensures { Lacks TellsOfSuccess (λ line. line ≡ option_map string_bytes none_found.now) explain tree.now told.now
+    requires { HaveFilesOf run.now.tree told.now }
+    ensures { Lacks TellsOfSuccess (λ line. line ≡ option_map string_bytes run.now.none_found) explain run.now.tree
+        (map string_bytes run.now.unread.items) told.now
         (writer M.contents M.failures messages.old messages.new) result }
 {
-    if told.is_empty() {
-        return say_line(none_found, messages);
+    let telling = Telling {
+        unread: run.unread.as_slice(),
+        explain,
+    };
+    if lacks_nothing(telling.unread, told) {
+        return say_line(&run.none_found, messages);
     }
-    report(told_text(alloc, tree, told, explain), 0, messages)
+    report(
+        told_text_with(alloc, &run.tree, told, &telling),
+        0,
+        messages,
+    )
 }
 
 /// Says a line of a success, if there is one, and gives the exit status.

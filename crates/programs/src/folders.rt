@@ -2,7 +2,7 @@
 
 ghost use Rattle.std.specs.Prelude.{◌≡◌, ◌∷◌, ◌++◌, [], IfOk, IfErr, OnOk, map, string_bytes, All};
 ghost use Rattle.scip_symbol.specs.Package.{IsPackage};
-ghost use Rattle.programs.specs.Settings.{package_in};
+ghost use Rattle.programs.specs.Settings.{leaves_out, package_in};
 ghost use Rattle.programs.specs.Folders.{
   AddsRoots,
   AreByFolder,
@@ -22,7 +22,7 @@ use command_line::{IndexOptions, PackageFolder};
 use index_pool::Gate;
 use scip_model::{FilePackages, RootPackage};
 use scip_symbol::PackageId;
-use source_files::{LoadedTree, ReadFiles, Readers, load_tree, load_tree_with_paths};
+use source_files::{Loaded, LoadedTree, ReadFiles, Readers, load_tree, load_tree_with_paths};
 use source_tree::Tree;
 use std::alloc::{AllocError, Global};
 use std::sync::Wait;
@@ -147,10 +147,11 @@ fn add_folders(
     Ok(())
 }
 
-/// A tree, and the packages that its files belong to.
+/// A tree, the paths of what couldn't be read and was left out of it, and the packages that its files belong to.
 #[derive(Drop)]
 pub(crate) struct Folders {
     pub(crate) tree: Tree,
+    pub(crate) unread: Vec<String>,
     pub(crate) packages: FilePackages,
 }
 
@@ -177,7 +178,8 @@ fn packages_by(
 }
 
 /// The tree of the sources below the root and of the files below the included folders, and the packages
-/// that they belong to: of files with one path the first counts.
+/// that they belong to: of files with one path the first counts. Whether what can't be read is left out, the options
+/// have to say as the readers do.
 ///
 /// `BadPart`, of the run, or `BadFolder`, of the first folder whose package has a bad part; then the faults of
 /// `load_tree`.
@@ -185,9 +187,10 @@ pub(crate) fn load_folders<R: Threads + Wait, G: Gate, F: ReadFiles + Sync>(
     readers: &Readers<'_, R, G, F>,
     options: &IndexOptions,
 ) -> Result<Folders, StartFault>
+    requires { readers.now.leaves_out ≡ leaves_out options.now.faulty }
     ensures named { IfOk result (λ _. NamePackages options.now) }
     ensures folders { IfOk result (λ made. AreFolders (F.lists readers.now.files.now) (F.gives readers.now.files.now)
-        options.now made.tree made.packages) }
+        options.now made.tree (map string_bytes made.unread.items) made.packages) }
     ensures stops { IfErr result (MayNotStart (F.lists readers.now.files.now) (F.gives readers.now.files.now)
         options.now) }
 {
@@ -196,14 +199,26 @@ pub(crate) fn load_folders<R: Threads + Wait, G: Gate, F: ReadFiles + Sync>(
     let ids = packages_of_folders(alloc, &options.include_packages)?;
     let root = options.root.as_str();
     if options.include_packages.is_empty() {
-        let tree = load_tree(readers, root, &options.include)?;
+        let found = load_tree(readers, root, &options.include)?;
+        let Loaded { tree, unread } = found;
         return Ok(Folders {
             tree,
+            unread,
             packages: FilePackages::of_run(alloc, run),
         });
     }
     let folders = included_folders(alloc, options)?;
-    let LoadedTree { tree, own, others } = load_tree_with_paths(readers, root, &folders)?;
+    let loaded = load_tree_with_paths(readers, root, &folders)?;
+    let LoadedTree {
+        tree,
+        own,
+        others,
+        unread,
+    } = loaded;
     let packages = packages_by(alloc, options, ids, own, others)?;
-    Ok(Folders { tree, packages })
+    Ok(Folders {
+        tree,
+        unread,
+        packages,
+    })
 }

@@ -1,9 +1,9 @@
 //! The program `index`.
 
-ghost use Rattle.std.specs.Prelude.{◌≡◌, None, Some, [], false, IfErr, IfOk, IfSome, MatchResult, string_bytes};
+ghost use Rattle.std.specs.Prelude.{◌≡◌, None, Some, [], false, IfErr, IfOk, IfSome, MatchResult, map, string_bytes};
 ghost use Rattle.std.specs.Option.{option_map};
 ghost use Rattle.protoscip.specs.FaultLines.{HasFilesOf};
-ghost use Rattle.protoscip.specs.ToldLines.{IsTextOfLacks};
+ghost use Rattle.protoscip.specs.ToldLines.{IsTextOfAllLacks};
 ghost use Rattle.source_files.specs.Places.{IsBegun};
 ghost use Rattle.programs.specs.Asked.{asked_by};
 ghost use Rattle.programs.specs.Choices.{IsChosenBy};
@@ -11,9 +11,10 @@ ghost use Rattle.programs.specs.Indexing.{Indexed, IndexesInto, WritesNavigable}
 ghost use Rattle.programs.specs.Limits.{Breaks};
 ghost use Rattle.programs.specs.Messages.{Says, SaysIfAny, SaysOfSuccess};
 ghost use Rattle.programs.specs.NoSources.{NoneFoundBy};
-ghost use Rattle.programs.specs.Searches.{searched_by};
+ghost use Rattle.programs.specs.Searches.{blamed_by, searched_by};
 ghost use Rattle.programs.specs.Placing.{AreApart, Finishes, IsOneFile, MayNotBegin, place};
 ghost use Rattle.scip_snapshot.specs.Showing.{writer};
+ghost use Rattle.programs.specs.StartReports.{IsOut};
 ghost use Rattle.programs.specs.TreeRuns.{Ends};
 
 use crate::ending::{say_line, stop};
@@ -25,12 +26,13 @@ use crate::messages::report;
 use crate::places::Places;
 use crate::progress::{LineWiped, Progress};
 use crate::reporting::{Reporter, fault_in, report_run, see_report, settle};
-use crate::start_explanations::report_start;
+use crate::start_explanations::{report_start, report_unstarted};
 use crate::start_fault::StartFault;
+use crate::start_reports::put_start_report;
 use crate::starting::{TreeRun, start};
 use command_line::{IndexOptions, Limits};
 use proto_parse::Dialect;
-use protoscip::{Fault, KeptIndex, explain_in, index_and_keep};
+use protoscip::{Fault, KeptIndex, Telling, explain_in, index_and_tell};
 use scip_build::BuildFault;
 use source_files::{Excluding, LookAgain, OutPlace, ReadFiles, is_read_from};
 use source_tree::Tree;
@@ -54,8 +56,8 @@ pub(crate) struct IndexRequest<'a> {
     pub(crate) limits: Limits,
 }
 
-/// Says what an index that is written lacks, or that there are no sources, or why there is no index, and gives the exit
-/// status. It is said once the line of the progress is wiped. The memory of what was made isn't given back.
+/// Says what couldn't be read, and what an index that is written lacks, or that there are no sources, or why there is no
+/// index, and gives the exit status. It is said once the line of the progress is wiped. The memory of what was made isn't given back.
 fn end<M: Sink>(
     _wiped: LineWiped,
     alloc: Global,
@@ -65,10 +67,10 @@ fn end<M: Sink>(
     messages: &mut M,
 ) -> u8
     requires files { IfErr done (HasFilesOf run.now.tree) }
-    requires said { IfOk done (λ kept. IsTextOfLacks explain run.now.tree kept.built.told (option_map string_bytes
-        kept.text)) }
+    requires said { IfOk done (λ kept. IsTextOfAllLacks explain run.now.tree (map string_bytes run.now.unread.items)
+        kept.built.told (option_map string_bytes kept.text)) }
     ensures { Ends SaysOfSuccess (λ line. line ≡ option_map string_bytes run.now.none_found) explain run.now.tree
-        (λ kept. kept.built.told) done.entry (writer M.contents M.failures messages.old messages.new) result }
+        (map string_bytes run.now.unread.items) (λ kept. kept.built.told) done.entry (writer M.contents M.failures messages.old messages.new) result }
 {
     match done {
         Ok(kept) => {
@@ -100,6 +102,16 @@ fn beginning<R: Clock, F>(host: &Host<'_, R, F>, quiet: bool) -> Option<Instant>
         return None;
     }
     Instant::now(host.rt).ok()
+}
+
+/// Whether the report, if one is asked for, would go to the place of the index.
+fn is_out<P: OutPlace>(request: &IndexRequest<'_>, at: &P) -> bool
+    ensures { IsOut (P.same at.now) request.now.path.now request.now.options.now.report result }
+{
+    match &request.options.report.path {
+        Some(path) => path.as_str() == request.path || at.is_file(path.as_str()),
+        None => false,
+    }
 }
 
 /// Sees, if a report is asked for, that it doesn't go to the place of the index. `ReportIsOut`: it does.
@@ -149,14 +161,20 @@ fn begin<P: OutPlace, Q: OutPlace>(
 /// The limit that an index breaks, if there is one and it breaks one.
 fn broken_limit(
     limits: Limits,
-    tree: &Tree,
+    run: &TreeRun,
     done: &Result<KeptIndex<'_>, Fault>,
 ) -> Option<LimitFault>
-    ensures made { IfOk done.now (λ kept. Breaks limits tree.now kept.built.told result) }
+    ensures made { IfOk done.now (λ kept. Breaks limits run.now.tree (map string_bytes run.now.unread.items)
+        kept.built.told result) }
     ensures unmade { IfErr done.now (λ _. result ≡ None) }
 {
     match done {
-        Ok(kept) => broken_by(limits, tree.source_count(), kept.built.told.as_slice()),
+        Ok(kept) => broken_by(
+            limits,
+            run.tree.source_count(),
+            run.unread.as_slice(),
+            kept.built.told.as_slice(),
+        ),
         Err(_) => None,
     }
 }
@@ -197,8 +215,8 @@ fn finish<'a, P: OutPlace>(
 }
 
 /// Builds the index of the sources of a tree, writes it beside its place, makes its report, puts the index there, and
-/// gives the exit status. What the index lacks is said; or why it stops, if it does. An index whose report can't be
-/// written isn't put there, nor one that breaks a limit; the limit is said, too.
+/// gives the exit status. What couldn't be read and what the index lacks is said; or why it stops, if it does. An index
+/// whose report can't be written isn't put there, nor one that breaks a limit; the limit is said, too.
 fn index_over<R, F, P: OutPlace, Q: OutPlace, M: Sink>(
     host: &Host<'_, R, F>,
     request: &IndexRequest<'_>,
@@ -212,7 +230,7 @@ where
     ensures { IndexesInto (λ _ line. line ≡ option_map string_bytes run.now.none_found)
         (asked_by request.now.options.now request.now.path.now request.now.limits)
         (IsChosenBy (option_map (λ f. string_bytes f.promise.0) run.now.choices.filter) (option_map (λ r. r.promise.0)
-        run.now.choices.rule)) run.now.settings run.now.workers run.now.tree
+        run.now.choices.rule)) run.now.settings run.now.workers run.now.tree (map string_bytes run.now.unread.items)
         (place P.holds P.same P.refuses P.gives_up P.Part.contents P.Part.failures places.old.file places.new.file)
         (place Q.holds Q.same Q.refuses Q.gives_up Q.Part.contents Q.Part.failures places.old.report
         places.new.report) (writer M.contents M.failures messages.old messages.new) result }
@@ -225,7 +243,11 @@ where
     let gate = Progress::over(host.alloc, host.rt, begun, &run.tree);
     let work = run.over(host.rt, host.alloc, &gate);
     let (tree, choices, settings) = (&run.tree, &run.choices, &run.settings);
-    let ran = index_and_keep(&work, tree, choices, settings, explain, &mut part);
+    let telling = Telling {
+        unread: run.unread.as_slice(),
+        explain: explain_in(explain, settings.dialect),
+    };
+    let ran = index_and_tell(&work, tree, choices, settings, &telling, &mut part);
     let reporter = Reporter {
         rt: host.rt,
         alloc: host.alloc,
@@ -235,11 +257,10 @@ where
     };
     let reported = report_run(&reporter, told_in(&ran), fault_in(&ran), &mut places.report);
     let done = settle(ran, reported);
-    let broken = broken_limit(request.limits, &run.tree, &done);
+    let broken = broken_limit(request.limits, run, &done);
     let done = finish(done, broken, part, &mut places.file);
     let wiped = gate.wipe();
-    let dialect = explain_in(explain, run.settings.dialect);
-    let status = end(wiped, host.alloc, run, done, dialect, messages);
+    let status = end(wiped, host.alloc, run, done, telling.explain, messages);
     match broken {
         Some(fault) => report_limit(host.alloc, fault, explain, messages),
         None => status,
@@ -248,9 +269,9 @@ where
 
 /// Reads the sources below the root of the options and the files below their included roots, builds
 /// the index of the sources, writes it to a part of its place, makes its report if one is asked for, puts the index
-/// there, and gives the exit status. What the index lacks is said, or that there are no sources, where somebody is
-/// told; or why it stops, if it does: after every fault the place of the index is as it was, and if the index breaks a
-/// limit. The memory of the tree and of what was made of it isn't given back: the program ends.
+/// there, and gives the exit status. What couldn't be read and what the index lacks is said, or that there are no
+/// sources, where somebody is told; or why it stops, if it does: after every fault the place of the index is as it was,
+/// and if the index breaks a limit. The memory of the tree and of what was made of it isn't given back: the program ends.
 ///
 /// Of the faults the first is said: a bad part of the package; what can't be read; that the files make
 /// no tree; that one of them is the file at the place of the index; that the report would go there, or that one of them
@@ -268,7 +289,9 @@ fn index<R, F: ReadFiles + LookAgain + Sync, P: OutPlace, Q: OutPlace, M: Sink>(
 where
     R: Threads + Wait + Clock + Eprint + Sync,
     ensures indexed { Indexed (F.lists host.now.files.now) (F.gives host.now.files.now)
+        (blamed_by request.now.options.now (F.blames host.now.files.now))
         (NoneFoundBy (F.passes host.now.files.now) host.now.is_watched request.now.options.now)
+        (Q.suspects places.old.report)
         (asked_by request.now.options.now request.now.path.now request.now.limits)
         (place P.holds P.same P.refuses P.gives_up P.Part.contents P.Part.failures places.old.file places.new.file)
         (place Q.holds Q.same Q.refuses Q.gives_up Q.Part.contents Q.Part.failures places.old.report
@@ -283,7 +306,12 @@ where
     let begun = beginning(host, request.quiet);
     let run = match start(host, options) {
         Ok(start) => start,
-        Err(fault) => return report_start(host.alloc, &fault, options.explain, messages),
+        Err(fault) => {
+            let is_out = is_out(request, &places.file);
+            let report = &options.report;
+            let said = put_start_report(host.alloc, report, is_out, fault, &mut places.report);
+            return report_unstarted(host, options, &said, messages);
+        }
     };
     let status = index_over(host, request, begun, &run, places, messages);
     forget(run);
@@ -300,8 +328,9 @@ pub(crate) fn index_searched<R, F: ReadFiles + LookAgain + Sync, P: OutPlace, Q:
 where
     R: Threads + Wait + Clock + Eprint + Sync,
     ensures indexed { Indexed (searched_by request.now.options.now (F.lists host.now.files.now))
-        (F.gives host.now.files.now)
+        (F.gives host.now.files.now) (blamed_by request.now.options.now (F.blames host.now.files.now))
         (NoneFoundBy (F.passes host.now.files.now) host.now.is_watched request.now.options.now)
+        (Q.suspects places.old.report)
         (asked_by request.now.options.now request.now.path.now request.now.limits)
         (place P.holds P.same P.refuses P.gives_up P.Part.contents P.Part.failures places.old.file places.new.file)
         (place Q.holds Q.same Q.refuses Q.gives_up Q.Part.contents Q.Part.failures places.old.report

@@ -18,7 +18,7 @@ mod querying;
 mod show_faults;
 mod snapshotting;
 
-// `pages`: the sources of an index as pages, in files.
+// `pages`: the sources of an index as pages, in a folder.
 mod paging;
 mod site_faults;
 
@@ -31,6 +31,7 @@ mod package;
 mod settings;
 mod start_explanations;
 mod start_fault;
+mod start_reports;
 mod starting;
 
 // `index`: the index of a tree goes to a file, and its report, too.
@@ -47,10 +48,12 @@ mod serving;
 mod laws;
 
 // What is printed and said, and the exit status.
+mod causes;
 mod messages;
 mod output;
 mod statuses;
 
+pub use causes::explain_failure;
 pub use choices::OptionChoices;
 pub use host::Host;
 pub use laws::headline_of_options;

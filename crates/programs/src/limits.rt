@@ -1,6 +1,6 @@
 //! The limits that an index has to keep.
 
-ghost use Rattle.std.specs.Prelude.{◌≡◌, IfOk, string_bytes};
+ghost use Rattle.std.specs.Prelude.{◌≡◌, IfOk, map, string_bytes};
 ghost use Rattle.scip_snapshot.specs.Showing.{writer};
 ghost use Rattle.programs.specs.Limits.{
   broken_by,
@@ -16,7 +16,7 @@ ghost use Rattle.programs.specs.Messages.{Tells};
 
 use crate::messages::report;
 use command_line::Limits;
-use protoscip::{SOURCES_STATUS, count_skipped, count_skipped_sources, plain_line};
+use protoscip::{SOURCES_STATUS, count_left_out, count_skipped_sources, plain_line};
 use scip_build::BuildFault;
 use std::alloc::{AllocError, Global};
 use streams::Sink;
@@ -117,13 +117,19 @@ fn too_few(least: Option<usize>, indexed: usize) -> Option<LimitFault>
     }
 }
 
-/// The limit that an index breaks which lacks this, of a tree with this many sources. That of what is left out is the
-/// first.
-pub(crate) fn broken_by(limits: Limits, sources: usize, told: &[BuildFault]) -> Option<LimitFault>
-    ensures { result ≡ broken_by limits sources told.now }
+/// The limit that an index breaks which lacks this, of a tree with this many sources, without what couldn't be read.
+/// That of what is left out is the first.
+pub(crate) fn broken_by(
+    limits: Limits,
+    sources: usize,
+    unread: &[String],
+    told: &[BuildFault],
+) -> Option<LimitFault>
+    ensures { result ≡ broken_by limits sources (map string_bytes unread.now) told.now }
 {
     let indexed = sources.saturating_sub(count_skipped_sources(sources, told));
-    too_many(limits.max_skipped, count_skipped(told)).or(too_few(limits.min_sources, indexed))
+    let skipped = count_left_out(unread, told);
+    too_many(limits.max_skipped, skipped).or(too_few(limits.min_sources, indexed))
 }
 
 /// Says which limit an index breaks, explained if that is asked for, and gives the exit status.

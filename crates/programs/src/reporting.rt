@@ -1,11 +1,11 @@
 //! The report of a run over a tree.
 
-ghost use Rattle.std.specs.Prelude.{◌≡◌, ℕ, None, Some, false, IfErr, IfOk, IfSome, MatchResult, string_bytes};
+ghost use Rattle.std.specs.Prelude.{◌≡◌, ℕ, None, Some, false, IfErr, IfOk, IfSome, MatchResult, map, string_bytes};
 ghost use Rattle.std.specs.Option.{option_map};
 ghost use Rattle.source_tree.specs.Trees.{IsSourceCount};
 ghost use Rattle.fault_reports.specs.Reports.{report_of};
 ghost use Rattle.protoscip.specs.FaultLines.{HasFilesOf, HaveFilesOf};
-ghost use Rattle.protoscip.specs.Findings.{counts_of, refused_findings, told_findings};
+ghost use Rattle.protoscip.specs.Findings.{all_findings, counts_of, counts_with, refused_findings};
 ghost use Rattle.protoscip.specs.Statuses.{status_of};
 ghost use Rattle.protoscip.specs.ToldTrees.{MayNotTell};
 ghost use Rattle.programs.specs.Choices.{IsChosenBy};
@@ -30,7 +30,9 @@ use crate::starting::TreeRun;
 use command_line::{IndexOptions, Limits, ReportOptions, ReportWord};
 use fault_reports::{ReportFormat, report_bytes};
 use index_pool::NoGate;
-use protoscip::{Fault, SOURCES_STATUS, counts_of, refused_findings, told_findings, told_of_tree};
+use protoscip::{
+    Fault, SOURCES_STATUS, all_findings, counts_of, counts_with, refused_findings, told_of_tree,
+};
 use scip_build::BuildFault;
 use sequences::Sequence;
 use source_files::{OutPlace, is_read_from};
@@ -100,7 +102,7 @@ fn is_of_files(fault: &Fault) -> bool
 }
 
 /// The form of a report.
-fn format_of(word: ReportWord) -> ReportFormat
+pub(crate) fn format_of(word: ReportWord) -> ReportFormat
     ensures { result ≡ format_of word }
 {
     match word {
@@ -120,35 +122,37 @@ fn due_status(fault: Option<Fault>, broken: Option<LimitFault>, told: &[BuildFau
     }
 }
 
-/// The limit that an index of the tree breaks which lacks this; none if there is a fault in its place.
+/// The limit that an index of the run's tree breaks which lacks this; none if there is a fault in its place.
 fn limit_broken(
     limits: Limits,
-    tree: &Tree,
+    run: &TreeRun,
     fault: Option<Fault>,
     told: &[BuildFault],
 ) -> Option<LimitFault>
-    ensures { IsBrokenBy limits tree.now (ran_of told.now fault) result }
+    ensures { IsBrokenBy limits run.now.tree (map string_bytes run.now.unread.items) (ran_of told.now fault) result }
 {
     match fault {
         Some(_) => None,
-        None => broken_by(limits, tree.source_count(), told),
+        None => broken_by(limits, run.tree.source_count(), run.unread.as_slice(), told),
     }
 }
 
-/// The bytes of the report of an index that lacks this.
+/// The bytes of the report of an index that lacks this, of the tree of a run.
 fn report_of_index(
     alloc: Global,
     format: ReportFormat,
-    tree: &Tree,
+    run: &TreeRun,
     told: &[BuildFault],
     status: u8,
 ) -> Result<Vec<u8>, AllocError>
-    requires { HaveFilesOf tree.now told.now }
-    ensures { IfOk result (λ bytes. (sources : ℕ) × IsSourceCount tree.now sources
-        × (bytes.items ≡ report_of format (told_findings tree.now told.now) (counts_of sources told.now status))) }
+    requires { HaveFilesOf run.now.tree told.now }
+    ensures { IfOk result (λ bytes. (sources : ℕ) × IsSourceCount run.now.tree sources
+        × (bytes.items ≡ report_of format (all_findings run.now.tree (map string_bytes run.now.unread.items) told.now)
+        (counts_with sources (map string_bytes run.now.unread.items) told.now status))) }
 {
-    let findings = told_findings(alloc, tree, told)?;
-    let counts = counts_of(tree.source_count(), told, status);
+    let unread = run.unread.as_slice();
+    let findings = all_findings(alloc, &run.tree, unread, told)?;
+    let counts = counts_with(run.tree.source_count(), unread, told, status);
     report_bytes(alloc, format, findings.as_slice(), &counts)
 }
 
@@ -204,8 +208,8 @@ impl<R: Threads + Wait> Reporter<'_, R> {
         requires status { IfSome fault (λ fault. status ≡ status_of fault) }
         ensures made { IfOk result (λ bytes. IsReport (IsChosenBy (option_map (λ f. string_bytes f.promise.0)
             self.now.run.now.choices.filter) (option_map (λ r. r.promise.0) self.now.run.now.choices.rule))
-            self.now.run.now.settings self.now.run.now.tree (format_of self.now.options.now.format)
-            (ran_of told.now fault) status bytes.items) }
+            self.now.run.now.settings self.now.run.now.tree (map string_bytes self.now.run.now.unread.items)
+            (format_of self.now.options.now.format) (ran_of told.now fault) status bytes.items) }
         ensures stops { IfErr result (MayNotTell self.now.run.now.workers) }
     {
         let format = format_of(self.options.format);
@@ -215,13 +219,13 @@ impl<R: Threads + Wait> Reporter<'_, R> {
                 let beside = self.told_beside(fault)?;
                 Ok(report_of_fault(self.alloc, format, tree, fault, beside.as_slice())?)
             }
-            None => Ok(report_of_index(self.alloc, format, tree, told, status)?),
+            None => Ok(report_of_index(self.alloc, format, self.run, told, status)?),
         }
     }
 }
 
 /// Writes bytes to a part of a place, and puts it there. `Write`: a write fails, or the place refuses the part.
-fn put_bytes<Q: OutPlace>(alloc: Global, at: &mut Q, bytes: &[u8]) -> Result<(), Fault>
+pub(crate) fn put_bytes<Q: OutPlace>(alloc: Global, at: &mut Q, bytes: &[u8]) -> Result<(), Fault>
     ensures { (workers : ℕ) → GoesTo (place Q.holds Q.same Q.refuses Q.gives_up Q.Part.contents Q.Part.failures
         at.old at.new) (λ all. all ≡ bytes.now) workers result }
 {
@@ -251,11 +255,10 @@ pub(crate) fn report_run<R: Threads + Wait, Q: OutPlace>(
     ensures { Reports (place Q.holds Q.same Q.refuses Q.gives_up Q.Part.contents Q.Part.failures at.old at.new)
         reporter.now.options.now reporter.now.limits (IsChosenBy (option_map (λ f. string_bytes f.promise.0)
         reporter.now.run.now.choices.filter) (option_map (λ r. r.promise.0) reporter.now.run.now.choices.rule))
-        reporter.now.run.now.settings reporter.now.run.now.workers reporter.now.run.now.tree (ran_of told.now fault)
-        result }
+        reporter.now.run.now.settings reporter.now.run.now.workers reporter.now.run.now.tree
+        (map string_bytes reporter.now.run.now.unread.items) (ran_of told.now fault) result }
 {
-    let tree = &reporter.run.tree;
-    let broken = limit_broken(reporter.limits, tree, fault, told);
+    let broken = limit_broken(reporter.limits, reporter.run, fault, told);
     if reporter.options.path.is_none() {
         return Ok(());
     }

@@ -25,11 +25,11 @@ ghost use Rattle.programs.specs.Dumping.{EndsDump};
 ghost use Rattle.programs.specs.Indexing.{Indexed, WritesNavigable};
 ghost use Rattle.programs.specs.Messages.{Tells, memory_line, memory_status};
 ghost use Rattle.programs.specs.NoSources.{NoneFoundBy};
-ghost use Rattle.programs.specs.Paging.{RunsPages};
+ghost use Rattle.programs.specs.Paging.{RunsPages, folder_places};
 ghost use Rattle.programs.specs.Placing.{place};
 ghost use Rattle.programs.specs.Printing.{Prints, Refuses, is_closed};
 ghost use Rattle.programs.specs.Queries.{Queried};
-ghost use Rattle.programs.specs.Searches.{links_followed, searched_by};
+ghost use Rattle.programs.specs.Searches.{blamed_by, links_followed, searched_by};
 ghost use Rattle.programs.specs.Serving.{AnswersNavigable, Served};
 ghost use Rattle.programs.specs.Settings.{dialect_of};
 ghost use Rattle.programs.specs.Snapshotting.{RunsSnapshot};
@@ -49,7 +49,7 @@ use crate::snapshotting::snapshot;
 use crate::statuses::COMMAND_LINE_STATUS;
 use command_line::{LinksWord, ReportOptions, Request};
 use protoscip::{MEMORY_STATUS, plain_line};
-use source_files::{Caused, EmptyFolders, LookAgain, MakeFiles, OutPlace, ReadFiles};
+use source_files::{Caused, EmptyFolders, FolderPlace, LookAgain, MakeFiles, OutPlace, ReadFiles};
 use std::alloc::AllocError;
 use std::sync::Wait;
 use std::thread::Threads;
@@ -66,7 +66,7 @@ fn refuse<M: Sink>(text: &str, messages: &mut M) -> u8
 
 /// Answers commands about the index that a file holds, and gives the exit status. If it stops early, it reports why,
 /// explained if that is asked for.
-fn answer<R, F: ReadFiles, I: Feed, W: Sink, M: Sink>(
+fn answer<R, F: ReadFiles + LookAgain, I: Feed, W: Sink, M: Sink>(
     host: &Host<'_, R, F>,
     path: &str,
     explain: bool,
@@ -77,11 +77,12 @@ fn answer<R, F: ReadFiles, I: Feed, W: Sink, M: Sink>(
     ensures { (done : Result (Unit {0}) QueryFault)
         × Queried (F.gives host.now.files.now path.now) (reader I.remaining I.failures I.reads I.ends input.old
         input.new) (writer W.contents W.failures out.old out.new) done
-        × Answers explain path.now done (writer M.contents M.failures messages.old messages.new) result }
+        × Answers (F.blames host.now.files.now [] []) explain path.now done
+        (writer M.contents M.failures messages.old messages.new) result }
 {
     match query(host.alloc, host.files, path, input, out) {
         Ok(()) => 0,
-        Err(fault) => report_query(host.alloc, &fault, path, explain, messages),
+        Err(fault) => report_query(host, &fault, path, explain, messages),
     }
 }
 
@@ -133,9 +134,9 @@ pub fn links_followed(asked: &Result<Request, AllocError>) -> bool
 }
 
 /// Does what was asked for, and gives the exit status. An index goes to the first of the places, which makes the files
-/// of snapshots and of pages too; a report goes to the other; everything else goes to `out`. Where memory ran out while
-/// the command line was read, it says so.
-pub fn run<R, F, I: Feed, W: Sink + Caused, O: OutPlace + MakeFiles, Q: OutPlace, M: Sink>(
+/// of snapshots and the folders of pages too; a report goes to the other; everything else goes to `out`. Where memory
+/// ran out while the command line was read, it says so.
+pub fn run<R, F, I: Feed, W: Sink + Caused, O, Q: OutPlace, M: Sink>(
     host: &Host<'_, R, F>,
     asked: &Result<Request, AllocError>,
     input: &mut I,
@@ -146,6 +147,7 @@ pub fn run<R, F, I: Feed, W: Sink + Caused, O: OutPlace + MakeFiles, Q: OutPlace
 where
     R: Threads + Wait + Clock + Eprint + Sync,
     F: ReadFiles + EmptyFolders + LookAgain + Sync,
+    O: OutPlace + MakeFiles + FolderPlace,
     // Help and the version are printed. Where the pipe is closed, nothing is said of this; nor of a listing, nor of
     // snapshots.
     ensures printed { IfOk asked.now (λ request. IfSome (printed_text request) (λ text.
@@ -171,12 +173,15 @@ where
         QueryFault)
         × Queried (F.gives host.now.files.now path) (reader I.remaining I.failures I.reads I.ends input.old input.new)
         (writer W.contents W.failures out.old out.new) done
-        × Answers (explains request) path done (writer M.contents M.failures messages.old messages.new) result)
+        × Answers (F.blames host.now.files.now [] []) (explains request) path done
+        (writer M.contents M.failures messages.old messages.new) result)
         × (places.new ≡ places.old))) }
     // What `index` does.
     ensures indexed { IfOk asked.now (λ request. IfSome (asked_of request) (λ asked.
         Indexed (searched_by asked.options (F.lists host.now.files.now)) (F.gives host.now.files.now)
-        (NoneFoundBy (F.passes host.now.files.now) host.now.is_watched asked.options) asked
+        (blamed_by asked.options (F.blames host.now.files.now))
+        (NoneFoundBy (F.passes host.now.files.now) host.now.is_watched asked.options)
+        (Q.suspects places.old.report) asked
         (place O.holds O.same O.refuses O.gives_up O.Part.contents O.Part.failures places.old.file places.new.file)
         (place Q.holds Q.same Q.refuses Q.gives_up Q.Part.contents Q.Part.failures places.old.report places.new.report)
         (writer M.contents M.failures messages.old messages.new) result
@@ -184,7 +189,9 @@ where
     // What `shell` does.
     ensures served { IfOk asked.now (λ request. IfSome (shell_options request) (λ options.
         Served (searched_by options (F.lists host.now.files.now)) (F.gives host.now.files.now)
-        (NoneFoundBy (F.passes host.now.files.now) host.now.is_watched options) options
+        (blamed_by options (F.blames host.now.files.now))
+        (NoneFoundBy (F.passes host.now.files.now) host.now.is_watched options)
+        (Q.suspects places.old.report) options
         (place Q.holds Q.same Q.refuses Q.gives_up Q.Part.contents Q.Part.failures places.old.report places.new.report)
         (reader I.remaining I.failures I.reads I.ends input.old input.new)
         (writer W.contents W.failures out.old out.new) (writer M.contents M.failures messages.old messages.new) result
@@ -199,13 +206,15 @@ where
         (writer W.contents W.failures out.old out.new) result)) }
     // What `snapshot` does.
     ensures snapshotted { IfOk asked.now (λ request. IfSome (snapshot_options request) (λ options.
-        RunsSnapshot (F.gives host.now.files.now) W.cause options (writer W.contents W.failures out.old out.new)
+        RunsSnapshot (F.gives host.now.files.now) (F.blames host.now.files.now [] []) W.cause options
+        (writer W.contents W.failures out.old out.new)
         (maker O.made places.old.file places.new.file) (writer M.contents M.failures messages.old messages.new) result
         × (input.new ≡ input.old) × (places.new.report ≡ places.old.report))) }
     // What `pages` does.
     ensures paged { IfOk asked.now (λ request. IfSome (pages_options request) (λ options.
-        RunsPages (F.frees host.now.files.now) (F.gives host.now.files.now) options
-        (maker O.made places.old.file places.new.file) (writer M.contents M.failures messages.old messages.new) result
+        RunsPages (F.frees host.now.files.now) (F.gives host.now.files.now) (F.blames host.now.files.now [] []) options
+        (folder_places O.filed O.refuses_folder O.gives_up_folder O.Folder.made places.old.file places.new.file)
+        (writer M.contents M.failures messages.old messages.new) result
         × (input.new ≡ input.old) × (out.new ≡ out.old) × (places.new.report ≡ places.old.report))) }
     // Nothing was asked for, since memory ran out, and that is said.
     ensures unknown { IfErr asked.now (λ _.

@@ -1,12 +1,12 @@
 //! The program `shell`.
 
-ghost use Rattle.std.specs.Prelude.{◌≡◌, [], None, Some, IfErr, IfOk, MatchResult, string_bytes};
+ghost use Rattle.std.specs.Prelude.{◌≡◌, [], None, Some, IfErr, IfOk, MatchResult, map, string_bytes};
 ghost use Rattle.std.specs.Option.{option_map};
 ghost use Rattle.protoscip.specs.FaultLines.{HasFilesOf, HaveFilesOf};
 ghost use Rattle.programs.specs.Messages.{TellsOfSuccess};
 ghost use Rattle.programs.specs.NoSources.{NoneFoundBy};
 ghost use Rattle.programs.specs.Placing.{place};
-ghost use Rattle.programs.specs.Searches.{searched_by};
+ghost use Rattle.programs.specs.Searches.{blamed_by, searched_by};
 ghost use Rattle.programs.specs.Serving.{AnswersNavigable, Served};
 ghost use Rattle.programs.specs.Streams.{reader};
 ghost use Rattle.scip_snapshot.specs.Showing.{writer};
@@ -17,7 +17,8 @@ use crate::host::Host;
 use crate::laws::headline_of_options;
 use crate::limits::NO_LIMITS;
 use crate::reporting::{Reporter, fault_in, report_run, see_report, settle};
-use crate::start_explanations::report_start;
+use crate::start_explanations::{report_start, report_unstarted};
+use crate::start_reports::put_start_report;
 use crate::starting::{TreeRun, start};
 use command_line::IndexOptions;
 use index_pool::NoGate;
@@ -42,14 +43,11 @@ fn end<M: Sink>(
     requires files { IfErr done.now (HasFilesOf run.now.tree) }
     requires told { IfOk done.now (λ recorded. HaveFilesOf run.now.tree recorded.told) }
     ensures { Ends TellsOfSuccess (λ line. line ≡ option_map string_bytes run.now.none_found) explain run.now.tree
-        (λ recorded. recorded.told) done.now
+        (map string_bytes run.now.unread.items) (λ recorded. recorded.told) done.now
         (writer M.contents M.failures messages.old messages.new) result }
 {
     match done {
-        Ok(recorded) => {
-            let told = recorded.told.as_slice();
-            tell(alloc, &run.tree, told, &run.none_found, explain, messages)
-        }
+        Ok(recorded) => tell(alloc, run, recorded.told.as_slice(), explain, messages),
         Err(fault) => stop(alloc, &run.tree, fault, explain, messages),
     }
 }
@@ -66,8 +64,8 @@ fn told_in(ran: &Result<Recorded, Fault>) -> &[BuildFault]
 
 /// Reads the sources below the root of the options and the files below their included roots, builds the index of the
 /// sources, answers commands about it, one a line, as `session` does, makes its report if one is asked for, and gives
-/// the exit status. Once all commands are answered, it says what the index lacks, or that there are no sources, where
-/// somebody is told. If it stops early, it says why.
+/// the exit status. Once all commands are answered, it says what couldn't be read and what the index lacks, or that
+/// there are no sources, where somebody is told. If it stops early, it says why.
 ///
 /// If there are several faults, it says the first: those of `index` in its order, up to `TooLarge`, after which
 /// nothing was read or answered; then `Read` or `Answer`; then that the report can't be made, or written. Memory may
@@ -88,8 +86,9 @@ fn shell<
     messages: &mut M,
 ) -> u8
     ensures served { Served (F.lists host.now.files.now) (F.gives host.now.files.now)
+        (blamed_by options.now (F.blames host.now.files.now))
         (NoneFoundBy (F.passes host.now.files.now) host.now.is_watched options.now)
-        options.now
+        (Q.suspects report.old) options.now
         (place Q.holds Q.same Q.refuses Q.gives_up Q.Part.contents Q.Part.failures report.old report.new)
         (reader I.remaining I.failures I.reads I.ends commands.old commands.new)
         (writer W.contents W.failures answers.old answers.new)
@@ -102,7 +101,10 @@ fn shell<
     headline_of_options(host.files, options);
     let run = match start(host, options) {
         Ok(start) => start,
-        Err(fault) => return report_start(host.alloc, &fault, options.explain, messages),
+        Err(fault) => {
+            let said = put_start_report(host.alloc, &options.report, false, fault, report);
+            return report_unstarted(host, options, &said, messages);
+        }
     };
     match see_report(host.alloc, options, &run.tree, report) {
         Ok(()) => {}
@@ -138,7 +140,9 @@ where
     Q: OutPlace,
     M: Sink,
     ensures served { Served (searched_by options.now (F.lists host.now.files.now)) (F.gives host.now.files.now)
-        (NoneFoundBy (F.passes host.now.files.now) host.now.is_watched options.now) options.now
+        (blamed_by options.now (F.blames host.now.files.now))
+        (NoneFoundBy (F.passes host.now.files.now) host.now.is_watched options.now)
+        (Q.suspects report.old) options.now
         (place Q.holds Q.same Q.refuses Q.gives_up Q.Part.contents Q.Part.failures report.old report.new)
         (reader I.remaining I.failures I.reads I.ends commands.old commands.new)
         (writer W.contents W.failures answers.old answers.new)

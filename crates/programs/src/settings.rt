@@ -8,6 +8,7 @@ ghost use Rattle.programs.specs.Settings.{
   dialect_of,
   encoding_of,
   faulty_of,
+  leaves_out,
   settings_in,
 };
 
@@ -57,6 +58,16 @@ fn faulty_of(word: FaultyWord) -> Faulty
     match word {
         FaultyWord::Refuse => Faulty::Refuse,
         FaultyWord::Skip => Faulty::Skip,
+    }
+}
+
+/// Whether what can't be read below the folders is left out.
+pub(crate) fn leaves_out(options: &IndexOptions) -> bool
+    ensures { result ≡ leaves_out options.now.faulty }
+{
+    match options.faulty {
+        FaultyWord::Refuse => false,
+        FaultyWord::Skip => true,
     }
 }
 

@@ -1,6 +1,6 @@
 //! The program `snapshot`: the sources of an index, and below each line what the index says about it.
 
-ghost use Rattle.std.specs.Prelude.{◌≡◌, ◌&&◌};
+ghost use Rattle.std.specs.Prelude.{◌≡◌, ◌&&◌, []};
 ghost use Rattle.scip_snapshot.specs.Showing.{maker, writer};
 ghost use Rattle.programs.specs.Queries.{IsReadFrom};
 ghost use Rattle.programs.specs.Printing.{EndsCut, is_closed};
@@ -16,7 +16,7 @@ use crate::show_faults::{show_status, show_text};
 use command_line::SnapshotOptions;
 use scip_query::{AnswerFault, Queries};
 use scip_snapshot::{Folders, ShowFault, file_all, print_all};
-use source_files::{Caused, MakeFiles, ReadFiles};
+use source_files::{Caused, LookAgain, MakeFiles, ReadFiles};
 use std::alloc::Global;
 use streams::Sink;
 
@@ -118,19 +118,19 @@ fn show<R, F: ReadFiles, W: Sink + Caused, O: MakeFiles, M: Sink>(
 /// Reads the index that a file holds, prints the snapshots of its documents or makes a file of each, as the options
 /// say, and gives the exit status. It reports each document that is left out. If it stops early, it reports why, but of
 /// a pipe that is closed by its reader.
-pub(crate) fn snapshot<R, F: ReadFiles, W: Sink + Caused, O: MakeFiles, M: Sink>(
+pub(crate) fn snapshot<R, F: ReadFiles + LookAgain, W: Sink + Caused, O: MakeFiles, M: Sink>(
     host: &Host<'_, R, F>,
     options: &SnapshotOptions,
     out: &mut W,
     made: &mut O,
     messages: &mut M,
 ) -> u8
-    ensures { RunsSnapshot (F.gives host.now.files.now) W.cause options.now (writer W.contents W.failures out.old out.new)
-        (maker O.made made.old made.new) (writer M.contents M.failures messages.old messages.new) result }
+    ensures { RunsSnapshot (F.gives host.now.files.now) (F.blames host.now.files.now [] []) W.cause options.now
+        (writer W.contents W.failures out.old out.new) (maker O.made made.old made.new) (writer M.contents M.failures messages.old messages.new) result }
 {
     let path = options.index.as_str();
     match queries_of(host.alloc, host.files, path) {
         Ok(queries) => show(host, options, &queries, out, made, messages),
-        Err(fault) => report_query(host.alloc, &fault, path, options.explain, messages),
+        Err(fault) => report_query(host, &fault, path, options.explain, messages),
     }
 }

@@ -1,14 +1,20 @@
 //! What explains why a program about a tree doesn't start.
 
-ghost use Rattle.std.specs.Prelude.{◌≡◌, IfOk, string_bytes};
+ghost use Rattle.std.specs.Prelude.{◌≡◌, ◌++◌, IfOk, OnOk, string_bytes};
+ghost use Rattle.std.specs.Option.{option_map};
 ghost use Rattle.scip_snapshot.specs.Showing.{writer};
-ghost use Rattle.programs.specs.Messages.{Tells};
-ghost use Rattle.programs.specs.StartExplanations.{explanation_of, told};
+ghost use Rattle.programs.specs.Messages.{Tells, TellsOne};
+ghost use Rattle.programs.specs.Searches.{blamed_by};
+ghost use Rattle.programs.specs.StartExplanations.{IsTold, explanation_of, sentence_of, told, unread_path};
 ghost use Rattle.programs.specs.StartFaults.{status_of};
 
+use crate::causes::with_reason;
+use crate::folders::folders_read;
+use crate::host::Host;
 use crate::messages::report;
 use crate::start_fault::StartFault;
-use source_files::LoadFault;
+use command_line::IndexOptions;
+use source_files::{LoadFault, LookAgain};
 use source_tree::MAX_FILES;
 use std::alloc::{AllocError, Global};
 use streams::Sink;
@@ -16,30 +22,54 @@ use streams::Sink;
 // The number in the sentence is the limit.
 const _: () = prove!(MAX_FILES == 65_536);
 
-/// A sentence after a line end; nothing for a fault of the command line, and for lack of memory.
-fn explanation_of(fault: &StartFault) -> &'static str
-    ensures { result.now ≡ explanation_of fault.now }
+/// A sentence about it.
+pub(crate) fn sentence_of(fault: &StartFault) -> &'static str
+    ensures { result.now ≡ sentence_of fault.now }
 {
     match fault {
-        StartFault::BadPart | StartFault::BadFolder(_) => "",
+        StartFault::BadPart => "a part of the package begins with a space or is `.`",
+        StartFault::BadFolder(_) => {
+            "a part of the package of this folder begins with a space or is `.`"
+        }
         StartFault::Load(fault) => match fault {
             LoadFault::Unreadable(_) => {
-                "\nit isn't there, or can't be read, or an entry's name isn't UTF-8"
+                "it isn't there, or can't be read, or an entry's name isn't UTF-8"
             }
-            LoadFault::TooMany => "\nthe sources and the included files are at most 65536",
-            LoadFault::BadPath(_) => {
-                "\na path has at most 4096 bytes, and no character below U+0020"
-            }
-            LoadFault::SamePath(_) => "\ntwo sources have this path",
-            LoadFault::Memory => "",
+            LoadFault::TooMany => "the sources and the included files are at most 65536",
+            LoadFault::BadPath(_) => "a path has at most 4096 bytes, and no character below U+0020",
+            LoadFault::SamePath(_) => "two sources have this path",
+            LoadFault::Memory => "memory ran out",
         },
         StartFault::IsSource(_) => {
-            "\nit is a source that was read, or a link to one; the index would replace it"
+            "it is a source that was read, or a link to one; the index would replace it"
         }
         StartFault::ReportIsSource(_) => {
-            "\nit is a source that was read, or a link to one; the report would replace it"
+            "it is a source that was read, or a link to one; the report would replace it"
         }
-        StartFault::ReportIsOut(_) => "\nthe index goes there, so its report can't",
+        StartFault::ReportIsOut(_) => "the index goes there, so its report can't",
+    }
+}
+
+/// Appends that behind a line end; but nothing for a fault of the command line, and for lack of memory.
+fn push_explanation(out: &mut String, fault: &StartFault) -> Result<(), AllocError>
+    ensures { OnOk result (string_bytes out.new ≡ string_bytes out.old ++ explanation_of fault.now) }
+{
+    match fault {
+        StartFault::BadPart | StartFault::BadFolder(_) | StartFault::Load(LoadFault::Memory) => {
+            Ok(())
+        }
+        StartFault::Load(
+            LoadFault::Unreadable(_)
+            | LoadFault::TooMany
+            | LoadFault::BadPath(_)
+            | LoadFault::SamePath(_),
+        )
+        | StartFault::IsSource(_)
+        | StartFault::ReportIsSource(_)
+        | StartFault::ReportIsOut(_) => {
+            out.push_str("\n")?;
+            out.push_str(sentence_of(fault))
+        }
     }
 }
 
@@ -49,7 +79,7 @@ fn start_text(alloc: Global, fault: &StartFault, explain: bool) -> Result<String
 {
     let mut text = fault.line(alloc)?;
     if explain {
-        text.push_str(explanation_of(fault))?;
+        push_explanation(&mut text, fault)?;
     }
     Ok(text)
 }
@@ -65,5 +95,64 @@ pub(crate) fn report_start<M: Sink>(
         (writer M.contents M.failures messages.old messages.new) result }
 {
     let text = start_text(alloc, fault, explain);
+    report(text, fault.status(), messages)
+}
+
+/// The path of what can't be read, if that is the fault and it is to be explained.
+fn unread_path(fault: &StartFault, explain: bool) -> Option<&str>
+    ensures { option_map (λ path. path.now) result ≡ unread_path explain fault.now }
+{
+    if !explain {
+        return None;
+    }
+    match fault {
+        StartFault::Load(fault) => match fault {
+            LoadFault::Unreadable(name) => Some(name.as_str()),
+            LoadFault::TooMany
+            | LoadFault::BadPath(_)
+            | LoadFault::SamePath(_)
+            | LoadFault::Memory => None,
+        },
+        StartFault::BadPart
+        | StartFault::BadFolder(_)
+        | StartFault::IsSource(_)
+        | StartFault::ReportIsSource(_)
+        | StartFault::ReportIsOut(_) => None,
+    }
+}
+
+/// The line, without its end, that says this of a program that these options are for; explained, if that is asked for,
+/// also by why a path can't be read.
+fn unstarted_text<R, F: LookAgain>(
+    host: &Host<'_, R, F>,
+    options: &IndexOptions,
+    fault: &StartFault,
+) -> Result<String, AllocError>
+    ensures { IfOk result (λ text. IsTold (blamed_by options.now (F.blames host.now.files.now)) options.now.explain
+        fault.now (string_bytes text)) }
+{
+    let text = start_text(host.alloc, fault, options.explain)?;
+    match unread_path(fault, options.explain) {
+        Some(path) => {
+            let folders = folders_read(host.alloc, options)?;
+            let why = host.files.why_unread(&folders, &options.exclude, path)?;
+            with_reason(text, why)
+        }
+        None => Ok(text),
+    }
+}
+
+/// Says why a program that these options are for doesn't start, explained if that is asked for, also by why a path
+/// can't be read, and gives the exit status.
+pub(crate) fn report_unstarted<R, F: LookAgain, M: Sink>(
+    host: &Host<'_, R, F>,
+    options: &IndexOptions,
+    fault: &StartFault,
+    messages: &mut M,
+) -> u8
+    ensures { TellsOne (IsTold (blamed_by options.now (F.blames host.now.files.now)) options.now.explain fault.now)
+        (status_of fault.now) (writer M.contents M.failures messages.old messages.new) result }
+{
+    let text = unstarted_text(host, options, fault);
     report(text, fault.status(), messages)
 }

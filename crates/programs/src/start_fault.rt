@@ -48,7 +48,7 @@ impl From<LoadFault> for StartFault {
 
 impl StartFault {
     /// The name in its line: the package of a folder is refused as that of the run is.
-    fn name(&self) -> &'static str
+    pub(crate) fn name(&self) -> &'static str
         ensures { result.now ≡ name_of self.now }
     {
         match self {

@@ -14,7 +14,7 @@ use crate::choices::OptionChoices;
 use crate::folders::{Folders, load_folders};
 use crate::host::Host;
 use crate::no_sources::none_found;
-use crate::settings::{only_of, settings_of, workers_of};
+use crate::settings::{leaves_out, only_of, settings_of, workers_of};
 use crate::start_fault::StartFault;
 use command_line::IndexOptions;
 use index_pool::Workers;
@@ -30,6 +30,8 @@ use std::thread::Threads;
 pub(crate) struct TreeRun {
     /// The sources below the root, and the files below the included roots.
     pub(crate) tree: Tree,
+    /// The paths of what couldn't be read below these, and was left out.
+    pub(crate) unread: Vec<String>,
     /// The line that says that there are no sources, if it is to be said.
     pub(crate) none_found: Option<String>,
     /// What is chosen for each declaration.
@@ -70,7 +72,7 @@ pub(crate) fn start<R: Threads + Wait, F: ReadFiles + LookAgain + Sync>(
 ) -> Result<TreeRun, StartFault>
     ensures named { IfOk result (λ _. NamePackages options.now) }
     ensures folders { IfOk result (λ start. AreFolders (F.lists host.now.files.now) (F.gives host.now.files.now)
-        options.now start.tree start.settings.package) }
+        options.now start.tree (map string_bytes start.unread.items) start.settings.package) }
     ensures none_found { IfOk result (λ start. NoneFoundBy (F.passes host.now.files.now) host.now.is_watched options.now
         start.tree (option_map string_bytes start.none_found)) }
     ensures only { IfOk result (λ start. option_map (λ f. string_bytes f.promise.0) start.choices.filter ≡ option_map
@@ -88,14 +90,20 @@ pub(crate) fn start<R: Threads + Wait, F: ReadFiles + LookAgain + Sync>(
         workers,
         gate: &AskingAhead::new(host.alloc),
         files: host.files,
+        leaves_out: leaves_out(options),
     };
-    let Folders { tree, packages } = load_folders(&readers, options)?;
+    let Folders {
+        tree,
+        unread,
+        packages,
+    } = load_folders(&readers, options)?;
     let root = options.root.as_str();
     let none_found = none_found(host.alloc, host.files, root, &tree, is_told(host, options))?;
     let settings = settings_of(host.alloc, options, packages)?;
     let choices = OptionChoices::new(host.alloc, only_of(options), options.doc)?;
     Ok(TreeRun {
         tree,
+        unread,
         none_found,
         choices,
         workers,

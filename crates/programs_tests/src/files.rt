@@ -9,7 +9,7 @@ use streams::Std;
 type Entry = (&'static str, &'static str, Option<&'static str>);
 
 // The first row reads: below `api` is one source, `a.proto`, with a message `A`.
-static ENTRIES: [Entry; 13] = [
+static ENTRIES: [Entry; 15] = [
     (
         "api",
         "a.proto",
@@ -55,6 +55,12 @@ static ENTRIES: [Entry; 13] = [
         "b.proto",
         Some("syntax = \"proto3\";\nmessage A {}\n"),
     ),
+    (
+        "gaps",
+        "a.proto",
+        Some("syntax = \"proto3\";\nmessage A {}\n"),
+    ),
+    ("gaps", "b.proto", None),
 ];
 
 /// An index of three documents: `a.txt` with a definition that is documented; one whose source can't be read; and
@@ -66,9 +72,13 @@ const SEEN: &[u8] =
 
 /// The sources of `ENTRIES`, and beside them the index `a.scip` of one document `a` with one occurrence,
 /// `cut.scip`, which is cut off, `empty.scip` without documents, and `SEEN` with sources below `src`. No folder but
-/// `full` has an entry, and `links`, where no source is.
+/// `full` has an entry, and `links`, where no source is. Below `gaps` are a folder `d`, which can't be listed, and a file
+/// whose name isn't UTF-8.
 #[derive(Clone, Copy)]
-pub(crate) struct Files;
+pub(crate) struct Files {
+    /// Where the memory of what is said of them is taken.
+    pub(crate) alloc: Global,
+}
 
 /// What the source with a path holds.
 fn text_at(path: &str) -> Option<&'static str> {
@@ -98,6 +108,27 @@ fn listed(alloc: Global, root: &str) -> Result<Vec<FolderEntry>, AllocError> {
     Ok(entries)
 }
 
+/// The names in a root that aren't UTF-8.
+fn unnamed(alloc: Global, root: &str) -> Result<Vec<String>, AllocError> {
+    let mut names = Vec::new(alloc);
+    if root == "gaps" {
+        names.push(String::from_str(alloc, "n\\xe9")?)?;
+    }
+    Ok(names)
+}
+
+/// The folders in a root.
+fn folders_in(alloc: Global, root: &str) -> Result<Vec<FolderEntry>, AllocError> {
+    let mut entries = Vec::new(alloc);
+    if root == "gaps" {
+        entries.push(FolderEntry {
+            name: String::from_str(alloc, "d")?,
+            is_file: false,
+        })?;
+    }
+    Ok(entries)
+}
+
 impl ReadFiles for Files {
     ghost use Rattle.std.specs.Prelude.{⊤};
 
@@ -109,16 +140,21 @@ impl ReadFiles for Files {
         &self,
         alloc: Global,
         root: &str,
-        _folder: &str,
+        folder: &str,
     ) -> Result<Option<FolderListing>, AllocError> {
-        let entries = listed(alloc, root)?;
+        if folder == "d/" {
+            return Ok(None);
+        }
+        let mut entries = listed(alloc, root)?;
+        let mut folders = folders_in(alloc, root)?;
+        entries.append(&mut folders)?;
         if entries.is_empty() && root != "links" && root != "empty" {
             return Ok(None);
         }
         Ok(Some(FolderListing {
             entries,
             identity: None,
-            unnamed: Vec::new(alloc),
+            unnamed: unnamed(alloc, root)?,
         }))
     }
 
@@ -160,7 +196,7 @@ impl LookAgain for Files {
 
     ghost passes = { λ _ _ _. ⊤ };
 
-    ghost blames = { λ _ _ _ _. ⊤ };
+    ghost blames = { λ _ _ _ _ _. ⊤ };
 
     fn passed_over(&self, root: &str) -> Result<PassedOver, AllocError> {
         let links = if root == "links" { 3 } else { 0 };
@@ -170,7 +206,34 @@ impl LookAgain for Files {
         })
     }
 
-    fn why_unread(&self, _folders: &[String], _path: &str) -> Result<Option<String>, AllocError> {
-        Ok(None)
+    /// It blames an entry of a folder, a file below the first of the folders, or a file that isn't there; and nothing
+    /// where the path is `gone.scip`, or a pattern is `secret`.
+    fn why_unread(
+        &self,
+        folders: &[String],
+        excluded: &[String],
+        path: &str,
+    ) -> Result<Option<String>, AllocError> {
+        if path == "gone.scip" || is_among(excluded, "secret") {
+            return Ok(None);
+        }
+        let why = match folders.first() {
+            None => format!(in self.alloc; "{path}: no such file or directory")?,
+            Some(_) if is_among(folders, path) => {
+                format!(in self.alloc; "{path}/secret: permission denied")?
+            }
+            Some(root) => format!(in self.alloc; "{root}/{path}: permission denied")?,
+        };
+        Ok(Some(why))
     }
+}
+
+/// Whether a path is that of one of the folders.
+fn is_among(folders: &[String], path: &str) -> bool {
+    for folder in folders {
+        if folder.as_str() == path {
+            return true;
+        }
+    }
+    false
 }

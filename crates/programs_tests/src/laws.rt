@@ -8,9 +8,9 @@ use std::alloc::{AllocError, Global};
 use std::test::Fail;
 
 /// Whether an index is asked for that goes to `out`.
-fn is_named(asked: &Result<Request, AllocError>) -> bool {
+fn is_named(alloc: Global, asked: &Result<Request, AllocError>) -> bool {
     if let Ok(Request::Index(options, _, _, _)) = asked {
-        headline_of_options(&Files, options);
+        headline_of_options(&Files { alloc }, options);
     }
     out_path(asked) == "out"
 }
@@ -19,7 +19,7 @@ fn is_named(asked: &Result<Request, AllocError>) -> bool {
 fn is_asked(alloc: Global) -> Result<bool, AllocError> {
     let words = words_of(alloc, "index api out")?;
     let asked = request_of(alloc, &words);
-    Ok(is_named(&asked))
+    Ok(is_named(alloc, &asked))
 }
 
 #[test]

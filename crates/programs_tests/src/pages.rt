@@ -3,20 +3,30 @@
 use crate::runs::{Row, SILENT, see_row};
 use std::test::Fail;
 
-// The first row reads: of the three documents of the index two have pages; then come the files that pages
-// share. In the second there is room for three paths, so the fourth file can't be made.
-static ROWS: [Row; 8] = [
+// The first row reads: of the three documents of the index two have pages; then come the files that pages share. In
+// the second there is room for three files, so the fourth can't be made, and the folder isn't put at its place.
+static ROWS: [Row; 9] = [
     Row {
         words: "pages seen.scip src out",
-        written: b"[out/src/a.txt.html][out/src/b/c.txt.html][out/pages.css][out/search.js][out/symbols.js][out/index.html]\0",
+        written: b"out[src/a.txt.html][src/b/c.txt.html][pages.css][search.js][symbols.js][index.html]\0",
         said: "protoscip: no.txt: Unreadable\n",
         ..SILENT
     },
     Row {
         words: "pages seen.scip src out",
-        written: b"[out/src/a.txt.html][out/src/b/c.txt.html][out/pages.css]",
+        fits: 48,
         status: 3,
         said: "protoscip: no.txt: Unreadable\nprotoscip: Write\n",
+        ..SILENT
+    },
+    Row {
+        words: "pages --explain seen.scip src full/new",
+        is_refused: true,
+        status: 3,
+        said: "protoscip: no.txt: Unreadable
+protoscip: Write
+only a first part could be written
+full/new: permission denied\n",
         ..SILENT
     },
     Row {
@@ -33,7 +43,7 @@ static ROWS: [Row; 8] = [
     },
     Row {
         words: "pages seen.scip src full/new",
-        written: b"[full/new/src/a.txt.html][full/new/src/b/c.txt.html][full/new/pages.css][full/new/search.js][full/new/symbols.js][full/new/index.html]\0",
+        written: b"full/new[src/a.txt.html][src/b/c.txt.html][pages.css][search.js][symbols.js][index.html]\0",
         said: "protoscip: no.txt: Unreadable\n",
         ..SILENT
     },
@@ -51,7 +61,7 @@ static ROWS: [Row; 8] = [
     },
     Row {
         words: "pages empty.scip nowhere out",
-        written: b"[out/pages.css][out/search.js][out/symbols.js][out/index.html]\0",
+        written: b"out[pages.css][search.js][symbols.js][index.html]\0",
         ..SILENT
     },
 ];

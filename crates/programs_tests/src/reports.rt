@@ -16,7 +16,7 @@ const API_COUNTS: &str =
 
 // The first row reads: nothing is wrong, so the report has its counts alone. In the third and the fourth the report
 // isn't taken, so the index isn't put at its place either.
-static ROWS: [Row; 11] = [
+static ROWS: [Row; 14] = [
     Row {
         words: "index api out --report r.jsonl",
         written: API,
@@ -90,6 +90,35 @@ it is a source that was read, or a link to one; the report would replace it\n",
 {\"column\":8,\"end\":36,\"first\":null,\"import\":\"no.proto\",\"kind\":\"fault\",\"line\":2,\"message\":\"no source has this path, below ROOT or a folder that is included\",\"name\":\"MissingImport\",\"offset\":26,\"path\":\"a.proto\"}
 {\"imports\":1,\"kind\":\"counts\",\"skipped\":1,\"sources\":0,\"status\":1,\"uses\":0}\n\0",
         said: "protoscip: b.proto@27: Duplicate of a.proto@46\n",
+        ..SILENT
+    },
+    // what can't be read is told first, and counted; but where the index can't be put, its fault alone is told
+    Row {
+        words: "index holes out --faulty skip --report r.jsonl",
+        written: b"\x0A\x1C\x12\x0E\x0A\x09protoscip\x12\x011\x1A\x08file:///\x20\x01\0",
+        reported: "{\"column\":null,\"end\":null,\"first\":null,\"import\":null,\"kind\":\"skipped\",\"line\":null,\"message\":\"it can't be read, or its name isn't UTF-8\",\"name\":\"Unreadable\",\"offset\":null,\"path\":\"b.proto\"}
+{\"column\":1,\"end\":null,\"first\":null,\"import\":null,\"kind\":\"skipped\",\"line\":1,\"message\":\"this character can't be here\",\"name\":\"BadByte\",\"offset\":0,\"path\":\"a.proto\"}
+{\"imports\":0,\"kind\":\"counts\",\"skipped\":2,\"sources\":0,\"status\":0,\"uses\":0}\n\0",
+        said: "protoscip: skipped: b.proto: Unreadable
+protoscip: skipped: a.proto@0: BadByte
+protoscip: 0 sources indexed, 2 skipped, 0 imports and 0 uses without a target\n",
+        ..SILENT
+    },
+    Row {
+        words: "shell api --faulty skip --include holes --report r.jsonl",
+        reported: "{\"column\":null,\"end\":null,\"first\":null,\"import\":null,\"kind\":\"skipped\",\"line\":null,\"message\":\"it can't be read, or its name isn't UTF-8\",\"name\":\"Unreadable\",\"offset\":null,\"path\":\"b.proto\"}
+{\"imports\":0,\"kind\":\"counts\",\"skipped\":1,\"sources\":1,\"status\":0,\"uses\":0}\n\0",
+        said: "protoscip: skipped: b.proto: Unreadable
+protoscip: 1 sources indexed, 1 skipped, 0 imports and 0 uses without a target\n",
+        ..SILENT
+    },
+    Row {
+        words: "index holes out --faulty skip --report r.jsonl",
+        fits: 4,
+        reported: "{\"column\":null,\"end\":null,\"first\":null,\"import\":null,\"kind\":\"fault\",\"line\":null,\"message\":\"the output can't be made, or its disk is full, or nobody reads it\",\"name\":\"Write\",\"offset\":null,\"path\":null}
+{\"imports\":0,\"kind\":\"counts\",\"skipped\":0,\"sources\":0,\"status\":3,\"uses\":0}\n\0",
+        status: 3,
+        said: "protoscip: Write\n",
         ..SILENT
     },
 ];

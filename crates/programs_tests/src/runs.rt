@@ -7,9 +7,10 @@ use crate::pipe::Pipe;
 use crate::shared::{see, words_of};
 use crate::written::Written;
 use command_line::{Request, request_of};
-use programs::{Host, Places, out_path, report_path, run};
+use programs::{Host, Places, explain_failure, out_path, report_path, run};
 use source_files::SystemStream;
 use std::alloc::{AllocError, Global};
+use std::cell::Cell;
 use std::process::Abort;
 use std::sync::Wait;
 use std::test::Fail;
@@ -54,7 +55,7 @@ pub(crate) const SILENT: Row = Row {
 };
 
 // The second row reads: there is no program `nothing`, which is said, with status 2.
-static ROWS: [Row; 47] = [
+static ROWS: [Row; 53] = [
     Row {
         words: "--version",
         printed: "protoscip 1\n\0",
@@ -425,6 +426,68 @@ protoscip: TooFewSources\n",
         said: "protoscip: no sources below empty\n",
         ..SILENT
     },
+    // what can't be read is left out: a file, a folder, and a name that isn't UTF-8
+    Row {
+        words: "index gaps out --faulty skip",
+        written: b"\x0A\x1C\x12\x0E\x0A\x09protoscip\x12\x011\x1A\x08file:///\x20\x01\
+\x12\xA7\x01\x0A\x07a.proto\
+\x12\x27\x0A\x03\x00\x00\x00\x12\x1Escip-protobuf . . . `a.proto`/\x18\x01\
+\x12\x1F\x0A\x03\x01\x08\x09\x12\x16scip-protobuf . . . A#\x18\x01\
+\x1A\x1B\x0A\x16scip-protobuf . . . A#\x32\x01A\
+\x1A\x29\x0A\x1Escip-protobuf . . . `a.proto`/\x32\x07a.proto\
+\x22\x08Protobuf\x30\x01\0",
+        said: "protoscip: skipped: b.proto: Unreadable
+protoscip: skipped: d/: Unreadable
+protoscip: skipped: n\\xe9: Unreadable
+protoscip: 1 sources indexed, 3 skipped, 0 imports and 0 uses without a target\n",
+        ..SILENT
+    },
+    Row {
+        words: "index gaps out --faulty refuse",
+        status: 3,
+        said: "protoscip: gaps: Unreadable\n",
+        ..SILENT
+    },
+    // a root has to be readable
+    Row {
+        words: "index nowhere out --faulty skip",
+        status: 3,
+        said: "protoscip: nowhere: Unreadable\n",
+        ..SILENT
+    },
+    Row {
+        words: "index holes out --faulty skip --explain --max-skipped 1",
+        status: 1,
+        said: "protoscip: skipped: b.proto: Unreadable
+it can't be read, or its name isn't UTF-8
+protoscip: skipped: a.proto@0: BadByte
+a.proto:1:1: this character can't be here
+  1 | @
+    | ^
+protoscip: 0 sources indexed, 2 skipped, 0 imports and 0 uses without a target
+protoscip: TooManySkipped
+2 files are left out, and --max-skipped allows 1\n",
+        ..SILENT
+    },
+    // an included folder has what can't be read
+    Row {
+        words: "shell api --faulty skip --include gaps",
+        input: "sym a.proto",
+        printed: "scip-protobuf . . . A#\nscip-protobuf . . . `a.proto`/\n= 2\n\0",
+        said: "protoscip: skipped: b.proto: Unreadable
+protoscip: skipped: d/: Unreadable
+protoscip: skipped: n\\xe9: Unreadable
+protoscip: 1 sources indexed, 3 skipped, 0 imports and 0 uses without a target\n",
+        ..SILENT
+    },
+    Row {
+        words: "shell api --faulty skip --include-package m n r holes",
+        input: "sym a.proto",
+        printed: "scip-protobuf . . . A#\nscip-protobuf . . . `a.proto`/\n= 2\n\0",
+        said: "protoscip: skipped: b.proto: Unreadable
+protoscip: 1 sources indexed, 1 skipped, 0 imports and 0 uses without a target\n",
+        ..SILENT
+    },
 ];
 
 /// Room for what a run prints, for the files that it writes, and for its report.
@@ -460,6 +523,7 @@ fn ended<R: Threads + Wait + Clock + Eprint + Sync>(
             fits: row.fits,
             is_refused: row.is_refused,
             refusals: 0,
+            cause: Cell::new(None),
         },
         report: Written {
             room: Std::new(reported),
@@ -467,6 +531,7 @@ fn ended<R: Threads + Wait + Clock + Eprint + Sync>(
             fits: row.report_fits,
             is_refused: row.report_is_refused,
             refusals: 0,
+            cause: Cell::new(None),
         },
     };
     let mut told = [0u8; ROOM];
@@ -474,7 +539,7 @@ fn ended<R: Threads + Wait + Clock + Eprint + Sync>(
     let host = Host {
         rt,
         alloc,
-        files: &Files,
+        files: &Files { alloc },
         is_watched: true,
     };
     let status = run(
@@ -485,6 +550,7 @@ fn ended<R: Threads + Wait + Clock + Eprint + Sync>(
         &mut places,
         &mut messages,
     );
+    explain_failure(asked, status, &places, &out, &mut messages);
     let count = ROOM - messages.into_inner().len().min(ROOM);
     (status, told.split_at(count).0 == row.said.as_bytes())
 }

@@ -10,7 +10,6 @@ use Rattle.std.proofs.lemmas.List.Elements.{All-nil, All-contains, Contains-appe
 use Rattle.std.proofs.lemmas.Slice.Eq.{bytes_eq-Decides}
 use Rattle.proto_lex.specs.declared.position.Encoding.{Encoding}
 use Rattle.proto_decl.specs.Names.{dotted, components_of, prefix_of}
-use Rattle.proto_decl.specs.Names as names
 use Rattle.proto_decl.specs.Facts.{Facts}
 use Rattle.proto_decl.specs.Ancestors.{names_of, component_names, AreHeld}
 use Rattle.proto_decl.specs.declared.imported.Imported.{Imported}

@@ -1,22 +1,50 @@
 -- What is to be said of an index, by what it lacks.
-use Rattle.std.proofs.Common.{◌≡◌, ℕ, suc, true, false, List, [], ◌∷◌, Option, Some, None, length, ◌==◌, refl, arith}
+use Rattle.std.proofs.Common.{◌≡◌, ◌∙◌, ◌+◌, ◌-◌, ◌++◌, ℕ, suc, Bool, true, false, List, [], ◌∷◌, Option, Some, None}
+use Rattle.std.proofs.Common.{length, map, ◌==◌, ◌&&◌, ap, refl, arith}
+use Rattle.std.specs.List.{count_by}
 use Rattle.std.proofs.lemmas.Bool.{eqb-true}
 use Rattle.proto_parse.specs.tree.Dialect.{Dialect}
 use Rattle.source_tree.specs.Files.{TreeFile}
 use Rattle.source_tree.specs.Trees.{IsSourceCount}
 use Rattle.scip_build.specs.declared.fault.BuildFault.{BuildFault}
-use Rattle.protoscip.specs.ToldLines.{IsTextOfLacks, IsToldText}
+use Rattle.protoscip.specs.ToldLines.{IsTextOfAllLacks, IsToldText, IsToldTextWith, is_import, is_skipped}
+use Rattle.protoscip.specs.ToldLines.{is_skipped_source, is_use, numbers_line}
 
-module _ (explain : Option Dialect) (tree : List TreeFile) where
+-- where all could be read, the text is that of what an index lacks
+pub all_read : (explain : Option Dialect) (tree : List TreeFile) (sources : ℕ) (told : List BuildFault) (text : List ℕ)
+    → IsToldTextWith explain tree sources [] told text → IsToldText explain tree sources told text
+all_read explain tree sources told text is =
+    let skipped = count_by is_skipped told in
+    let none : 0 + skipped ≡ skipped = omega arith in (
+      is.0,
+      is.1,
+      is.2 ∙ ap (λ (n : ℕ). is.0 ++ numbers_line (sources - count_by (is_skipped_source sources) told) n
+          (count_by is_import told) (count_by is_use told)) none,
+    )
+
+no_items : (n : ℕ) → (suc n == 0) ≡ true → ⊥
+no_items n none = let never : suc n ≡ 0 = eqb-true (suc n) 0 none in absurd (omega (arith, never))
+
+first_holds : (a b : Bool) → (a && b) ≡ true → a ≡ true
+first_holds true b both = refl
+first_holds false b both = both
+
+module _ {X : Type 0} (path_of : X → List ℕ) (explain : Option Dialect) (tree : List TreeFile) where
   -- it lacks nothing
-  pub lacks_nothing : (told : List BuildFault) → (length told == 0) ≡ true → IsTextOfLacks explain tree told None
-  lacks_nothing [] none = refl
-  lacks_nothing (first ∷ others) none =
-      let never : suc (length others) ≡ 0 = eqb-true (suc (length others)) 0 none in absurd (omega (arith, never))
+  pub nothing : (unread : List X) (told : List BuildFault) → (length unread == 0 && length told == 0) ≡ true
+      → IsTextOfAllLacks explain tree (map path_of unread) told None
+  nothing [] [] none = refl
+  nothing [] (first ∷ others) none = absurd (no_items (length others) none)
+  nothing (path ∷ unread) told none =
+      absurd (no_items (length unread) (first_holds (suc (length unread) == 0) (length told == 0) none))
 
   -- it lacks something
-  pub lacks_some : (told : List BuildFault) (text : List ℕ) → (length told == 0) ≡ false
-      → ((sources : ℕ) × IsSourceCount tree sources × IsToldText explain tree sources told text)
-      → IsTextOfLacks explain tree told (Some text)
-  lacks_some [] text some is = absurd cc
-  lacks_some (first ∷ others) text some is = (is.0, is.1, (text, is.2, refl))
+  pub something : (unread : List X) (told : List BuildFault) (text : List ℕ)
+      → (length unread == 0 && length told == 0) ≡ false
+      → ((sources : ℕ) × IsSourceCount tree sources
+      × IsToldTextWith explain tree sources (map path_of unread) told text)
+      → IsTextOfAllLacks explain tree (map path_of unread) told (Some text)
+  something [] [] text some is = absurd cc
+  something [] (first ∷ others) text some is =
+      (is.0, is.1, (text, all_read explain tree is.0 (first ∷ others) text is.2, refl))
+  something (path ∷ unread) told text some is = (is.0, is.1, (text, is.2, refl))

@@ -3,7 +3,6 @@ use Rattle.std.proofs.Common.{◌≡◌, ◌≢◌, ◌∙◌, ◌⊎◌, inl, i
 use Rattle.std.proofs.Common.{refl, arith}
 use Rattle.std.proofs.lemmas.Bool.{false≢true}
 use Rattle.proto_decl.specs.Seen.{Seen}
-use Rattle.proto_visibility.specs.declared.fault.LinkFault.{LinkFault}
 use Rattle.proto_visibility.specs.declared.fault.LinkFault.TheVariants as link
 use Rattle.index_hooks.specs.declared.choice.Choice.{Choice}
 use Rattle.source_tree.specs.Files.{TreeFile}
@@ -14,7 +13,6 @@ use Rattle.scip_build.specs.declared.built.Built.{Built}
 use Rattle.scip_build.specs.declared.settings.Settings.{Settings}
 use Rattle.scip_build.specs.declared.fault.BuildFault.{BuildFault}
 use Rattle.scip_build.specs.declared.fault.BuildFault.TheVariants as build
-use Rattle.scip_build.specs.declared.fault.FileFault.{FileFault}
 use Rattle.scip_build.specs.declared.fault.FileFault.TheVariants as file
 use Rattle.scip_wire.specs.Spelling.{spelling_of, max_index_len}
 use Rattle.protoscip.specs.declared.recorded.Recorded.{Recorded}

@@ -15,6 +15,7 @@ mod LineLemmas
 mod PathLemmas
 -- what a report tells
 mod FindingLemmas
+mod UnreadLemmas
 mod ReportLemmas
 -- answers to commands
 mod SessionLemmas

@@ -1,12 +1,26 @@
 -- Whether a tree has a file with a path.
-use Rattle.std.proofs.Common.{◌≡◌, ◌∙◌, ℕ, ◌+◌, ◌<◌, true, false, List, [], length, take, get_or, Option, Some, ap, sym, subst}
-use Rattle.std.specs.List.{list_any, slice_get}
+use Rattle.std.proofs.Common.{◌≡◌, ◌∙◌, ℕ, ◌+◌, ◌<◌, Bool, true, false, List, [], length, take, get_or, Some}
+use Rattle.std.proofs.Common.{ap, refl, sym}
+use Rattle.std.specs.List.{slice_get}
 use Rattle.std.specs.Option.{option_map}
 use Rattle.std.specs.Str.{bytes_eq}
 use Rattle.std.proofs.lemmas.List.Folds.{list_any_at, list_any_more}
+use Rattle.std.proofs.lemmas.Slice.Eq.{bytes_eq-Decides}
 use Rattle.std.proofs.lemmas.Option.{same_Some, slice_get-get_or}
 use Rattle.source_tree.specs.Files.{TreeFile}
 use Rattle.protoscip.specs.Explanations.{has_path}
+
+-- two tests that hold where the other does
+same_tests : (a b : Bool) → (a ≡ true → b ≡ true) → (b ≡ true → a ≡ true) → a ≡ b
+same_tests true b there back = sym (there refl)
+same_tests false true there back = back refl
+same_tests false false there back = refl
+
+pub flipped : (xs ys : List ℕ) → bytes_eq xs ys ≡ bytes_eq ys xs
+flipped xs ys =
+    same_tests (bytes_eq xs ys) (bytes_eq ys xs)
+    (λ same. (bytes_eq-Decides ys xs).1 (sym ((bytes_eq-Decides xs ys).0 same)))
+    (λ same. (bytes_eq-Decides xs ys).1 (sym ((bytes_eq-Decides ys xs).0 same)))
 
 no_file : TreeFile
 no_file = record { path = []; bytes = []; is_included = false }

@@ -1,12 +1,11 @@
 -- The findings of a report: the files that they name, and that each comes once.
-use Rattle.std.proofs.Common.{◌≡◌, ◌≢◌, ◌∙◌, ℕ, ◌<◌, ◌+◌, Bool, true, false, List, [], ◌∷◌, ◌++◌, length, map}
+use Rattle.std.proofs.Common.{◌≡◌, ◌≢◌, ◌∙◌, ℕ, ◌<◌, ◌+◌, Bool, true, false, List, [], ◌∷◌, ◌++◌, length}
 use Rattle.std.proofs.Common.{get_or, take, Option, Some, None, ap, sym, refl, subst, arith}
 use Rattle.std.specs.Prelude.{⊤, not, cond, nat_eq, Contains, codes, unwrap_or}
 use Rattle.std.specs.List.{All, filter, slice_get}
 use Rattle.std.specs.Option.{option_map}
 use Rattle.std.specs.Str.{bytes_eq}
 use Rattle.std.specs.declared.cmp.Ordering.TheVariants.{Less}
-use Rattle.std.specs.Ordering.{nat_cmp}
 use Rattle.std.specs.Cmp.{IsTotalOrder, bool_cmp_total}
 use Rattle.std.specs.List.Sorted.{IsStrictlySortedBy}
 use Rattle.std.proofs.lemmas.Cmp.{on_total, then_total, nat_cmp_total}
@@ -48,6 +47,7 @@ use Rattle.protoscip.specs.declared.fault.Fault.{Fault}
 use Rattle.protoscip.specs.declared.fault.Fault.TheVariants as fault
 use Rattle.protoscip.proofs.FileLemmas.{files_of_built}
 use Rattle.protoscip.proofs.ListLemmas.{filtered}
+use Rattle.protoscip.proofs.UnreadLemmas.{with_unread}
 
 -- ---- files
 
@@ -298,6 +298,10 @@ come_once allows = record {
   of_told = λ settings tree built own is.
       findings_apart tree own built.told is.of_files.kept.told_is.ascends
       (all_of_files allows settings tree built is) (files_of_built allows settings tree built is);
+  of_all = λ settings tree unread built own is apart.
+      with_unread tree unread built.told apart
+      (findings_apart tree own built.told is.of_files.kept.told_is.ascends
+      (all_of_files allows settings tree built is) (files_of_built allows settings tree built is));
   of_refused = λ settings tree built own is.
       refused_apart own built.told is.of_files.kept.told_is.ascends (all_of_files allows settings tree built is);
 }

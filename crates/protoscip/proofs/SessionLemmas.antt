@@ -39,7 +39,7 @@ module _ {R W : Type 0} (remaining : R → Option (List ℕ)) (read_failures rea
         (Err (fault_of_answering e))
     stopped answer.Read are = conversed (Err answer.Read) are
     stopped (answer.Write count) are = conversed (Err (answer.Write count)) are
-    stopped answer.Memory (inl untouched) = inl untouched
+    stopped answer.Memory (inl untouched) = inl (spelled.small, untouched)
     stopped answer.Memory (inr are) = inr (conversed (Err answer.Memory) are)
 
   pub may_answer : (index : Index) (answered : Result (Unit {0}) AnswerFault)
@@ -70,7 +70,7 @@ module _ {R W : Type 0} (remaining : R → Option (List ℕ)) (read_failures rea
         → Serves remaining read_failures reads ends contents write_failures allows settings tree workers before after
         first last (Err e)
     unserved fault.Spawn from = absurd from
-    unserved fault.Memory (inl untouched) = inl untouched
+    unserved fault.Memory (inl from) = inl from.1
     unserved fault.Memory (inr from) = inr (recorded_of built.choices built.told, served (Err answer.Memory) from)
     unserved (fault.Lex number e) from = absurd from
     unserved (fault.Syntax number e) from = absurd from

@@ -1,6 +1,6 @@
 -- What becomes of commands about an index, which are answered from its bytes.
 -- The feed's and the sink's members, and the feed and the sink around the call, are named as in Sessions.
-use Rattle.std.specs.Prelude.{◌⊎◌, ℕ, ◌<◌, List, length, Option, Result, Ok, Err}
+use Rattle.std.specs.Prelude.{◌⊎◌, ℕ, ◌<◌, ◌≤◌, List, length, Option, Result, Ok, Err}
 use Rattle.scip_records.specs.declared.records.Index.{Index}
 use Rattle.scip_query.specs.declared.answer_fault.AnswerFault.{AnswerFault}
 use Rattle.scip_query.specs.declared.answer_fault.AnswerFault.TheVariants as answer
@@ -19,15 +19,16 @@ module _ {R W : Type 0} (remaining : R → Option (List ℕ)) (read_failures rea
     pub are : AreAnswered remaining read_failures reads ends contents write_failures index before after first last
         answered
 
-  -- they are; or reading or writing stops; or memory runs out before an answer, or before the first; or the index has
-  -- too many bytes
+  -- they are; or reading or writing stops; or the index has too many bytes; or it hasn't, and memory runs out before an
+  -- answer, or before the first
   abbrev pub Converses : Index → R → R → W → W → Result (Unit {0}) Fault → Type 0
   Converses index before after first last (Ok done) = AreAnsweredFrom index before after first last (Ok done)
   Converses index before after first last (Err Read) = AreAnsweredFrom index before after first last (Err answer.Read)
   Converses index before after first last (Err (Answer count)) =
       AreAnsweredFrom index before after first last (Err (answer.Write count))
   Converses index before after first last (Err Memory) =
-      AreUntouched before after first last ⊎ AreAnsweredFrom index before after first last (Err answer.Memory)
+      ((length (spelling_of index) ≤ max_index_len) × AreUntouched before after first last)
+      ⊎ AreAnsweredFrom index before after first last (Err answer.Memory)
   Converses index before after first last (Err TooLarge) =
       (max_index_len < length (spelling_of index)) × AreUntouched before after first last
   Converses index before after first last (Err other) = ⊥

@@ -1,11 +1,12 @@
 -- What is added to the line of a fault if it is to be explained: the place, a sentence, and the source's line. (The
 -- texts are this project's own.)
-use Rattle.std.specs.Prelude.{◌≡◌, ℕ, ◌+◌, ◌-◌, Bool, List, [], ◌++◌, Option, None, Some, take, drop, length, nat_eq}
+use Rattle.std.specs.Prelude.{◌≡◌, ℕ, ◌-◌, Bool, true, false, List, [], ◌++◌, Option, None, Some, take, drop, length, nat_eq}
 use Rattle.std.specs.Prelude.{codes, if◌then◌else◌}
 use Rattle.std.specs.List.{list_any, slice_get}
 use Rattle.std.specs.Str.{bytes_eq}
 use Rattle.std.specs.Option.{option_map, unwrap_or}
 use Rattle.excerpts.specs.Excerpts.{excerpt, quoted}
+use Rattle.excerpts.specs.Literals.{joined}
 use Rattle.excerpts.specs.Places.{place_text, token_len}
 use Rattle.proto_lex.specs.FaultNames.{lex_offset}
 use Rattle.proto_lex.specs.declared.fault.LexFault.{LexFault}
@@ -18,6 +19,7 @@ use Rattle.proto_visibility.specs.declared.place.FilePlace.{FilePlace}
 use Rattle.source_tree.specs.Files.{TreeFile}
 use Rattle.syntax_hints.specs.Hints.{IsHinted}
 use Rattle.protoscip.specs.FaultLines.{line_of, path_of}
+use Rattle.protoscip.specs.Required.{has_required}
 use Rattle.protoscip.specs.declared.fault.Fault.{Fault}
 use Rattle.protoscip.specs.declared.fault.Fault.TheVariants.{Spawn, Memory, Lex, Syntax, Duplicate, MissingImport}
 use Rattle.protoscip.specs.declared.fault.Fault.TheVariants.{Unresolved, TooLarge, Write, Read, Answer}
@@ -102,9 +104,15 @@ at_both tree first second sentence = at_place tree second sentence ++ at_place t
 
 -- ---- hints
 
+-- none where the sentence says that a word before the place is to go
+abbrev pub AreHintsBehind : (is_to_go : Bool) → Dialect → (front hints : List ℕ) → Type 0
+AreHintsBehind true dialect front hints = hints ≡ []
+AreHintsBehind false dialect front hints = IsHinted dialect front hints
+
 -- If the grammar wants something else than what the parser met, what could be there is told, by what is before it.
 abbrev pub AreSyntaxHints : Dialect → (text : List ℕ) → SyntaxFault → (hints : List ℕ) → Type 0
-AreSyntaxHints dialect text (parsing.Grammar at) hints = IsHinted dialect (take at text) hints
+AreSyntaxHints dialect text (parsing.Grammar at) hints =
+    AreHintsBehind (has_required text at) dialect (take at text) hints
 AreSyntaxHints dialect text fault hints = hints ≡ []
 
 -- of a tree whose sources are parsed in this dialect
@@ -114,9 +122,9 @@ AreHintsOf dialect tree fault hints = hints ≡ []
 
 -- ---- sentences, by what the tree holds
 
--- what an import has between its first quote and its last: its path, if that is one literal
+-- the string literals of an import
 abbrev pub imported : List TreeFile → FilePlace → List ℕ
-imported tree place = take (place.span.end - place.span.start - 2) (drop (place.span.start + 1) (bytes_of tree place.file))
+imported tree place = take (place.span.end - place.span.start) (drop place.span.start (bytes_of tree place.file))
 
 -- one of the files has a path
 abbrev pub has_path : (path : List ℕ) → List TreeFile → Bool
@@ -136,11 +144,15 @@ abbrev pub met_sentence : (text : List ℕ) → SyntaxFault → List ℕ
 met_sentence text (parsing.NotProto3 at) =
     if is_edition (drop at text) then codes "editions aren't read, only proto3, and, with `--accept all`, proto2"
     else syntax_sentence (parsing.NotProto3 at)
+met_sentence text (parsing.Grammar at) =
+    if has_required text at
+    then codes "proto3 has no `required`: leave it out; with `--accept all` a source may be proto2"
+    else syntax_sentence (parsing.Grammar at)
 met_sentence text fault = syntax_sentence fault
 
 abbrev pub sentence_in : List TreeFile → Fault → List ℕ
 sentence_in tree (Syntax number fault) = met_sentence (bytes_of tree number) fault
-sentence_in tree (MissingImport place) = import_sentence (has_path (imported tree place) tree)
+sentence_in tree (MissingImport place) = import_sentence (has_path (joined (imported tree place)) tree)
 sentence_in tree fault = sentence_of fault
 
 -- ---- explanations

@@ -1,7 +1,6 @@
 -- What a report tells of a tree: a finding for each fault, with the name that its line has and the sentence that
 -- explains it.
-use Rattle.std.specs.Prelude.{ℕ, ◌+◌, ◌-◌, Bool, false, not, ◌&&◌, nat_eq, List, ◌∷◌, Option, None, Some, map, take}
-use Rattle.std.specs.Prelude.{drop}
+use Rattle.std.specs.Prelude.{ℕ, ◌-◌, Bool, false, not, ◌&&◌, nat_eq, List, ◌∷◌, ◌++◌, Option, None, Some, map}
 use Rattle.std.specs.List.{count_by, filter}
 use Rattle.fault_reports.specs.Findings.{Found, FoundPlace}
 use Rattle.fault_reports.specs.declared.finding.Counts.{Counts}
@@ -15,7 +14,8 @@ use Rattle.source_tree.specs.Files.{TreeFile}
 use Rattle.protoscip.specs.Explanations.{bytes_of, imported, sentence_in}
 use Rattle.protoscip.specs.FaultLines.{name_of, path_of}
 use Rattle.protoscip.specs.Faults.{fault_of_build}
-use Rattle.protoscip.specs.ToldLines.{is_import, is_skipped, is_skipped_source, is_use}
+use Rattle.protoscip.specs.ToldLines.{is_import, is_skipped, is_skipped_source, is_use, left_out}
+use Rattle.protoscip.specs.Unread.{unread_finding}
 use Rattle.protoscip.specs.declared.fault.Fault.{Fault}
 use Rattle.protoscip.specs.declared.fault.Fault.TheVariants.{Lex, Syntax, Duplicate, MissingImport, Unresolved}
 
@@ -43,7 +43,7 @@ abbrev pub first_of : List TreeFile → Fault → Option FoundPlace
 first_of tree (Duplicate first second) = Some (place_of_span tree first)
 first_of tree fault = None
 
--- of an import without a file, its path as the source has it
+-- of an import without a file, its string literals, which spell its path together
 abbrev pub import_of : List TreeFile → Fault → Option (List ℕ)
 import_of tree (MissingImport place) = Some (imported tree place)
 import_of tree fault = None
@@ -78,6 +78,10 @@ told_in tree faults = map (λ fault. finding_of (kind_of fault) tree fault) faul
 -- of an index, what is told of it, each thing in its order
 abbrev pub told_findings : List TreeFile → List BuildFault → List Found
 told_findings tree told = told_in tree (faults_of told)
+
+-- and before it what couldn't be read below the folders of the run
+abbrev pub all_findings : List TreeFile → (unread : List (List ℕ)) → List BuildFault → List Found
+all_findings tree unread told = map unread_finding unread ++ told_findings tree told
 
 -- ---- the findings of a run that is refused
 
@@ -133,3 +137,7 @@ counts_of sources told status = record {
   uses = count_by is_use told;
   status = status;
 }
+
+-- what couldn't be read is skipped, too
+abbrev pub counts_with : (sources : ℕ) → (unread : List (List ℕ)) → List BuildFault → (status : ℕ) → Counts
+counts_with sources unread told status = record (counts_of sources told status) { skipped = left_out unread told }

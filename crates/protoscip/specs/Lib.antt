@@ -7,8 +7,10 @@ pub mod FaultLines
 pub mod FileLaws
 pub mod Statuses
 -- what is added to that line if it is to be explained
+pub mod Required
 pub mod Explanations
--- what is reported of what an index lacks
+-- what is reported of what an index lacks, and of what couldn't be read
+pub mod Unread
 pub mod ToldLines
 -- what a report tells of it
 pub mod Findings

@@ -14,7 +14,7 @@ use Rattle.scip_query.specs.declared.answer_fault.AnswerFault.TheVariants as ans
 use Rattle.protoscip.specs.Indexes.{IsIndexed, IsRefused}
 use Rattle.protoscip.specs.declared.recorded.Recorded.{Recorded}
 use Rattle.protoscip.specs.declared.fault.Fault.{Fault}
-use Rattle.protoscip.specs.declared.fault.Fault.TheVariants.{Memory, Read, Write, Answer}
+use Rattle.protoscip.specs.declared.fault.Fault.TheVariants.{Memory, Read, Answer}
 
 -- nothing was read or written
 pub record AreUntouched {R W : Type 0} (before after : R) (first last : W) : Type 0 where

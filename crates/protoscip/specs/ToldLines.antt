@@ -1,6 +1,6 @@
 -- What is reported, on standard error, of what an index lacks: a line for each thing, and one with their numbers.
 -- (The texts are this project's own.)
-use Rattle.std.specs.Prelude.{◌≡◌, ℕ, ◌-◌, Bool, true, false, List, [], ◌∷◌, ◌++◌, nat_lt, codes}
+use Rattle.std.specs.Prelude.{◌≡◌, ℕ, ◌+◌, ◌-◌, Bool, true, false, List, [], ◌∷◌, ◌++◌, length, nat_lt, codes}
 use Rattle.std.specs.Prelude.{Option, Some, None}
 use Rattle.std.specs.Fmt.{decimal}
 use Rattle.std.specs.List.{count_by}
@@ -12,6 +12,7 @@ use Rattle.scip_build.specs.declared.fault.BuildFault.TheVariants as build
 use Rattle.protoscip.specs.Explanations.{IsExplained}
 use Rattle.protoscip.specs.FaultLines.{line_with}
 use Rattle.protoscip.specs.Faults.{fault_of_build}
+use Rattle.protoscip.specs.Unread.{unread_lines}
 use Rattle.protoscip.specs.declared.fault.Fault.{Fault}
 
 -- ---- a line for each
@@ -86,3 +87,30 @@ IsTextOfLacks explain tree [] text = text ≡ None
 IsTextOfLacks explain tree (first ∷ others) text =
     (sources : ℕ) × IsSourceCount tree sources
     × ((told : List ℕ) × IsToldText explain tree sources (first ∷ others) told × (text ≡ Some told))
+
+-- ---- with what couldn't be read
+
+-- how many are left out, with these
+abbrev pub left_out : (unread : List (List ℕ)) → List BuildFault → ℕ
+left_out unread told = length unread + count_by is_skipped told
+
+-- the numbers: what couldn't be read is skipped
+abbrev pub counts_line_with : (sources : ℕ) → (unread : List (List ℕ)) → List BuildFault → List ℕ
+counts_line_with sources unread told =
+    numbers_line (sources - count_by (is_skipped_source sources) told) (left_out unread told)
+    (count_by is_import told) (count_by is_use told)
+
+-- the lines of what couldn't be read, then the others, and then the numbers
+abbrev pub IsToldTextWith : (explain : Option Dialect) → List TreeFile → (sources : ℕ) → (unread : List (List ℕ))
+    → List BuildFault → (text : List ℕ) → Type 0
+IsToldTextWith explain tree sources unread told text =
+    (lines : List ℕ) × AreLines explain tree told lines
+    × (text ≡ unread_lines explain unread ++ (lines ++ counts_line_with sources unread told))
+
+-- what is reported of an index that lacks this: nothing if nothing is lacking, else all of it
+abbrev pub IsTextOfAllLacks : (explain : Option Dialect) → List TreeFile → (unread : List (List ℕ))
+    → List BuildFault → Option (List ℕ) → Type 0
+IsTextOfAllLacks explain tree [] told text = IsTextOfLacks explain tree told text
+IsTextOfAllLacks explain tree (first ∷ others) told text =
+    (sources : ℕ) × IsSourceCount tree sources
+    × ((said : List ℕ) × IsToldTextWith explain tree sources (first ∷ others) told said × (text ≡ Some said))

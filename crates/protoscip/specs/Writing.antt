@@ -1,5 +1,5 @@
 -- What the writing of an index answers, and what it leaves of the writer.
-use Rattle.std.specs.Prelude.{◌≡◌, ℕ, ◌<◌, List, length, Option, Result, Ok, Err}
+use Rattle.std.specs.Prelude.{◌≡◌, ℕ, ◌<◌, ◌≤◌, List, length, Option, Result, Ok, Err}
 use Rattle.streams.specs.WholeWrites.{IsWritten, IsCutOff}
 use Rattle.scip_records.specs.declared.records.Document.{Document}
 use Rattle.scip_records.specs.declared.records.Index.{Index}
@@ -29,8 +29,8 @@ WritesIndex contents failures index before after (Err other) = ⊥
 abbrev pub IsReadBack : Index → Index → Type 0
 IsReadBack index read = IsSpelled index (spelling_of index) × (read ≡ index)
 
--- an index has no bytes to read back: it has too many, or memory ran out
+-- an index has no bytes to read back: it has too many, or, if it hasn't, memory ran out
 abbrev pub IsNotReadBack : Index → Fault → Type 0
-IsNotReadBack index Memory = Unit {0}
+IsNotReadBack index Memory = length (spelling_of index) ≤ max_index_len
 IsNotReadBack index TooLarge = max_index_len < length (spelling_of index)
 IsNotReadBack index other = ⊥

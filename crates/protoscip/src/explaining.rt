@@ -10,7 +10,6 @@ ghost use Rattle.protoscip.specs.Explanations.{
   at_token,
   bytes_of,
   explain_in,
-  explained,
   explanation_of,
   IsExplained,
   IsFaultText,
@@ -19,32 +18,22 @@ ghost use Rattle.protoscip.specs.Explanations.{
 ghost use Rattle.protoscip.specs.FaultLines.{HasFile, HasFilesOf, path_of};
 
 use crate::fault::Fault;
-use crate::fault_lines::{fault_line, path_of};
+use crate::fault_lines::fault_line;
+use crate::required::has_required;
 use crate::sentences::sentence_in;
-use excerpts::{push_excerpt, push_place, push_quoted, token_len};
+use crate::tree_counter::{Part, TreeCounter};
+use excerpts::{push_quoted, token_len};
 use proto_link::FilePlace;
 use proto_parse::{Dialect, SyntaxFault};
 use source_tree::Tree;
 use std::alloc::{AllocError, Global};
 use syntax_hints::hint_text;
 
-/// A file that is shown: its path, and what it holds.
+/// What is told of a place: a sentence, and what could be there.
 #[derive(Clone, Copy)]
-struct ShownFile<'a> {
-    path: &'a str,
-    text: &'a [u8],
-}
-
-/// A file of a tree.
-fn shown_file(tree: &Tree, file: usize) -> ShownFile<'_>
-    requires { HasFile tree.now file }
-    ensures path { result.path.now ≡ path_of tree.now file }
-    ensures text { result.text.now ≡ bytes_of tree.now file }
-{
-    ShownFile {
-        path: path_of(tree, file),
-        text: tree.bytes(file),
-    }
+struct Told<'a> {
+    sentence: &'a str,
+    hints: &'a str,
 }
 
 /// The line, without its end, that says why a run over the tree stops; and, if that is asked for, what explains it: a
@@ -63,7 +52,7 @@ pub fn fault_text(
     ensures { IfOk result (λ text. IsFaultText explain tree.now fault.now (string_bytes text)) }
 {
     let line = fault_line(alloc, tree, fault)?;
-    with_explanation(alloc, tree, fault, explain, line)
+    with_explanation(alloc, &mut TreeCounter::new(tree), fault, explain, line)
 }
 
 /// With what faults are explained, if that is asked for: the dialect in which sources are parsed.
@@ -76,18 +65,20 @@ pub fn explain_in(asked: bool, dialect: Dialect) -> Option<Dialect>
 /// A line about a fault, and what explains the fault, if that is asked for.
 pub(crate) fn with_explanation(
     alloc: Global,
-    tree: &Tree,
+    counter: &mut TreeCounter<'_>,
     fault: &Fault,
     explain: Option<Dialect>,
     line: String,
 ) -> Result<String, AllocError>
-    requires { HasFilesOf tree.now fault.now }
-    ensures { IfOk result (λ text. IsExplained explain tree.now fault.now (string_bytes line) (string_bytes text)) }
+    requires { HasFilesOf counter.old fault.now }
+    ensures explained { IfOk result (λ text. IsExplained explain counter.old fault.now (string_bytes line)
+        (string_bytes text)) }
+    ensures same { counter.new ≡ counter.old }
 {
     let mut text = line;
     if let Some(dialect) = explain {
-        let hints = hints_of(alloc, tree, fault, dialect)?;
-        push_explanation(alloc, &mut text, tree, fault, hints.as_str())?;
+        let hints = hints_of(alloc, counter.tree(), fault, dialect)?;
+        push_explanation(alloc, &mut text, counter, fault, hints.as_str())?;
     }
     Ok(text)
 }
@@ -113,7 +104,12 @@ fn hints_at(
     ensures { IfOk result (λ hints. AreSyntaxHints dialect text.now fault.now (string_bytes hints)) }
 {
     match fault {
-        SyntaxFault::Grammar(at) => hint_text(alloc, dialect, head(text, *at)),
+        SyntaxFault::Grammar(at) => {
+            if has_required(text, *at) {
+                return Ok(String::new(alloc));
+            }
+            hint_text(alloc, dialect, head(text, *at))
+        }
         SyntaxFault::NotProto3(_)
         | SyntaxFault::CustomOption(_)
         | SyntaxFault::Aggregate(_)
@@ -136,9 +132,7 @@ fn hints_of(
     ensures { IfOk result (λ hints. AreHintsOf dialect tree.now fault.now (string_bytes hints)) }
 {
     match fault {
-        Fault::Syntax(file, fault) => {
-            hints_at(alloc, shown_file(tree, *file).text, fault, dialect)
-        }
+        Fault::Syntax(file, fault) => { hints_at(alloc, tree.bytes(*file), fault, dialect) }
         Fault::Spawn
         | Fault::Memory
         | Fault::Lex(..)
@@ -156,40 +150,30 @@ fn hints_of(
 fn push_explanation(
     alloc: Global,
     out: &mut String,
-    tree: &Tree,
+    counter: &mut TreeCounter<'_>,
     fault: &Fault,
     hints: &str,
 ) -> Result<(), AllocError>
-    requires { HasFilesOf tree.now fault.now }
-    ensures { OnOk result (string_bytes out.new ≡ string_bytes out.old ++ explanation_of tree.now fault.now hints.now) }
+    requires { HasFilesOf counter.old fault.now }
+    ensures explanation { OnOk result (string_bytes out.new
+        ≡ string_bytes out.old ++ explanation_of counter.old fault.now hints.now) }
+    ensures same { counter.new ≡ counter.old }
 {
-    let sentence = sentence_in(tree, fault);
+    let sentence = sentence_in(counter.tree(), fault);
     match fault {
         Fault::Memory => Ok(()),
         Fault::Lex(file, fault) => {
-            push_at_token(
-                alloc,
-                out,
-                shown_file(tree, *file),
-                fault.offset(),
-                sentence,
-            )
+            push_at_token(alloc, out, counter, *file, fault.offset(), sentence)
         }
         Fault::Syntax(file, fault) => {
-            push_at_met(
-                alloc,
-                out,
-                shown_file(tree, *file),
-                fault.offset(),
-                sentence,
-                hints,
-            )
+            let told = Told { sentence, hints };
+            push_at_met(alloc, out, counter, *file, fault.offset(), told)
         }
         Fault::Duplicate(first, second) => {
-            push_at_both(alloc, out, tree, first, second, sentence)
+            push_at_both(alloc, out, counter, first, second, sentence)
         }
-        Fault::MissingImport(place) => push_at_place(alloc, out, tree, place, sentence),
-        Fault::Unresolved(place) => push_at_place(alloc, out, tree, place, sentence),
+        Fault::MissingImport(place) => push_at_place(alloc, out, counter, place, sentence),
+        Fault::Unresolved(place) => push_at_place(alloc, out, counter, place, sentence),
         Fault::Spawn | Fault::TooLarge | Fault::Write(_) | Fault::Read | Fault::Answer(_) => {
             out.push_str("\n")?;
             out.push_str(sentence)
@@ -197,39 +181,24 @@ fn push_explanation(
     }
 }
 
-/// Appends a place of a file, a sentence about it, and its line with this many bytes marked.
-fn push_explained(
-    alloc: Global,
-    out: &mut String,
-    file: ShownFile<'_>,
-    at: usize,
-    len: usize,
-    sentence: &str,
-) -> Result<(), AllocError>
-    ensures { OnOk result (string_bytes out.new
-        ≡ string_bytes out.old ++ explained file.entry.path.now file.entry.text.now at len sentence.now) }
-{
-    out.push_str("\n")?;
-    push_place(out, file.path, file.text, at)?;
-    out.push_str(sentence)?;
-    push_excerpt(alloc, out, file.text, at, len)
-}
-
 /// Appends a place where a token begins, if there is one.
 fn push_at_token(
     alloc: Global,
     out: &mut String,
-    file: ShownFile<'_>,
+    counter: &mut TreeCounter<'_>,
+    file: usize,
     offset: Option<usize>,
     sentence: &str,
 ) -> Result<(), AllocError>
-    ensures { OnOk result (string_bytes out.new
-        ≡ string_bytes out.old ++ at_token file.entry.path.now file.entry.text.now offset sentence.now) }
+    requires { HasFile counter.old file }
+    ensures token { OnOk result (string_bytes out.new ≡ string_bytes out.old
+        ++ at_token (path_of counter.old file) (bytes_of counter.old file) offset sentence.now) }
+    ensures same { counter.new ≡ counter.old }
 {
     match offset {
         Some(at) => {
-            let len = token_len(tail(file.text, at));
-            push_explained(alloc, out, file, at, len, sentence)
+            let len = token_len(tail(counter.tree().bytes(file), at));
+            counter.push_explained(alloc, out, Part { file, at, len }, sentence)
         }
         None => Ok(()),
     }
@@ -258,26 +227,38 @@ fn push_met(out: &mut String, bytes: &[u8]) -> Result<(), AllocError>
     out.push_str(": ")
 }
 
+/// The text about a place where the parser met a token, by the bytes from it on.
+fn met_text(alloc: Global, rest: &[u8], told: Told<'_>) -> Result<String, AllocError>
+    ensures { IfOk result (λ text. string_bytes text
+        ≡ met rest.now ++ told.entry.sentence.now ++ told.entry.hints.now) }
+{
+    let mut text = String::new(alloc);
+    push_met(&mut text, rest)?;
+    text.push_str(told.sentence)?;
+    text.push_str(told.hints)?;
+    Ok(text)
+}
+
 /// Appends a place where the parser met a token, or the text's end, if there is one, and what could be there.
 fn push_at_met(
     alloc: Global,
     out: &mut String,
-    file: ShownFile<'_>,
+    counter: &mut TreeCounter<'_>,
+    file: usize,
     offset: Option<usize>,
-    sentence: &str,
-    hints: &str,
+    told: Told<'_>,
 ) -> Result<(), AllocError>
-    ensures { OnOk result (string_bytes out.new
-        ≡ string_bytes out.old ++ at_met file.entry.path.now file.entry.text.now offset sentence.now hints.now) }
+    requires { HasFile counter.old file }
+    ensures met { OnOk result (string_bytes out.new ≡ string_bytes out.old ++ at_met (path_of counter.old file)
+        (bytes_of counter.old file) offset told.entry.sentence.now told.entry.hints.now) }
+    ensures same { counter.new ≡ counter.old }
 {
     match offset {
         Some(at) => {
-            let rest = tail(file.text, at);
-            let mut told = String::new(alloc);
-            push_met(&mut told, rest)?;
-            told.push_str(sentence)?;
-            told.push_str(hints)?;
-            push_explained(alloc, out, file, at, token_len(rest), told.as_str())
+            let rest = tail(counter.tree().bytes(file), at);
+            let text = met_text(alloc, rest, told)?;
+            let len = token_len(rest);
+            counter.push_explained(alloc, out, Part { file, at, len }, text.as_str())
         }
         None => Ok(()),
     }
@@ -287,32 +268,44 @@ fn push_at_met(
 fn push_at_place(
     alloc: Global,
     out: &mut String,
-    tree: &Tree,
+    counter: &mut TreeCounter<'_>,
     place: &FilePlace,
     sentence: &str,
 ) -> Result<(), AllocError>
-    requires { HasFile tree.now place.now.file }
-    ensures { OnOk result (string_bytes out.new ≡ string_bytes out.old ++ at_place tree.now place.now sentence.now) }
+    requires { HasFile counter.old place.now.file }
+    ensures place { OnOk result (string_bytes out.new
+        ≡ string_bytes out.old ++ at_place counter.old place.now sentence.now) }
+    ensures same { counter.new ≡ counter.old }
 {
-    let len = place.span.end.saturating_sub(place.span.start) as usize;
-    let file = shown_file(tree, place.file);
-    push_explained(alloc, out, file, place.span.start as usize, len, sentence)
+    let part = Part {
+        file: place.file,
+        at: place.span.start as usize,
+        len: place.span.end.saturating_sub(place.span.start) as usize,
+    };
+    counter.push_explained(alloc, out, part, sentence)
 }
 
 /// Appends the second of two places with one full name, and then the first.
 fn push_at_both(
     alloc: Global,
     out: &mut String,
-    tree: &Tree,
+    counter: &mut TreeCounter<'_>,
     first: &FilePlace,
     second: &FilePlace,
     sentence: &str,
 ) -> Result<(), AllocError>
-    requires first { HasFile tree.now first.now.file }
-    requires second { HasFile tree.now second.now.file }
-    ensures { OnOk result (string_bytes out.new
-        ≡ string_bytes out.old ++ at_both tree.now first.now second.now sentence.now) }
+    requires first { HasFile counter.old first.now.file }
+    requires second { HasFile counter.old second.now.file }
+    ensures both { OnOk result (string_bytes out.new
+        ≡ string_bytes out.old ++ at_both counter.old first.now second.now sentence.now) }
+    ensures same { counter.new ≡ counter.old }
 {
-    push_at_place(alloc, out, tree, second, sentence)?;
-    push_at_place(alloc, out, tree, first, "it is given here")
+    push_at_place(alloc, out, counter, second, sentence)?;
+    push_at_place(
+        alloc,
+        out,
+        &mut TreeCounter::new(counter.tree()),
+        first,
+        "it is given here",
+    )
 }

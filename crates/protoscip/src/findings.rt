@@ -1,11 +1,13 @@
 //! What a report tells of a tree.
 
-ghost use Rattle.std.specs.Prelude.{◌≡◌, ◌++◌, [], ◌∷◌, IfOk, OnOk, option_map, if◌then◌else◌};
+ghost use Rattle.std.specs.Prelude.{◌≡◌, ◌++◌, [], ◌∷◌, IfOk, OnOk, map, option_map, string_bytes, if◌then◌else◌};
 ghost use Rattle.std.specs.List.{All};
 ghost use Rattle.protoscip.specs.FaultLines.{HasFile, HasFilesOf, HaveFilesOf};
 ghost use Rattle.protoscip.specs.FindingLaws.{FindingsComeOnce};
 ghost use Rattle.protoscip.specs.Findings.{
+  all_findings,
   counts_of,
+  counts_with,
   faults_of,
   faults_with,
   finding_of,
@@ -17,7 +19,6 @@ ghost use Rattle.protoscip.specs.Findings.{
   is_use_at,
   kind_of,
   leaves_out,
-  place_in,
   place_of,
   place_of_span,
   refused_findings,
@@ -28,9 +29,12 @@ ghost use Rattle.protoscip.specs.Findings.{
 };
 
 use crate::fault::Fault;
-use crate::fault_lines::path_of;
 use crate::sentences::{imported, sentence_in};
-use crate::telling::{count_imports, count_skipped, count_skipped_sources, count_uses};
+use crate::telling::{
+    count_imports, count_left_out, count_skipped, count_skipped_sources, count_uses,
+};
+use crate::tree_counter::TreeCounter;
+use crate::unread::unread_findings;
 use fault_reports::{Counts, Finding, FindingKind, Place};
 use index_hooks::Chooses;
 use proto_link::FilePlace;
@@ -38,39 +42,46 @@ use scip_build::BuildFault;
 use source_tree::Tree;
 use std::alloc::{AllocError, Global};
 
-/// A place of one of the tree's files, and its end, if that is known.
-fn place_in(tree: &Tree, file: usize, at: Option<usize>, end: Option<usize>) -> Place<'_>
-    requires { HasFile tree.now file }
-    ensures { result ≡ place_in tree.now file at end }
+/// What counts the places of findings, and those where a full name is first given.
+#[derive(Drop)]
+struct Counters<'a> {
+    own: TreeCounter<'a>,
+    first: TreeCounter<'a>,
+}
+
+/// At no file of the tree.
+fn counters_of(tree: &Tree) -> Counters<'_>
+    ensures own { result.own ≡ tree.now }
+    ensures first { result.first ≡ tree.now }
 {
-    Place {
-        path: path_of(tree, file),
-        text: tree.bytes(file),
-        offset: at,
-        end,
+    Counters {
+        own: TreeCounter::new(tree),
+        first: TreeCounter::new(tree),
     }
 }
 
 /// A place of a file, with its end.
-fn place_of_span<'a>(tree: &'a Tree, place: &FilePlace) -> Place<'a>
-    requires { HasFile tree.now place.now.file }
-    ensures { result ≡ place_of_span tree.now place.now }
+fn place_of_span<'a>(counter: &mut TreeCounter<'a>, place: &FilePlace) -> Place<'a>
+    requires { HasFile counter.old place.now.file }
+    ensures place { result ≡ place_of_span counter.old place.now }
+    ensures same { counter.new ≡ counter.old }
 {
     let start = place.span.start as usize;
-    place_in(tree, place.file, Some(start), Some(place.span.end as usize))
+    counter.place_in(place.file, Some(start), Some(place.span.end as usize))
 }
 
 /// Where a fault is, if it is of a file.
-fn place_of<'a>(tree: &'a Tree, fault: &Fault) -> Option<Place<'a>>
-    requires { HasFilesOf tree.now fault.now }
-    ensures { result ≡ place_of tree.now fault.now }
+fn place_of<'a>(counter: &mut TreeCounter<'a>, fault: &Fault) -> Option<Place<'a>>
+    requires { HasFilesOf counter.old fault.now }
+    ensures place { result ≡ place_of counter.old fault.now }
+    ensures same { counter.new ≡ counter.old }
 {
     match fault {
-        Fault::Lex(file, fault) => Some(place_in(tree, *file, fault.offset(), None)),
-        Fault::Syntax(file, fault) => Some(place_in(tree, *file, fault.offset(), None)),
-        Fault::Duplicate(_, second) => Some(place_of_span(tree, second)),
-        Fault::MissingImport(place) => Some(place_of_span(tree, place)),
-        Fault::Unresolved(place) => Some(place_of_span(tree, place)),
+        Fault::Lex(file, fault) => Some(counter.place_in(*file, fault.offset(), None)),
+        Fault::Syntax(file, fault) => Some(counter.place_in(*file, fault.offset(), None)),
+        Fault::Duplicate(_, second) => Some(place_of_span(counter, second)),
+        Fault::MissingImport(place) => Some(place_of_span(counter, place)),
+        Fault::Unresolved(place) => Some(place_of_span(counter, place)),
         Fault::Spawn
         | Fault::Memory
         | Fault::TooLarge
@@ -81,17 +92,18 @@ fn place_of<'a>(tree: &'a Tree, fault: &Fault) -> Option<Place<'a>>
 }
 
 /// Where a full name is first given that is given again.
-fn first_of<'a>(tree: &'a Tree, fault: &Fault) -> Option<Place<'a>>
-    requires { HasFilesOf tree.now fault.now }
-    ensures { result ≡ first_of tree.now fault.now }
+fn first_of<'a>(counter: &mut TreeCounter<'a>, fault: &Fault) -> Option<Place<'a>>
+    requires { HasFilesOf counter.old fault.now }
+    ensures place { result ≡ first_of counter.old fault.now }
+    ensures same { counter.new ≡ counter.old }
 {
     match fault {
-        Fault::Duplicate(first, _) => Some(place_of_span(tree, first)),
+        Fault::Duplicate(first, _) => Some(place_of_span(counter, first)),
         _ => None,
     }
 }
 
-/// What an import without a file has between its quotes.
+/// The string literals of an import without a file.
 fn import_of<'a>(tree: &'a Tree, fault: &Fault) -> Option<&'a [u8]>
     requires { HasFilesOf tree.now fault.now }
     ensures { option_map (λ path. path.now) result ≡ import_of tree.now fault.now }
@@ -102,6 +114,30 @@ fn import_of<'a>(tree: &'a Tree, fault: &Fault) -> Option<&'a [u8]>
     }
 }
 
+/// The finding of a fault of the tree. The places are counted on from those before.
+fn counted_finding<'a>(
+    kind: FindingKind,
+    tree: &'a Tree,
+    counters: &mut Counters<'a>,
+    fault: &Fault,
+) -> Finding<'a>
+    requires fault { HasFilesOf tree.now fault.now }
+    requires own { counters.old.own ≡ tree.now }
+    requires first { counters.old.first ≡ tree.now }
+    ensures finding { result ≡ finding_of kind tree.now fault.now }
+    ensures own { counters.new.own ≡ tree.now }
+    ensures first { counters.new.first ≡ tree.now }
+{
+    Finding {
+        kind,
+        name: fault.name(),
+        message: sentence_in(tree, fault),
+        place: place_of(&mut counters.own, fault),
+        first: first_of(&mut counters.first, fault),
+        import: import_of(tree, fault),
+    }
+}
+
 /// The finding of a fault of the tree.
 ///
 /// The file numbers in the fault have to be below the tree's `file_count`, as `fault_line` asks it.
@@ -109,14 +145,7 @@ pub fn finding_of<'a>(kind: FindingKind, tree: &'a Tree, fault: &Fault) -> Findi
     requires { HasFilesOf tree.now fault.now }
     ensures { result ≡ finding_of kind tree.now fault.now }
 {
-    Finding {
-        kind,
-        name: fault.name(),
-        message: sentence_in(tree, fault),
-        place: place_of(tree, fault),
-        first: first_of(tree, fault),
-        import: import_of(tree, fault),
-    }
+    counted_finding(kind, tree, &mut counters_of(tree), fault)
 }
 
 /// What a thing that is told of an index is.
@@ -155,9 +184,11 @@ fn told_in<'a>(
     requires { All (HasFilesOf tree.now) faults.now }
     ensures { IfOk result (λ findings. findings.items ≡ told_in tree.now faults.now) }
 {
+    let mut counters = counters_of(tree);
     let mut findings = Vec::new(alloc);
     for fault in faults {
-        findings.push(finding_of(kind_of(fault), tree, fault))?;
+        let finding = counted_finding(kind_of(fault), tree, &mut counters, fault);
+        findings.push(finding)?;
     }
     Ok(findings)
 }
@@ -176,6 +207,26 @@ pub fn told_findings<'a>(
 {
     let faults = faults_of(alloc, told)?;
     told_in(alloc, tree, faults.as_slice())
+}
+
+/// The findings of what is told of an index of the tree, and before these one for each path that couldn't be read and
+/// was left out.
+///
+/// The file numbers in what is told have to be below the tree's `file_count`, as `told_text` asks it. An error means
+/// that memory was refused.
+pub fn all_findings<'a>(
+    alloc: Global,
+    tree: &'a Tree,
+    unread: &'a [String],
+    told: &[BuildFault],
+) -> Result<Vec<Finding<'a>>, AllocError>
+    requires { HaveFilesOf tree.now told.now }
+    ensures { IfOk result (λ findings. findings.items ≡ all_findings tree.now (map string_bytes unread.now) told.now) }
+{
+    let mut findings = unread_findings(alloc, unread)?;
+    let mut others = told_findings(alloc, tree, told)?;
+    findings.append(&mut others)?;
+    Ok(findings)
 }
 
 /// Whether the file with this number would be left out for a fault.
@@ -260,9 +311,11 @@ fn refused_in<'a>(
     requires { All (HasFilesOf tree.now) faults.now }
     ensures { IfOk result (λ findings. findings.items ≡ refused_in tree.now faults.now) }
 {
+    let mut counters = counters_of(tree);
     let mut findings = Vec::new(alloc);
     for fault in faults {
-        findings.push(finding_of(FindingKind::Fault, tree, fault))?;
+        let finding = counted_finding(FindingKind::Fault, tree, &mut counters, fault);
+        findings.push(finding)?;
     }
     Ok(findings)
 }
@@ -300,7 +353,18 @@ pub fn counts_of(sources: usize, told: &[BuildFault], status: u8) -> Counts
     }
 }
 
-/// No two findings of what is told are alike, and no two faults of a run that is refused.
+/// The same, with what couldn't be read and was left out.
+pub fn counts_with(sources: usize, unread: &[String], told: &[BuildFault], status: u8) -> Counts
+    ensures { result ≡ counts_with sources (map string_bytes unread.now) told.now status }
+{
+    Counts {
+        skipped: count_left_out(unread, told),
+        ..counts_of(sources, told, status)
+    }
+}
+
+/// No two findings of what is told are alike, with what couldn't be read, if no two of its paths are; and no two faults
+/// of a run that is refused.
 pub fn findings_come_once<C: Chooses>(chooser: &C)
     ensures { FindingsComeOnce (C.allows chooser.now) }
 {}

@@ -1,6 +1,6 @@
 //! From a tree to the bytes of its index.
 
-ghost use Rattle.std.specs.Prelude.{Ok, Err, IfErr, IfOk, MatchResult, string_bytes};
+ghost use Rattle.std.specs.Prelude.{Ok, Err, IfErr, IfOk, MatchResult, map, string_bytes};
 ghost use Rattle.std.specs.Option.{option_map};
 ghost use Rattle.streams.specs.WholeWrites.{IsWritten};
 ghost use Rattle.scip_records.specs.declared.records.Index.{Index};
@@ -9,7 +9,7 @@ ghost use Rattle.protoscip.specs.Explanations.{explain_in};
 ghost use Rattle.protoscip.specs.FaultLines.{HasFilesOf, HaveFilesOf};
 ghost use Rattle.protoscip.specs.Headline.{IsNavigable};
 ghost use Rattle.protoscip.specs.Indexes.{Indexes, recorded_of};
-ghost use Rattle.protoscip.specs.ToldLines.{IsTextOfLacks};
+ghost use Rattle.protoscip.specs.ToldLines.{IsTextOfAllLacks, IsTextOfLacks};
 ghost use Rattle.protoscip.specs.Writing.{IsRecordOf, WritesIndex};
 
 use crate::as_bytes::AsBytes;
@@ -17,7 +17,7 @@ use crate::explaining::explain_in;
 use crate::fault::Fault;
 use crate::laws::headline_of_tree;
 use crate::recorded::Recorded;
-use crate::telling::text_of_lacks;
+use crate::telling::{Telling, text_of_lacks};
 use index_hooks::Chooses;
 use index_pool::Gate;
 use scip_build::{BuiltParts, Parts, Run, Settings, build_in_form};
@@ -60,8 +60,37 @@ pub struct KeptIndex<'a> {
 }
 
 /// Builds the index of a tree and writes its bytes, as `index_tree` does, and hands out all that it made. The report
-/// of what the index lacks, explained if that is asked for, with the dialect of the settings, is made before the first
-/// write. From then on only a write can fail.
+/// of what the index lacks, told so, is made before the first write. From then on only a write can fail.
+pub fn index_and_tell<'a, R: Threads + Wait, C: Chooses + Sync, G: Gate, W: Sink>(
+    run: &Run<'_, R, G>,
+    tree: &'a Tree,
+    chooser: &C,
+    settings: &Settings,
+    telling: &Telling<'_>,
+    out: &mut W,
+) -> Result<KeptIndex<'a>, Fault>
+    ensures indexed { MatchResult result
+        (λ kept. Indexes W.contents W.failures (C.allows chooser.now) settings.now tree.now run.now.workers out.old
+        out.new (Ok (recorded_of kept.built.choices kept.built.told)))
+        (λ fault. Indexes W.contents W.failures (C.allows chooser.now) settings.now tree.now run.now.workers out.old
+        out.new (Err fault)) }
+    ensures navigable { IfOk result (λ kept. IsNavigable
+        (λ bytes _. IsWritten W.contents W.failures out.old out.new bytes) (C.allows chooser.now) settings.now tree.now
+        (recorded_of kept.built.choices kept.built.told)) }
+    ensures files { IfErr result (HasFilesOf tree.now) }
+    ensures told { IfOk result (λ kept. HaveFilesOf tree.now kept.built.told) }
+    ensures said { IfOk result (λ kept. IsTextOfAllLacks telling.now.explain tree.now (map string_bytes
+        telling.now.unread.now) kept.built.told (option_map string_bytes kept.text)) }
+{
+    headline_of_tree(chooser, tree, settings);
+    let built = build_in_form(run, tree, chooser, settings, &AsBytes)?;
+    let text = text_of_lacks(run.alloc, tree, built.told.as_slice(), telling)?;
+    write_spelled(&built.parts, out)?;
+    Ok(KeptIndex { built, text })
+}
+
+/// The same where all could be read below the folders. What the index lacks is explained if that is asked for, with the
+/// dialect of the settings.
 pub fn index_and_keep<'a, R: Threads + Wait, C: Chooses + Sync, G: Gate, W: Sink>(
     run: &Run<'_, R, G>,
     tree: &'a Tree,
@@ -83,12 +112,11 @@ pub fn index_and_keep<'a, R: Threads + Wait, C: Chooses + Sync, G: Gate, W: Sink
     ensures said { IfOk result (λ kept. IsTextOfLacks (explain_in explain settings.now.dialect) tree.now
         kept.built.told (option_map string_bytes kept.text)) }
 {
-    headline_of_tree(chooser, tree, settings);
-    let built = build_in_form(run, tree, chooser, settings, &AsBytes)?;
-    let explain = explain_in(explain, settings.dialect);
-    let text = text_of_lacks(run.alloc, tree, built.told.as_slice(), explain)?;
-    write_spelled(&built.parts, out)?;
-    Ok(KeptIndex { built, text })
+    let telling = Telling {
+        unread: &[],
+        explain: explain_in(explain, settings.dialect),
+    };
+    index_and_tell(run, tree, chooser, settings, &telling, out)
 }
 
 /// Builds the index of a tree on workers, calls the gate before and after each file, and writes the index's bytes.

@@ -23,22 +23,28 @@ mod explaining;
 mod fault;
 mod fault_lines;
 mod lines;
+mod required;
 mod sentences;
 mod statuses;
+mod tree_counter;
 
 // What an index lacks.
 mod findings;
 mod telling;
 mod told_lines;
 mod told_trees;
+mod unread;
 
 pub use answering::answer_commands;
 pub use dumping::{SOURCE_PATH, dump, dump_and_keep, dump_tree, dump_with};
 pub use explaining::{explain_in, fault_text};
 pub use fault::Fault;
 pub use fault_lines::fault_line;
-pub use findings::{counts_of, finding_of, findings_come_once, refused_findings, told_findings};
-pub use indexing::{KeptIndex, index_and_keep, index_tree};
+pub use findings::{
+    all_findings, counts_of, counts_with, finding_of, findings_come_once, refused_findings,
+    told_findings,
+};
+pub use indexing::{KeptIndex, index_and_keep, index_and_tell, index_tree};
 pub use laws::{
     built_has_files, each_use_has_a_target, headline, indexed_has_no_fault, laws_of_names,
     listed_unless_memory, one_fault, one_indexing, one_listing,
@@ -48,7 +54,10 @@ pub use output::write_text;
 pub use recorded::Recorded;
 pub use sessions::session;
 pub use statuses::{MEMORY_STATUS, SOURCES_STATUS, STREAM_STATUS};
-pub use telling::{count_imports, count_skipped, count_skipped_sources, count_uses, told_text};
+pub use telling::{
+    Telling, count_imports, count_left_out, count_skipped, count_skipped_sources, count_uses,
+    lacks_nothing, told_text, told_text_with,
+};
 pub use told_lines::told_line;
 pub use told_trees::told_of_tree;
 

@@ -1,6 +1,7 @@
 //! A sentence about each fault.
 
 ghost use Rattle.std.specs.Prelude.{◌≡◌};
+ghost use Rattle.excerpts.specs.Literals.{joined};
 ghost use Rattle.protoscip.specs.Explanations.{
   has_path,
   import_sentence,
@@ -16,7 +17,8 @@ ghost use Rattle.protoscip.specs.FaultLines.{HasFile, HasFilesOf};
 
 use crate::explaining::{head, tail};
 use crate::fault::Fault;
-use excerpts::token_len;
+use crate::required::has_required;
+use excerpts::{is_joined, token_len};
 use proto_lex::{LexFault, MAX_TEXT_LENGTH};
 use proto_link::FilePlace;
 use proto_parse::{MAX_MESSAGE_DEPTH, SyntaxFault};
@@ -87,8 +89,13 @@ fn met_sentence(text: &[u8], fault: &SyntaxFault) -> &'static str
             }
             syntax_sentence(fault)
         }
-        SyntaxFault::Grammar(_)
-        | SyntaxFault::CustomOption(_)
+        SyntaxFault::Grammar(at) => {
+            if has_required(text, *at) {
+                return "proto3 has no `required`: leave it out; with `--accept all` a source may be proto2";
+            }
+            syntax_sentence(fault)
+        }
+        SyntaxFault::CustomOption(_)
         | SyntaxFault::Aggregate(_)
         | SyntaxFault::Extend(_)
         | SyntaxFault::TwoPackages(_)
@@ -98,22 +105,22 @@ fn met_sentence(text: &[u8], fault: &SyntaxFault) -> &'static str
     }
 }
 
-/// What an import has between its first quote and its last: its path, if that is one literal.
+/// The string literals of an import, which spell its path together.
 pub(crate) fn imported<'a>(tree: &'a Tree, place: &FilePlace) -> &'a [u8]
     requires { HasFile tree.now place.now.file }
     ensures { result.now ≡ imported tree.now place.now }
 {
     let len = (place.span.end as usize).saturating_sub(place.span.start as usize);
-    let behind = tail(tree.bytes(place.file), place.span.start as usize + 1);
-    head(behind, len.saturating_sub(2))
+    let behind = tail(tree.bytes(place.file), place.span.start as usize);
+    head(behind, len)
 }
 
-/// Whether one of the files has a path.
-fn has_path(tree: &Tree, path: &[u8]) -> bool
-    ensures { result ≡ has_path path.now tree.now }
+/// Whether one of the files has the path that these literals spell.
+fn has_path(tree: &Tree, literals: &[u8]) -> bool
+    ensures { result ≡ has_path (joined literals.now) tree.now }
 {
     for number in 0..tree.file_count() {
-        if *tree.path(number).as_bytes() == *path {
+        if is_joined(literals, tree.path(number).as_bytes()) {
             return true;
         }
     }

@@ -1,27 +1,40 @@
 //! The report of what an index lacks.
 
-ghost use Rattle.std.specs.Prelude.{◌≡◌, ◌++◌, ℕ, List, IfOk, OnOk, string_bytes};
+ghost use Rattle.std.specs.Prelude.{◌≡◌, ◌==◌, ◌&&◌, ◌++◌, ℕ, List, IfOk, OnOk, length, map, string_bytes};
 ghost use Rattle.std.specs.List.{count_by};
 ghost use Rattle.std.specs.Option.{option_map};
 ghost use Rattle.source_tree.specs.Trees.{IsSourceCount};
 ghost use Rattle.protoscip.specs.FaultLines.{HaveFilesOf};
 ghost use Rattle.protoscip.specs.ToldLines.{
   AreLines,
-  counts_line,
+  counts_line_with,
   is_import,
   is_skipped,
   is_skipped_source,
   is_use,
-  IsTextOfLacks,
+  IsTextOfAllLacks,
   IsToldText,
+  IsToldTextWith,
+  left_out,
   numbers_line,
 };
 
 use crate::told_lines::push_told;
+use crate::tree_counter::TreeCounter;
+use crate::unread::push_unread;
 use proto_parse::Dialect;
 use scip_build::BuildFault;
 use source_tree::Tree;
 use std::alloc::{AllocError, Global};
+
+/// How that is told which an index lacks.
+#[derive(Clone, Copy)]
+pub struct Telling<'a> {
+    /// What couldn't be read below the folders of the run, and was left out: a path for each.
+    pub unread: &'a [String],
+    /// With what faults are explained, if that is asked for.
+    pub explain: Option<Dialect>,
+}
 
 /// Whether a file is left out.
 fn is_skipped(fault: &BuildFault) -> bool
@@ -60,6 +73,13 @@ pub fn count_skipped(told: &[BuildFault]) -> usize
     ensures { result ≡ count_by is_skipped told.now }
 {
     told.iter().filter(|fault| is_skipped(*fault)).count()
+}
+
+/// How many files are left out, with what couldn't be read.
+pub fn count_left_out(unread: &[String], told: &[BuildFault]) -> usize
+    ensures { result ≡ left_out (map string_bytes unread.now) told.now }
+{
+    unread.len() + count_skipped(told)
 }
 
 /// How many sources are left out, by how many the tree has.
@@ -101,13 +121,19 @@ fn numbers_line(
 }
 
 /// The line with the numbers, of a tree with this many sources.
-fn counts_line(alloc: Global, sources: usize, told: &[BuildFault]) -> Result<String, AllocError>
-    ensures { IfOk result (λ line. string_bytes line ≡ counts_line sources told.now) }
+fn counts_line(
+    alloc: Global,
+    sources: usize,
+    unread: &[String],
+    told: &[BuildFault],
+) -> Result<String, AllocError>
+    ensures { IfOk result (λ line. string_bytes line
+        ≡ counts_line_with sources (map string_bytes unread.now) told.now) }
 {
     numbers_line(
         alloc,
         sources.saturating_sub(count_skipped_sources(sources, told)),
-        count_skipped(told),
+        count_left_out(unread, told),
         count_imports(told),
         count_uses(told),
     )
@@ -125,32 +151,55 @@ fn push_lines(
     ensures { OnOk result ((lines : List ℕ) × AreLines explain tree.now told.now lines
         × (string_bytes out.new ≡ string_bytes out.old ++ lines)) }
 {
+    let mut counter = TreeCounter::new(tree);
     for fault in told {
-        push_told(alloc, out, tree, *fault, explain)?;
+        push_told(alloc, out, tree, &mut counter, *fault, explain)?;
     }
     Ok(())
 }
 
-/// That and the line with the numbers, of a tree with this many sources.
+/// The lines of what couldn't be read, those of what is told, and the line with the numbers, of a tree with this many
+/// sources.
 fn text_of(
     alloc: Global,
     tree: &Tree,
     sources: usize,
     told: &[BuildFault],
-    explain: Option<Dialect>,
+    telling: &Telling<'_>,
 ) -> Result<String, AllocError>
     requires { HaveFilesOf tree.now told.now }
-    ensures { IfOk result (λ text. IsToldText explain tree.now sources told.now (string_bytes text)) }
+    ensures { IfOk result (λ text. IsToldTextWith telling.now.explain tree.now sources (map string_bytes
+        telling.now.unread.now) told.now (string_bytes text)) }
 {
     let mut text = String::new(alloc);
-    push_lines(alloc, &mut text, tree, told, explain)?;
-    let numbers = counts_line(alloc, sources, told)?;
+    push_unread(alloc, &mut text, telling.unread, telling.explain)?;
+    push_lines(alloc, &mut text, tree, told, telling.explain)?;
+    let numbers = counts_line(alloc, sources, telling.unread, told)?;
     text.push_str(numbers.as_str())?;
     Ok(text)
 }
 
-/// The report of what an index of the tree lacks: a line for each, in this order, explained if that is asked for, and
-/// then one with their numbers, without its end.
+/// The report of what an index of the tree lacks: a line for each thing, in this order, explained if that is asked for,
+/// and then one with their numbers, without its end. What couldn't be read comes first.
+///
+/// The file numbers in what is told have to be below the tree's `file_count`, as `told_line` asks it. An error means
+/// that memory was refused.
+pub fn told_text_with(
+    alloc: Global,
+    tree: &Tree,
+    told: &[BuildFault],
+    telling: &Telling<'_>,
+) -> Result<String, AllocError>
+    requires { HaveFilesOf tree.now told.now }
+    ensures { (sources : ℕ) × IsSourceCount tree.now sources
+        × IfOk result (λ text. IsToldTextWith telling.now.explain tree.now sources (map string_bytes
+        telling.now.unread.now) told.now (string_bytes text)) }
+{
+    let sources = tree.source_count();
+    text_of(alloc, tree, sources, told, telling)
+}
+
+/// The same where all could be read.
 ///
 /// The file numbers in what is told have to be below the tree's `file_count`, as `told_line` asks it. An error means
 /// that memory was refused.
@@ -164,22 +213,37 @@ pub fn told_text(
     ensures { (sources : ℕ) × IsSourceCount tree.now sources
         × IfOk result (λ text. IsToldText explain tree.now sources told.now (string_bytes text)) }
 {
-    let sources = tree.source_count();
-    text_of(alloc, tree, sources, told, explain)
+    told_text_with(
+        alloc,
+        tree,
+        told,
+        &Telling {
+            unread: &[],
+            explain,
+        },
+    )
 }
 
-/// The same for an index that lacks something; for one that lacks nothing there is nothing to report.
+/// Whether an index lacks nothing, and all could be read.
+pub fn lacks_nothing(unread: &[String], told: &[BuildFault]) -> bool
+    ensures { result ≡ (length unread.now == 0 && length told.now == 0) }
+{
+    unread.is_empty() && told.is_empty()
+}
+
+/// The report of an index that lacks something; for one that lacks nothing there is nothing to report.
 pub(crate) fn text_of_lacks(
     alloc: Global,
     tree: &Tree,
     told: &[BuildFault],
-    explain: Option<Dialect>,
+    telling: &Telling<'_>,
 ) -> Result<Option<String>, AllocError>
     requires { HaveFilesOf tree.now told.now }
-    ensures { IfOk result (λ text. IsTextOfLacks explain tree.now told.now (option_map string_bytes text)) }
+    ensures { IfOk result (λ text. IsTextOfAllLacks telling.now.explain tree.now (map string_bytes
+        telling.now.unread.now) told.now (option_map string_bytes text)) }
 {
-    if told.is_empty() {
+    if lacks_nothing(telling.unread, told) {
         return Ok(None);
     }
-    Ok(Some(told_text(alloc, tree, told, explain)?))
+    Ok(Some(told_text_with(alloc, tree, told, telling)?))
 }

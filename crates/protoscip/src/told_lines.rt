@@ -8,6 +8,7 @@ ghost use Rattle.protoscip.specs.ToldLines.{IsEndedLine, IsToldLine, told_line};
 use crate::explaining::with_explanation;
 use crate::fault::Fault;
 use crate::fault_lines::line_with;
+use crate::tree_counter::TreeCounter;
 use proto_parse::Dialect;
 use scip_build::BuildFault;
 use source_tree::Tree;
@@ -25,18 +26,21 @@ pub fn told_line(alloc: Global, tree: &Tree, fault: &Fault) -> Result<String, Al
     line_with(alloc, tree, fault, "skipped: ", "no target: ")
 }
 
-/// The same, and what explains it, if that is asked for.
+/// The same, and what explains it, if that is asked for. The place is counted on from those before.
 fn explained_line(
     alloc: Global,
     tree: &Tree,
+    counter: &mut TreeCounter<'_>,
     fault: &Fault,
     explain: Option<Dialect>,
 ) -> Result<String, AllocError>
-    requires { HasFilesOf tree.now fault.now }
-    ensures { IfOk result (λ text. IsToldLine explain tree.now fault.now (string_bytes text)) }
+    requires files { HasFilesOf tree.now fault.now }
+    requires counter { counter.old ≡ tree.now }
+    ensures told { IfOk result (λ text. IsToldLine explain tree.now fault.now (string_bytes text)) }
+    ensures counter { counter.new ≡ tree.now }
 {
     let line = told_line(alloc, tree, fault)?;
-    with_explanation(alloc, tree, fault, explain, line)
+    with_explanation(alloc, counter, fault, explain, line)
 }
 
 /// Appends that, with its end.
@@ -44,14 +48,17 @@ pub(crate) fn push_told(
     alloc: Global,
     out: &mut String,
     tree: &Tree,
+    counter: &mut TreeCounter<'_>,
     fault: BuildFault,
     explain: Option<Dialect>,
 ) -> Result<(), AllocError>
-    requires { HasFilesOf tree.now (fault_of_build fault) }
-    ensures { OnOk result ((line : List ℕ) × IsEndedLine explain tree.now fault line
+    requires files { HasFilesOf tree.now (fault_of_build fault) }
+    requires counter { counter.old ≡ tree.now }
+    ensures told { OnOk result ((line : List ℕ) × IsEndedLine explain tree.now fault line
         × (string_bytes out.new ≡ string_bytes out.old ++ line)) }
+    ensures counter { counter.new ≡ tree.now }
 {
-    let line = explained_line(alloc, tree, &Fault::from(fault), explain)?;
+    let line = explained_line(alloc, tree, counter, &Fault::from(fault), explain)?;
     out.push_str(line.as_str())?;
     out.push_str("\n")
 }

@@ -2,14 +2,14 @@
 #![tactic(auto)]
 
 use command_line::request_of_process;
-use programs::{Host, Places, links_followed, out_path, report_path, run};
+use programs::{Host, Places, explain_failure, links_followed, out_path, report_path, run};
 use source_files::{OutFile, SystemFiles, SystemStream};
 use std::io::IsTerminal;
 use std::process::ExitCode;
 use streams::Std;
 
-/// Does what the command line asks for, over the process's streams and the system's files, and ends with its
-/// status.
+/// Does what the command line asks for, over the process's streams and the system's files, explains why the system
+/// refused what was asked of it, and ends with the status.
 fn main(rt: HostRuntime) -> ExitCode {
     let words = std::env::args(&rt).and_then(|words| Ok(words.collect(rt.alloc())?));
     let asked = request_of_process(rt.alloc(), words);
@@ -35,5 +35,6 @@ fn main(rt: HostRuntime) -> ExitCode {
         &mut places,
         &mut messages,
     );
+    explain_failure(&asked, status, &places, &out, &mut messages);
     ExitCode::from(status)
 }

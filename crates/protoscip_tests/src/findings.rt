@@ -31,20 +31,20 @@ struct Row {
     alone: &'static str,
 }
 
-// The first row reads: in `a.proto`, the import at byte 26 has no target, nor has the use at byte 49; and `b.proto` can't
+// The first row reads: in `a.proto`, the import at byte 26 has no target, nor has the use at byte 52; and `b.proto` can't
 // be read, for which the tree is refused.
 static ROWS: [Row; 2] = [
     Row {
         files: "b.proto\n@|\
-a.proto\nsyntax = \"proto3\";\nimport \"e.proto\";\nmessage M { D d = 1; }\n",
-        skipped: "{\"column\":8,\"end\":35,\"first\":null,\"import\":\"e.proto\",\"kind\":\"no target\",\"line\":2,\"message\":\"no source has this path, below ROOT or a folder that is included\",\"name\":\"MissingImport\",\"offset\":26,\"path\":\"a.proto\"}
-{\"column\":13,\"end\":50,\"first\":null,\"import\":null,\"kind\":\"no target\",\"line\":3,\"message\":\"no type that this source sees has this name\",\"name\":\"Unresolved\",\"offset\":49,\"path\":\"a.proto\"}
+a.proto\nsyntax = \"proto3\";\nimport \"e.\" 'proto';\nmessage M { D d = 1; }\n",
+        skipped: "{\"column\":8,\"end\":38,\"first\":null,\"import\":\"e.proto\",\"kind\":\"no target\",\"line\":2,\"message\":\"no source has this path, below ROOT or a folder that is included\",\"name\":\"MissingImport\",\"offset\":26,\"path\":\"a.proto\"}
+{\"column\":13,\"end\":53,\"first\":null,\"import\":null,\"kind\":\"no target\",\"line\":3,\"message\":\"no type that this source sees has this name\",\"name\":\"Unresolved\",\"offset\":52,\"path\":\"a.proto\"}
 {\"column\":1,\"end\":null,\"first\":null,\"import\":null,\"kind\":\"skipped\",\"line\":1,\"message\":\"this character can't be here\",\"name\":\"BadByte\",\"offset\":0,\"path\":\"b.proto\"}
 {\"imports\":1,\"kind\":\"counts\",\"skipped\":1,\"sources\":1,\"status\":0,\"uses\":1}
 ",
         refused: "{\"column\":1,\"end\":null,\"first\":null,\"import\":null,\"kind\":\"fault\",\"line\":1,\"message\":\"this character can't be here\",\"name\":\"BadByte\",\"offset\":0,\"path\":\"b.proto\"}
-{\"column\":8,\"end\":35,\"first\":null,\"import\":\"e.proto\",\"kind\":\"fault\",\"line\":2,\"message\":\"no source has this path, below ROOT or a folder that is included\",\"name\":\"MissingImport\",\"offset\":26,\"path\":\"a.proto\"}
-{\"column\":13,\"end\":50,\"first\":null,\"import\":null,\"kind\":\"fault\",\"line\":3,\"message\":\"no type that this source sees has this name\",\"name\":\"Unresolved\",\"offset\":49,\"path\":\"a.proto\"}
+{\"column\":8,\"end\":38,\"first\":null,\"import\":\"e.proto\",\"kind\":\"fault\",\"line\":2,\"message\":\"no source has this path, below ROOT or a folder that is included\",\"name\":\"MissingImport\",\"offset\":26,\"path\":\"a.proto\"}
+{\"column\":13,\"end\":53,\"first\":null,\"import\":null,\"kind\":\"fault\",\"line\":3,\"message\":\"no type that this source sees has this name\",\"name\":\"Unresolved\",\"offset\":52,\"path\":\"a.proto\"}
 {\"imports\":1,\"kind\":\"counts\",\"skipped\":1,\"sources\":1,\"status\":1,\"uses\":1}
 ",
         alone: "{\"column\":1,\"end\":null,\"first\":null,\"import\":null,\"kind\":\"fault\",\"line\":1,\"message\":\"this character can't be here\",\"name\":\"BadByte\",\"offset\":0,\"path\":\"b.proto\"}
@@ -101,7 +101,7 @@ fn refused(
 
 impl<'a, R: Threads + Wait + Abort> Desk<'a, R> {
     /// What is told of a tree if faults are skipped; none for want of memory or of a thread.
-    fn told(&self, given: &Given) -> Result<Sequence<BuildFault>, AllocError>
+    pub(crate) fn told(&self, given: &Given) -> Result<Sequence<BuildFault>, AllocError>
         ensures { IfOk result (HaveFilesOf given.now.tree) }
     {
         let dialect = given.settings.dialect;

@@ -19,3 +19,5 @@ mod lines;
 mod names;
 #[cfg(test)]
 mod talks;
+#[cfg(test)]
+mod unread;

@@ -8,7 +8,9 @@ pub mod WalkLemmas
 pub mod WalkLawLemmas
 pub mod OneListingLemmas
 pub mod ReadingLemmas
+pub mod RootLemmas
+pub mod RootLawLemmas
 pub mod LoadLemmas
-pub mod FolderLemmas
+pub mod OnceLemmas
 pub mod PlaceLemmas
 pub mod PlainWalkLemmas

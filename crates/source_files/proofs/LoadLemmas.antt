@@ -1,15 +1,15 @@
 -- The files below several roots, root by root, and the paths that are named.
-use Rattle.std.proofs.Common.{◌≡◌, ◌<◌, ◌+◌, ℕ, List, [], ◌∷◌, ◌++◌, map, length, take, drop, get_or, Option, Some}
-use Rattle.std.proofs.Common.{refl, ap, ap₂, sym, add-one, drop-cons, ◌∙◌, subst, string_bytes, append_assoc, arith}
-use Rattle.std.specs.List.{slice_get}
+use Rattle.std.proofs.Common.{◌≡◌, ◌<◌, ◌+◌, ℕ, Bool, List, [], ◌∷◌, ◌++◌, map, length, take, drop, get_or, Option, Some}
+use Rattle.std.proofs.Common.{refl, ap, ap₂, sym, add-one, drop-cons, ◌∙◌, subst, string_bytes, arith}
+use Rattle.std.specs.List.{AllZip, slice_get}
 use Rattle.std.specs.Option.{option_map}
-use Rattle.std.proofs.lemmas.List.{append-nil, length-append, map-append, take-append-drop}
+use Rattle.std.proofs.lemmas.List.{length-append, map-append, take-append-drop}
 use Rattle.std.proofs.lemmas.Option.{same_Some, slice_get_within}
 use Rattle.source_tree.specs.Files.{SourceFile, IsByPath}
 use Rattle.source_tree.specs.Laws.{OneSortingByPath}
 use Rattle.source_tree.specs.Refusals.{HaveBadPath, HaveSamePath}
 use Rattle.source_files.specs.Listings.{Listing}
-use Rattle.source_files.specs.Roots.{AreBelow, AreBelowEach, no_root, next_root, IsUnreadableBelow}
+use Rattle.source_files.specs.Roots.{AreFilesBelow, FilesBelow, IsUnreadableBelow, files_of}
 use Rattle.source_files.specs.RootFaults.{MayStop}
 use Rattle.source_files.specs.declared.load_fault.LoadFault.{LoadFault}
 use Rattle.source_files.specs.declared.load_fault.LoadFault.TheVariants as load
@@ -25,49 +25,13 @@ parted_at f xs number x below is =
     ∙ ap (λ l. map f (take number xs) ++ map f l)
     (drop-cons xs number x below ∙ ap₂ (λ y l. y ∷ l) (sym is) (ap (λ n. drop n xs) (sym (add-one number))))
 
-module _ (lists : List ℕ → List ℕ → Option Listing → Type 0) (gives : List ℕ → Option (List ℕ) → Type 0) where
-  -- one root more
-  pub below_more : {roots : List (List ℕ)} {sources : List SourceFile} (root : List ℕ) (here : List SourceFile)
-      → AreBelowEach lists gives roots sources
-      → AreBelow lists gives root here → AreBelowEach lists gives (roots ++ root ∷ []) (sources ++ here)
-  below_more root here no_root below =
-      subst (AreBelowEach lists gives (root ∷ [])) (append-nil here) (next_root below no_root)
-  below_more root here (next_root {root = first} {roots = roots} {here = front} {others = others} of rest) below =
-      subst (AreBelowEach lists gives (first ∷ (roots ++ root ∷ []))) (sym (append_assoc front others here))
-      (next_root of (below_more root here rest below))
-
-  -- below the next root something can't be read
-  pub stop_below : (before : List (List ℕ)) (root : List ℕ) (behind roots : List (List ℕ)) (sources : List SourceFile)
-      (fault : LoadFault)
-      → roots ≡ before ++ root ∷ behind → AreBelowEach lists gives before sources → MayStop lists gives root fault
-      → MayStopBelow lists gives roots fault
-  stop_below before root behind roots sources (load.Unreadable name) are read stop = record {
-    before = before;
-    root = root;
-    behind = behind;
-    sources = sources;
-    roots_are = are;
-    read = read;
-    unreadable = stop;
-  }
-  stop_below before root behind roots sources load.TooMany are read stop = absurd stop
-  stop_below before root behind roots sources (load.BadPath path) are read stop = absurd stop
-  stop_below before root behind roots sources (load.SamePath path) are read stop = absurd stop
-  stop_below before root behind roots sources load.Memory are read stop = tt
-
-  -- the same behind a root that can be read
-  pub stop_behind : (root : List ℕ) (roots : List (List ℕ)) (here : List SourceFile) (name : List ℕ)
-      → AreBelow lists gives root here → IsUnreadableBelow lists gives roots name
-      → IsUnreadableBelow lists gives (root ∷ roots) name
-  stop_behind root roots here name below stop = record {
-    before = root ∷ stop.before;
-    root = stop.root;
-    behind = stop.behind;
-    sources = here ++ stop.sources;
-    roots_are = ap (λ l. root ∷ l) stop.roots_are;
-    read = next_root below stop.read;
-    unreadable = stop.unreadable;
-  }
+-- one pair more at the end
+zip-push : {X Y : Type 0} (R : X → Y → Type 0) (xs : List X) (ys : List Y) (x : X) (y : Y) → AllZip R xs ys → R x y
+    → AllZip R (xs ++ x ∷ []) (ys ++ y ∷ [])
+zip-push R [] [] x y all one = (one, tt)
+zip-push R [] (b ∷ ys) x y all one = absurd all
+zip-push R (a ∷ xs) [] x y all one = absurd all
+zip-push R (a ∷ xs) (b ∷ ys) x y all one = (all.0, zip-push R xs ys x y all.1 one)
 
 -- the number of a bad path is one of a file
 pub bad_within : (sources included : List SourceFile) (number : ℕ) → HaveBadPath sources included number
@@ -107,44 +71,88 @@ same_path one sources included back number path same by at =
     same_Some path same.first.repeats.second.path (sym at ∙ ap (option_map (λ (file : SourceFile). file.path)) here)
 
 module _ (lists : List ℕ → List ℕ → Option Listing → Type 0) (gives : List ℕ → Option (List ℕ) → Type 0)
-    (root : List ℕ)
-    (roots : List (List ℕ)) where
+    (leaves_out : Bool) where
+  -- the files below each of these roots
+  abbrev pub AreEach : List (List ℕ) → List FilesBelow → Type 0
+  AreEach roots each = AllZip (AreFilesBelow lists gives leaves_out) roots each
+
+  -- one root more
+  pub root_more : (roots : List (List ℕ)) (each : List FilesBelow) (root : List ℕ) (below : FilesBelow)
+      → AreEach roots each → AreFilesBelow lists gives leaves_out root below
+      → AreEach (roots ++ root ∷ []) (each ++ below ∷ [])
+  root_more roots each root below all one =
+      zip-push (AreFilesBelow lists gives leaves_out) roots each root below all one
+
+  -- below the next root something can't be read
+  pub stop_below : (before : List (List ℕ)) (root : List ℕ) (behind roots : List (List ℕ)) (each : List FilesBelow)
+      (fault : LoadFault)
+      → roots ≡ before ++ root ∷ behind → AreEach before each → MayStop lists gives leaves_out root fault
+      → MayStopBelow lists gives leaves_out roots fault
+  stop_below before root behind roots each (load.Unreadable name) are read stop = record {
+    before = before;
+    root = root;
+    behind = behind;
+    each = each;
+    roots_are = are;
+    read = read;
+    unreadable = stop;
+  }
+  stop_below before root behind roots each load.TooMany are read stop = absurd stop
+  stop_below before root behind roots each (load.BadPath path) are read stop = absurd stop
+  stop_below before root behind roots each (load.SamePath path) are read stop = absurd stop
+  stop_below before root behind roots each load.Memory are read stop = tt
+
+  -- the same behind a root that can be read
+  pub stop_behind : (root : List ℕ) (roots : List (List ℕ)) (here : FilesBelow) (name : List ℕ)
+      → AreFilesBelow lists gives leaves_out root here → IsUnreadableBelow lists gives leaves_out roots name
+      → IsUnreadableBelow lists gives leaves_out (root ∷ roots) name
+  stop_behind root roots here name below stop = record {
+    before = root ∷ stop.before;
+    root = stop.root;
+    behind = stop.behind;
+    each = here ∷ stop.each;
+    roots_are = ap (λ l. root ∷ l) stop.roots_are;
+    read = (below, stop.read);
+    unreadable = stop.unreadable;
+  }
+
   -- what can't be read below the first root isn't loaded
-  pub refused_root : (fault : LoadFault) → MayStop lists gives root fault → MayNotLoad lists gives root roots fault
-  refused_root (load.Unreadable name) stop = record {
+  pub refused_root : (root : List ℕ) (roots : List (List ℕ)) (fault : LoadFault)
+      → MayStop lists gives leaves_out root fault → MayNotLoad lists gives leaves_out root roots fault
+  refused_root root roots (load.Unreadable name) stop = record {
     before = [];
     root = root;
     behind = roots;
-    sources = [];
+    each = [];
     roots_are = refl;
-    read = no_root;
+    read = tt;
     unreadable = stop;
   }
-  refused_root load.TooMany stop = absurd stop
-  refused_root (load.BadPath path) stop = absurd stop
-  refused_root (load.SamePath path) stop = absurd stop
-  refused_root load.Memory stop = tt
+  refused_root root roots load.TooMany stop = absurd stop
+  refused_root root roots (load.BadPath path) stop = absurd stop
+  refused_root root roots (load.SamePath path) stop = absurd stop
+  refused_root root roots load.Memory stop = tt
 
   -- nor what can't be read below the included roots
-  pub refused_included : (here : List SourceFile) (fault : LoadFault) → AreBelow lists gives root here
-      → MayStopBelow lists gives roots fault
-      → MayNotLoad lists gives root roots fault
-  refused_included here (load.Unreadable name) below stop =
-      stop_behind lists gives root roots here (string_bytes name) below stop
-  refused_included here load.TooMany below stop = absurd stop
-  refused_included here (load.BadPath path) below stop = absurd stop
-  refused_included here (load.SamePath path) below stop = absurd stop
-  refused_included here load.Memory below stop = tt
+  pub refused_included : (root : List ℕ) (roots : List (List ℕ)) (here : FilesBelow) (fault : LoadFault)
+      → AreFilesBelow lists gives leaves_out root here → MayStopBelow lists gives leaves_out roots fault
+      → MayNotLoad lists gives leaves_out root roots fault
+  refused_included root roots here (load.Unreadable name) below stop =
+      stop_behind root roots here (string_bytes name) below stop
+  refused_included root roots here load.TooMany below stop = absurd stop
+  refused_included root roots here (load.BadPath path) below stop = absurd stop
+  refused_included root roots here (load.SamePath path) below stop = absurd stop
+  refused_included root roots here load.Memory below stop = tt
 
   -- files that make no tree
-  pub refused_files : (sources included : List SourceFile) (fault : LoadFault) → AreBelow lists gives root sources
-      → AreBelowEach lists gives roots included
-      → MayRefuseFiles sources included fault → MayNotLoad lists gives root roots fault
-  refused_files sources included (load.Unreadable name) below each refuses = absurd refuses
-  refused_files sources included load.TooMany below each refuses =
-      record { sources = sources; included = included; below = below; below_included = each; holds = refuses }
-  refused_files sources included (load.BadPath path) below each refuses =
-      record { sources = sources; included = included; below = below; below_included = each; holds = refuses }
-  refused_files sources included (load.SamePath path) below each refuses =
-      record { sources = sources; included = included; below = below; below_included = each; holds = refuses }
-  refused_files sources included load.Memory below each refuses = tt
+  pub refused_files : (root : List ℕ) (roots : List (List ℕ)) (own : FilesBelow) (others : List FilesBelow)
+      (fault : LoadFault) → AreFilesBelow lists gives leaves_out root own → AreEach roots others
+      → MayRefuseFiles own.files (files_of others) fault → MayNotLoad lists gives leaves_out root roots fault
+  refused_files root roots own others (load.Unreadable name) below each refuses = absurd refuses
+  refused_files root roots own others load.TooMany below each refuses =
+      record { own = own; others = others; below = below; below_each = each; holds = refuses }
+  refused_files root roots own others (load.BadPath path) below each refuses =
+      record { own = own; others = others; below = below; below_each = each; holds = refuses }
+  refused_files root roots own others (load.SamePath path) below each refuses =
+      record { own = own; others = others; below = below; below_each = each; holds = refuses }
+  refused_files root roots own others load.Memory below each refuses = tt

@@ -97,6 +97,6 @@ root_path = record { names = []; named = All-nil IsName; path_is = refl }
 
 pub listed_stay : (lists : List ℕ → List ℕ → Option Listing → Type 0) → ListedStayBelow lists
 listed_stay lists =
-    λ root paths listing.
-    All-permutation StaysBelow listing.found paths listing.by_bytes.complete
-    (found_stay (lists root) (All-cons IsFolderPath [] [] root_path (All-nil IsFolderPath)) listing.below_root)
+    λ root paths unread walked.
+    All-permutation StaysBelow walked.found paths walked.by_bytes.complete
+    (found_stay (lists root) (All-cons IsFolderPath [] [] root_path (All-nil IsFolderPath)) walked.below_root)

@@ -12,6 +12,7 @@ pub mod WalkSteps
 -- what the sources below a root are, and which can't be read
 pub mod Roots
 pub mod RootFaults
+pub mod RootLaws
 pub mod Reading
 -- the tree below a root and included roots, and why there is none
 pub mod Loads
@@ -20,5 +21,7 @@ pub mod LoadFaults
 pub mod Made
 -- where a file is to be
 pub mod Places
+-- where a folder is to be
+pub mod FolderPlaces
 -- why the system refuses a call
 pub mod Causes

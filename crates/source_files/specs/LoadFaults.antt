@@ -1,5 +1,5 @@
 -- Why there is no tree: its name, and what each step to a tree answers.
-use Rattle.std.specs.Prelude.{ℕ, ⊤, List, Option, codes, string_bytes}
+use Rattle.std.specs.Prelude.{ℕ, ⊤, Bool, List, Option, codes, string_bytes}
 use Rattle.source_tree.specs.Files.{SourceFile}
 use Rattle.source_tree.specs.Refusals.{AreTooMany}
 use Rattle.source_files.specs.Listings.{Listing}
@@ -18,10 +18,11 @@ name_of Memory = codes "Memory"
 
 -- why files below several roots can't be read
 abbrev pub MayStopBelow : (List ℕ → List ℕ → Option Listing → Type 0) → (List ℕ → Option (List ℕ) → Type 0)
-    → (roots : List (List ℕ)) → LoadFault → Type 0
-MayStopBelow lists gives roots (Unreadable name) = IsUnreadableBelow lists gives roots (string_bytes name)
-MayStopBelow lists gives roots Memory = ⊤
-MayStopBelow lists gives roots other = ⊥
+    → (leaves_out : Bool) → (roots : List (List ℕ)) → LoadFault → Type 0
+MayStopBelow lists gives leaves_out roots (Unreadable name) =
+    IsUnreadableBelow lists gives leaves_out roots (string_bytes name)
+MayStopBelow lists gives leaves_out roots Memory = ⊤
+MayStopBelow lists gives leaves_out roots other = ⊥
 
 -- why files that were read make no tree, with the path that is to be named
 abbrev pub MayRefuseFiles : (sources included : List SourceFile) → LoadFault → Type 0

@@ -1,12 +1,14 @@
 -- What the tree below a root and included roots is, and why there is none.
-use Rattle.std.specs.Prelude.{◌≡◌, ℕ, ⊤, List, ◌∷◌, Option, string_bytes}
+use Rattle.std.specs.Prelude.{◌≡◌, ℕ, ⊤, Bool, List, ◌∷◌, Option, map, string_bytes}
+use Rattle.std.specs.List.{AllZip}
 use Rattle.source_tree.specs.Files.{SourceFile, TreeFile, paths_of}
 use Rattle.source_tree.specs.Trees.{IsTreeOf}
 use Rattle.source_tree.specs.Refusals.{AreTooMany, HaveBadPath, HaveSamePath}
 use Rattle.source_files.specs.Listings.{Listing}
 use Rattle.source_files.specs.declared.load_fault.LoadFault.{LoadFault}
 use Rattle.source_files.specs.declared.load_fault.LoadFault.TheVariants.{Unreadable, TooMany, BadPath, SamePath, Memory}
-use Rattle.source_files.specs.Roots.{AreBelow, AreBelowEach, AreFolders, IsUnreadableBelow}
+use Rattle.source_files.specs.Roots.{AreFilesBelow, FilesBelow, IsUnreadableBelow, files_of, unread_of}
+use Rattle.source_files.specs.Walks.{AreOnce}
 
 -- this is the path of the first file of all that has no good path
 abbrev pub HasBadPath : (path : List ℕ) → (sources included : List SourceFile) → Type 0
@@ -18,35 +20,40 @@ abbrev pub HasSamePath : (path : List ℕ) → (sources included : List SourceFi
 HasSamePath path sources included =
     (number : ℕ) × (same : HaveSamePath sources included number) × (path ≡ same.first.repeats.second.path)
 
+-- the tree of the files below a root and included roots, and what was left out below all of them, each path once
+pub record AreLoaded (tree : List TreeFile) (unread : List (List ℕ)) (own : FilesBelow) (others : List FilesBelow)
+    : Type 0 where
+  pub tree_is : IsTreeOf own.files (files_of others) tree
+  pub unread_is : AreOnce (unread_of (own ∷ others)) unread
+
 module _ (lists : List ℕ → List ℕ → Option Listing → Type 0) (gives : List ℕ → Option (List ℕ) → Type 0)
+    (leaves_out : Bool)
     (root : List ℕ)
     (roots : List (List ℕ)) where
-  -- this holds of the sources below the root and the files below the included roots, all of which can be read
-  pub record OfFiles (Holds : (sources included : List SourceFile) → Type 0) : Type 0 where
-    pub sources : List SourceFile
-    pub included : List SourceFile
-    pub below : AreBelow lists gives root sources
-    pub below_included : AreBelowEach lists gives roots included
-    pub holds : Holds sources included
+  -- this holds of the files below the root, and of those below each included root
+  pub record OfFiles (Holds : (own : FilesBelow) → (others : List FilesBelow) → Type 0) : Type 0 where
+    pub own : FilesBelow
+    pub others : List FilesBelow
+    pub below : AreFilesBelow lists gives leaves_out root own
+    pub below_each : AllZip (AreFilesBelow lists gives leaves_out) roots others
+    pub holds : Holds own others
 
-  -- the tree of these files
-  abbrev pub IsTreeBelow : List TreeFile → Type 0
-  IsTreeBelow files = OfFiles (λ sources included. IsTreeOf sources included files)
+  -- the tree of these files, and what was left out
+  abbrev pub IsTreeBelow : List TreeFile → (unread : List (List ℕ)) → Type 0
+  IsTreeBelow tree unread = OfFiles (AreLoaded tree unread)
 
-  -- the tree of these files, with the paths of the files below the root, and of those below each included root
-  pub record IsLoadedBelow (files : List TreeFile) (own : List (List ℕ)) (others : List (List (List ℕ))) : Type 0 where
-    pub sources : List SourceFile
-    pub included : List SourceFile
-    pub below : AreBelow lists gives root sources
-    pub below_each : AreFolders lists gives roots included others
-    pub tree_is : IsTreeOf sources included files
-    pub own_are : own ≡ paths_of sources
+  -- the same, with the paths of the files below the root, and of those below each included root
+  abbrev pub IsLoadedBelow : List TreeFile → (own : List (List ℕ)) → (others : List (List (List ℕ)))
+      → (unread : List (List ℕ)) → Type 0
+  IsLoadedBelow tree own others unread =
+      OfFiles (λ here each. AreLoaded tree unread here each × (own ≡ paths_of here.files)
+      × (others ≡ map (λ (below : FilesBelow). paths_of below.files) each))
 
   -- why there is no tree: something can't be read, the first of all; or these files make none; nothing is said about
   -- memory
   abbrev pub MayNotLoad : LoadFault → Type 0
-  MayNotLoad (Unreadable name) = IsUnreadableBelow lists gives (root ∷ roots) (string_bytes name)
-  MayNotLoad TooMany = OfFiles AreTooMany
-  MayNotLoad (BadPath path) = OfFiles (HasBadPath (string_bytes path))
-  MayNotLoad (SamePath path) = OfFiles (HasSamePath (string_bytes path))
+  MayNotLoad (Unreadable name) = IsUnreadableBelow lists gives leaves_out (root ∷ roots) (string_bytes name)
+  MayNotLoad TooMany = OfFiles (λ own others. AreTooMany own.files (files_of others))
+  MayNotLoad (BadPath path) = OfFiles (λ own others. HasBadPath (string_bytes path) own.files (files_of others))
+  MayNotLoad (SamePath path) = OfFiles (λ own others. HasSamePath (string_bytes path) own.files (files_of others))
   MayNotLoad Memory = ⊤

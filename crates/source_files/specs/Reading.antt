@@ -1,32 +1,55 @@
 -- Reading the sources with given paths below a root.
-use Rattle.std.specs.Prelude.{◌≡◌, ℕ, ⊤, List, ◌∷◌, ◌++◌, Option, None, Result, Ok, Err, All, string_bytes}
+use Rattle.std.specs.Prelude.{◌≡◌, ℕ, ⊤, Bool, true, false, List, [], ◌∷◌, ◌++◌, Option, None, Result, Ok, Err, All}
+use Rattle.std.specs.Prelude.{string_bytes}
+use Rattle.std.specs.List.{AllZip, flat_map}
 use Rattle.source_tree.specs.Files.{SourceFile, paths_of}
 use Rattle.source_files.specs.Listings.{Listing}
 use Rattle.source_files.specs.declared.load_fault.LoadFault.{LoadFault}
 use Rattle.source_files.specs.declared.load_fault.LoadFault.TheVariants.{Unreadable, Memory}
-use Rattle.source_files.specs.Roots.{path_below, IsHeld}
+use Rattle.source_files.specs.declared.reading.ReadSource.{ReadSource}
+use Rattle.source_files.specs.declared.reading.ReadSource.TheVariants.{Held, LeftOut}
+use Rattle.source_files.specs.Roots.{AreRead, FilesBelow, IsHeld, path_below}
+
+-- the source, if it is held, and its path, if it is left out
+abbrev pub held_of : ReadSource → List SourceFile
+held_of (Held source) = source ∷ []
+held_of (LeftOut path) = []
+
+abbrev pub left_of : ReadSource → List (List ℕ)
+left_of (Held source) = []
+left_of (LeftOut path) = string_bytes path ∷ []
+
+-- what was read of sources comes behind what was read before
+pub record AddsRead (all : List ReadSource) (old new : FilesBelow) : Type 0 where
+  pub files_are : new.files ≡ old.files ++ flat_map held_of all
+  pub unread_are : new.unread ≡ old.unread ++ flat_map left_of all
 
 module _ (lists : List ℕ → List ℕ → Option Listing → Type 0) (gives : List ℕ → Option (List ℕ) → Type 0)
+    (leaves_out : Bool)
     (root : List ℕ) where
-  -- why the source with a path isn't read: it can't be, and its path is named; nothing is said about memory; and no
-  -- other fault comes
+  -- why the source with a path isn't read: it can't be, its path is named, and it isn't to be left out; nothing is said
+  -- about memory; and no other fault comes
   abbrev pub MayStopReading : (path : List ℕ) → LoadFault → Type 0
-  MayStopReading path (Unreadable name) = (string_bytes name ≡ path) × gives (path_below root path) None
+  MayStopReading path (Unreadable name) =
+      (leaves_out ≡ false) × (string_bytes name ≡ path) × gives (path_below root path) None
   MayStopReading path Memory = ⊤
   MayStopReading path other = ⊥
 
   -- what reading the source with a path gives
-  abbrev pub GivesSource : (path : List ℕ) → Result SourceFile LoadFault → Type 0
-  GivesSource path (Ok source) = (source.path ≡ path) × IsHeld lists gives root source
+  abbrev pub GivesSource : (path : List ℕ) → Result ReadSource LoadFault → Type 0
+  GivesSource path (Ok (Held source)) = (source.path ≡ path) × IsHeld lists gives root source
+  GivesSource path (Ok (LeftOut left)) =
+      (leaves_out ≡ true) × (string_bytes left ≡ path) × gives (path_below root path) None
   GivesSource path (Err fault) = MayStopReading path fault
 
-  -- the sources with these paths
-  abbrev pub AreSourcesAt : (paths : List (List ℕ)) → List SourceFile → Type 0
-  AreSourcesAt paths sources = (paths_of sources ≡ paths) × All (IsHeld lists gives root) sources
+  -- what reading each of the sources with these paths gives
+  abbrev pub GiveEach : (paths : List (List ℕ)) → List ReadSource → Type 0
+  GiveEach paths all = AllZip (λ path read. GivesSource path (Ok read)) paths all
 
-  -- and behind others
-  abbrev pub AddsSources : (paths : List (List ℕ)) → (old new : List SourceFile) → Type 0
-  AddsSources paths old new = (here : List SourceFile) × (new ≡ old ++ here) × AreSourcesAt paths here
+  -- the sources with these paths, but those that are left out
+  pub record AreReadBut (paths : List (List ℕ)) (below : FilesBelow) : Type 0 where
+    pub read : AreRead lists gives root paths below.files below.unread
+    pub whole : leaves_out ≡ false → below.unread ≡ []
 
   -- the first of these paths whose source can't be read
   pub record IsFirstUnreadable (paths : List (List ℕ)) (path : List ℕ) : Type 0 where
@@ -38,6 +61,6 @@ module _ (lists : List ℕ → List ℕ → Option Listing → Type 0) (gives : 
 
   -- why the sources with these paths aren't read
   abbrev pub MayStopAt : (paths : List (List ℕ)) → LoadFault → Type 0
-  MayStopAt paths (Unreadable name) = IsFirstUnreadable paths (string_bytes name)
+  MayStopAt paths (Unreadable name) = (leaves_out ≡ false) × IsFirstUnreadable paths (string_bytes name)
   MayStopAt paths Memory = ⊤
   MayStopAt paths other = ⊥

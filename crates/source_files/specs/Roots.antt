@@ -1,14 +1,26 @@
 -- What the sources below a root are, by what a system of files gave.
-use Rattle.std.specs.Prelude.{◌≡◌, ℕ, List, [], ◌∷◌, ◌++◌, Option, Some, None, All, map}
+use Rattle.std.specs.Prelude.{◌≡◌, ℕ, Bool, true, false, List, [], ◌∷◌, ◌++◌, Option, Some, None, All, Contains}
 use Rattle.std.specs.List.{AllZip, flat_map}
 use Rattle.source_tree.specs.Files.{SourceFile, paths_of}
 use Rattle.source_files.specs.Listings.{Listing}
 use Rattle.source_files.specs.Source.{MayKeep}
-use Rattle.source_files.specs.Walks.{AreListed, IsUnlisted}
+use Rattle.source_files.specs.Walks.{AreListed, AreWalked, IsRootUnlisted, IsUnlisted}
 
 -- the path of a file below a root, for the system; two `/` in a row are one to it
 abbrev pub path_below : List ℕ → List ℕ → List ℕ
 path_below root path = root ++ (47 ∷ path)
+
+-- files below a root, and the paths below it of what is left out
+pub record FilesBelow : Type 0 where
+  pub files : List SourceFile
+  pub unread : List (List ℕ)
+
+-- those below several roots, root by root
+abbrev pub files_of : List FilesBelow → List SourceFile
+files_of roots = flat_map (λ below. below.files) roots
+
+abbrev pub unread_of : List FilesBelow → List (List ℕ)
+unread_of roots = flat_map (λ below. below.unread) roots
 
 module _ (lists : List ℕ → List ℕ → Option Listing → Type 0) (gives : List ℕ → Option (List ℕ) → Type 0) where
   -- a source has what its file below the root gave, as far as that is kept
@@ -29,32 +41,44 @@ module _ (lists : List ℕ → List ℕ → Option Listing → Type 0) (gives : 
         → All (IsHeld root) sources
         → gives (path_below root path) None → IsUnreadable root path
 
-  -- the sources below each of several roots, root by root
-  pub data AreBelowEach : List (List ℕ) → List SourceFile → Type 0 where
-    no_root : AreBelowEach [] []
-    next_root : {root : List ℕ} {roots : List (List ℕ)} {here others : List SourceFile}
-        → AreBelow root here → AreBelowEach roots others → AreBelowEach (root ∷ roots) (here ++ others)
+  -- of the sources with these paths below a root, in their order, those that can be read, and the paths of the others
+  pub data AreRead (root : List ℕ) : (paths : List (List ℕ)) → List SourceFile → (unread : List (List ℕ)) → Type 0
+    where
+      no_path : AreRead root [] [] []
+      is_read : {source : SourceFile} {paths unread : List (List ℕ)} {sources : List SourceFile}
+          → IsHeld root source → AreRead root paths sources unread
+          → AreRead root (source.path ∷ paths) (source ∷ sources) unread
+      is_unread : {path : List ℕ} {paths unread : List (List ℕ)} {sources : List SourceFile}
+          → gives (path_below root path) None → AreRead root paths sources unread
+          → AreRead root (path ∷ paths) sources (path ∷ unread)
 
-  -- the same, with the paths of the files below each
-  pub record AreFolders (roots : List (List ℕ)) (files : List SourceFile) (paths : List (List (List ℕ))) : Type 0 where
-    pub folders : List (List SourceFile)
-    pub below : AllZip (AreBelow) roots folders
-    pub files_are : files ≡ flat_map (λ here. here) folders
-    pub paths_are : paths ≡ map paths_of folders
+  -- The sources below a root that can be read, where the others are left out, with all else found there that can't be
+  -- read. The root itself, whose path is empty, can be listed.
+  pub record AreBelowBut (root : List ℕ) (below : FilesBelow) : Type 0 where
+    pub paths : List (List ℕ)
+    pub unlisted : List (List ℕ)
+    pub unheld : List (List ℕ)
+    pub walked : AreWalked (lists root) paths unlisted
+    pub root_listed : ¬ (Contains unlisted [])
+    pub read : AreRead root paths below.files unheld
+    pub unread_are : below.unread ≡ unlisted ++ unheld
 
-  -- the files below one root more
-  pub record AddsFolder (root : List ℕ) (old new : List SourceFile) (paths more : List (List (List ℕ))) : Type 0 where
-    pub here : List SourceFile
-    pub below : AreBelow root here
-    pub files_are : new ≡ old ++ here
-    pub paths_are : more ≡ paths ++ paths_of here ∷ []
+  -- the files below a root, and what is left out there: nothing, or what can't be read
+  abbrev pub AreFilesBelow : (leaves_out : Bool) → (root : List ℕ) → FilesBelow → Type 0
+  AreFilesBelow false root below = AreBelow root below.files × (below.unread ≡ [])
+  AreFilesBelow true root below = AreBelowBut root below
 
-  -- what can't be read first below several roots: those before its root can be read whole
-  pub record IsUnreadableBelow (roots : List (List ℕ)) (name : List ℕ) : Type 0 where
+  -- what is named if there are none: what can't be read first; where such is left out, this is the root itself
+  abbrev pub StopsBelow : (leaves_out : Bool) → (root name : List ℕ) → Type 0
+  StopsBelow false root name = IsUnreadable root name
+  StopsBelow true root name = (name ≡ root) × IsRootUnlisted (lists root)
+
+  -- the same of several roots: those before its root have files
+  pub record IsUnreadableBelow (leaves_out : Bool) (roots : List (List ℕ)) (name : List ℕ) : Type 0 where
     pub before : List (List ℕ)
     pub root : List ℕ
     pub behind : List (List ℕ)
-    pub sources : List SourceFile
+    pub each : List FilesBelow
     pub roots_are : roots ≡ before ++ root ∷ behind
-    pub read : AreBelowEach before sources
-    pub unreadable : IsUnreadable root name
+    pub read : AllZip (AreFilesBelow leaves_out) before each
+    pub unreadable : StopsBelow leaves_out root name

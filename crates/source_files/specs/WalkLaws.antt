@@ -4,14 +4,14 @@ use Rattle.std.specs.List.{flat_map}
 use Rattle.source_files.specs.Entries.{IsName}
 use Rattle.source_files.specs.Listings.{Listing}
 use Rattle.source_files.specs.PlainWalks.{AreListedBelow, CantBeListed}
-use Rattle.source_files.specs.Walks.{AreListed, IsUnlisted}
+use Rattle.source_files.specs.Walks.{AreListed, AreWalked, IsUnlisted}
 
 -- the names of folders, each with `/` behind it
 abbrev pub folder_path : List (List ℕ) → List ℕ
 folder_path names = flat_map (λ name. name ++ 47 ∷ []) names
 
 -- A path of a source below its root: the names of folders, each with `/` behind it, and then a name that ends in
--- `.proto`. So it doesn't leave the root.
+-- `.proto`. So by its names it doesn't leave the root; a link that is followed may.
 pub record StaysBelow (path : List ℕ) : Type 0 where
   pub folders : List (List ℕ)
   pub name : List ℕ
@@ -21,9 +21,10 @@ pub record StaysBelow (path : List ℕ) : Type 0 where
   pub ending : name ≡ front ++ codes ".proto"
   pub path_is : path ≡ folder_path folders ++ name
 
--- so it is with each path that is listed below a root
+-- so it is with the path of each source found below a root, whatever can't be read there
 abbrev pub ListedStayBelow : (List ℕ → List ℕ → Option Listing → Type 0) → Type 0
-ListedStayBelow lists = (root : List ℕ) (paths : List (List ℕ)) → AreListed (lists root) paths → All StaysBelow paths
+ListedStayBelow lists = (root : List ℕ) (paths unread : List (List ℕ)) → AreWalked (lists root) paths unread
+    → All StaysBelow paths
 
 -- each folder has one listing at most, or can't be listed
 abbrev pub ListOnce : (List ℕ → List ℕ → Option Listing → Type 0) → Type 0
@@ -42,7 +43,8 @@ abbrev pub NoneIsKnown : (List ℕ → List ℕ → Option Listing → Type 0) �
 NoneIsKnown lists = (root folder : List ℕ) (listing : Listing) → lists root folder (Some listing)
     → listing.identity ≡ None
 
--- then what is listed below a root is so folder by folder; and if something can't be, so it is with a folder there
+-- then what is listed below a root is what `AreListedBelow` says; and if something there can't be listed,
+-- `CantBeListed` holds of the root
 pub record PlainListing (lists : List ℕ → List ℕ → Option Listing → Type 0) : Type 0 where
   pub listed : NoneIsKnown lists → (root : List ℕ) (paths : List (List ℕ)) → AreListed (lists root) paths
       → AreListedBelow (lists root) paths

@@ -1,5 +1,6 @@
 -- The steps of a walk through the folders below a root.
-use Rattle.std.specs.Prelude.{◌≡◌, ℕ, ⊤, Bool, true, false, List, ◌++◌, Option, map, string_bytes}
+use Rattle.std.specs.Prelude.{◌≡◌, ◌≢◌, ℕ, ⊤, Bool, true, false, List, ◌++◌, Option, map, string_bytes}
+use Rattle.std.specs.Prelude.{[], Contains}
 use Rattle.std.specs.List.{AllZip}
 use Rattle.source_files.specs.declared.found.Found.{Found}
 use Rattle.source_files.specs.declared.listing.FolderIdentity.{FolderIdentity}
@@ -8,14 +9,32 @@ use Rattle.source_files.specs.declared.load_fault.LoadFault.TheVariants.{Unreada
 use Rattle.source_files.specs.declared.walk.Walk.{Walk}
 use Rattle.source_files.specs.Entries.{Entry, Give}
 use Rattle.source_files.specs.Listings.{Listing}
-use Rattle.source_files.specs.Walks.{Had, Has, IsMet, Keep, AreByBytes, met_with}
+use Rattle.source_files.specs.Walks.{Had, Has, IsMet, Keep, AreByBytes, AreListed, AreWalked, IsRootUnlisted, IsUnlisted}
+use Rattle.source_files.specs.Walks.{met_with}
 
--- why folders aren't listed: one can't be, as this says, and the root is named; nothing is said about memory; and no
--- other fault comes
+-- Why folders aren't listed. `Unreadable` names the root, and comes only if this holds. `Memory` may always come, and no
+-- other fault.
 abbrev pub MayNotList : (Unlisted : Type 0) → (root : List ℕ) → LoadFault → Type 0
 MayNotList Unlisted root (Unreadable name) = (string_bytes name ≡ root) × Unlisted
 MayNotList Unlisted root Memory = ⊤
 MayNotList Unlisted root other = ⊥
+
+-- what can't be read stops a walk: anything, or, where it is left out, the root itself, whose path is empty
+abbrev pub Stops : (leaves_out : Bool) → (unread : List (List ℕ)) → Type 0
+Stops false unread = unread ≢ []
+Stops true unread = Contains unread []
+
+-- the paths of the sources listed below a root, and of what is left out there: nothing, or all that can't be read but
+-- the root itself
+abbrev pub AreListedBut : (List ℕ → Option Listing → Type 0) → (leaves_out : Bool) → (paths unread : List (List ℕ))
+    → Type 0
+AreListedBut lists false paths unread = AreListed lists paths × (unread ≡ [])
+AreListedBut lists true paths unread = AreWalked lists paths unread × ¬ (Contains unread [])
+
+-- they aren't listed: something can't be read, or, where such is left out, the root itself
+abbrev pub StopsWalk : (List ℕ → Option Listing → Type 0) → (leaves_out : Bool) → Type 0
+StopsWalk lists false = IsUnlisted lists
+StopsWalk lists true = IsRootUnlisted lists
 
 -- entries of a folder come behind others, and what they give behind what these give
 pub record AddsEntries (folder : List ℕ) (entries : List Entry) (folders more paths longer : List (List ℕ)) : Type 0

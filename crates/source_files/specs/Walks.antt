@@ -1,9 +1,9 @@
 -- What is listed below a root, by what listing its folders gave.
-use Rattle.std.specs.Prelude.{◌≢◌, ℕ, List, [], ◌∷◌, ◌++◌, Option, Some, None, Contains, IsPermutation, map}
+use Rattle.std.specs.Prelude.{◌≢◌, ◌↔◌, ℕ, List, [], ◌∷◌, ◌++◌, Option, Some, None, Contains, IsPermutation, map}
 use Rattle.std.specs.Ordering.{nat_cmp}
 use Rattle.std.specs.Cmp.Lexicographic.{slice_cmp}
 use Rattle.std.specs.List.{AllZip}
-use Rattle.std.specs.List.Sorted.{IsSorted}
+use Rattle.std.specs.List.Sorted.{IsSorted, IsStrictlySortedBy}
 use Rattle.source_files.specs.Entries.{Give}
 use Rattle.source_files.specs.Listings.{Listing}
 use Rattle.source_files.specs.declared.listing.FolderIdentity.{FolderIdentity}
@@ -25,7 +25,7 @@ abbrev pub met_with : (met : List FolderIdentity) → Option FolderIdentity → 
 met_with met None = met
 met_with met (Some identity) = met ++ identity ∷ []
 
--- of what each of several folders has, what those have that weren't met; each is then met
+-- What those of several folders have that weren't met before. Each of them is then met.
 pub data Keep : (met : List FolderIdentity) → List Had → (folders sources unread : List (List ℕ))
     → (after : List FolderIdentity) → Type 0 where
   none_left : {met : List FolderIdentity} → Keep met [] [] [] [] met
@@ -40,6 +40,11 @@ pub data Keep : (met : List FolderIdentity) → List Had → (folders sources un
 pub record AreByBytes (paths sorted : List (List ℕ)) : Type 0 where
   pub complete : IsPermutation paths sorted
   pub ascends : IsSorted (slice_cmp nat_cmp) sorted
+
+-- these are the paths, each once, by their bytes
+pub record AreOnce (paths once : List (List ℕ)) : Type 0 where
+  pub same : (path : List ℕ) → Contains once path ↔ Contains paths path
+  pub ascends : IsStrictlySortedBy (slice_cmp nat_cmp) once
 
 -- What a folder has by what listing it gave. One that can't be listed is itself unread; of others, what has a name that
 -- isn't UTF-8.
@@ -60,8 +65,8 @@ module _ (lists : List ℕ → Option Listing → Type 0) where
     pub listed : lists folder gave
     pub holds : Holds folder gave had
 
-  -- What is found from the folders of a level on, the sources and what can't be read: what those have that weren't met,
-  -- and what is found from the folders on that they have, by their bytes.
+  -- What is found below the folders of a level: what those have that weren't met, and then, level by level, what is
+  -- found below the folders in them. Each level is in order of bytes.
   pub data AreFound : (met : List FolderIdentity) → (level sources unread : List (List ℕ)) → Type 0 where
     nowhere : {met : List FolderIdentity} → AreFound met [] [] []
     next_level : {met after : List FolderIdentity} {level folders next here gone sources unread : List (List ℕ)}
@@ -87,3 +92,10 @@ module _ (lists : List ℕ → Option Listing → Type 0) where
     pub unread : List (List ℕ)
     pub walked : AreWalked paths unread
     pub some : unread ≢ []
+
+  -- the root itself can't be listed: of what can't be read there one has its path, which is empty
+  pub record IsRootUnlisted : Type 0 where
+    pub paths : List (List ℕ)
+    pub unread : List (List ℕ)
+    pub walked : AreWalked paths unread
+    pub itself : Contains unread []

@@ -87,3 +87,13 @@ pub trait Caused {
     fn cause(&self) -> Option<Cause>
         ensures { result ≡ cause self.now };
 }
+
+/// Tells why its last call that writes, makes or moves failed, if that isn't known before.
+pub trait Blamed {
+    // What may be told of why it failed.
+    ghost reasons: { Self → Option Cause → Type 0 };
+
+    /// Why it failed; none if it didn't, or if the system gave no cause.
+    fn reason(&self) -> Option<Cause>
+        ensures { reasons self.now result };
+}

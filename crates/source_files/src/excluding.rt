@@ -140,7 +140,7 @@ impl<'a, F: EmptyFolders> EmptyFolders for Excluding<'a, F> {
     }
 }
 
-// What is excluded is looked at, too.
+// What is excluded is looked at, too, but for what is asked for.
 impl<'a, F: LookAgain> LookAgain for Excluding<'a, F> {
     ghost passes = { λ s. F.passes s.files.now };
 
@@ -150,7 +150,12 @@ impl<'a, F: LookAgain> LookAgain for Excluding<'a, F> {
         self.files.passed_over(root)
     }
 
-    fn why_unread(&self, folders: &[String], path: &str) -> Result<Option<String>, AllocError> {
-        self.files.why_unread(folders, path)
+    fn why_unread(
+        &self,
+        folders: &[String],
+        excluded: &[String],
+        path: &str,
+    ) -> Result<Option<String>, AllocError> {
+        self.files.why_unread(folders, excluded, path)
     }
 }

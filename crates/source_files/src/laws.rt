@@ -1,5 +1,6 @@
-//! Laws about what is listed below roots, each the contract of an empty function.
+//! Laws about what is listed and read below roots, each the contract of an empty function.
 
+ghost use Rattle.source_files.specs.RootLaws.{WholeRoots};
 ghost use Rattle.source_files.specs.WalkLaws.{ListedStayBelow, OneListing, PlainListing};
 
 use crate::read_files::ReadFiles;
@@ -17,4 +18,9 @@ pub fn roots_have_one_listing<F: ReadFiles>(files: &F)
 /// If no folder says which it is, what is listed below a root is found folder by folder.
 pub fn unknown_folders_are_listed_plainly<F: ReadFiles>(files: &F)
     ensures { PlainListing (F.lists files.now) }
+{}
+
+/// Where nothing was left out below a root, its files are the same whether what can't be read is to be left out or not.
+pub fn whole_roots_are_alike<F: ReadFiles>(files: &F)
+    ensures { WholeRoots (F.lists files.now) (F.gives files.now) }
 {}

@@ -1,12 +1,13 @@
 //! The files of a run: the sources below a root, the tree that they make with included files, the file that an
-//! index is written to, files that are made by their paths, and whether a folder is free for them; and why the system
-//! refuses a call.
+//! index is written to, files that are made by their paths, whether a folder is free for them, and folders that are
+//! made whole; and why the system refuses a call.
 #![tactic(auto)]
 
 mod cause;
 mod empty_folders;
 mod entry;
 mod excluding;
+mod folder_place;
 mod folders;
 mod found;
 mod laws;
@@ -16,6 +17,7 @@ mod load_fault;
 mod look_again;
 mod make_files;
 mod out_file;
+mod out_folder;
 mod out_part;
 mod out_place;
 mod out_source;
@@ -25,30 +27,35 @@ mod read_files;
 mod readers;
 mod reading;
 mod root;
+mod root_files;
 mod second_look;
 mod system_files;
 mod system_folders;
 mod system_stream;
 mod walk;
 
-pub use cause::{Cause, Caused};
+pub use cause::{Blamed, Cause, Caused};
 pub use empty_folders::EmptyFolders;
 pub use entry::FolderEntry;
 pub use excluding::Excluding;
+pub use folder_place::FolderPlace;
 pub use laws::{
     listed_paths_stay_below, roots_have_one_listing, unknown_folders_are_listed_plainly,
+    whole_roots_are_alike,
 };
 pub use listing::{FolderIdentity, FolderListing};
-pub use load::{LoadedTree, load_tree, load_tree_with_paths};
+pub use load::{Loaded, LoadedTree, load_tree, load_tree_with_paths};
 pub use load_fault::LoadFault;
 pub use look_again::{LookAgain, PassedOver};
 pub use make_files::MakeFiles;
 pub use out_file::OutFile;
+pub use out_folder::OutFolder;
 pub use out_part::OutPart;
 pub use out_place::OutPlace;
 pub use out_source::is_read_from;
 pub use read_files::ReadFiles;
 pub use readers::Readers;
 pub use root::read_root;
+pub use root_files::RootFiles;
 pub use system_files::SystemFiles;
 pub use system_stream::SystemStream;

@@ -5,48 +5,62 @@ ghost use Rattle.std.specs.Prelude.{
   ◌+◌,
   ◌++◌,
   ◌<◌,
+  [],
+  ◌∷◌,
   Some,
   IfOk,
   IfErr,
   MatchResult,
+  OnOk,
   length,
   map,
   slice_get,
   string_bytes,
 };
+ghost use Rattle.std.specs.List.{AllZip};
 ghost use Rattle.std.specs.Option.{option_map};
 ghost use Rattle.source_tree.specs.Trees.{IsTreeOf};
-ghost use Rattle.source_files.specs.Roots.{AreBelowEach};
-ghost use Rattle.source_files.specs.Loads.{IsLoadedBelow, IsTreeBelow, MayNotLoad};
+ghost use Rattle.source_files.specs.Roots.{AreFilesBelow, files_of, unread_of};
+ghost use Rattle.source_files.specs.Walks.{AreOnce};
+ghost use Rattle.source_files.specs.Loads.{AreLoaded, IsLoadedBelow, IsTreeBelow, MayNotLoad};
 ghost use Rattle.source_files.specs.LoadFaults.{MayRefuseFiles, MayStopBelow};
 
-use crate::folders::{paths_of, read_folders};
+use crate::folders::{paths_of, paths_of_each};
 use crate::load_fault::LoadFault;
 use crate::read_files::ReadFiles;
 use crate::readers::Readers;
 use crate::root::read_root;
+use crate::root_files::RootFiles;
 use index_pool::Gate;
 use source_tree::{Source, Tree, TreeFault, one_sorting_by_path};
-use std::alloc::Global;
+use std::alloc::{AllocError, Global};
 use std::sync::Wait;
 use std::thread::Threads;
 
-/// The files below roots, root by root.
+/// Adds what was read below a root.
+fn add_root(each: &mut Vec<RootFiles>, below: RootFiles) -> Result<(), AllocError>
+    ensures { OnOk result (each.new.items ≡ each.old.items ++ below ∷ []) }
+{
+    each.push(below)?;
+    Ok(())
+}
+
+/// What is read below each of these roots.
 fn read_roots<R: Threads + Wait, G: Gate, F: ReadFiles + Sync>(
     readers: &Readers<'_, R, G, F>,
     roots: &[String],
-) -> Result<Vec<Source>, LoadFault>
-    ensures ok { IfOk result (λ sources. AreBelowEach (F.lists readers.now.files.now) (F.gives readers.now.files.now)
-        (map string_bytes roots.now) sources.items) }
+) -> Result<Vec<RootFiles>, LoadFault>
+    ensures ok { IfOk result (λ each. AllZip (AreFilesBelow (F.lists readers.now.files.now)
+        (F.gives readers.now.files.now) readers.now.leaves_out) (map string_bytes roots.now) each.items) }
     ensures err { IfErr result (MayStopBelow (F.lists readers.now.files.now) (F.gives readers.now.files.now)
-        (map string_bytes roots.now)) }
+        readers.now.leaves_out (map string_bytes roots.now)) }
 {
-    let mut sources = Vec::new(readers.alloc);
+    let mut each = Vec::new(readers.alloc);
     for root in roots {
-        let mut here = read_root(readers, root.as_str())?;
-        sources.append(&mut here)?;
+        let below = read_root(readers, root.as_str())?;
+        add_root(&mut each, below)?;
     }
-    Ok(sources)
+    Ok(each)
 }
 
 /// The path of the file with a number.
@@ -94,25 +108,79 @@ fn make_tree(alloc: Global, sources: Vec<Source>, included: Vec<Source>) -> Resu
     }
 }
 
+/// A tree, and what was left out of it.
+#[derive(Debug, Drop)]
+pub struct Loaded {
+    /// The tree.
+    pub tree: Tree,
+    /// The paths of what can't be read, each below its root, by their bytes, and each once.
+    pub unread: Vec<String>,
+}
+
+/// Adds what was read below roots: the files, and the paths of what is left out.
+fn add_each(
+    files: &mut Vec<Source>,
+    unread: &mut Vec<String>,
+    each: Vec<RootFiles>,
+) -> Result<(), AllocError>
+    ensures files { OnOk result (files.new.items ≡ files.old.items ++ files_of each.items) }
+    ensures unread { OnOk result (map string_bytes unread.new.items
+        ≡ map string_bytes unread.old.items ++ unread_of each.items) }
+{
+    for below in each {
+        let mut below = below;
+        files.append(&mut below.files)?;
+        unread.append(&mut below.unread)?;
+    }
+    Ok(())
+}
+
+/// Paths by their bytes, each once.
+fn once(paths: Vec<String>) -> Result<Vec<String>, AllocError>
+    ensures { IfOk result (λ once. AreOnce (map string_bytes paths.items) (map string_bytes once.items)) }
+{
+    let mut paths = paths;
+    paths.sort()?;
+    paths.dedup();
+    Ok(paths)
+}
+
+/// The tree of what was read below a root and below included roots.
+fn make_loaded(alloc: Global, own: RootFiles, others: Vec<RootFiles>) -> Result<Loaded, LoadFault>
+    ensures { MatchResult result
+        (λ loaded. AreLoaded loaded.tree (map string_bytes loaded.unread.items) own others.items)
+        (MayRefuseFiles own.files (files_of others.items)) }
+{
+    let RootFiles { files, unread } = own;
+    let mut unread = unread;
+    let mut included = Vec::new(alloc);
+    add_each(&mut included, &mut unread, others)?;
+    let unread = once(unread)?;
+    let tree = make_tree(alloc, files, included)?;
+    Ok(Loaded { tree, unread })
+}
+
 /// The tree of the sources below a root and of the files below included roots, which are read in
 /// order, each by the paths below it.
 ///
 /// `Unreadable`: what can't be read first, root by root: the root, which can't be listed, or else the
-/// first file below it. Then `TooMany`, `BadPath`, of the first bad path through the sources and then
-/// the included files, and `SamePath`. `Memory` may come at any step.
+/// first file below it. Where what can't be read is left out, it comes only of a root that can't be listed itself. Then
+/// `TooMany`, `BadPath`, of the first bad path through the sources and then the included files, and `SamePath`.
+/// `Memory` may come at any step.
 pub fn load_tree<R: Threads + Wait, G: Gate, F: ReadFiles + Sync>(
     readers: &Readers<'_, R, G, F>,
     root: &str,
     included: &[String],
-) -> Result<Tree, LoadFault>
-    ensures tree { IfOk result (IsTreeBelow (F.lists readers.now.files.now) (F.gives readers.now.files.now) root.now
-        (map string_bytes included.now)) }
-    ensures refused { IfErr result (MayNotLoad (F.lists readers.now.files.now) (F.gives readers.now.files.now) root.now
-        (map string_bytes included.now)) }
+) -> Result<Loaded, LoadFault>
+    ensures tree { IfOk result (λ loaded. IsTreeBelow (F.lists readers.now.files.now) (F.gives readers.now.files.now)
+        readers.now.leaves_out root.now (map string_bytes included.now) loaded.tree
+        (map string_bytes loaded.unread.items)) }
+    ensures refused { IfErr result (MayNotLoad (F.lists readers.now.files.now) (F.gives readers.now.files.now)
+        readers.now.leaves_out root.now (map string_bytes included.now)) }
 {
-    let sources = read_root(readers, root)?;
-    let included = read_roots(readers, included)?;
-    make_tree(readers.alloc, sources, included)
+    let own = read_root(readers, root)?;
+    let others = read_roots(readers, included)?;
+    make_loaded(readers.alloc, own, others)
 }
 
 /// A tree, and the paths of the files below each of the folders that it was read from.
@@ -124,6 +192,8 @@ pub struct LoadedTree {
     pub own: Vec<String>,
     /// For each included root the paths of the files below it.
     pub others: Vec<Vec<String>>,
+    /// The paths of what can't be read, each below its root, by their bytes, and each once.
+    pub unread: Vec<String>,
 }
 
 /// The tree that `load_tree` makes, or why it makes none, with the paths of the files of each folder.
@@ -133,19 +203,21 @@ pub fn load_tree_with_paths<R: Threads + Wait, G: Gate, F: ReadFiles + Sync>(
     included: &[String],
 ) -> Result<LoadedTree, LoadFault>
     ensures loaded { IfOk result (λ loaded. IsLoadedBelow (F.lists readers.now.files.now)
-        (F.gives readers.now.files.now)
-        root.now (map string_bytes included.now) loaded.tree (map string_bytes loaded.own.items)
-        (map (λ paths. map string_bytes paths.items) loaded.others.items)) }
-    ensures refused { IfErr result (MayNotLoad (F.lists readers.now.files.now) (F.gives readers.now.files.now) root.now
-        (map string_bytes included.now)) }
+        (F.gives readers.now.files.now) readers.now.leaves_out root.now (map string_bytes included.now) loaded.tree
+        (map string_bytes loaded.own.items) (map (λ paths. map string_bytes paths.items) loaded.others.items)
+        (map string_bytes loaded.unread.items)) }
+    ensures refused { IfErr result (MayNotLoad (F.lists readers.now.files.now) (F.gives readers.now.files.now)
+        readers.now.leaves_out root.now (map string_bytes included.now)) }
 {
-    let sources = read_root(readers, root)?;
-    let own = paths_of(readers.alloc, &sources)?;
-    let folders = read_folders(readers, included)?;
-    let tree = make_tree(readers.alloc, sources, folders.files)?;
+    let here = read_root(readers, root)?;
+    let own = paths_of(readers.alloc, &here.files)?;
+    let each = read_roots(readers, included)?;
+    let others = paths_of_each(readers.alloc, &each)?;
+    let Loaded { tree, unread } = make_loaded(readers.alloc, here, each)?;
     Ok(LoadedTree {
         tree,
         own,
-        others: folders.paths,
+        others,
+        unread,
     })
 }

@@ -2,12 +2,17 @@
 
 ghost use Rattle.std.specs.Prelude.{◌≡◌};
 
+use crate::cause::{Blamed, Cause, Caused};
+use crate::folder_place::FolderPlace;
 use crate::make_files::MakeFiles;
+use crate::out_folder::OutFolder;
 use crate::out_part::OutPart;
 use crate::out_place::OutPlace;
 use crate::out_way::Way;
 use crate::system_files::given;
+use crate::system_stream::cause_in;
 use std::alloc::{AllocError, Global};
+use std::cell::Cell;
 use std::fs::Metadata;
 use std::io::ErrorKind;
 use std::os::unix::fs::MetadataExt;
@@ -25,6 +30,7 @@ pub struct OutFile<'a, S: Files> {
     system: &'a S,
     path: &'a str,
     refusals: u64,
+    cause: Cell<Option<Cause>>,
 }
 
 impl<'a, S: Files> OutFile<'a, S> {
@@ -36,6 +42,7 @@ impl<'a, S: Files> OutFile<'a, S> {
             system,
             path,
             refusals: 0,
+            cause: Cell::new(None),
         }
     }
 }
@@ -50,8 +57,30 @@ fn may_name_source(path: &str) -> bool {
 }
 
 /// Whether two are one file.
-fn are_one(one: &Metadata, other: &Metadata) -> bool {
+pub(crate) fn are_one(one: &Metadata, other: &Metadata) -> bool {
     one.dev() == other.dev() && one.ino() == other.ino()
+}
+
+/// The folder that a path names something in, and the name.
+fn folder_and_name(path: &str) -> (&str, &str) {
+    match path.rsplit_once('/') {
+        Some(("", name)) => ("/", name),
+        Some(parts) => parts,
+        None => (".", path),
+    }
+}
+
+/// Whether two paths, where nothing is yet, name one file: they have one name in one folder.
+fn would_be_one<S: Files>(system: &S, one: &str, other: &str) -> bool {
+    let (folder, name) = folder_and_name(one);
+    let (other_folder, other_name) = folder_and_name(other);
+    if name != other_name {
+        return false;
+    }
+    match (system.metadata(folder), system.metadata(other_folder)) {
+        (Ok(there), Ok(other)) => are_one(&there, &other),
+        _ => false,
+    }
 }
 
 impl<'a, S: Files> OutPlace for OutFile<'a, S> {
@@ -62,6 +91,8 @@ impl<'a, S: Files> OutPlace for OutFile<'a, S> {
     ghost holds = { λ _. None };
 
     ghost same = { λ _ _ _. ⊤ };
+
+    ghost suspects = { λ _ _. ⊤ };
 
     ghost refuses = { λ _ _. ⊤ };
 
@@ -78,6 +109,7 @@ impl<'a, S: Files> OutPlace for OutFile<'a, S> {
     fn is_file(&self, path: &str) -> bool {
         match (self.system.metadata(self.path), self.system.metadata(path)) {
             (Ok(there), Ok(file)) => are_one(&there, &file),
+            (Err(_), Err(_)) => would_be_one(self.system, self.path, path),
             _ => false,
         }
     }
@@ -90,6 +122,7 @@ impl<'a, S: Files> OutPlace for OutFile<'a, S> {
     fn put(&mut self, part: OutPart<'a, S>) -> Result<(), Failed> {
         let mut part = part;
         let done = part.finish();
+        self.cause.set(cause_in(&done));
         if done.is_err() {
             part.leave();
         }
@@ -97,54 +130,86 @@ impl<'a, S: Files> OutPlace for OutFile<'a, S> {
     }
 
     fn leave(&self, part: OutPart<'a, S>) {
+        self.cause.set(part.cause());
         part.leave();
     }
 }
 
-/// Whether a folder is there after an attempt to make it.
-fn is_there(made: io::Result<()>) -> Result<bool, AllocError> {
+impl<'a, S: Files> FolderPlace for OutFile<'a, S> {
+    ghost use Rattle.std.specs.Prelude.{None, ⊤};
+
+    type Folder = OutFolder<'a, S>;
+
+    ghost filed = { λ _ _. None };
+
+    ghost refuses_folder = { λ _ _ _. ⊤ };
+
+    ghost gives_up_folder = { λ _ _. ⊤ };
+
+    fn begin_folder(&self, alloc: Global, path: &str) -> Result<OutFolder<'a, S>, AllocError> {
+        OutFolder::begin(self.system, alloc, path)
+    }
+
+    fn put_folder(&mut self, _path: &str, folder: OutFolder<'a, S>) -> Result<(), Failed> {
+        let done = folder.finish();
+        self.cause.set(cause_in(&done));
+        if done.is_err() {
+            folder.leave();
+        }
+        done.map_err(|_| Failed)
+    }
+
+    fn leave_folder(&self, folder: OutFolder<'a, S>) {
+        self.cause.set(folder.cause());
+        folder.leave();
+    }
+}
+
+/// A folder that is there already is made.
+fn unless_there(made: io::Result<()>) -> io::Result<()> {
     match made {
-        Err(error) if error.kind() == ErrorKind::AlreadyExists => Ok(true),
-        answer => Ok(given(answer)?.is_some()),
+        Err(error) if error.kind() == ErrorKind::AlreadyExists => Ok(()),
+        answer => answer,
     }
 }
 
 /// Makes a folder, and those on the way to it that aren't there, at most `room`. Begins with the folder itself, since
-/// most of the way is there mostly. False if the system refuses that.
-fn make_folder<S: Files>(system: &S, folder: &str, room: usize) -> Result<bool, AllocError> {
-    if folder.is_empty() || is_there(fs::create_dir(system, folder))? {
-        return Ok(true);
+/// most of the way is there mostly.
+fn make_folder<S: Files>(system: &S, folder: &str, room: usize) -> io::Result<()> {
+    if folder.is_empty() {
+        return Ok(());
     }
-    match folder.rsplit_once('/') {
-        Some((above, _)) if room > 0 => {
-            Ok(make_folder(system, above, room - 1)? && is_there(fs::create_dir(system, folder))?)
+    match (
+        unless_there(fs::create_dir(system, folder)),
+        folder.rsplit_once('/'),
+    ) {
+        (Err(error), Some((above, _))) if room > 0 && error.kind() != ErrorKind::OutOfMemory => {
+            make_folder(system, above, room - 1)?;
+            unless_there(fs::create_dir(system, folder))
         }
-        _ => Ok(false),
+        (answer, _) => answer,
     }
 }
 
-/// Makes the folders on the way to a file. False if the system refuses that.
-fn make_folders<S: Files>(system: &S, path: &str) -> Result<bool, AllocError> {
+/// Makes the folders on the way to a file.
+fn make_folders<S: Files>(system: &S, path: &str) -> io::Result<()> {
     match path.rsplit_once('/') {
         Some((folder, _)) => make_folder(system, folder, folder.len()),
-        None => Ok(true),
+        None => Ok(()),
     }
 }
 
 /// Makes the folders on the way to a file, and the file.
-fn make_with_folders<S: Files>(system: &S, path: &str, bytes: &[u8]) -> Result<bool, AllocError> {
-    if make_folders(system, path)? {
-        Ok(given(fs::write(system, path, bytes))?.is_some())
-    } else {
-        Ok(false)
-    }
+fn make_with_folders<S: Files>(system: &S, path: &str, bytes: &[u8]) -> io::Result<()> {
+    make_folders(system, path)?;
+    fs::write(system, path, bytes)
 }
 
-/// Makes a file, and the folders on the way to it if one isn't there. False if the system refuses that.
-fn make_whole<S: Files>(system: &S, path: &str, bytes: &[u8]) -> Result<bool, AllocError> {
+/// Makes a file, and the folders on the way to it if one isn't there.
+pub(crate) fn make_whole<S: Files>(system: &S, path: &str, bytes: &[u8]) -> io::Result<()> {
     match fs::write(system, path, bytes) {
         Err(error) if error.kind() == ErrorKind::NotFound => make_with_folders(system, path, bytes),
-        answer => Ok(given(answer)?.is_some()),
+        answer => answer,
     }
 }
 
@@ -154,10 +219,24 @@ impl<'a, S: Files> MakeFiles for OutFile<'a, S> {
     ghost made = { λ s. record { files = None; refusals = s.refusals } };
 
     fn make_file(&mut self, path: &str, bytes: &[u8]) -> Result<bool, AllocError> {
-        if make_whole(self.system, path, bytes)? {
+        let made = make_whole(self.system, path, bytes);
+        let cause = cause_in(&made);
+        let is_made = given(made)?.is_some();
+        self.cause.set(cause);
+        if is_made {
             return Ok(true);
         }
         self.refusals = self.refusals.saturating_add(1);
         Ok(false)
+    }
+}
+
+impl<'a, S: Files> Blamed for OutFile<'a, S> {
+    ghost use Rattle.std.specs.Prelude.{⊤};
+
+    ghost reasons = { λ _ _. ⊤ };
+
+    fn reason(&self) -> Option<Cause> {
+        self.cause.get()
     }
 }

@@ -21,6 +21,9 @@ pub trait OutPlace {
     // What asking whether the file with a path is the one that is there may answer.
     ghost same: { Self → List ℕ → Bool → Type 0 };
 
+    // What asking whether a source may be what is there may answer.
+    ghost suspects: { Self → Bool → Type 0 };
+
     // What is known of a part that the place refuses, and of one that it is told to give up.
     ghost refuses: { Self → Self.Part → Type 0 };
 
@@ -28,7 +31,8 @@ pub trait OutPlace {
 
     /// Whether a file that is read as a source may be the one that is there. If not, none needs to be asked about.
     fn may_be_source(&self) -> bool
-        ensures { result ≡ false → (path : List ℕ) → same self.now path false };
+        ensures told { suspects self.now result }
+        ensures none { result ≡ false → (path : List ℕ) → same self.now path false };
 
     /// Whether the file with a path is the one that is there, however the path is spelled.
     fn is_file(&self, path: &str) -> bool

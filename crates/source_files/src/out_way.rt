@@ -16,9 +16,9 @@ const LONGEST: usize = 200;
 const MARK: &str = ".protoscip-";
 
 /// The numbers that are tried, and how many digits they have at most.
-const NUMBERS: u32 = 100_000;
+pub(crate) const NUMBERS: u32 = 100_000;
 
-const DIGITS: usize = 5;
+pub(crate) const DIGITS: usize = 5;
 
 /// Where the bytes of a file go until they are whole.
 #[derive(Drop)]
@@ -61,7 +61,7 @@ fn is_closed(error: &Error) -> bool {
 }
 
 /// What the path of another file in the folder of a file begins with.
-fn front_of(alloc: Global, path: &str, name: &str) -> Result<String, AllocError> {
+pub(crate) fn front_of(alloc: Global, path: &str, name: &str) -> Result<String, AllocError> {
     let mut front = String::new(alloc);
     if let Some((folder, _)) = path.rsplit_once('/') {
         front.push_str(folder)?;

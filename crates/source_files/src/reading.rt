@@ -1,16 +1,17 @@
 //! The sources with paths below a root are read, on workers.
 
-ghost use Rattle.std.specs.Prelude.{◌≡◌, ◌++◌, ◌<◌, ◌≤◌, IfOk, MatchResult, length, map, string_bytes};
+ghost use Rattle.std.specs.Prelude.{◌≡◌, ◌++◌, [], ◌∷◌, ◌<◌, ◌≤◌, IfOk, MatchResult, OnOk, length, map, string_bytes};
 ghost use Rattle.std.specs.Option.{option_map};
 ghost use Rattle.index_pool.specs.declared.workers.TheConstants.{MAX_INPUTS};
 ghost use Rattle.source_files.specs.Source.{MayKeep};
 ghost use Rattle.source_files.specs.Roots.{path_below};
-ghost use Rattle.source_files.specs.Reading.{AddsSources, AreSourcesAt, GivesSource, MayStopAt};
+ghost use Rattle.source_files.specs.Reading.{AddsRead, AreReadBut, GiveEach, GivesSource, MayStopAt};
 
 use crate::load_fault::LoadFault;
 use crate::phases::run_anyway;
 use crate::read_files::ReadFiles;
 use crate::readers::Readers;
+use crate::root_files::RootFiles;
 use index_pool::{Gate, Job, MAX_INPUTS, PoolFault, Ticket};
 use source_tree::Source;
 use std::alloc::{AllocError, Global};
@@ -27,6 +28,15 @@ pub(crate) fn path_below(alloc: Global, root: &str, path: &str) -> Result<String
     Ok(below)
 }
 
+/// What reading a source gave.
+#[derive(Drop)]
+pub(crate) enum ReadSource {
+    /// The source.
+    Held(Source),
+    /// It can't be read and is left out: its path.
+    LeftOut(String),
+}
+
 /// The bytes of a source below a root. None if it can't be read.
 fn read_below<F: ReadFiles>(
     alloc: Global,
@@ -41,27 +51,30 @@ fn read_below<F: ReadFiles>(
     files.read_source(alloc, below.as_str())
 }
 
-/// The source with a path below a root.
+/// The source with a path below a root. If it can't be read, it is left out, or this is a fault.
 fn source_below<F: ReadFiles>(
     alloc: Global,
     files: &F,
+    leaves_out: bool,
     root: &str,
     path: &str,
-) -> Result<Source, LoadFault>
-    ensures { GivesSource (F.lists files.now) (F.gives files.now) root.now path.now result }
+) -> Result<ReadSource, LoadFault>
+    ensures { GivesSource (F.lists files.now) (F.gives files.now) leaves_out root.now path.now result }
 {
     let path = String::from_str(alloc, path)?;
     match read_below(alloc, files, root, path.as_str())? {
-        Some(bytes) => Ok(Source { path, bytes }),
+        Some(bytes) => Ok(ReadSource::Held(Source { path, bytes })),
+        None if leaves_out => Ok(ReadSource::LeftOut(path)),
         None => Err(LoadFault::Unreadable(path)),
     }
 }
 
-/// The source with each of these paths below a root.
+/// What reading the source with each of these paths below a root gives.
 #[derive(Drop)]
 struct ReadEach<'a, F: ReadFiles + Sync> {
     alloc: Global,
     files: &'a F,
+    leaves_out: bool,
     root: &'a str,
     paths: &'a [String],
 }
@@ -70,37 +83,39 @@ impl<'a, F: ReadFiles + Sync> Job for ReadEach<'a, F> {
     ghost use Rattle.std.specs.Prelude.{IfSome, length, slice_get, string_bytes};
     ghost use Rattle.source_files.specs.Reading.{GivesSource};
 
-    type Out = Source;
+    type Out = ReadSource;
 
     type Fault = LoadFault;
 
     ghost inputs = { λ s. length s.paths.now };
 
     ghost gives = { λ s number result. IfSome (slice_get s.paths.now number)
-        (λ path. GivesSource (F.lists s.files.now) (F.gives s.files.now) s.root.now (string_bytes path) result) };
+        (λ path. GivesSource (F.lists s.files.now) (F.gives s.files.now) s.leaves_out s.root.now (string_bytes path)
+        result) };
 
-    fn run(&self, ticket: Ticket) -> Result<Source, LoadFault> {
+    fn run(&self, ticket: Ticket) -> Result<ReadSource, LoadFault> {
         let path = self.paths[ticket.number()].as_str();
-        source_below(self.alloc, self.files, self.root, path)
+        source_below(self.alloc, self.files, self.leaves_out, self.root, path)
     }
 }
 
-/// The sources with these paths below a root.
+/// What reading the sources with these paths below a root gives.
 fn read_part<R: Threads + Wait, G: Gate, F: ReadFiles + Sync>(
     readers: &Readers<'_, R, G, F>,
     root: &str,
     paths: &[String],
-) -> Result<Vec<Source>, LoadFault>
+) -> Result<Vec<ReadSource>, LoadFault>
     requires { length paths.now ≤ MAX_INPUTS }
     ensures { MatchResult result
-        (λ sources. AreSourcesAt (F.lists readers.now.files.now) (F.gives readers.now.files.now) root.now
-        (map string_bytes paths.now) sources.items)
-        (MayStopAt (F.lists readers.now.files.now) (F.gives readers.now.files.now) root.now
+        (λ all. GiveEach (F.lists readers.now.files.now) (F.gives readers.now.files.now) readers.now.leaves_out root.now
+        (map string_bytes paths.now) all.items)
+        (MayStopAt (F.lists readers.now.files.now) (F.gives readers.now.files.now) readers.now.leaves_out root.now
         (map string_bytes paths.now)) }
 {
     let job = ReadEach {
         alloc: readers.alloc,
         files: readers.files,
+        leaves_out: readers.leaves_out,
         root,
         paths,
     };
@@ -112,29 +127,31 @@ fn read_part<R: Threads + Wait, G: Gate, F: ReadFiles + Sync>(
         readers.workers,
         readers.gate,
     ) {
-        Ok(sources) => Ok(sources),
+        Ok(all) => Ok(all),
         Err(PoolFault::Spawn) => unreachable!(),
         Err(PoolFault::Memory) => Err(LoadFault::Memory),
         Err(PoolFault::Job(_, fault)) => Err(fault),
     }
 }
 
-/// Adds the sources with these paths.
-fn add_part<R: Threads + Wait, G: Gate, F: ReadFiles + Sync>(
-    readers: &Readers<'_, R, G, F>,
-    root: &str,
-    sources: &mut Vec<Source>,
-    paths: &[String],
-) -> Result<(), LoadFault>
-    requires { length paths.now ≤ MAX_INPUTS }
-    ensures { MatchResult result
-        (λ _. AddsSources (F.lists readers.now.files.now) (F.gives readers.now.files.now) root.now
-        (map string_bytes paths.now) sources.old.items sources.new.items)
-        (MayStopAt (F.lists readers.now.files.now) (F.gives readers.now.files.now) root.now
-        (map string_bytes paths.now)) }
+/// Adds what reading a source gave.
+fn add_one(below: &mut RootFiles, read: ReadSource) -> Result<(), AllocError>
+    ensures { OnOk result (AddsRead (read ∷ []) below.old below.new) }
 {
-    let mut here = read_part(readers, root, paths)?;
-    sources.append(&mut here)?;
+    match read {
+        ReadSource::Held(source) => below.files.push(source)?,
+        ReadSource::LeftOut(path) => below.unread.push(path)?,
+    }
+    Ok(())
+}
+
+/// Adds what reading sources gave.
+fn add_each(below: &mut RootFiles, all: Vec<ReadSource>) -> Result<(), AllocError>
+    ensures { OnOk result (AddsRead all.items below.old below.new) }
+{
+    for read in all {
+        add_one(below, read)?;
+    }
     Ok(())
 }
 
@@ -147,24 +164,29 @@ pub(crate) fn part_of(paths: &[String]) -> (&[String], &[String])
     paths.split_at(paths.len().min(MAX_INPUTS))
 }
 
-/// The sources with these paths below a root, read in parts of so many as a phase has inputs.
+/// The sources with these paths below a root, read in parts of so many as a phase has inputs, but those that are left
+/// out.
 pub(crate) fn read_each<R: Threads + Wait, G: Gate, F: ReadFiles + Sync>(
     readers: &Readers<'_, R, G, F>,
     root: &str,
     paths: &[String],
-) -> Result<Vec<Source>, LoadFault>
+) -> Result<RootFiles, LoadFault>
     ensures { MatchResult result
-        (λ sources. AreSourcesAt (F.lists readers.now.files.now) (F.gives readers.now.files.now) root.now
-        (map string_bytes paths.now) sources.items)
-        (MayStopAt (F.lists readers.now.files.now) (F.gives readers.now.files.now) root.now
+        (AreReadBut (F.lists readers.now.files.now) (F.gives readers.now.files.now) readers.now.leaves_out root.now
+        (map string_bytes paths.now))
+        (MayStopAt (F.lists readers.now.files.now) (F.gives readers.now.files.now) readers.now.leaves_out root.now
         (map string_bytes paths.now)) }
 {
-    let mut sources = Vec::new(readers.alloc);
+    let mut below = RootFiles {
+        files: Vec::new(readers.alloc),
+        unread: Vec::new(readers.alloc),
+    };
     let mut rest = paths;
     while !rest.is_empty() {
         let (part, behind) = part_of(rest);
-        add_part(readers, root, &mut sources, part)?;
+        let all = read_part(readers, root, part)?;
+        add_each(&mut below, all)?;
         rest = behind;
     }
-    Ok(sources)
+    Ok(below)
 }

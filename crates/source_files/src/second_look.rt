@@ -6,6 +6,7 @@ use crate::listing::FolderIdentity;
 use crate::look_again::PassedOver;
 use crate::system_folders::{followed, identity_of};
 use crate::walk::meet;
+use globs::is_excluded;
 use std::alloc::{AllocError, Global};
 use std::fmt::Write;
 use std::fs::{File, FileType, Metadata};
@@ -23,6 +24,9 @@ pub(crate) struct SecondLook<'a, S: Files> {
     alloc: Global,
     /// Whether links are followed.
     follows: bool,
+    /// The path of the first folder, with a `/` at its end, and the patterns of what isn't seen below it.
+    root: String,
+    excluded: &'a [String],
     /// The folders that were met, if they are.
     met: Vec<FolderIdentity>,
     /// The paths of the folders that are left.
@@ -42,39 +46,75 @@ fn front_of(alloc: Global, path: &str) -> Result<String, AllocError> {
     Ok(front)
 }
 
-/// Appends a name, with its bytes that aren't UTF-8 in the form `\xe9`.
-pub(crate) fn push_name(out: &mut String, name: &[u8]) -> Result<(), AllocError> {
-    for chunk in name.utf8_chunks() {
-        out.push_str(chunk.valid())?;
-        for byte in chunk.invalid() {
-            if write!(out, "\\x{byte:02x}").is_err() {
-                return Err(AllocError);
-            }
+/// Appends bytes in the form `\xe9`.
+fn push_escaped(out: &mut String, bytes: &[u8]) -> Result<(), AllocError> {
+    for byte in bytes {
+        if write!(out, "\\x{byte:02x}").is_err() {
+            return Err(AllocError);
         }
     }
     Ok(())
 }
 
-/// A path and what is said of it.
+/// Appends a name, with its bytes that aren't UTF-8 in the form `\xe9`.
+pub(crate) fn push_name(out: &mut String, name: &[u8]) -> Result<(), AllocError> {
+    for chunk in name.utf8_chunks() {
+        out.push_str(chunk.valid())?;
+        push_escaped(out, chunk.invalid())?;
+    }
+    Ok(())
+}
+
+/// Whether a terminal obeys the character, or it turns the direction in which others are shown.
+fn is_obeyed(character: char) -> bool {
+    (character.is_control() && character != '\t')
+        || matches!(
+            character,
+            '\u{61c}'
+                | '\u{200e}'..='\u{200f}'
+                | '\u{202a}'..='\u{202e}'
+                | '\u{2066}'..='\u{2069}'
+        )
+}
+
+/// Appends a path, with the bytes of characters that a terminal obeys in the form `\x1b`.
+fn push_shown(alloc: Global, out: &mut String, path: &str) -> Result<(), AllocError> {
+    for character in path.chars() {
+        if is_obeyed(character) {
+            let mut obeyed = String::new(alloc);
+            obeyed.push(character)?;
+            push_escaped(out, obeyed.as_bytes())?;
+        } else {
+            out.push(character)?;
+        }
+    }
+    Ok(())
+}
+
+/// A path, as it is shown, and what is said of it.
 fn said_of(alloc: Global, path: &str, words: &str) -> Result<String, AllocError> {
-    let mut text = String::from_str(alloc, path)?;
+    let mut text = String::new(alloc);
+    push_shown(alloc, &mut text, path)?;
     text.push_str(": ")?;
     text.push_str(words)?;
     Ok(text)
 }
 
 impl<'a, S: Files> SecondLook<'a, S> {
-    /// Looks through a folder and all below it, as far as they can be read.
+    /// Looks through a folder and all below it that patterns don't exclude, as far as they can be read.
     pub(crate) fn below(
         system: &'a S,
         alloc: Global,
         follows: bool,
         root: &str,
+        excluded: &'a [String],
     ) -> Result<SecondLook<'a, S>, AllocError> {
         let mut look = SecondLook {
             system,
             alloc,
             follows,
+            root: front_of(alloc, root)?,
+            excluded,
             met: Vec::new(alloc),
             left: Vec::new(alloc),
             passed: PassedOver {
@@ -155,20 +195,28 @@ impl<'a, S: Files> SecondLook<'a, S> {
         Ok(())
     }
 
-    /// Sees an entry, which isn't the folder itself nor the one that it is in.
+    /// Whether what has a name in the folder whose path has a `/` at its end isn't seen.
+    fn is_passed(&self, front: &str, name: &str) -> Result<bool, AllocError> {
+        let folder = front.strip_prefix(self.root.as_str()).unwrap_or("");
+        is_excluded(self.alloc, self.excluded, folder, name)
+    }
+
+    /// Sees an entry, which isn't the folder itself nor the one that it is in, if it isn't excluded.
     fn see_name(&mut self, front: &str, name: &[u8]) -> Result<(), AllocError> {
-        let mut path = String::from_str(self.alloc, front)?;
-        match str::from_utf8(name) {
-            Ok("" | "." | "..") => Ok(()),
-            Ok(text) => {
-                path.push_str(text)?;
-                self.see_entry(path)
-            }
-            Err(_) => {
-                push_name(&mut path, name)?;
-                self.blame(path.as_str(), "the name isn't UTF-8")
-            }
+        if matches!(name, b"" | b"." | b"..") {
+            return Ok(());
         }
+        let mut shown = String::new(self.alloc);
+        push_name(&mut shown, name)?;
+        if self.is_passed(front, shown.as_str())? {
+            return Ok(());
+        }
+        let mut path = String::from_str(self.alloc, front)?;
+        path.push_str(shown.as_str())?;
+        if str::from_utf8(name).is_err() {
+            return self.blame(path.as_str(), "the name isn't UTF-8");
+        }
+        self.see_entry(path)
     }
 
     /// What is at a path, or, if links are followed, what the link there leads to. None if it leads nowhere.
@@ -261,10 +309,11 @@ pub(crate) fn why_unread<S: Files>(
     alloc: Global,
     follows: bool,
     folders: &[String],
+    excluded: &[String],
     path: &str,
 ) -> Result<Option<String>, AllocError> {
     if is_among(folders, path) {
-        Ok(SecondLook::below(system, alloc, follows, path)?.blamed)
+        Ok(SecondLook::below(system, alloc, follows, path, excluded)?.blamed)
     } else if folders.is_empty() {
         why_no_file(system, alloc, path)
     } else {

@@ -110,18 +110,24 @@ impl<'a, S: Files + AllocGlobal + Clone + Drop> LookAgain for SystemFiles<'a, S>
 
     ghost passes = { λ _ _ _. ⊤ };
 
-    ghost blames = { λ _ _ _ _. ⊤ };
+    ghost blames = { λ _ _ _ _ _. ⊤ };
 
     fn passed_over(&self, root: &str) -> Result<PassedOver, AllocError> {
-        Ok(SecondLook::below(self.system, self.system.alloc(), self.follows, root)?.passed)
+        Ok(SecondLook::below(self.system, self.system.alloc(), self.follows, root, &[])?.passed)
     }
 
-    fn why_unread(&self, folders: &[String], path: &str) -> Result<Option<String>, AllocError> {
+    fn why_unread(
+        &self,
+        folders: &[String],
+        excluded: &[String],
+        path: &str,
+    ) -> Result<Option<String>, AllocError> {
         why_unread(
             self.system,
             self.system.alloc(),
             self.follows,
             folders,
+            excluded,
             path,
         )
     }

@@ -3,8 +3,18 @@
 ghost use Rattle.std.specs.Prelude.{◌≡◌, ◌↔◌, ◌≤◌, [], ◌∷◌, Contains, IfOk, IsTrue, MatchResult, OnOk, Some, length};
 ghost use Rattle.std.specs.Prelude.{map, string_bytes};
 ghost use Rattle.index_pool.specs.declared.workers.TheConstants.{MAX_INPUTS};
-ghost use Rattle.source_files.specs.Walks.{AreByBytes, AreListed, AreWalked, IsUnlisted};
-ghost use Rattle.source_files.specs.WalkSteps.{GoesOn, HaveEach, KeepsMore, MayNotList, Meets, had_of};
+ghost use Rattle.source_files.specs.Walks.{AreByBytes, AreWalked};
+ghost use Rattle.source_files.specs.WalkSteps.{
+  AreListedBut,
+  GoesOn,
+  HaveEach,
+  KeepsMore,
+  MayNotList,
+  Meets,
+  Stops,
+  StopsWalk,
+  had_of,
+};
 
 use crate::found::{Found, list_one};
 use crate::listing::FolderIdentity;
@@ -232,22 +242,47 @@ fn walk_root<R: Threads + Wait, G: Gate, F: ReadFiles + Sync>(
     Err(AllocError)
 }
 
-/// The paths below a root of the sources found there, by their bytes.
+/// Whether the root itself is among what can't be read: its path is empty.
+fn has_root(unread: &[String]) -> bool
+    ensures { IsTrue result ↔ Contains (map string_bytes unread.now) [] }
+{
+    for path in unread {
+        if path.is_empty() {
+            return true;
+        }
+    }
+    false
+}
+
+/// Whether this, which can't be read, stops a walk.
+fn is_stopped(leaves_out: bool, unread: &[String]) -> bool
+    ensures { IsTrue result ↔ Stops leaves_out (map string_bytes unread.now) }
+{
+    if leaves_out {
+        has_root(unread)
+    } else {
+        !unread.is_empty()
+    }
+}
+
+/// The paths below a root of the sources found there, by their bytes, and of what is left out there: nothing, or all
+/// that can't be read but the root itself.
 ///
-/// `Unreadable`, with the root: the root or a folder found below it can't be listed, or one there has an entry whose
-/// name isn't UTF-8. Beside it `Memory` may come, and no other fault.
+/// `Unreadable`, with the root: it can't be listed, or, where nothing is left out, a folder found below it can't be, or
+/// one there has an entry whose name isn't UTF-8. Beside it `Memory` may come, and no other fault.
 pub(crate) fn list_sources<R: Threads + Wait, G: Gate, F: ReadFiles + Sync>(
     readers: &Readers<'_, R, G, F>,
     root: &str,
-) -> Result<Vec<String>, LoadFault>
+) -> Result<(Vec<String>, Vec<String>), LoadFault>
     ensures { MatchResult result
-        (λ paths. AreListed (F.lists readers.now.files.now root.now) (map string_bytes paths.items))
-        (MayNotList (IsUnlisted (F.lists readers.now.files.now root.now)) root.now) }
+        (λ listed. AreListedBut (F.lists readers.now.files.now root.now) readers.now.leaves_out
+        (map string_bytes listed.0.items) (map string_bytes listed.1.items))
+        (MayNotList (StopsWalk (F.lists readers.now.files.now root.now) readers.now.leaves_out) root.now) }
 {
     let (paths, unread) = walk_root(readers, root)?;
-    if unread.is_empty() {
-        return Ok(paths);
+    if is_stopped(readers.leaves_out, &unread) {
+        let name = String::from_str(readers.alloc, root)?;
+        return Err(LoadFault::Unreadable(name));
     }
-    let name = String::from_str(readers.alloc, root)?;
-    Err(LoadFault::Unreadable(name))
+    Ok((paths, unread))
 }

@@ -10,7 +10,11 @@ mod excluded;
 #[cfg(test)]
 mod free_folders;
 #[cfg(test)]
+mod left_out;
+#[cfg(test)]
 mod numbered;
+#[cfg(test)]
+mod out_folders;
 #[cfg(test)]
 mod outputs;
 #[cfg(test)]

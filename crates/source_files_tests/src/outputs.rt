@@ -1,7 +1,7 @@
 //! Files that are written beside their places, and put there.
 
 use crate::roots::{remove_again, see};
-use source_files::{MakeFiles, OutFile, OutPlace};
+use source_files::{Blamed, Cause, MakeFiles, OutFile, OutPlace};
 use std::alloc::{AllocError, Global};
 use std::fs::{File, Permissions};
 use std::io::Read;
@@ -123,23 +123,58 @@ fn two_at_once(rt: HostRuntime) -> Result<(), Fail> {
     Ok(())
 }
 
-/// A folder, a file in no folder, and no name.
-const REFUSED: [&str; 3] = [".", "nowhere/out", ""];
+/// A folder, a file in no folder, and no name; and why they can't be made.
+const REFUSED: [(&str, Cause); 3] = [
+    (".", Cause::IsFolder),
+    ("nowhere/out", Cause::NotThere),
+    ("", Cause::NotThere),
+];
 
-/// Whether nothing can be written to the part of a place.
-fn is_refused<P: OutPlace>(alloc: Global, place: &P) -> bool {
+/// Whether nothing can be written to the part of a place, and why is known once this is given up.
+fn is_refused<P: OutPlace + Blamed>(alloc: Global, place: &P, cause: Cause) -> bool {
     match part_of(alloc, place) {
-        Some(mut part) => part.write(b"ab") == Err(Failed),
+        Some(mut part) => {
+            let is_refused = part.write(b"ab") == Err(Failed);
+            place.leave(part);
+            is_refused && place.reason() == Some(cause)
+        }
+        None => true,
+    }
+}
+
+/// Whether a part to which nothing is written can't be put at a place, and why is known.
+fn is_not_put<P: OutPlace + Blamed>(alloc: Global, place: &mut P, cause: Cause) -> bool {
+    match part_of(alloc, place) {
+        Some(part) => place.put(part) == Err(Failed) && place.reason() == Some(cause),
         None => true,
     }
 }
 
 #[test]
 fn what_the_system_does_not_make(rt: HostRuntime) {
-    for path in &REFUSED {
-        let place = OutFile::new(&rt, path);
-        see(&rt, is_refused(rt.alloc(), &place), path);
+    for (path, cause) in &REFUSED {
+        let mut place = OutFile::new(&rt, path);
+        see(&rt, place.reason().is_none(), path);
+        see(&rt, is_refused(rt.alloc(), &place, *cause), path);
+        see(&rt, is_not_put(rt.alloc(), &mut place, *cause), path);
     }
+}
+
+#[test]
+fn no_cause_after_a_success(rt: HostRuntime) -> Result<(), Fail> {
+    let mut place = OutFile::new(&rt, "soon/out");
+    see(
+        &rt,
+        is_refused(rt.alloc(), &place, Cause::NotThere),
+        "no folder",
+    );
+    fs::create_dir(&rt, "soon")?;
+    let is = is_put(rt.alloc(), &mut place);
+    see(&rt, is != Some(false), "put");
+    if is == Some(true) {
+        see(&rt, place.reason().is_none(), "no cause");
+    }
+    Ok(remove_again(&rt, "soon")?)
 }
 
 /// Paths, and whether the file `same.proto` has them: as it is spelled, by a folder, a link and another name of it; and
@@ -171,6 +206,27 @@ fn one_file_by_several_names(rt: HostRuntime) -> Result<(), Fail> {
     Ok(())
 }
 
+/// Paths where nothing is, and whether they name the file `none.scip` in the folder `shelf`.
+const FREE: [(&str, bool); 6] = [
+    ("shelf/none.scip", true),
+    ("shelf/./none.scip", true),
+    ("./shelf//none.scip", true),
+    ("shelf/other.scip", false),
+    ("none.scip", false),
+    ("none/none.scip", false),
+];
+
+#[test]
+fn one_file_that_is_not_there(rt: HostRuntime) -> Result<(), Fail> {
+    fs::create_dir(&rt, "shelf")?;
+    for (path, due) in &FREE {
+        let place = OutFile::new(&rt, path);
+        see(&rt, place.is_file("shelf/none.scip") == *due, path);
+    }
+    fs::remove_dir(&rt, "shelf")?;
+    Ok(())
+}
+
 /// Makes a file. None after want of memory.
 fn makes<S: Files>(files: &mut OutFile<'_, S>, path: &str, bytes: &[u8]) -> Option<bool> {
     match files.make_file(path, bytes) {
@@ -179,15 +235,16 @@ fn makes<S: Files>(files: &mut OutFile<'_, S>, path: &str, bytes: &[u8]) -> Opti
     }
 }
 
-/// Paths, in the order in which files are made there, and whether they can be. The fourth reads: below a file there
-/// can't be one.
-const MADE: [(&str, bool); 6] = [
-    ("shelf.txt", true),
-    ("shelf/one.txt", true),
-    ("shelf/deep/er/two.txt", true),
-    ("shelf/one.txt/three.txt", false),
-    ("shelf/deep", false),
-    ("", false),
+/// Paths, in the order in which files are made there, and why they can't be, if they can't. The fourth reads: below a
+/// file there can't be one.
+const MADE: [(&str, Option<Cause>); 7] = [
+    ("shelf.txt", None),
+    ("shelf/one.txt", None),
+    ("shelf/deep/er/two.txt", None),
+    ("shelf/one.txt/three.txt", Some(Cause::NoFolder)),
+    ("shelf/deep", Some(Cause::IsFolder)),
+    ("", Some(Cause::NotThere)),
+    ("shelf/one.txt", None),
 ];
 
 /// The first path at which not what is due is made of these bytes.
@@ -196,12 +253,16 @@ fn first_other<S: Files>(
     files: &mut OutFile<'_, S>,
     bytes: &[u8],
 ) -> Option<&'static str> {
-    for (path, can_be) in &MADE {
+    for (path, cause) in &MADE {
+        let can_be = cause.is_none();
         let made = match makes(files, *path, bytes) {
             None => makes(files, *path, bytes),
             made => made,
         };
-        if made != Some(*can_be) || (*can_be && !holds(system, *path, bytes)) {
+        if made != Some(can_be) || (can_be && !holds(system, *path, bytes)) {
+            return Some(*path);
+        }
+        if files.reason() != *cause {
             return Some(*path);
         }
     }

@@ -1,7 +1,7 @@
 //! The sources below a root.
 
 use index_pool::{NoGate, Workers};
-use source_files::{LoadFault, ReadFiles, Readers, SystemFiles, read_root};
+use source_files::{LoadFault, ReadFiles, Readers, RootFiles, SystemFiles, read_root};
 use source_tree::Source;
 use std::alloc::{AllocError, Global};
 use std::process::Abort;
@@ -17,7 +17,7 @@ pub(crate) fn see(rt: &impl Abort, holds: bool, case: &str) {
 }
 
 /// The paths of the sources, each with a space behind it.
-fn listing(alloc: Global, sources: &[Source]) -> Result<String, AllocError> {
+pub(crate) fn listing(alloc: Global, sources: &[Source]) -> Result<String, AllocError> {
     let mut text = String::new(alloc);
     for source in sources {
         text.push_str(source.path.as_str())?;
@@ -26,16 +26,23 @@ fn listing(alloc: Global, sources: &[Source]) -> Result<String, AllocError> {
     Ok(text)
 }
 
-/// The paths of the sources that were read, or what couldn't be, with the fault behind it.
-fn text_of(alloc: Global, answer: Result<Vec<Source>, LoadFault>) -> Result<String, AllocError> {
-    match answer {
-        Ok(sources) => listing(alloc, &sources),
-        Err(LoadFault::Unreadable(name)) => {
+/// What couldn't be read, with the fault behind it, or the fault.
+pub(crate) fn fault_text(alloc: Global, fault: LoadFault) -> Result<String, AllocError> {
+    match fault {
+        LoadFault::Unreadable(name) => {
             let mut text = name;
             text.push_str(": Unreadable")?;
             Ok(text)
         }
-        Err(fault) => String::from_str(alloc, fault.name()),
+        fault => String::from_str(alloc, fault.name()),
+    }
+}
+
+/// The paths of the sources that were read, or the fault.
+fn text_of(alloc: Global, answer: Result<RootFiles, LoadFault>) -> Result<String, AllocError> {
+    match answer {
+        Ok(below) => listing(alloc, &below.files),
+        Err(fault) => fault_text(alloc, fault),
     }
 }
 
@@ -47,13 +54,14 @@ pub(crate) fn read_again<R: Threads + Wait, F: ReadFiles + Sync>(
     workers: Workers,
     files: &F,
     root: &str,
-) -> Result<Vec<Source>, LoadFault> {
+) -> Result<RootFiles, LoadFault> {
     let readers = Readers {
         rt,
         alloc,
         workers,
         gate: &NoGate,
         files,
+        leaves_out: false,
     };
     match read_root(&readers, root) {
         Err(LoadFault::Memory) => read_root(&readers, root),
@@ -105,7 +113,7 @@ fn see_held<R: Threads + Wait + Abort, F: ReadFiles + Sync>(
 ) {
     if let Some(workers) = Workers::new(4) {
         let held = match read_again(rt, alloc, workers, files, root) {
-            Ok(sources) => are_five(&sources),
+            Ok(below) => are_five(&below.files),
             Err(_) => false,
         };
         see(rt, held, "each holds its path");

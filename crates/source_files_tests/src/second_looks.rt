@@ -3,7 +3,9 @@
 use crate::roots::{remove_again, see};
 use source_files::{Cause, Caused, LookAgain, PassedOver, SystemFiles, SystemStream};
 use std::alloc::{AllocError, Global};
+use std::fs::Permissions;
 use std::io::{Error, ErrorKind, Write};
+use std::os::unix::fs::PermissionsExt;
 use std::rt::Files;
 use std::test::Fail;
 use std::{fs, io};
@@ -60,7 +62,7 @@ const FILES: [&str; 5] = [
 ];
 
 /// A folder among which a path is looked for, if any, the path, and what is said of why it can't be read.
-const BLAMED: [(&str, &str, &str); 6] = [
+const BLAMED: [(&str, &str, &str); 7] = [
     ("look", "look", ""),
     (
         "look/none",
@@ -75,6 +77,11 @@ const BLAMED: [(&str, &str, &str); 6] = [
     ),
     ("look", "a.proto", ""),
     ("look", "deep", "look/deep: is a directory"),
+    (
+        "",
+        "look/\u{1b}[31m\u{202e}é",
+        "look/\\x1b[31m\\xe2\\x80\\xaeé: no such file or directory",
+    ),
 ];
 
 /// What is said of why a path can't be read; empty if nothing is, and `?` where memory ran out.
@@ -82,13 +89,14 @@ fn said_of<F: LookAgain>(
     alloc: Global,
     files: &F,
     folder: &str,
+    excluded: &[String],
     path: &str,
 ) -> Result<String, AllocError> {
     let mut folders = Vec::new(alloc);
     if !folder.is_empty() {
         folders.push(String::from_str(alloc, folder)?)?;
     }
-    match files.why_unread(&folders, path)? {
+    match files.why_unread(&folders, excluded, path)? {
         Some(text) => Ok(text),
         None => Ok(String::new(alloc)),
     }
@@ -120,8 +128,33 @@ fn what_is_passed_over_and_why_nothing_is_read(rt: HostRuntime) -> Result<(), Fa
     let following = SystemFiles::following(&rt, true);
     see(&rt, following.passed_over("look") == Ok(due), "passed over");
     for (folder, path, due) in &BLAMED {
-        let said = said_of(rt.alloc(), &files, *folder, *path)?;
+        let said = said_of(rt.alloc(), &files, *folder, &[], *path)?;
         see(&rt, said.as_str() == *due, path);
     }
     Ok(remove_again(&rt, "look")?)
+}
+
+#[test]
+fn what_is_excluded_is_not_blamed(rt: HostRuntime) -> Result<(), Fail> {
+    let _ = remove_again(&rt, "seek");
+    fs::create_dir(&rt, "seek")?;
+    fs::create_dir(&rt, "seek/deep")?;
+    fs::create_dir(&rt, "seek/deep/closed")?;
+    fs::set_permissions(&rt, "seek/deep/closed", Permissions::from_mode(0))?;
+    // Everything is open to some users.
+    let is_open = fs::read_dir(&rt, "seek/deep/closed").is_ok();
+    let files = SystemFiles::new(&rt);
+    let said = said_of(rt.alloc(), &files, "seek", &[], "seek")?;
+    let due = if is_open {
+        ""
+    } else {
+        "seek/deep/closed: permission denied"
+    };
+    see(&rt, said.as_str() == due, "the folder that is closed");
+    let mut excluded = Vec::new(rt.alloc());
+    excluded.push(String::from_str(rt.alloc(), "deep/closed")?)?;
+    let said = said_of(rt.alloc(), &files, "seek", &excluded, "seek")?;
+    see(&rt, said.is_empty(), "what is excluded");
+    fs::set_permissions(&rt, "seek/deep/closed", Permissions::from_mode(0o755))?;
+    Ok(remove_again(&rt, "seek")?)
 }

@@ -30,7 +30,7 @@ fn all_of_a_wide_folder(rt: HostRuntime) -> Result<(), Fail> {
     for count in &[1usize, 3] {
         if let Some(workers) = Workers::new(*count) {
             let found = match read_again(&rt, rt.alloc(), workers, &files, "wide") {
-                Ok(sources) => sources.len(),
+                Ok(below) => below.files.len(),
                 Err(_) => 0,
             };
             see(&rt, found == SOURCES, "all sources");

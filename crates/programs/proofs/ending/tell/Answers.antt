@@ -1,29 +1,34 @@
-use Rattle.std.specs.String.{string_bytes}
+use Rattle.std.proofs.Common.{◌≡◌, refl, sym, ◌∙◌, map}
 use Rattle.std.specs.Option.{option_map}
-use Rattle.std.proofs.Common.{◌≡◌, refl, sym, ◌∙◌}
-use Rattle.protoscip.specs.ToldLines.{IsToldText}
+use Rattle.std.specs.String.{string_bytes}
+use Rattle.protoscip.specs.ToldLines.{IsToldTextWith}
 use Rattle.scip_snapshot.specs.Showing.{writer}
 use Rattle.programs.specs.Messages.{TellsOfSuccess}
-use Rattle.programs.proofs.LackLemmas.{lacks_nothing, lacks_some}
+use Rattle.programs.proofs.LackLemmas.{nothing, something}
 use Rattle.programs.proofs.MessageLemmas.{told_one}
 use Rattle.programs.proofs.ending.tell.Goals as goal
 
-pub returns-then-is_empty : goal.returns-then-is_empty
-returns-then-is_empty g c =
-    let line = option_map string_bytes c.args.none_found.now in
-    lacks_nothing TellsOfSuccess (λ l. l ≡ line) c.args.explain c.args.tree.now
+pub returns-then-lacks_nothing : goal.returns-then-lacks_nothing
+returns-then-lacks_nothing g c =
+    let run = c.args.run.now in
+    let line = option_map string_bytes run.none_found in
+    nothing TellsOfSuccess (λ l. l ≡ line) c.args.explain run.tree
     (writer g.M.Sink.contents g.M.Sink.failures c.args.messages.now c.say_line.new.messages) c.say_line.result
-    c.args.told.now (sym c.is_empty.ensures ∙ c.if-is_empty.true) line refl c.say_line.ensures
+    string_bytes run.unread.items c.args.told.now
+    (rw c.as_slice.ensures.value at (sym c.lacks_nothing.ensures ∙ c.if-lacks_nothing.true)) line refl
+    c.say_line.ensures
 
 pub returns : goal.returns
 returns g c =
-    let text = c.told_text.ensures in
+    let run = c.args.run.now in
+    let text = c.told_text_with.ensures in
     let messages = writer g.M.Sink.contents g.M.Sink.failures c.args.messages.now c.report.new.messages in
-    lacks_some TellsOfSuccess (λ l. l ≡ option_map string_bytes c.args.none_found.now) c.args.explain c.args.tree.now messages c.report.result c.args.told.now
-    (sym c.is_empty.ensures ∙ c.if-is_empty.false) (
+    something TellsOfSuccess (λ l. l ≡ option_map string_bytes run.none_found) c.args.explain run.tree messages
+    c.report.result string_bytes run.unread.items c.args.told.now
+    (rw c.as_slice.ensures.value at (sym c.lacks_nothing.ensures ∙ c.if-lacks_nothing.false)) (
       text.0,
       text.1,
-      told_one messages c.report.result _ _ string_bytes c.told_text.result
-          (IsToldText c.args.explain c.args.tree.now text.0 c.args.told.now) refl text.2
-          c.report.ensures,
+      told_one messages c.report.result _ _ string_bytes c.told_text_with.result
+          (IsToldTextWith c.args.explain run.tree text.0 (map string_bytes run.unread.items) c.args.told.now) refl
+          (rw c.as_slice.ensures.value at text.2) c.report.ensures,
     )

@@ -1,4 +1,5 @@
-use Rattle.std.proofs.Common.{◌∙◌, List, [], ap, length, sym, subst}
+use Rattle.std.proofs.Common.{◌∙◌, List, [], ap, length, map, sym, subst}
+use Rattle.std.specs.String.{string_bytes}
 use Rattle.command_line.specs.declared.options.PackageFolder.{PackageFolder}
 use Rattle.scip_symbol.specs.Package.{Package}
 use Rattle.scip_model.specs.Packages.{Packages}
@@ -12,12 +13,14 @@ returns-then-is_empty-clause-folders g c =
     let lists = g.F.ReadFiles.lists c.args.readers.now.files.now in
     let gives = g.F.ReadFiles.gives c.args.readers.now.files.now in
     let options = c.args.options.now in
-    let tree = c.in_ok-tree.tree in
+    let found = c.in_ok-found.found in
+    let unread = map string_bytes found.unread.items in
     let none = none_there options.include_packages.items _
     (ap (λ (folders : List PackageFolder). length folders) (sym c.deref.ensures.value) ∙ c.deref.ensures.len)
     (sym c.is_empty.ensures ∙ c.if-is_empty.true) in
     let Of : Package → Packages = λ id. record { run = id; roots = [] } in
-    let Here : Packages → Type 0 = λ packages. AreFolders lists gives options tree packages in
+    let Here : Packages → Type 0 = λ packages. AreFolders lists gives options found.tree unread packages in
     subst Here (sym (c.of_run.ensures ∙ ap Of c.in_ok-run.ensures.named.0))
-    (folders_of_run lists gives options tree none c.in_ok-run.ensures.named.1
-    (rw (c.as_str-root.ensures.value, c.deref-then-is_empty.ensures.value) at c.in_ok-tree.ensures.tree))
+    (folders_of_run lists gives options found.tree unread none c.in_ok-run.ensures.named.1
+    (rw (c.as_str-root.ensures.value, c.deref-then-is_empty.ensures.value, c.requires)
+    at c.in_ok-found.ensures.tree))

@@ -1,4 +1,4 @@
-use Rattle.std.proofs.Common.{◌≡◌, refl, subst, sym, ℕ, Option, None, Result, Ok, Err}
+use Rattle.std.proofs.Common.{◌≡◌, map, refl, subst, sym, ℕ, Option, None, Result, Ok, Err}
 use Rattle.std.specs.Prelude.{IfErr, MatchResult}
 use Rattle.std.specs.Option.{option_map}
 use Rattle.std.specs.String.{string_bytes}
@@ -40,30 +40,31 @@ returns-in-Some g c =
     let report = place g.Q.OutPlace.holds g.Q.OutPlace.same g.Q.OutPlace.refuses g.Q.OutPlace.gives_up
     g.Q.Part.Sink.contents g.Q.Part.Sink.failures c.args.places.now.report c.report_run-reported.new.at in
     let messages = writer g.M.Sink.contents g.M.Sink.failures c.args.messages.now c.end-status.new.messages in
+    let unread = map string_bytes run.unread.items in
     let allows = IsChosenBy (option_map (λ f. string_bytes f.promise.0) run.choices.filter)
     (option_map (λ r. r.promise.0) run.choices.rule) in
     let recorded : KeptIndex → Recorded = λ index. recorded_of index.built.choices index.built.told in
-    let ran = c.index_and_keep-ran.result in
+    let ran = c.index_and_tell-ran.result in
     let reported = c.report_run-reported.result in
-    let whole = c.index_and_keep-ran.new.out in
+    let whole = c.index_and_tell-ran.new.out in
     let runs : _ → _ → Result Recorded Fault → Type 0 = λ begun written ended.
     Indexes contents failures allows run.settings run.tree run.workers begun written ended in
     let told : Result Recorded Fault → Result (Unit {0}) Fault → Type 0 = λ ended.
-    Reports report asked.options.report asked.limits allows run.settings run.workers run.tree (told_by ended) in
+    Reports report asked.options.report asked.limits allows run.settings run.workers run.tree unread (told_by ended) in
     let By : ℕ → Type 0 = λ workers. MatchResult ran
     (λ kept. Indexes contents failures allows run.settings run.tree workers c.in-Ok.part whole (Ok (recorded kept)))
     (λ fault. Indexes contents failures allows run.settings run.tree workers c.in-Ok.part whole (Err fault)) in
     let made = forgoes there whole recorded runs told c.in-Ok.part c.in-Ok.ensures.begun
-    (λ r broken. Breaks asked.limits run.tree r.told broken) c.in-Some.fault ran reported c.finish-done.result
-    (subst By c.over-work.ensures c.index_and_keep-ran.ensures.indexed)
+    (λ r broken. Breaks asked.limits run.tree unread r.told broken) c.in-Some.fault ran reported c.finish-done.result
+    (subst By c.over-work.ensures c.index_and_tell-ran.ensures.indexed)
     (reported_by recorded ran _ _ (λ told_is. Reports report asked.options.report asked.limits
-    allows run.settings run.workers run.tree told_is reported) c.told_in.ensures c.fault_in.ensures
+    allows run.settings run.workers run.tree unread told_is reported) c.told_in.ensures c.fault_in.ensures
     c.report_run-reported.ensures)
     (rw (c.settle-done.ensures, c.in-Some.is) at c.broken_limit-broken.ensures.made)
     (rw (c.settle-done.ensures, c.in-Some.is) at c.broken_limit-broken.ensures.unmade)
     (rw (c.settle-done.ensures, c.in-Some.is) at c.finish-done.ensures) in
     let Ended : Option Dialect → Result KeptIndex Fault → Type 0 = λ dialect done.
-    Ends SaysOfSuccess (λ line. line ≡ option_map string_bytes run.none_found) dialect run.tree
+    Ends SaysOfSuccess (λ line. line ≡ option_map string_bytes run.none_found) dialect run.tree unread
     (λ kept. kept.built.told) done messages c.end-status.result in
     let lacks = made.0.built.told in
     let apart = c.in-Ok.ensures.apart in
@@ -71,9 +72,9 @@ returns-in-Some g c =
       c.end-status.new.messages,
       is_success (λ line. line ≡ option_map string_bytes run.none_found)
           (explain_in asked.options.explain run.settings.dialect) run.tree messages
-          c.end-status.result lacks
-          (subst (λ dialect. Ended dialect (Ok made.0)) c.explain_in-dialect.ensures
-          (subst (Ended c.explain_in-dialect.result) made.1 c.end-status.ensures)),
+          c.end-status.result unread lacks
+          (subst (λ dialect. Ended dialect (Ok made.0)) c.explain_in.ensures
+          (subst (Ended c.explain_in.result) made.1 c.end-status.ensures)),
       c.report_limit.ensures,
     )
 
@@ -90,36 +91,37 @@ returns-in-None g c =
     let report = place g.Q.OutPlace.holds g.Q.OutPlace.same g.Q.OutPlace.refuses g.Q.OutPlace.gives_up
     g.Q.Part.Sink.contents g.Q.Part.Sink.failures c.args.places.now.report c.report_run-reported.new.at in
     let messages = writer g.M.Sink.contents g.M.Sink.failures c.args.messages.now c.end-status.new.messages in
+    let unread = map string_bytes run.unread.items in
     let allows = IsChosenBy (option_map (λ f. string_bytes f.promise.0) run.choices.filter)
     (option_map (λ r. r.promise.0) run.choices.rule) in
     let recorded : KeptIndex → Recorded = λ index. recorded_of index.built.choices index.built.told in
-    let ran = c.index_and_keep-ran.result in
+    let ran = c.index_and_tell-ran.result in
     let reported = c.report_run-reported.result in
-    let whole = c.index_and_keep-ran.new.out in
+    let whole = c.index_and_tell-ran.new.out in
     let runs : _ → _ → Result Recorded Fault → Type 0 = λ begun written ended.
     Indexes contents failures allows run.settings run.tree run.workers begun written ended in
     let told : Result Recorded Fault → Result (Unit {0}) Fault → Type 0 = λ ended.
-    Reports report asked.options.report asked.limits allows run.settings run.workers run.tree (told_by ended) in
+    Reports report asked.options.report asked.limits allows run.settings run.workers run.tree unread (told_by ended) in
     let By : ℕ → Type 0 = λ workers. MatchResult ran
     (λ kept. Indexes contents failures allows run.settings run.tree workers c.in-Ok.part whole (Ok (recorded kept)))
     (λ fault. Indexes contents failures allows run.settings run.tree workers c.in-Ok.part whole (Err fault)) in
     let done = c.finish-done.result in
     let Ended : Option Dialect → Type 0 = λ dialect.
-    Ends SaysOfSuccess (λ line. line ≡ option_map string_bytes run.none_found) dialect run.tree (λ r. r.told)
+    Ends SaysOfSuccess (λ line. line ≡ option_map string_bytes run.none_found) dialect run.tree unread (λ r. r.told)
     (part_of recorded done) messages c.end-status.result in
     let apart = c.in-Ok.ensures.apart in
     into_part (part_of recorded done) (record { index = apart.index; reported = apart.reported; two = apart.two })
     (fills there whole recorded runs told c.in-Ok.part c.in-Ok.ensures.begun
-    (λ r. Breaks asked.limits run.tree r.told None) ran reported done
-    (subst By c.over-work.ensures c.index_and_keep-ran.ensures.indexed)
+    (λ r. Breaks asked.limits run.tree unread r.told None) ran reported done
+    (subst By c.over-work.ensures c.index_and_tell-ran.ensures.indexed)
     (reported_by recorded ran _ _ (λ told_is. Reports report asked.options.report asked.limits
-    allows run.settings run.workers run.tree told_is reported) c.told_in.ensures c.fault_in.ensures
+    allows run.settings run.workers run.tree unread told_is reported) c.told_in.ensures c.fault_in.ensures
     c.report_run-reported.ensures)
     (rw (c.settle-done.ensures, c.in-None.is) at c.broken_limit-broken.ensures.made)
     (rw (c.settle-done.ensures, c.in-None.is) at c.finish-done.ensures))
-    (subst Ended c.explain_in-dialect.ensures
+    (subst Ended c.explain_in.ensures
     (ends_alike recorded (λ r. r.told) SaysOfSuccess (λ line. line ≡ option_map string_bytes run.none_found)
-    c.explain_in-dialect.result run.tree done messages c.end-status.result c.end-status.ensures))
+    c.explain_in.result run.tree unread done messages c.end-status.result c.end-status.ensures))
 
 -- each fault names files of the tree
 
@@ -130,12 +132,13 @@ end-status-requires-clause-files g c =
     g.P.Part.Sink.contents g.P.Part.Sink.failures c.args.places.now.file c.finish-done.new.out in
     let report = place g.Q.OutPlace.holds g.Q.OutPlace.same g.Q.OutPlace.refuses g.Q.OutPlace.gives_up
     g.Q.Part.Sink.contents g.Q.Part.Sink.failures c.args.places.now.report c.report_run-reported.new.at in
+    let unread = map string_bytes run.unread.items in
     let allows = IsChosenBy (option_map (λ f. string_bytes f.promise.0) run.choices.filter)
     (option_map (λ r. r.promise.0) run.choices.rule) in
     let reported = c.report_run-reported.result in
-    finished_files there c.index_and_keep-ran.new.out run.tree c.settle-done.result c.broken_limit-broken.result
+    finished_files there c.index_and_tell-ran.new.out run.tree c.settle-done.result c.broken_limit-broken.result
     c.finish-done.result c.finish-done.ensures
     (subst (λ (r : Result KeptIndex Fault). IfErr r (HasFilesOf run.tree)) (sym c.settle-done.ensures)
-    (settled_files run.tree c.index_and_keep-ran.result reported c.index_and_keep-ran.ensures.files
+    (settled_files run.tree c.index_and_tell-ran.result reported c.index_and_tell-ran.ensures.files
     (reported_files report c.args.request.now.options.now.report c.args.request.now.limits allows run.settings
-    run.workers run.tree (ran_of c.told_in.result.now c.fault_in.result) reported c.report_run-reported.ensures)))
+    run.workers run.tree unread (ran_of c.told_in.result.now c.fault_in.result) reported c.report_run-reported.ensures)))

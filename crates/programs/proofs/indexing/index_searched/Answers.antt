@@ -5,6 +5,7 @@ use Rattle.programs.specs.Asked.{asked_by}
 use Rattle.programs.specs.Indexing.{Indexed, WritesNavigable}
 use Rattle.programs.specs.NoSources.{NoneFoundBy}
 use Rattle.programs.specs.Placing.{Place, place}
+use Rattle.programs.specs.Searches.{blamed_by}
 use Rattle.programs.proofs.indexing.index_searched.Goals as goal
 
 pub returns-clause-indexed : goal.returns-clause-indexed
@@ -16,8 +17,9 @@ returns-clause-indexed g c =
     let report : Place _ _ = place g.Q.OutPlace.holds g.Q.OutPlace.same g.Q.OutPlace.refuses g.Q.OutPlace.gives_up
     g.Q.Part.Sink.contents g.Q.Part.Sink.failures c.args.places.now.report c.index.new.places.report in
     subst (λ (patterns : List (List ℕ)). Indexed (ListsWithout (g.F.ReadFiles.lists files) patterns)
-    (g.F.ReadFiles.gives files)
-    (NoneFoundBy (g.F.LookAgain.passes files) c.args.host.now.is_watched asked.options) asked at report
+    (g.F.ReadFiles.gives files) (blamed_by asked.options (g.F.LookAgain.blames files))
+    (NoneFoundBy (g.F.LookAgain.passes files) c.args.host.now.is_watched asked.options)
+    (g.Q.OutPlace.suspects c.args.places.now.report) asked at report
     (writer g.M.Sink.contents g.M.Sink.failures c.args.messages.now c.index.new.messages) c.index.result)
     (ap (map string_bytes) c.deref.ensures.value) c.index.ensures.indexed
 

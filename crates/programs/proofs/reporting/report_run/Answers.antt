@@ -1,4 +1,4 @@
-use Rattle.std.proofs.Common.{◌≡◌, ◌∙◌, ap, not, refl, ℕ, List, Err, subst, sym}
+use Rattle.std.proofs.Common.{◌∙◌, ap, map, not, refl, ℕ, List, Err, subst, sym}
 use Rattle.std.proofs.lemmas.Result.{err_from_is_err_and}
 use Rattle.std.specs.Option.{option_map}
 use Rattle.std.specs.String.{string_bytes}
@@ -14,9 +14,10 @@ returns-in_err-bytes g c =
     let run = c.args.reporter.now.run.now in
     let options = c.args.reporter.now.options.now in
     let ran = ran_of c.args.told.now c.args.fault in
+    let unread = map string_bytes run.unread.items in
     let allows = IsChosenBy (option_map (λ f. string_bytes f.promise.0) run.choices.filter)
     (option_map (λ r. r.promise.0) run.choices.rule) in
-    let Is : ReportFormat → List ℕ → Type 0 = λ format. IsReport allows run.settings run.tree format ran
+    let Is : ReportFormat → List ℕ → Type 0 = λ format. IsReport allows run.settings run.tree unread format ran
     (due_status ran c.limit_broken-broken.result) in
     let at = place g.Q.OutPlace.holds g.Q.OutPlace.same g.Q.OutPlace.refuses g.Q.OutPlace.gives_up
     g.Q.Part.Sink.contents g.Q.Part.Sink.failures c.args.at.now c.args.at.now in
@@ -33,9 +34,11 @@ returns g c =
     let run = c.args.reporter.now.run.now in
     let options = c.args.reporter.now.options.now in
     let ran = ran_of c.args.told.now c.args.fault in
+    let unread = map string_bytes run.unread.items in
     let allows = IsChosenBy (option_map (λ f. string_bytes f.promise.0) run.choices.filter)
     (option_map (λ r. r.promise.0) run.choices.rule) in
-    let Is : ReportFormat → ℕ → List ℕ → Type 0 = λ format. IsReport allows run.settings run.tree format ran in
+    let Is : ReportFormat → ℕ → List ℕ → Type 0 = λ format. IsReport allows run.settings run.tree unread format ran
+    in
     let due = due_status ran c.limit_broken-broken.result in
     let at = place g.Q.OutPlace.holds g.Q.OutPlace.same g.Q.OutPlace.refuses g.Q.OutPlace.gives_up
     g.Q.Part.Sink.contents g.Q.Part.Sink.failures c.args.at.now c.put_bytes.new.at in

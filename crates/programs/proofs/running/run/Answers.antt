@@ -1,5 +1,5 @@
 use Rattle.std.specs.String.{string_bytes}
-use Rattle.std.proofs.Common.{◌≡◌, refl, subst, sym, ℕ, List}
+use Rattle.std.proofs.Common.{◌≡◌, refl, subst, sym, ℕ, List, []}
 use Rattle.std.specs.Prelude.{IfOk, IfSome, Result}
 use Rattle.std.specs.declared.alloc.AllocError.{AllocError}
 use Rattle.scip_snapshot.specs.Showing.{maker, writer}
@@ -10,10 +10,10 @@ use Rattle.programs.specs.Asked.{Asked, asked_of}
 use Rattle.programs.specs.Indexing.{Indexed, WritesNavigable}
 use Rattle.programs.specs.Messages.{memory_line}
 use Rattle.programs.specs.NoSources.{NoneFoundBy}
-use Rattle.programs.specs.Paging.{RunsPages}
+use Rattle.programs.specs.Paging.{RunsPages, folder_places}
 use Rattle.programs.specs.Placing.{Place, place}
 use Rattle.programs.specs.Printing.{Prints, Refuses}
-use Rattle.programs.specs.Searches.{searched_by}
+use Rattle.programs.specs.Searches.{blamed_by, searched_by}
 use Rattle.programs.specs.Serving.{AnswersNavigable, Served}
 use Rattle.programs.specs.Snapshotting.{RunsSnapshot}
 use Rattle.programs.specs.Streams.{reader}
@@ -51,8 +51,9 @@ returns-in-Index-clause-indexed g c =
     g.Q.Part.Sink.contents g.Q.Part.Sink.failures c.args.places.now.report c.index_searched.new.places.report in
     let By : Asked → Type 0 = λ asked.
     Indexed (searched_by asked.options lists) gives
-    (NoneFoundBy (g.F.LookAgain.passes c.args.host.now.files.now) c.args.host.now.is_watched asked.options) asked at
-    report (writer g.M.Sink.contents g.M.Sink.failures c.args.messages.now c.index_searched.new.messages) c.index_searched.result in
+    (blamed_by asked.options (g.F.LookAgain.blames c.args.host.now.files.now))
+    (NoneFoundBy (g.F.LookAgain.passes c.args.host.now.files.now) c.args.host.now.is_watched asked.options)
+    (g.Q.OutPlace.suspects c.args.places.now.report) asked at report (writer g.M.Sink.contents g.M.Sink.failures c.args.messages.now c.index_searched.new.messages) c.index_searched.result in
     let Here : Request → Type 0 = λ request. IfSome (asked_of request) (λ asked. By asked
     × (c.args.input.now ≡ c.args.input.now) × (c.args.out.now ≡ c.args.out.now)) in
     subst (λ (asked : Result Request AllocError). IfOk asked Here) (sym c.in-Ok.is)
@@ -70,7 +71,9 @@ pub returns-in-Shell-clause-served : goal.returns-in-Shell-clause-served
 returns-in-Shell-clause-served g c =
     let Here : Request → Type 0 = λ request. IfSome (shell_options request) (λ options.
     Served (searched_by options (g.F.ReadFiles.lists c.args.host.now.files.now)) (g.F.ReadFiles.gives c.args.host.now.files.now)
-    (NoneFoundBy (g.F.LookAgain.passes c.args.host.now.files.now) c.args.host.now.is_watched options) options
+    (blamed_by options (g.F.LookAgain.blames c.args.host.now.files.now))
+    (NoneFoundBy (g.F.LookAgain.passes c.args.host.now.files.now) c.args.host.now.is_watched options)
+    (g.Q.OutPlace.suspects c.args.places.now.report) options
     (place g.Q.OutPlace.holds g.Q.OutPlace.same g.Q.OutPlace.refuses g.Q.OutPlace.gives_up
     g.Q.Part.Sink.contents g.Q.Part.Sink.failures c.args.places.now.report c.shell_searched.new.report)
     (reader g.I.Feed.remaining g.I.Feed.failures g.I.Feed.reads g.I.Feed.ends c.args.input.now c.shell_searched.new.commands)
@@ -113,7 +116,8 @@ returns-in-Shell-clause-navigable g c =
 pub returns-in-Snapshot-clause-snapshotted : goal.returns-in-Snapshot-clause-snapshotted
 returns-in-Snapshot-clause-snapshotted g c =
     let Here : Request → Type 0 = λ request. IfSome (snapshot_options request) (λ options.
-    RunsSnapshot (g.F.ReadFiles.gives c.args.host.now.files.now) g.W.Caused.cause options
+    RunsSnapshot (g.F.ReadFiles.gives c.args.host.now.files.now) (g.F.LookAgain.blames c.args.host.now.files.now [] [])
+    g.W.Caused.cause options
     (writer g.W.Sink.contents g.W.Sink.failures c.args.out.now c.snapshot.new.out)
     (maker g.O.MakeFiles.made c.args.places.now.file c.snapshot.new.made)
     (writer g.M.Sink.contents g.M.Sink.failures c.args.messages.now c.snapshot.new.messages) c.snapshot.result
@@ -124,8 +128,10 @@ returns-in-Snapshot-clause-snapshotted g c =
 pub returns-in-Pages-clause-paged : goal.returns-in-Pages-clause-paged
 returns-in-Pages-clause-paged g c =
     let Here : Request → Type 0 = λ request. IfSome (pages_options request) (λ options.
-    RunsPages (g.F.EmptyFolders.frees c.args.host.now.files.now) (g.F.ReadFiles.gives c.args.host.now.files.now) options
-    (maker g.O.MakeFiles.made c.args.places.now.file c.pages.new.made)
+    RunsPages (g.F.EmptyFolders.frees c.args.host.now.files.now) (g.F.ReadFiles.gives c.args.host.now.files.now)
+    (g.F.LookAgain.blames c.args.host.now.files.now [] []) options
+    (folder_places g.O.FolderPlace.filed g.O.FolderPlace.refuses_folder g.O.FolderPlace.gives_up_folder
+    g.O.Folder.MakeFiles.made c.args.places.now.file c.pages.new.places)
     (writer g.M.Sink.contents g.M.Sink.failures c.args.messages.now c.pages.new.messages) c.pages.result
     × (c.args.input.now ≡ c.args.input.now) × (c.args.out.now ≡ c.args.out.now)
     × (c.args.places.now.report ≡ c.args.places.now.report)) in

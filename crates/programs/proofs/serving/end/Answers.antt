@@ -1,4 +1,4 @@
-use Rattle.std.proofs.Common.{◌≡◌, subst, List}
+use Rattle.std.proofs.Common.{◌≡◌, map, subst, List}
 use Rattle.std.specs.Option.{option_map}
 use Rattle.std.specs.String.{string_bytes}
 use Rattle.scip_build.specs.declared.fault.BuildFault.{BuildFault}
@@ -11,9 +11,9 @@ pub returns-in-Ok : goal.returns-in-Ok
 returns-in-Ok g c =
     rw c.in-Ok.is
     (subst (λ (told : List BuildFault). Lacks TellsOfSuccess
-    (λ line. line ≡ option_map string_bytes c.args.run.now.none_found) c.args.explain c.args.run.now.tree told
+    (λ line. line ≡ option_map string_bytes c.args.run.now.none_found) c.args.explain c.args.run.now.tree (map string_bytes c.args.run.now.unread.items) told
     (writer g.M.Sink.contents g.M.Sink.failures c.args.messages.now c.tell.new.messages) c.tell.result)
-    c.as_slice-told.ensures c.tell.ensures)
+    c.as_slice.ensures c.tell.ensures)
 
 pub returns-in-Err : goal.returns-in-Err
 returns-in-Err g c = rw c.in-Err.is c.stop.ensures

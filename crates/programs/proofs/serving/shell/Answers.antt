@@ -1,6 +1,6 @@
 use Rattle.std.specs.Option.{option_map}
 use Rattle.std.specs.String.{string_bytes}
-use Rattle.std.proofs.Common.{◌≡◌, ◌∙◌, ap, refl, subst, sym, ℕ, List, Option, Result}
+use Rattle.std.proofs.Common.{◌≡◌, ◌∙◌, ap, map, refl, subst, sym, ℕ, List, Option, Result}
 use Rattle.std.specs.Prelude.{IfErr}
 use Rattle.proto_parse.specs.tree.Dialect.{Dialect}
 use Rattle.index_hooks.specs.declared.choice.DocChoice.{DocChoice}
@@ -10,6 +10,7 @@ use Rattle.programs.specs.Streams.{reader}
 use Rattle.programs.specs.Choices.{IsChosenBy}
 use Rattle.programs.specs.Messages.{TellsOfSuccess}
 use Rattle.programs.specs.NoSources.{NoneFoundBy}
+use Rattle.programs.specs.Searches.{blamed_by}
 use Rattle.programs.specs.Settings.{settings_in}
 use Rattle.programs.specs.Limits.{no_limits}
 use Rattle.programs.specs.Placing.{place}
@@ -30,16 +31,16 @@ use Rattle.programs.proofs.serving.shell.Goals as goal
 
 pub returns-in-Err-clause-served : goal.returns-in-Err-clause-served
 returns-in-Err-clause-served g c =
-    not_started c.in-Err.fault c.in-Err.ensures.stops (record { unread = refl; unwritten = refl }, refl)
-    c.report_start.ensures
+    not_started c.in-Err.fault c.put_start_report-said.result c.in-Err.ensures.stops
+    (record { unread = refl; unwritten = refl }) c.put_start_report-said.ensures c.report_unstarted.ensures
 
 -- the report can't go to its place
 
 pub returns-in-Err-see_report-clause-served : goal.returns-in-Err-see_report-clause-served
 returns-in-Err-see_report-clause-served g c =
     let run = c.in-Ok.start in
-    not_begun run.tree run.settings.package c.in-Err-see_report.fault c.in-Ok.ensures.named c.in-Ok.ensures.folders
-    c.in-Err-see_report.ensures.stops (record { unread = refl; unwritten = refl }, refl) c.report_start-in-Err-see_report.ensures
+    not_begun run.tree (map string_bytes run.unread.items) run.settings.package c.in-Err-see_report.fault c.in-Ok.ensures.named c.in-Ok.ensures.folders
+    c.in-Err-see_report.ensures.stops (record { unread = refl; unwritten = refl }, refl) c.report_start.ensures
 
 pub returns-clause-served : goal.returns-clause-served
 returns-clause-served g c =
@@ -47,6 +48,7 @@ returns-clause-served g c =
     let line = option_map string_bytes run.none_found in
     let messages = writer g.M.Sink.contents g.M.Sink.failures c.args.messages.now c.end.new.messages in
     let options = c.args.options.now in
+    let unread = map string_bytes run.unread.items in
     let report = place g.Q.OutPlace.holds g.Q.OutPlace.same g.Q.OutPlace.refuses g.Q.OutPlace.gives_up
     g.Q.Part.Sink.contents g.Q.Part.Sink.failures c.args.report.now c.report_run-reported.new.at in
     let ran = c.session-ran.result in
@@ -56,23 +58,23 @@ returns-clause-served g c =
     (IsChosenBy only doc) settings run.tree workers
     c.args.commands.now c.session-ran.new.commands c.args.answers.now c.session-ran.new.answers ran in
     let Told : Option (List ℕ) → Option DocChoice → Settings → ℕ → Type 0 = λ only doc settings workers.
-    Reports report c.args.options.now.report no_limits (IsChosenBy only doc) settings workers run.tree (told_by ran)
-    reported in
+    Reports report c.args.options.now.report no_limits (IsChosenBy only doc) settings workers run.tree unread
+    (told_by ran) reported in
     let Ended : Option Dialect → Type 0 = λ explain.
-    Ends TellsOfSuccess (λ l. l ≡ line) explain run.tree (λ r. r.told) (settled ran reported) messages c.end.result in
-    over_tree run.tree run.settings.package ran reported c.in-Ok.ensures.named c.in-Ok.ensures.folders
+    Ends TellsOfSuccess (λ l. l ≡ line) explain run.tree unread (λ r. r.told) (settled ran reported) messages c.end.result in
+    over_tree run.tree unread run.settings.package ran reported c.in-Ok.ensures.named c.in-Ok.ensures.folders
     c.in-Ok-see_report.ensures.apart
     (moved4 By c.in-Ok.ensures.only c.in-Ok.ensures.doc c.in-Ok.ensures.settings
     (c.over-work.ensures ∙ c.in-Ok.ensures.workers) c.session-ran.ensures.served)
     (moved4 Told c.in-Ok.ensures.only c.in-Ok.ensures.doc c.in-Ok.ensures.settings c.in-Ok.ensures.workers
     (reported_of ran _ _ (λ told_is. Reports report c.args.options.now.report no_limits
     (IsChosenBy (option_map (λ f. string_bytes f.promise.0) run.choices.filter)
-    (option_map (λ r. r.promise.0) run.choices.rule)) run.settings run.workers run.tree told_is reported)
+    (option_map (λ r. r.promise.0) run.choices.rule)) run.settings run.workers run.tree unread told_is reported)
     c.told_in.ensures c.fault_in.ensures c.report_run-reported.ensures))
     (ends_of TellsOfSuccess
     (NoneFoundBy (g.F.LookAgain.passes c.args.host.now.files.now) c.args.host.now.is_watched options run.tree)
     (explain_in options.explain (settings_in options run.settings.package).dialect) run.tree messages c.end.result
-    (λ r. r.told) (settled ran reported) line c.in-Ok.ensures.none_found (subst Ended
+    unread (λ r. r.told) (settled ran reported) line c.in-Ok.ensures.none_found (subst Ended
     (c.explain_in-explain.ensures
     ∙ ap (λ (s : Settings). explain_in options.explain s.dialect) c.in-Ok.ensures.settings)
     (rw c.settle-done.ensures at c.end.ensures)))
@@ -83,34 +85,37 @@ pub returns-in-Err-clause-navigable : goal.returns-in-Err-clause-navigable
 returns-in-Err-clause-navigable g c =
     answers (g.F.ReadFiles.lists c.args.host.now.files.now) (g.F.ReadFiles.gives c.args.host.now.files.now)
     c.args.options.now c.headline_of_options.ensures.files
+    (blamed_by c.args.options.now (g.F.LookAgain.blames c.args.host.now.files.now))
     (NoneFoundBy (g.F.LookAgain.passes c.args.host.now.files.now) c.args.host.now.is_watched
-    c.args.options.now)
+    c.args.options.now) (g.Q.OutPlace.suspects c.args.report.now)
     (place g.Q.OutPlace.holds g.Q.OutPlace.same g.Q.OutPlace.refuses g.Q.OutPlace.gives_up g.Q.Part.Sink.contents
-    g.Q.Part.Sink.failures c.args.report.now c.args.report.now)
+    g.Q.Part.Sink.failures c.args.report.now c.put_start_report-said.new.at)
     (reader g.I.Feed.remaining g.I.Feed.failures g.I.Feed.reads g.I.Feed.ends c.args.commands.now c.args.commands.now)
     (writer g.W.Sink.contents g.W.Sink.failures c.args.answers.now c.args.answers.now)
-    (writer g.M.Sink.contents g.M.Sink.failures c.args.messages.now c.report_start.new.messages) c.report_start.result
+    (writer g.M.Sink.contents g.M.Sink.failures c.args.messages.now c.report_unstarted.new.messages) c.report_unstarted.result
     (returns-in-Err-clause-served g c)
 
 pub returns-in-Err-see_report-clause-navigable : goal.returns-in-Err-see_report-clause-navigable
 returns-in-Err-see_report-clause-navigable g c =
     answers (g.F.ReadFiles.lists c.args.host.now.files.now) (g.F.ReadFiles.gives c.args.host.now.files.now)
     c.args.options.now c.headline_of_options.ensures.files
+    (blamed_by c.args.options.now (g.F.LookAgain.blames c.args.host.now.files.now))
     (NoneFoundBy (g.F.LookAgain.passes c.args.host.now.files.now) c.args.host.now.is_watched
-    c.args.options.now)
+    c.args.options.now) (g.Q.OutPlace.suspects c.args.report.now)
     (place g.Q.OutPlace.holds g.Q.OutPlace.same g.Q.OutPlace.refuses g.Q.OutPlace.gives_up g.Q.Part.Sink.contents
     g.Q.Part.Sink.failures c.args.report.now c.args.report.now)
     (reader g.I.Feed.remaining g.I.Feed.failures g.I.Feed.reads g.I.Feed.ends c.args.commands.now c.args.commands.now)
     (writer g.W.Sink.contents g.W.Sink.failures c.args.answers.now c.args.answers.now)
-    (writer g.M.Sink.contents g.M.Sink.failures c.args.messages.now c.report_start-in-Err-see_report.new.messages) c.report_start-in-Err-see_report.result
+    (writer g.M.Sink.contents g.M.Sink.failures c.args.messages.now c.report_start.new.messages) c.report_start.result
     (returns-in-Err-see_report-clause-served g c)
 
 pub returns-clause-navigable : goal.returns-clause-navigable
 returns-clause-navigable g c =
     answers (g.F.ReadFiles.lists c.args.host.now.files.now) (g.F.ReadFiles.gives c.args.host.now.files.now)
     c.args.options.now c.headline_of_options.ensures.files
+    (blamed_by c.args.options.now (g.F.LookAgain.blames c.args.host.now.files.now))
     (NoneFoundBy (g.F.LookAgain.passes c.args.host.now.files.now) c.args.host.now.is_watched
-    c.args.options.now)
+    c.args.options.now) (g.Q.OutPlace.suspects c.args.report.now)
     (place g.Q.OutPlace.holds g.Q.OutPlace.same g.Q.OutPlace.refuses g.Q.OutPlace.gives_up g.Q.Part.Sink.contents
     g.Q.Part.Sink.failures c.args.report.now c.report_run-reported.new.at)
     (reader g.I.Feed.remaining g.I.Feed.failures g.I.Feed.reads g.I.Feed.ends c.args.commands.now
@@ -132,4 +137,4 @@ end-requires-clause-files g c =
     subst (λ (r : Result Recorded Fault). IfErr r (HasFilesOf run.tree)) (sym c.settle-done.ensures)
     (settled_files run.tree c.session-ran.result reported c.session-ran.ensures.files
     (reported_files report c.args.options.now.report no_limits allows run.settings run.workers run.tree
-    (ran_of c.told_in.result.now c.fault_in.result) reported c.report_run-reported.ensures))
+    (map string_bytes run.unread.items) (ran_of c.told_in.result.now c.fault_in.result) reported c.report_run-reported.ensures))

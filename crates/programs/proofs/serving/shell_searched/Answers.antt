@@ -3,6 +3,7 @@ use Rattle.scip_snapshot.specs.Showing.{writer}
 use Rattle.source_files.specs.Exclusions.{ListsWithout}
 use Rattle.programs.specs.NoSources.{NoneFoundBy}
 use Rattle.programs.specs.Placing.{Place, place}
+use Rattle.programs.specs.Searches.{blamed_by}
 use Rattle.programs.specs.Serving.{AnswersNavigable, Served}
 use Rattle.programs.specs.Streams.{reader}
 use Rattle.programs.proofs.serving.shell_searched.Goals as goal
@@ -14,8 +15,9 @@ returns-clause-served g c =
     let report : Place _ _ = place g.Q.OutPlace.holds g.Q.OutPlace.same g.Q.OutPlace.refuses g.Q.OutPlace.gives_up
     g.Q.Part.Sink.contents g.Q.Part.Sink.failures c.args.report.now c.shell.new.report in
     subst (λ (patterns : List (List ℕ)). Served (ListsWithout (g.F.ReadFiles.lists files) patterns)
-    (g.F.ReadFiles.gives files) (NoneFoundBy (g.F.LookAgain.passes files) c.args.host.now.is_watched options) options
-    report
+    (g.F.ReadFiles.gives files) (blamed_by options (g.F.LookAgain.blames files))
+    (NoneFoundBy (g.F.LookAgain.passes files) c.args.host.now.is_watched options)
+    (g.Q.OutPlace.suspects c.args.report.now) options report
     (reader g.I.Feed.remaining g.I.Feed.failures g.I.Feed.reads g.I.Feed.ends c.args.commands.now c.shell.new.commands)
     (writer g.W.Sink.contents g.W.Sink.failures c.args.answers.now c.shell.new.answers)
     (writer g.M.Sink.contents g.M.Sink.failures c.args.messages.now c.shell.new.messages) c.shell.result)

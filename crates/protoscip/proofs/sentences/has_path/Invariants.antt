@@ -1,7 +1,8 @@
 use Rattle.std.proofs.Common.{◌≡◌, false, take}
+use Rattle.excerpts.specs.Literals.{joined}
 use Rattle.protoscip.specs.Explanations.{has_path}
 use Rattle.protoscip.proofs.sentences.has_path.Given as goal
 
 -- none of the files before has it
 abbrev pub invariant-loop-number : goal.invariant-loop-number
-invariant-loop-number l = has_path l.path (take l.number l.tree) ≡ false
+invariant-loop-number l = has_path (joined l.literals) (take l.number l.tree) ≡ false

@@ -1,0 +1,354 @@
+//! What can't be read below a root, where it is left out and where it isn't.
+
+use crate::roots::{fault_text, listing, remove_again, see};
+use index_pool::{NoGate, Workers};
+use source_files::{
+    FolderEntry, FolderListing, LoadFault, LoadedTree, ReadFiles, Readers, SystemFiles, load_tree,
+    load_tree_with_paths, read_root,
+};
+use source_tree::Tree;
+use std::alloc::{AllocError, Global};
+use std::fs;
+use std::process::Abort;
+use std::rt::Files;
+use std::sync::Wait;
+use std::test::Fail;
+use std::thread::Threads;
+
+/// The system's files, by folders that are said to have the entries below.
+#[derive(Drop)]
+struct Said<'a, F> {
+    files: &'a F,
+}
+
+/// Files that are said to be there: the root, the folder and the name of each.
+const FILES: [(&str, &str, &str); 7] = [
+    ("names", "", "a.proto"),
+    ("locks", "", "a.proto"),
+    ("gone", "", "gone.proto"),
+    ("gone", "", "a.proto"),
+    ("all", "", "gone.proto"),
+    ("all", "", "a.proto"),
+    ("all", "deep/", "b.proto"),
+];
+
+/// Folders that are said to be there. `locked` can't be listed.
+const FOLDERS: [(&str, &str, &str); 3] = [
+    ("locks", "", "locked"),
+    ("all", "", "locked"),
+    ("all", "", "deep"),
+];
+
+/// Names there that aren't UTF-8.
+const NAMES: [(&str, &str, &str); 3] = [
+    ("names", "", "\\xe9.proto"),
+    ("all", "", "\\xe9.proto"),
+    ("all", "deep/", "\\xff"),
+];
+
+/// Adds entries that are said to be in a folder below a root.
+fn add_entries(
+    alloc: Global,
+    listing: &mut FolderListing,
+    said: &[(&str, &str, &str)],
+    is_file: bool,
+    at: (&str, &str),
+) -> Result<(), AllocError> {
+    for (root, folder, name) in said {
+        if *root == at.0 && *folder == at.1 {
+            let name = String::from_str(alloc, *name)?;
+            listing.entries.push(FolderEntry { name, is_file })?;
+        }
+    }
+    Ok(())
+}
+
+/// Adds the names that are said to be in a folder below a root and aren't UTF-8.
+fn add_names(
+    alloc: Global,
+    listing: &mut FolderListing,
+    said: &[(&str, &str, &str)],
+    at: (&str, &str),
+) -> Result<(), AllocError> {
+    for (root, folder, name) in said {
+        if *root == at.0 && *folder == at.1 {
+            let name = String::from_str(alloc, *name)?;
+            listing.unnamed.push(name)?;
+        }
+    }
+    Ok(())
+}
+
+/// What is said to be in a folder below a root.
+fn said_in(alloc: Global, root: &str, folder: &str) -> Result<FolderListing, AllocError> {
+    let mut listing = FolderListing {
+        entries: Vec::new(alloc),
+        identity: None,
+        unnamed: Vec::new(alloc),
+    };
+    add_entries(alloc, &mut listing, &FILES, true, (root, folder))?;
+    add_entries(alloc, &mut listing, &FOLDERS, false, (root, folder))?;
+    add_names(alloc, &mut listing, &NAMES, (root, folder))?;
+    Ok(listing)
+}
+
+impl<'a, F: ReadFiles> ReadFiles for Said<'a, F> {
+    ghost use Rattle.std.specs.Prelude.{⊤};
+
+    ghost lists = { λ s root folder listed. ⊤ };
+
+    ghost gives = { λ s. F.gives s.files.now };
+
+    fn list_folder(
+        &self,
+        alloc: Global,
+        root: &str,
+        folder: &str,
+    ) -> Result<Option<FolderListing>, AllocError> {
+        if root == "nowhere" || folder == "locked/" {
+            return Ok(None);
+        }
+        Ok(Some(said_in(alloc, root, folder)?))
+    }
+
+    fn read_file(&self, alloc: Global, path: &str) -> Result<Option<Vec<u8>>, AllocError> {
+        self.files.read_file(alloc, path)
+    }
+
+    fn read_source(&self, alloc: Global, path: &str) -> Result<Option<Vec<u8>>, AllocError> {
+        self.files.read_source(alloc, path)
+    }
+}
+
+/// Adds paths, each with a space behind it, behind a stroke.
+fn add_paths(text: &mut String, paths: &[String]) -> Result<(), AllocError> {
+    text.push_str("| ")?;
+    for path in paths {
+        text.push_str(path.as_str())?;
+        text.push(' ')?;
+    }
+    Ok(())
+}
+
+/// Adds the paths of the files of a tree.
+fn add_tree(text: &mut String, tree: &Tree) -> Result<(), AllocError> {
+    for number in 0..tree.file_count() {
+        text.push_str(tree.path(number))?;
+        text.push(' ')?;
+    }
+    Ok(())
+}
+
+/// The sources that are read below a root, and behind a stroke what is left out; or the fault. Where memory ran out it
+/// is called again, and the second answer counts; so it is with those below.
+fn read_text<R: Threads + Wait, F: ReadFiles + Sync>(
+    readers: &Readers<'_, R, NoGate, F>,
+    root: &str,
+) -> Result<String, AllocError> {
+    let answer = match read_root(readers, root) {
+        Err(LoadFault::Memory) => read_root(readers, root),
+        answer => answer,
+    };
+    match answer {
+        Ok(below) => {
+            let mut text = listing(readers.alloc, &below.files)?;
+            add_paths(&mut text, &below.unread)?;
+            Ok(text)
+        }
+        Err(fault) => fault_text(readers.alloc, fault),
+    }
+}
+
+/// The files of the tree below roots, and behind a stroke what is left out; or the fault.
+fn tree_text<R: Threads + Wait, F: ReadFiles + Sync>(
+    readers: &Readers<'_, R, NoGate, F>,
+    root: &str,
+    included: &[String],
+) -> Result<String, AllocError> {
+    let answer = match load_tree(readers, root, included) {
+        Err(LoadFault::Memory) => load_tree(readers, root, included),
+        answer => answer,
+    };
+    match answer {
+        Ok(loaded) => {
+            let mut text = String::new(readers.alloc);
+            add_tree(&mut text, &loaded.tree)?;
+            add_paths(&mut text, &loaded.unread)?;
+            Ok(text)
+        }
+        Err(fault) => fault_text(readers.alloc, fault),
+    }
+}
+
+/// Adds the paths of the files below each root.
+fn add_each(text: &mut String, loaded: &LoadedTree) -> Result<(), AllocError> {
+    add_paths(text, &loaded.own)?;
+    for paths in &loaded.others {
+        add_paths(text, paths)?;
+    }
+    Ok(())
+}
+
+/// The same by `load_tree_with_paths`, with the paths of the files below each root behind it.
+fn each_text<R: Threads + Wait, F: ReadFiles + Sync>(
+    readers: &Readers<'_, R, NoGate, F>,
+    root: &str,
+    included: &[String],
+) -> Result<String, AllocError> {
+    let answer = match load_tree_with_paths(readers, root, included) {
+        Err(LoadFault::Memory) => load_tree_with_paths(readers, root, included),
+        answer => answer,
+    };
+    match answer {
+        Ok(loaded) => {
+            let mut text = String::new(readers.alloc);
+            add_tree(&mut text, &loaded.tree)?;
+            add_paths(&mut text, &loaded.unread)?;
+            add_each(&mut text, &loaded)?;
+            Ok(text)
+        }
+        Err(fault) => fault_text(readers.alloc, fault),
+    }
+}
+
+/// A root, whether what can't be read is left out, and what is read or the fault.
+const READ: [(&str, bool, &str); 10] = [
+    ("names", false, "names: Unreadable"),
+    ("names", true, "a.proto | \\xe9.proto "),
+    ("locks", false, "locks: Unreadable"),
+    ("locks", true, "a.proto | locked/ "),
+    ("gone", false, "gone.proto: Unreadable"),
+    ("gone", true, "a.proto | gone.proto "),
+    ("all", false, "all: Unreadable"),
+    (
+        "all",
+        true,
+        "a.proto deep/b.proto | \\xe9.proto deep/\\xff locked/ gone.proto ",
+    ),
+    ("nowhere", false, "nowhere: Unreadable"),
+    ("nowhere", true, "nowhere: Unreadable"),
+];
+
+/// A root and an included one, and the tree where what can't be read is left out.
+const TREES: [(&str, &str, &str); 5] = [
+    (
+        "all",
+        "all",
+        "a.proto deep/b.proto | \\xe9.proto deep/\\xff gone.proto locked/ ",
+    ),
+    ("gone", "names", "a.proto | \\xe9.proto gone.proto "),
+    (
+        "locks",
+        "all",
+        "a.proto deep/b.proto | \\xe9.proto deep/\\xff gone.proto locked/ ",
+    ),
+    ("names", "nowhere", "nowhere: Unreadable"),
+    ("nowhere", "names", "nowhere: Unreadable"),
+];
+
+/// The same, with the paths below each.
+const EACH: [(&str, &str, &str); 2] = [
+    (
+        "gone",
+        "all",
+        "a.proto deep/b.proto | \\xe9.proto deep/\\xff gone.proto locked/ | a.proto | a.proto deep/b.proto ",
+    ),
+    ("locks", "nowhere", "nowhere: Unreadable"),
+];
+
+/// What can be read of all that is said to be there.
+const MADE: [&str; 5] = [
+    "names/a.proto",
+    "locks/a.proto",
+    "gone/a.proto",
+    "all/a.proto",
+    "all/deep/b.proto",
+];
+
+/// The folders of that.
+const PLACES: [&str; 5] = ["names", "locks", "gone", "all", "all/deep"];
+
+/// Removes what is made.
+fn remove_all<S: Files + AllocGlobal>(system: &S) {
+    for place in &PLACES {
+        let _ = remove_again(system, *place);
+    }
+}
+
+/// Sees what is read below each root, and the trees, on workers.
+fn see_all<R: Threads + Wait + Abort, F: ReadFiles + Sync>(
+    rt: &R,
+    alloc: Global,
+    workers: Workers,
+    files: &F,
+) -> Result<(), AllocError> {
+    for (root, leaves_out, due) in &READ {
+        let readers = Readers {
+            rt,
+            alloc,
+            workers,
+            gate: &NoGate,
+            files,
+            leaves_out: *leaves_out,
+        };
+        let found = read_text(&readers, *root)?;
+        see(rt, found.as_str() == *due, found.as_str());
+    }
+    see_trees(rt, alloc, workers, files)
+}
+
+/// Roots: this one.
+fn roots_of(alloc: Global, root: &str) -> Result<Vec<String>, AllocError> {
+    let mut roots = Vec::new(alloc);
+    roots.push(String::from_str(alloc, root)?)?;
+    Ok(roots)
+}
+
+/// Sees the trees.
+fn see_trees<R: Threads + Wait + Abort, F: ReadFiles + Sync>(
+    rt: &R,
+    alloc: Global,
+    workers: Workers,
+    files: &F,
+) -> Result<(), AllocError> {
+    let readers = Readers {
+        rt,
+        alloc,
+        workers,
+        gate: &NoGate,
+        files,
+        leaves_out: true,
+    };
+    for (root, included, due) in &TREES {
+        let roots = roots_of(alloc, *included)?;
+        let found = tree_text(&readers, *root, &roots)?;
+        see(rt, found.as_str() == *due, found.as_str());
+    }
+    for (root, included, due) in &EACH {
+        let roots = roots_of(alloc, *included)?;
+        let found = each_text(&readers, *root, &roots)?;
+        see(rt, found.as_str() == *due, found.as_str());
+    }
+    Ok(())
+}
+
+#[test]
+fn what_cannot_be_read_is_left_out(rt: HostRuntime) -> Result<(), Fail> {
+    // What an earlier run has left that didn't come to its end.
+    remove_all(&rt);
+    for place in &PLACES {
+        fs::create_dir(&rt, *place)?;
+    }
+    for path in &MADE {
+        fs::write(&rt, *path, *path)?;
+    }
+    let system = SystemFiles::new(&rt);
+    let files = Said { files: &system };
+    for count in &[1usize, 3] {
+        if let Some(workers) = Workers::new(*count) {
+            see_all(&rt, rt.alloc(), workers, &files)?;
+        }
+    }
+    remove_all(&rt);
+    Ok(())
+}

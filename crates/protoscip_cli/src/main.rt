@@ -13,10 +13,11 @@ use streams::Std;
 fn main(rt: HostRuntime) -> ExitCode {
     let words = std::env::args(&rt).and_then(|words| Ok(words.collect(rt.alloc())?));
     let asked = request_of_process(rt.alloc(), words);
-    let files = SystemFiles::following(&rt, links_followed(&asked));
+    let follows = links_followed(&asked);
+    let files = SystemFiles::following(&rt, follows);
     let mut places = Places {
-        file: OutFile::new(&rt, out_path(&asked)),
-        report: OutFile::new(&rt, report_path(&asked)),
+        file: OutFile::following(&rt, out_path(&asked), follows),
+        report: OutFile::following(&rt, report_path(&asked), follows),
     };
     let mut input = Std::new(rt.stdin());
     let mut out = SystemStream::new(rt.stdout());

@@ -29,18 +29,28 @@ use streams::Failed;
 pub struct OutFile<'a, S: Files> {
     system: &'a S,
     path: &'a str,
+    follows: bool,
     refusals: u64,
     cause: Cell<Option<Cause>>,
 }
 
 impl<'a, S: Files> OutFile<'a, S> {
-    /// The place of the file with a path.
+    /// The place of the file with a path. No source is read through a link.
     pub fn new(system: &'a S, path: &'a str) -> OutFile<'a, S>
+        ensures { result.refusals ≡ 0 }
+    {
+        OutFile::following(system, path, false)
+    }
+
+    /// The place of the file with a path. If `follows`, sources are read through links, too. Then each file may be one,
+    /// whatever its name is.
+    pub fn following(system: &'a S, path: &'a str, follows: bool) -> OutFile<'a, S>
         ensures { result.refusals ≡ 0 }
     {
         OutFile {
             system,
             path,
+            follows,
             refusals: 0,
             cause: Cell::new(None),
         }
@@ -100,7 +110,9 @@ impl<'a, S: Files> OutPlace for OutFile<'a, S> {
 
     fn may_be_source(&self) -> bool {
         match self.system.symlink_metadata(self.path) {
-            Ok(there) if there.is_file() => there.nlink() > 1 || may_name_source(self.path),
+            Ok(there) if there.is_file() => {
+                self.follows || there.nlink() > 1 || may_name_source(self.path)
+            }
             Ok(there) => there.is_symlink(),
             Err(_) => false,
         }

@@ -199,7 +199,12 @@ fn one_file_by_several_names(rt: HostRuntime) -> Result<(), Fail> {
         let place = OutFile::new(&rt, path);
         see(&rt, place.is_file("same.proto") == *due, path);
         see(&rt, place.may_be_source() || !*due, path);
+        let through_links = OutFile::following(&rt, path, true);
+        let is_file_there = *path != "." && *path != "none.proto";
+        see(&rt, through_links.may_be_source() == is_file_there, path);
     }
+    let unlinked = OutFile::new(&rt, "same.scip");
+    see(&rt, !unlinked.may_be_source(), "same.scip");
     for name in &["same.proto", "same.scip", "link.proto", "other.proto"] {
         fs::remove_file(&rt, *name)?;
     }

@@ -3,6 +3,7 @@
 use Rattle.std.specs.Prelude.{◌<◌, ◌==◌, ◌&&◌, ◌||◌, ℕ, Bool, true, false, List, [], ◌++◌, Option, Some, None}
 use Rattle.std.specs.Prelude.{codes, string_bytes, if◌then◌else◌}
 use Rattle.std.specs.Fmt.{decimal}
+use Rattle.std.specs.Option.{is_some}
 use Rattle.source_files.specs.declared.look_again.PassedOver.{PassedOver}
 use Rattle.source_tree.specs.Files.{TreeFile}
 use Rattle.source_tree.specs.Trees.{IsSourceCount}
@@ -30,8 +31,12 @@ pub data NoneFound (passes : PassedOver → Type 0) (root : List ℕ) (tree : Li
   none_found : (passed : PassedOver) → IsSourceCount tree 0 → passes passed
       → NoneFound passes root tree true (Some (no_sources_line root passed))
 
--- the same of the sources below the root of options: a terminal, and whoever wants faults explained, is told
+-- who is told: a terminal, whoever wants faults explained, and whoever wants a report
+abbrev pub is_told : (watched : Bool) → IndexOptions → Bool
+is_told watched options = (watched || options.explain) || is_some options.report.path
+
+-- the same of the sources below the root of options
 abbrev pub NoneFoundBy : (passes : List ℕ → PassedOver → Type 0) → (watched : Bool) → IndexOptions → List TreeFile
     → (line : Option (List ℕ)) → Type 0
 NoneFoundBy passes watched options tree line =
-    NoneFound (passes (string_bytes options.root)) (string_bytes options.root) tree (watched || options.explain) line
+    NoneFound (passes (string_bytes options.root)) (string_bytes options.root) tree (is_told watched options) line

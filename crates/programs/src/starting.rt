@@ -1,7 +1,7 @@
 //! How a program about a tree starts.
 
-ghost use Rattle.std.specs.Prelude.{◌≡◌, ◌||◌, IfOk, IfErr, map};
-ghost use Rattle.programs.specs.NoSources.{NoneFoundBy};
+ghost use Rattle.std.specs.Prelude.{◌≡◌, IfOk, IfErr, map};
+ghost use Rattle.programs.specs.NoSources.{NoneFoundBy, is_told};
 ghost use Rattle.std.specs.Option.{option_map};
 ghost use Rattle.std.specs.String.{string_bytes};
 ghost use Rattle.programs.specs.Choices.{choice_of_word};
@@ -56,11 +56,12 @@ impl TreeRun {
     }
 }
 
-/// Whether somebody is told that there are no sources: standard error is a terminal, or faults are explained.
+/// Whether somebody is told that there are no sources: standard error is a terminal, faults are explained, or a report
+/// is made.
 fn is_told<R, F>(host: &Host<'_, R, F>, options: &IndexOptions) -> bool
-    ensures { result ≡ (host.now.is_watched || options.now.explain) }
+    ensures { result ≡ is_told host.now.is_watched options.now }
 {
-    host.is_watched || options.explain
+    host.is_watched || options.explain || options.report.path.is_some()
 }
 
 /// The tree of the sources below the root of the options and of the files below their included roots, and what the

@@ -1,6 +1,6 @@
 -- Lines that say why the system refused what it was asked for.
 use Rattle.std.proofs.Common.{◌≡◌, ◌+◌, ◌≤◌, ℕ, List, [], ◌++◌, length, refl, sym, subst, arith, append_assoc}
-use Rattle.std.specs.Prelude.{Option, None, Some, Result, Ok, Err, IfOk, IfErr, IfSome, codes}
+use Rattle.std.specs.Prelude.{Option, None, Some, Result, Ok, Err, IfOk, IfErr, IfSome, codes, unwrap_or}
 use Rattle.std.specs.declared.alloc.AllocError.{AllocError}
 use Rattle.std.proofs.lemmas.List.{take-append-le, length-append}
 use Rattle.streams.specs.WholeWrites.{IsWritten, IsCutOff}
@@ -8,7 +8,7 @@ use Rattle.streams.proofs.WholeWriteLemmas.{IsWritten-trans, IsCutOff-after}
 use Rattle.scip_snapshot.specs.Showing.{IsSaid, entire, cut_short}
 use Rattle.command_line.specs.declared.request.Request.{Request}
 use Rattle.programs.specs.Asked.{report_path}
-use Rattle.programs.specs.Causes.{named, report_name}
+use Rattle.programs.specs.Causes.{report_name}
 
 module _ {M : Type 0} (contents : M → Option (List ℕ)) (failures : M → ℕ) (front line : List ℕ) where
   abbrev joined : (front ++ line) ++ codes "\n" ≡ front ++ (line ++ codes "\n")
@@ -39,7 +39,7 @@ module _ {M : Type 0} (contents : M → Option (List ℕ)) (failures : M → ℕ
 -- ---- the path of a report
 
 named_so : (path : Option (List ℕ)) (is : List ℕ) → IfSome path (λ p. is ≡ p) → (path ≡ None → is ≡ [])
-    → is ≡ named path
+    → is ≡ unwrap_or path []
 named_so None is some none = none refl
 named_so (Some p) is some none = some
 

@@ -2,7 +2,7 @@
 -- project's own.)
 use Rattle.std.specs.Prelude.{◌≡◌, ◌<◌, ℕ, Bool, true, false, List, [], ◌∷◌, ◌++◌, Option, None, Some, Result, Ok, Err}
 use Rattle.std.specs.Prelude.{codes, string_bytes}
-use Rattle.std.specs.Option.{option_map}
+use Rattle.std.specs.Option.{option_map, unwrap_or}
 use Rattle.std.specs.declared.alloc.AllocError.{AllocError}
 use Rattle.source_files.specs.Causes.{words_of}
 use Rattle.source_files.specs.declared.cause.Cause.{Cause}
@@ -41,16 +41,11 @@ is_explained (Ok (Print text)) = false
 is_explained (Ok (Refuse text)) = false
 is_explained (Err refused) = false
 
--- a path, if there is one
-abbrev pub named : Option (List ℕ) → List ℕ
-named None = []
-named (Some path) = path
-
--- the path of what is made: of an index, or of the folder of snapshots or of pages
+-- the path of what is made: of an index, or of the folder of snapshots or of pages; else empty
 abbrev pub made_name : Result Request AllocError → List ℕ
 made_name (Ok (Dump options)) = []
 made_name (Ok (Query index explain)) = []
-made_name (Ok (Snapshot options)) = named (option_map string_bytes options.to)
+made_name (Ok (Snapshot options)) = unwrap_or (option_map string_bytes options.to) []
 made_name (Ok (Pages options)) = string_bytes options.out
 made_name (Ok (Index options path quiet limits)) = string_bytes path
 made_name (Ok (Shell options)) = []
@@ -58,9 +53,9 @@ made_name (Ok (Print text)) = []
 made_name (Ok (Refuse text)) = []
 made_name (Err refused) = []
 
--- the path of a report
+-- the path of a report; else empty
 abbrev pub report_name : Result Request AllocError → List ℕ
-report_name (Ok request) = named (report_path request)
+report_name (Ok request) = unwrap_or (report_path request) []
 report_name (Err refused) = []
 
 -- `NAME: WORDS`, if there is a cause

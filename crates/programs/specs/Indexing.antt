@@ -1,7 +1,7 @@
 -- What the program `index` does.
--- `lists` and `gives` are what the system of files gives, and `blames` what may be said of why a path can't be read; `at`
--- is the place of the index, and `report` that of its report. `none_found` says which line, if any, is said of a tree
--- whose index lacks nothing.
+-- `lists` and `gives` are what the system of files gives, and `blames` what may be said of why a path can't be read;
+-- `at` is the place of the index, and `report` that of its report. `none_found` says which line, if any, is said of a
+-- tree whose index lacks nothing.
 use Rattle.std.specs.Prelude.{◌≡◌, ℕ, Bool, List, Option, None, Some, Result}
 use Rattle.proto_decl.specs.Seen.{Seen}
 use Rattle.index_hooks.specs.declared.choice.Choice.{Choice}
@@ -31,8 +31,8 @@ use Rattle.programs.specs.Starting.{MayNotStart}
 use Rattle.programs.specs.TreeRuns.{AreNavigable, Ends}
 
 -- Over a tree, without what couldn't be read: it is said why nothing is written, and the places are as they were; or
--- none of the files that were read is said to be the one at a place, the tree is indexed into a part of `at`, its report
--- goes where it is asked for, and the run ends; or its index breaks a limit, and the part is given up.
+-- none of the files that were read is said to be the one at a place, the tree is indexed into a part of `at`, its
+-- report goes where it is asked for, and the run ends; or its index breaks a limit, and the part is given up.
 pub data IndexesInto {P W Q V M : Type 0} (none_found : List TreeFile → Option (List ℕ) → Type 0) (asked : Asked)
     (allows : Seen → Choice → Type 0) (settings : Settings) (workers : ℕ) (tree : List TreeFile)
     (unread : List (List ℕ)) (at : Place P W) (report : Place Q V) (messages : Writer M) (status : ℕ) : Type 0 where

@@ -118,14 +118,20 @@ roots_in options = string_bytes options.root ∷ included_in options
 abbrev pub IsRead : {P W : Type 0} → Place P W → IndexOptions → List TreeFile → Bool → Type 0
 IsRead at options tree answer = IsAsked (at.same at.before) (roots_in options) tree answer
 
+-- whether the file with a path is the one at the place of the index: by the path `out` of that place, or as the place
+-- is asked
+abbrev pub IsAt : (same : List ℕ → Bool → Type 0) → (out path : List ℕ) → Bool → Type 0
+IsAt same out path true = (path ≡ out) ⊎ same path true
+IsAt same out path false = (path ≡ out → ⊥) × same path false
+
 -- None of the files that were read is said to be the one at the place of the index, nor, if a report is asked for, the
 -- one at its place; and the two have different paths, and aren't said to be one.
 pub record AreApart {P W Q V : Type 0} (at : Place P W) (report : Place Q V) (asked : Asked) (tree : List TreeFile)
     : Type 0 where
   pub index : IsRead at asked.options tree false
   pub reported : IfSome asked.options.report.path (λ _. IsRead report asked.options tree false)
-  pub two : IfSome asked.options.report.path (λ path. (string_bytes path ≡ asked.path → ⊥)
-      × at.same at.before (string_bytes path) false)
+  pub two : IfSome asked.options.report.path (λ path.
+      IsAt (at.same at.before) asked.path (string_bytes path) false)
 
 -- why no report is made of a tree: one of the files that were read is said to be the one at its place, whose path is
 -- named; or memory ran out
@@ -139,7 +145,7 @@ MayNotReport at options tree fault = ⊥
 abbrev pub IsOneFile : (same : List ℕ → Bool → Type 0) → Asked → StartFault → Type 0
 IsOneFile same asked (ReportIsOut named) =
     (option_map string_bytes asked.options.report.path ≡ Some (string_bytes named))
-    × ((string_bytes named ≡ asked.path) ⊎ same (string_bytes named) true)
+    × IsAt same asked.path (string_bytes named) true
 IsOneFile same asked (Load load.Memory) = Unit {0}
 IsOneFile same asked fault = ⊥
 

@@ -64,8 +64,8 @@ IsToldBeside allows settings tree fault told =
     (is_of_files fault ≡ true → IsToldOf allows settings.dialect tree told) × (is_of_files fault ≡ false → told ≡ [])
 
 -- its findings, and what they are counted by: what couldn't be read, and what the index lacks; or the fault, and what
--- is told beside it. Of a run that is refused nothing is told that couldn't be read: if that isn't the fault itself, the
--- run leaves it out, and tells its fault alone.
+-- is told beside it. Of a run that is refused nothing is told that couldn't be read: if that isn't the fault itself,
+-- the run leaves it out, and tells its fault alone.
 pub data Finds (allows : Seen → Choice → Type 0) (settings : Settings) (tree : List TreeFile)
     (unread : List (List ℕ))
     : (ran : Result (List BuildFault) Fault) → List Found → (skipped : List (List ℕ)) → (told : List BuildFault)

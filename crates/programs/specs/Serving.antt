@@ -44,8 +44,9 @@ pub data Served {Q V R W M : Type 0} (lists : List ℕ → List ℕ → Option L
       → EndsUnstarted report suspects false options.report fault said
       → TellsOne (IsStartTold blames options.explain said) (start_status said) messages status
       → Served lists gives blames none_found suspects options report commands answers messages status
-  not_begun : (tree : List TreeFile) (unread : List (List ℕ)) (ids : Packages) (fault : StartFault) → NamePackages options
-      → AreFolders lists gives options tree unread ids → MayNotReport report options tree fault
+  not_begun : (tree : List TreeFile) (unread : List (List ℕ)) (ids : Packages) (fault : StartFault)
+      → NamePackages options → AreFolders lists gives options tree unread ids
+      → MayNotReport report options tree fault
       → IsUnserved report commands answers
       → Tells (start_told options.explain fault) (start_status fault) messages status
       → Served lists gives blames none_found suspects options report commands answers messages status

@@ -45,7 +45,8 @@ ShowsTo gives root (Some folder) index out files messages done =
 
 -- so, and then it ends
 pub record ShowsAndEnds {W O M : Type 0} (gives : List ℕ → Option (List ℕ) → Type 0) (cause : W → Option Cause)
-    (options : SnapshotOptions) (index : Index) (out : Writer W) (files : Maker O) (messages : Writer M) (status : ℕ) : Type 0 where
+    (options : SnapshotOptions) (index : Index) (out : Writer W) (files : Maker O) (messages : Writer M) (status : ℕ)
+    : Type 0 where
   pub now : M
   pub done : Result (Unit {0}) ShowFault
   pub shows : ShowsTo gives (string_bytes options.root) (option_map string_bytes options.to) index out files

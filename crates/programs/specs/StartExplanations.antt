@@ -3,8 +3,8 @@
 use Rattle.std.specs.Prelude.{Bool, true, ℕ, List, [], ◌++◌, Option, None, Some, codes, string_bytes, if◌then◌else◌}
 use Rattle.source_files.specs.declared.load_fault.LoadFault.TheVariants.{Unreadable, TooMany, BadPath, SamePath, Memory}
 use Rattle.programs.specs.declared.start_fault.StartFault.{StartFault}
-use Rattle.programs.specs.declared.start_fault.StartFault.TheVariants.{BadPart, BadFolder, Load, IsSource, ReportIsSource}
-use Rattle.programs.specs.declared.start_fault.StartFault.TheVariants.{ReportIsOut}
+use Rattle.programs.specs.declared.start_fault.StartFault.TheVariants.{BadPart, BadFolder, Load, IsSource}
+use Rattle.programs.specs.declared.start_fault.StartFault.TheVariants.{ReportIsSource, ReportIsOut}
 use Rattle.programs.specs.Causes.{IsReasoned}
 use Rattle.programs.specs.StartFaults.{line_of}
 

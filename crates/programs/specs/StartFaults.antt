@@ -3,8 +3,8 @@ use Rattle.std.specs.Prelude.{ℕ, List, codes, string_bytes}
 use Rattle.source_files.specs.LoadFaults.{name_of as load_name}
 use Rattle.source_files.specs.declared.load_fault.LoadFault.TheVariants.{Unreadable, TooMany, BadPath, SamePath, Memory}
 use Rattle.programs.specs.declared.start_fault.StartFault.{StartFault}
-use Rattle.programs.specs.declared.start_fault.StartFault.TheVariants.{BadPart, BadFolder, Load, IsSource, ReportIsSource}
-use Rattle.programs.specs.declared.start_fault.StartFault.TheVariants.{ReportIsOut}
+use Rattle.programs.specs.declared.start_fault.StartFault.TheVariants.{BadPart, BadFolder, Load, IsSource}
+use Rattle.programs.specs.declared.start_fault.StartFault.TheVariants.{ReportIsSource, ReportIsOut}
 use Rattle.programs.specs.declared.statuses.TheConstants.{COMMAND_LINE_STATUS}
 use Rattle.protoscip.specs.Lines.{path_line, plain_line}
 use Rattle.protoscip.specs.declared.statuses.TheConstants.{MEMORY_STATUS, SOURCES_STATUS, STREAM_STATUS}

@@ -1,5 +1,5 @@
 -- The report of a run that doesn't start: it tells why, and nothing else.
-use Rattle.std.specs.Prelude.{◌≡◌, ◌⊎◌, ℕ, Bool, true, false, List, [], ◌∷◌, Option, None, Some, Result, Ok, Err}
+use Rattle.std.specs.Prelude.{◌≡◌, ℕ, Bool, true, false, List, [], ◌∷◌, Option, None, Some, Result, Ok, Err}
 use Rattle.std.specs.Prelude.{IfSome, string_bytes}
 use Rattle.std.specs.Option.{option_map}
 use Rattle.fault_reports.specs.Findings.{Found, FoundPlace}
@@ -11,13 +11,13 @@ use Rattle.command_line.specs.declared.report.ReportOptions.{ReportOptions}
 use Rattle.protoscip.specs.Findings.{counts_of}
 use Rattle.protoscip.specs.declared.fault.Fault.{Fault}
 use Rattle.protoscip.specs.declared.fault.Fault.TheVariants.{Write}
-use Rattle.programs.specs.Placing.{IsLeft, Place}
+use Rattle.programs.specs.Placing.{IsAt, IsLeft, Place}
 use Rattle.programs.specs.Reporting.{GoesTo, format_of}
 use Rattle.programs.specs.StartExplanations.{sentence_of}
 use Rattle.programs.specs.StartFaults.{name_of, status_of}
 use Rattle.programs.specs.declared.start_fault.StartFault.{StartFault}
-use Rattle.programs.specs.declared.start_fault.StartFault.TheVariants.{BadPart, BadFolder, Load, IsSource, ReportIsSource}
-use Rattle.programs.specs.declared.start_fault.StartFault.TheVariants.{ReportIsOut}
+use Rattle.programs.specs.declared.start_fault.StartFault.TheVariants.{BadPart, BadFolder, Load, IsSource}
+use Rattle.programs.specs.declared.start_fault.StartFault.TheVariants.{ReportIsSource, ReportIsOut}
 
 -- ---- what it tells
 
@@ -54,12 +54,7 @@ report_of_start format fault = report_of format (finding_of fault ∷ []) (count
 
 -- ---- where it goes
 
--- whether the file with a path is that of the index, by its own path or as that is asked
-abbrev pub IsAt : (same : List ℕ → Bool → Type 0) → (out path : List ℕ) → Bool → Type 0
-IsAt same out path true = (path ≡ out) ⊎ same path true
-IsAt same out path false = (path ≡ out → ⊥) × same path false
-
--- the same of where a report is asked to go
+-- whether a report is asked to go to the place of the index
 abbrev pub IsOut : (same : List ℕ → Bool → Type 0) → (out : List ℕ) → ReportOptions → Bool → Type 0
 IsOut same out options is_out = IfSome options.path (λ path. IsAt same out (string_bytes path) is_out)
 
@@ -78,6 +73,6 @@ pub data EndsUnstarted {Q V : Type 0} (at : Place Q V) (suspects : Bool → Type
   at_out : is_out ≡ true → IsLeft at → EndsUnstarted at suspects is_out options fault fault
   suspected : suspects true → IsLeft at → EndsUnstarted at suspects is_out options fault fault
   goes : (reported : Result (Unit {0}) Fault) → is_out ≡ false → suspects false
-      → GoesTo at (λ bytes. bytes ≡ report_of_start (format_of options.format) fault) 0 reported → is_tried reported ≡ true
-      → EndsUnstarted at suspects is_out options fault fault
+      → GoesTo at (λ bytes. bytes ≡ report_of_start (format_of options.format) fault) 0 reported
+      → is_tried reported ≡ true → EndsUnstarted at suspects is_out options fault fault
   lacking : IsLeft at → EndsUnstarted at suspects is_out options fault (Load load.Memory)

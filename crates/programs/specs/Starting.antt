@@ -8,8 +8,8 @@ use Rattle.scip_symbol.specs.Package.{IsPackage}
 use Rattle.command_line.specs.declared.options.IndexOptions.{IndexOptions}
 use Rattle.command_line.specs.declared.options.PackageFolder.{PackageFolder}
 use Rattle.programs.specs.declared.start_fault.StartFault.{StartFault}
-use Rattle.programs.specs.declared.start_fault.StartFault.TheVariants.{BadPart, BadFolder, Load, IsSource, ReportIsSource}
-use Rattle.programs.specs.declared.start_fault.StartFault.TheVariants.{ReportIsOut}
+use Rattle.programs.specs.declared.start_fault.StartFault.TheVariants.{BadPart, BadFolder, Load, IsSource}
+use Rattle.programs.specs.declared.start_fault.StartFault.TheVariants.{ReportIsSource, ReportIsOut}
 use Rattle.programs.specs.Settings.{leaves_out, package_in}
 use Rattle.programs.specs.Folders.{folder_package, included_in, NamePackages, HasBadFolder}
 

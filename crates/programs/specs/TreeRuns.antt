@@ -52,8 +52,8 @@ Ends says none_found explain tree unread told_of (Ok done) messages status =
 Ends says none_found explain tree unread told_of (Err fault) messages status =
     TellsOne (IsFaultText explain tree fault) (status_of fault) messages status
 
--- There is a tree of the files that the options name, but for what couldn't be read, and an index of it by what they allow and say navigates it;
--- `goes` says what becomes of its bytes and of it.
+-- There is a tree of the files that the options name, but for what couldn't be read, and an index of it by what they
+-- allow and say navigates it; `goes` says what becomes of its bytes and of it.
 pub record AreNavigable (lists : List ℕ → List ℕ → Option Listing → Type 0)
     (gives : List ℕ → Option (List ℕ) → Type 0)
     (options : IndexOptions) (goes : (bytes : List ℕ) → Index → Type 0) : Type 0 where

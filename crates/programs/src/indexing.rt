@@ -56,8 +56,9 @@ pub(crate) struct IndexRequest<'a> {
     pub(crate) limits: Limits,
 }
 
-/// Says what couldn't be read, and what an index that is written lacks, or that there are no sources, or why there is no
-/// index, and gives the exit status. It is said once the line of the progress is wiped. The memory of what was made isn't given back.
+/// Says what couldn't be read, and what an index that is written lacks, or that there are no sources, or why there is
+/// no index, and gives the exit status. It is said once the line of the progress is wiped. The memory of what was made
+/// isn't given back.
 fn end<M: Sink>(
     _wiped: LineWiped,
     alloc: Global,
@@ -70,7 +71,8 @@ fn end<M: Sink>(
     requires said { IfOk done (λ kept. IsTextOfAllLacks explain run.now.tree (map string_bytes run.now.unread.items)
         kept.built.told (option_map string_bytes kept.text)) }
     ensures { Ends SaysOfSuccess (λ line. line ≡ option_map string_bytes run.now.none_found) explain run.now.tree
-        (map string_bytes run.now.unread.items) (λ kept. kept.built.told) done.entry (writer M.contents M.failures messages.old messages.new) result }
+        (map string_bytes run.now.unread.items) (λ kept. kept.built.told) done.entry
+        (writer M.contents M.failures messages.old messages.new) result }
 {
     match done {
         Ok(kept) => {
@@ -116,14 +118,15 @@ fn is_out<P: OutPlace>(request: &IndexRequest<'_>, at: &P) -> bool
 
 /// Sees, if a report is asked for, that it doesn't go to the place of the index. `ReportIsOut`: it does.
 fn see_two<P: OutPlace>(alloc: Global, request: &IndexRequest<'_>, at: &P) -> Result<(), StartFault>
-    ensures two { IfOk result (λ _. IfSome request.now.options.now.report.path (λ path. (string_bytes path ≡ request.now.path.now → ⊥)
-        × P.same at.now (string_bytes path) false)) }
-    ensures stops { IfErr result (λ fault. IsOneFile (P.same at.now) (asked_by request.now.options.now request.now.path.now request.now.limits) fault) }
+    ensures two { IfOk result (λ _.
+        IsOut (P.same at.now) request.now.path.now request.now.options.now.report false) }
+    ensures stops { IfErr result (IsOneFile (P.same at.now)
+        (asked_by request.now.options.now request.now.path.now request.now.limits)) }
 {
     let Some(path) = &request.options.report.path else {
         return Ok(());
     };
-    if path.as_str() == request.path || at.is_file(path.as_str()) {
+    if is_out(request, at) {
         let path = String::from_str(alloc, path.as_str())?;
         return Err(StartFault::ReportIsOut(path));
     }
@@ -271,7 +274,8 @@ where
 /// the index of the sources, writes it to a part of its place, makes its report if one is asked for, puts the index
 /// there, and gives the exit status. What couldn't be read and what the index lacks is said, or that there are no
 /// sources, where somebody is told; or why it stops, if it does: after every fault the place of the index is as it was,
-/// and if the index breaks a limit. The memory of the tree and of what was made of it isn't given back: the program ends.
+/// and if the index breaks a limit. The memory of the tree and of what was made of it isn't given back: the program
+/// ends.
 ///
 /// Of the faults the first is said: a bad part of the package; what can't be read; that the files make
 /// no tree; that one of them is the file at the place of the index; that the report would go there, or that one of them

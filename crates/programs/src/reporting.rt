@@ -66,8 +66,9 @@ pub(crate) fn see_report<Q: OutPlace>(
     tree: &Tree,
     at: &Q,
 ) -> Result<(), StartFault>
-    ensures apart { IfOk result (λ _. IfSome options.now.report.path (λ _. IsRead (place Q.holds Q.same Q.refuses Q.gives_up
-        Q.Part.contents Q.Part.failures at.now at.now) options.now tree.now false)) }
+    ensures apart { IfOk result (λ _. IfSome options.now.report.path (λ _.
+        IsRead (place Q.holds Q.same Q.refuses Q.gives_up Q.Part.contents Q.Part.failures at.now at.now) options.now
+        tree.now false)) }
     ensures stops { IfErr result (MayNotReport (place Q.holds Q.same Q.refuses Q.gives_up Q.Part.contents
         Q.Part.failures at.now at.now) options.now tree.now) }
 {

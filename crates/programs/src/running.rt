@@ -199,7 +199,8 @@ where
     // After a success of either, queries over what is written, or answered from, are exact.
     ensures navigable { IfOk asked.now (λ request. IfSome (index_options request) (λ options.
         WritesNavigable (searched_by options (F.lists host.now.files.now)) (F.gives host.now.files.now) options
-        (place O.holds O.same O.refuses O.gives_up O.Part.contents O.Part.failures places.old.file places.new.file) result)
+        (place O.holds O.same O.refuses O.gives_up O.Part.contents O.Part.failures places.old.file places.new.file)
+        result)
         × IfSome (shell_options request) (λ options.
         AnswersNavigable (searched_by options (F.lists host.now.files.now)) (F.gives host.now.files.now) options
         (reader I.remaining I.failures I.reads I.ends input.old input.new)

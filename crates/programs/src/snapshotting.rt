@@ -95,8 +95,9 @@ fn show<R, F: ReadFiles, W: Sink + Caused, O: MakeFiles, M: Sink>(
     made: &mut O,
     messages: &mut M,
 ) -> u8
-    ensures { ShowsAndEnds (F.gives host.now.files.now) W.cause options.now queries.now (writer W.contents W.failures out.old
-        out.new) (maker O.made made.old made.new) (writer M.contents M.failures messages.old messages.new) result }
+    ensures { ShowsAndEnds (F.gives host.now.files.now) W.cause options.now queries.now
+        (writer W.contents W.failures out.old out.new) (maker O.made made.old made.new)
+        (writer M.contents M.failures messages.old messages.new) result }
 {
     let root = options.root.as_str();
     match &options.to {
@@ -126,7 +127,8 @@ pub(crate) fn snapshot<R, F: ReadFiles + LookAgain, W: Sink + Caused, O: MakeFil
     messages: &mut M,
 ) -> u8
     ensures { RunsSnapshot (F.gives host.now.files.now) (F.blames host.now.files.now [] []) W.cause options.now
-        (writer W.contents W.failures out.old out.new) (maker O.made made.old made.new) (writer M.contents M.failures messages.old messages.new) result }
+        (writer W.contents W.failures out.old out.new) (maker O.made made.old made.new)
+        (writer M.contents M.failures messages.old messages.new) result }
 {
     let path = options.index.as_str();
     match queries_of(host.alloc, host.files, path) {

@@ -3,7 +3,14 @@
 ghost use Rattle.std.specs.Prelude.{◌≡◌, IfOk};
 ghost use Rattle.std.specs.Option.{option_map};
 ghost use Rattle.programs.specs.Placing.{place};
-ghost use Rattle.programs.specs.StartReports.{EndsUnstarted, finding_of, is_tried, path_of, report_of_start, whole_file};
+ghost use Rattle.programs.specs.StartReports.{
+  EndsUnstarted,
+  finding_of,
+  is_tried,
+  path_of,
+  report_of_start,
+  whole_file,
+};
 
 use crate::reporting::{format_of, put_bytes};
 use crate::start_explanations::sentence_of;

@@ -22,4 +22,6 @@ mod runs;
 #[cfg(test)]
 mod shared;
 #[cfg(test)]
+mod tree_runs;
+#[cfg(test)]
 mod written;

@@ -1,7 +1,7 @@
 -- What is added to the line of a fault if it is to be explained: the place, a sentence, and the source's line. (The
 -- texts are this project's own.)
-use Rattle.std.specs.Prelude.{◌≡◌, ℕ, ◌-◌, Bool, true, false, List, [], ◌++◌, Option, None, Some, take, drop, length, nat_eq}
-use Rattle.std.specs.Prelude.{codes, if◌then◌else◌}
+use Rattle.std.specs.Prelude.{◌≡◌, ℕ, ◌-◌, Bool, true, false, List, [], ◌++◌, Option, None, Some, take, drop, length}
+use Rattle.std.specs.Prelude.{nat_eq, codes, if◌then◌else◌}
 use Rattle.std.specs.List.{list_any, slice_get}
 use Rattle.std.specs.Str.{bytes_eq}
 use Rattle.std.specs.Option.{option_map, unwrap_or}
@@ -163,8 +163,8 @@ explanation_of tree Memory hints = []
 explanation_of tree (Lex number fault) hints =
     at_token (path_of tree number) (bytes_of tree number) (lex_offset fault) (lex_sentence fault)
 explanation_of tree (Syntax number fault) hints =
-    at_met (path_of tree number) (bytes_of tree number) (syntax_offset fault) (met_sentence (bytes_of tree number) fault)
-    hints
+    at_met (path_of tree number) (bytes_of tree number) (syntax_offset fault)
+    (met_sentence (bytes_of tree number) fault) hints
 explanation_of tree (Duplicate first second) hints = at_both tree first second (sentence_of (Duplicate first second))
 explanation_of tree (MissingImport place) hints = at_place tree place (sentence_in tree (MissingImport place))
 explanation_of tree (Unresolved place) hints = at_place tree place (sentence_of (Unresolved place))

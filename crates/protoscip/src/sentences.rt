@@ -159,7 +159,8 @@ pub(crate) fn sentence_in(tree: &Tree, fault: &Fault) -> &'static str
     }
 }
 
-/// For a run's fault, whatever the tree holds; empty for lack of memory. If two places have one full name, it is that of the second.
+/// For a run's fault, whatever the tree holds; empty for lack of memory. If two places have one full name, it is that
+/// of the second.
 fn sentence_of(fault: &Fault) -> &'static str
     ensures { result.now ≡ sentence_of fault.now }
 {

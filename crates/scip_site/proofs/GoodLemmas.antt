@@ -1,10 +1,10 @@
 -- Documents that have pages.
-use Rattle.std.proofs.Common.{◌≡◌, ◌∙◌, sym, refl, ap, subst, ℕ, zero, suc, ◌+◌, ◌<◌, ◌≤◌, Bool, true, false, cond}
-use Rattle.std.proofs.Common.{List, [], ◌∷◌, ◌++◌, length, map, get_or, arith, inl, inr, Ok, Err}
-use Rattle.std.specs.Prelude.{◌⊎◌, Option, None, Some, Result}
-use Rattle.std.specs.List.{AllByRecursion, flat_map, list_any, slice_get}
+use Rattle.std.proofs.Common.{◌≡◌, ◌∙◌, sym, refl, ap, subst, ℕ, zero, suc, ◌+◌, ◌<◌, Bool, true, false, cond}
+use Rattle.std.proofs.Common.{List, [], ◌∷◌, ◌++◌, length, get_or, arith, inl, inr, Err}
+use Rattle.std.specs.Prelude.{◌⊎◌, Option, None, Some}
+use Rattle.std.specs.List.{AllByRecursion, flat_map, slice_get}
 use Rattle.std.specs.Option.{unwrap_or}
-use Rattle.std.specs.Str.{bytes_eq, is_utf8}
+use Rattle.std.specs.Str.{is_utf8}
 use Rattle.std.proofs.lemmas.List.{length-map, map-append}
 use Rattle.std.proofs.lemmas.List.Folds.{list_any_at}
 use Rattle.std.proofs.lemmas.List.FromFn.{length-range_with_len, get_or-range_with_len}
@@ -18,15 +18,14 @@ use Rattle.scip_pages.specs.declared.columns.ColumnUnit.TheVariants.{Utf8}
 use Rattle.scip_pages.specs.Columns.{unit_of}
 use Rattle.scip_pages.specs.Paths.{is_path_below}
 use Rattle.scip_pages.specs.Snapshot.{lines_of, misfit}
-use Rattle.scip_site.specs.declared.no_page.NoPage.{NoPage}
 use Rattle.scip_site.specs.declared.no_page.NoPage.TheVariants.{NotText}
-use Rattle.source_page.specs.Ids.{unit_in, AllFit}
+use Rattle.source_page.specs.Ids.{unit_in}
 use Rattle.scip_site.specs.Repeats.{has_path, is_repeated}
-use Rattle.source_page.specs.Site.{Sources, page_path}
+use Rattle.source_page.specs.Site.{Sources}
 use Rattle.source_page.proofs.TagLemmas.{all_append}
 use Rattle.scip_site.specs.Reading.{Outcome, fit_or_misfit, in_unit, of_source, IsRead, is_below, Read, AreRead, none}
 use Rattle.scip_site.specs.Reading.{next, source_or_none, sources_of}
-use Rattle.scip_site.specs.Making.{page_or_none, page_at, source_at, page_file, page_file_at, pages, shared, site_files}
+use Rattle.scip_site.specs.Making.{page_or_none, source_at, page_file, page_file_at, pages, shared}
 use Rattle.scip_site.specs.Making.{script_text, paths_in}
 use Rattle.scip_site.specs.Tree.{first_page}
 use Rattle.scip_site.specs.FolderLaws.{IsGood, AllAreGood, ReadsAreGood, GoodSourcesFit, FilesStayBelow}

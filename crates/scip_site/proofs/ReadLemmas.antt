@@ -22,9 +22,9 @@ use Rattle.scip_site.specs.declared.no_page.NoPage.{NoPage}
 use Rattle.scip_site.specs.declared.no_page.NoPage.TheVariants.{NotText}
 use Rattle.scip_site.specs.Repeats.{is_repeated}
 use Rattle.source_page.specs.Site.{Sources}
-use Rattle.scip_site.specs.Reading.{Outcome, in_unit, of_source, IsRead, IsOutcome, is_below, Read, AreRead, none, next}
-use Rattle.scip_site.specs.Reading.{source_or_none, sources_of, name_of, told_by, told, Keeps, IsReadBy, ReadsOne}
-use Rattle.scip_site.specs.Reading.{AreReadBy, AreKept, ReadsAll, ReadsInto}
+use Rattle.scip_site.specs.Reading.{Outcome, in_unit, of_source, IsRead, IsOutcome, is_below, Read, none, next}
+use Rattle.scip_site.specs.Reading.{source_or_none, name_of, told_by, told, Keeps, IsReadBy, ReadsOne}
+use Rattle.scip_site.specs.Reading.{AreKept, ReadsAll, ReadsInto}
 
 -- ---- one document
 

@@ -9,7 +9,7 @@ use Rattle.std.proofs.lemmas.Grind.{flat_map-append}
 use Rattle.std.proofs.lemmas.List.{take-map, length-map, drop_all}
 use Rattle.std.proofs.lemmas.Slice.Eq.{bytes_eq-Decides}
 use Rattle.std.proofs.Math.Numerals.{add-one}
-use Rattle.scip_site.specs.Tree.{common, is_name, same_or_not, same_at, closes, opens, but_last, leaf_with, step_with}
+use Rattle.scip_site.specs.Tree.{common, same_or_not, same_at, closes, opens, but_last, leaf_with, step_with}
 use Rattle.source_page.proofs.CodeLemmas.{range_more}
 use Rattle.scip_pages.proofs.SnapshotLemmas.{up}
 

@@ -1,7 +1,7 @@
 -- The files that all pages of an index are, and how they are made.
 -- `gives` is what reading a file may give.
-use Rattle.std.specs.Prelude.{◌≡◌, ◌⊎◌, ℕ, Bool, true, false, not, List, [], ◌∷◌, ◌++◌, cond, codes, length, map, Option}
-use Rattle.std.specs.Prelude.{None, Some, Result, Ok, Err}
+use Rattle.std.specs.Prelude.{◌≡◌, ◌⊎◌, ℕ, Bool, true, false, not, List, [], ◌∷◌, ◌++◌, cond, codes, length, map}
+use Rattle.std.specs.Prelude.{Option, None, Some, Result, Ok, Err}
 use Rattle.std.specs.List.{flat_map, list_any, slice_get}
 use Rattle.std.specs.Option.{is_some, unwrap_or}
 use Rattle.scip_records.specs.declared.records.Index.{Index}

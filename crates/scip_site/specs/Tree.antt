@@ -89,5 +89,5 @@ search_text =
 -- the first page, over the paths of the documents that have pages
 abbrev pub first_page : List (List ℕ) → List ℕ
 first_page paths =
-    head_text (codes "index.html") (codes "Sources") ++ search_text ++ tree [] paths
-    ++ codes "</ul>\n</main>\n<script src=\"symbols.js\"></script>\n<script src=\"search.js\"></script>\n</body>\n</html>\n"
+    head_text (codes "index.html") (codes "Sources") ++ search_text ++ tree [] paths ++ codes
+    "</ul>\n</main>\n<script src=\"symbols.js\"></script>\n<script src=\"search.js\"></script>\n</body>\n</html>\n"

@@ -1,6 +1,6 @@
 //! The sources of an index's documents, each read once.
 
-ghost use Rattle.std.specs.Prelude.{◌≡◌, ◌++◌, [], ◌∷◌, false, OnOk, length};
+ghost use Rattle.std.specs.Prelude.{◌≡◌, ◌++◌, [], ◌∷◌, false, OnOk};
 ghost use Rattle.std.specs.List.{slice_get};
 ghost use Rattle.std.specs.Option.{unwrap_or};
 ghost use Rattle.scip_snapshot.specs.Showing.{writer};

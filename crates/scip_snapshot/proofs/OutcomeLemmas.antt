@@ -1,5 +1,5 @@
 -- What becomes of a document by the bytes of its source.
-use Rattle.std.proofs.Common.{◌≡◌, ◌∙◌, sym, refl, ap, ℕ, List, Bool, true, false, cond, Some, Ok, Err}
+use Rattle.std.proofs.Common.{◌≡◌, ◌∙◌, sym, refl, ap, ℕ, List, Bool, true, false, cond, Some, Err}
 use Rattle.std.specs.Prelude.{Result}
 use Rattle.std.specs.Str.{IsUtf8, is_utf8}
 use Rattle.std.proofs.lemmas.Str.{IsUtf8-from_is_utf8, is_utf8-from_IsUtf8}
@@ -8,9 +8,8 @@ use Rattle.scip_pages.specs.Snapshot.{snapshot_of}
 use Rattle.scip_pages.specs.SnapshotOutcomes.{Gives}
 use Rattle.scip_pages.specs.declared.snapshot_fault.SnapshotFault.{SnapshotFault}
 use Rattle.scip_pages.specs.declared.snapshot_fault.SnapshotFault.TheVariants.{NoDocument, NoUnit, Misfit, Memory}
-use Rattle.scip_snapshot.specs.declared.left_out.LeftOut.{LeftOut}
 use Rattle.scip_snapshot.specs.declared.left_out.LeftOut.TheVariants.{NotText, NoSnapshot}
-use Rattle.scip_snapshot.specs.Snapshots.{Outcome, of_snapshot, of_source}
+use Rattle.scip_snapshot.specs.Snapshots.{of_snapshot, of_source}
 
 -- they are a text
 pub in_text : (index : Index) (number : ℕ) (bytes source : List ℕ) → source ≡ bytes → IsUtf8 bytes

@@ -7,6 +7,7 @@ pub returns : goal.returns
 returns c =
     IfOk-weaker c.path_line.result _ _
     (λ line is. is ∙ ap₂ path_line
-    (c.as_str.ensures.value ∙ (c.in_ok-push_str.ensures.bytes ∙ ap (λ l. l ++ c.args.path.now) c.in_ok-skipped.ensures.ok))
+    (c.as_str.ensures.value
+    ∙ (c.in_ok-push_str.ensures.bytes ∙ ap (λ l. l ++ c.args.path.now) c.in_ok-skipped.ensures.ok))
     c.unread_name.ensures)
     c.path_line.ensures

@@ -1,4 +1,4 @@
-use Rattle.std.proofs.Common.{◌∙◌, subst, ap, List, ℕ, map, ◌∷◌, [], Option}
+use Rattle.std.proofs.Common.{◌∙◌, subst, ap, List, ℕ, map, Option}
 use Rattle.std.specs.Option.{option_map}
 use Rattle.std.proofs.lemmas.Result.{err_from_is_err_and}
 use Rattle.scip_records.specs.declared.records.Document.{Document}

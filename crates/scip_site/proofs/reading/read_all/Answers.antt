@@ -1,4 +1,3 @@
-use Rattle.std.proofs.Common.{◌≡◌, ap}
 use Rattle.std.proofs.lemmas.Result.{err_from_is_err_and}
 use Rattle.scip_snapshot.specs.Showing.{writer}
 use Rattle.scip_site.proofs.ReadLemmas.{reads_none}

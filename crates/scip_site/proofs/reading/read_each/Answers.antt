@@ -1,5 +1,5 @@
-use Rattle.std.proofs.Common.{◌≡◌, ◌∙◌, ◌<◌, ◌≤◌, ℕ, ap, sym, subst, refl, List, [], length, Some, Err, Bool, false}
-use Rattle.std.proofs.Common.{map, get_or, arith}
+use Rattle.std.proofs.Common.{◌≡◌, ◌∙◌, ◌<◌, ℕ, ap, subst, refl, List, [], length, Some, Bool, false}
+use Rattle.std.proofs.Common.{arith}
 use Rattle.std.specs.List.{slice_get}
 use Rattle.std.specs.Option.{unwrap_or}
 use Rattle.std.proofs.lemmas.Option.{slice_get_read}
@@ -7,7 +7,6 @@ use Rattle.std.proofs.lemmas.Result.{err_from_is_err_and}
 use Rattle.scip_records.specs.declared.records.Document.{Document}
 use Rattle.scip_snapshot.specs.Showing.{writer, silent}
 use Rattle.scip_site.specs.Reading.{AreKept, none}
-use Rattle.scip_site.specs.Repeats.{is_repeated}
 use Rattle.scip_site.proofs.ReadLemmas.{none_kept, kept_more, keeps_no_more, flag_is}
 use Rattle.scip_site.proofs.reading.read_each.Goals as goal
 

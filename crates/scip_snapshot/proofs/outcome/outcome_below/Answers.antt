@@ -1,4 +1,4 @@
-use Rattle.std.proofs.Common.{◌∙◌, subst, sym, ap, refl, List, ℕ, Some, None, Option}
+use Rattle.std.proofs.Common.{◌∙◌, subst, ap, refl, List, ℕ, Some, None}
 use Rattle.std.proofs.lemmas.Result.{IfOk-weaker}
 use Rattle.source_files.proofs.KeptLemmas.{read_some, read_none}
 use Rattle.scip_snapshot.specs.Snapshots.{of_source}

@@ -1,15 +1,21 @@
 -- What becomes of a place, by what a run answered that wrote to a part of it.
 use Rattle.std.proofs.Common.{◌≡◌, ◌∙◌, ◌++◌, [], ap, sym, subst, ℕ, List, Option, None, Some, Result, Ok, Err}
-use Rattle.std.specs.Prelude.{IfErr, IfOk, MatchResult}
+use Rattle.std.specs.Prelude.{false, IfErr, IfOk, MatchResult}
 use Rattle.std.specs.Io.KnownBytes.{Appends}
 use Rattle.std.proofs.lemmas.Option.{same_Some}
 use Rattle.source_files.specs.Places.{IsBegun}
+use Rattle.source_files.specs.declared.load_fault.LoadFault.TheVariants as load
+use Rattle.source_tree.specs.Files.{TreeFile}
 use Rattle.protoscip.specs.declared.fault.Fault.{Fault}
 use Rattle.protoscip.specs.declared.recorded.Recorded.{Recorded}
-use Rattle.programs.specs.Placing.{Place, Fills, Finishes, Forgoes}
+use Rattle.programs.specs.Asked.{Asked}
+use Rattle.programs.specs.Placing.{Place, AreTwo, Fills, Finishes, Forgoes, IsOneFile, IsRead, MayNotBegin, MayNotReport}
 use Rattle.programs.specs.Placing.{filled, refused, unmade, unreported}
 use Rattle.programs.specs.Settled.{settled}
 use Rattle.programs.specs.declared.limits.LimitFault.{LimitFault}
+use Rattle.programs.specs.declared.start_fault.StartFault.{StartFault}
+use Rattle.programs.specs.declared.start_fault.StartFault.TheVariants.{BadPart, BadFolder, Load, IsSource, ReportIsSource}
+use Rattle.programs.specs.declared.start_fault.StartFault.TheVariants.{ReportIsOut}
 use Rattle.programs.proofs.TreeRunLemmas.{part_of}
 
 -- what is known to be held is what was written to nothing
@@ -69,3 +75,35 @@ module _ {P W A : Type 0} (at : Place P W) (whole : W) (f : A → Recorded)
   forgoes breaks limit (Ok made) (Ok one) (Err fault) holds told broken none finishes = absurd finishes
   forgoes breaks limit (Ok made) (Err stop) done holds told broken none finishes = absurd cc
   forgoes breaks limit (Err fault) reported done holds told broken none finishes = absurd cc
+
+-- ---- why no part is begun
+
+module _ {P W Q V : Type 0} (at : Place P W) (report : Place Q V) (asked : Asked) (tree : List TreeFile)
+    (spared : IsRead at asked.options tree false) where
+  -- the report would go to the place of the index, which is no source
+  pub out_stops : (fault : StartFault) → IsOneFile (at.same at.before) asked fault
+      → MayNotBegin at report asked tree fault
+  out_stops BadPart none = absurd none
+  out_stops (BadFolder path) none = absurd none
+  out_stops (Load (load.Unreadable name)) none = absurd none
+  out_stops (Load load.TooMany) none = absurd none
+  out_stops (Load (load.BadPath path)) none = absurd none
+  out_stops (Load (load.SamePath path)) none = absurd none
+  out_stops (Load load.Memory) memory = tt
+  out_stops (IsSource path) none = absurd none
+  out_stops (ReportIsSource path) none = absurd none
+  out_stops (ReportIsOut path) one = (spared, one)
+
+  -- its own place, which is another one, is a source
+  pub report_stops : AreTwo at asked → (fault : StartFault) → MayNotReport report asked.options tree fault
+      → MayNotBegin at report asked tree fault
+  report_stops two BadPart none = absurd none
+  report_stops two (BadFolder path) none = absurd none
+  report_stops two (Load (load.Unreadable name)) none = absurd none
+  report_stops two (Load load.TooMany) none = absurd none
+  report_stops two (Load (load.BadPath path)) none = absurd none
+  report_stops two (Load (load.SamePath path)) none = absurd none
+  report_stops two (Load load.Memory) memory = tt
+  report_stops two (IsSource path) none = absurd none
+  report_stops two (ReportIsSource path) is = (spared, two, is)
+  report_stops two (ReportIsOut path) none = absurd none

@@ -124,14 +124,18 @@ abbrev pub IsAt : (same : List ℕ → Bool → Type 0) → (out path : List ℕ
 IsAt same out path true = (path ≡ out) ⊎ same path true
 IsAt same out path false = (path ≡ out → ⊥) × same path false
 
+-- if a report is asked for, its file isn't the one at the place of the index
+abbrev pub AreTwo : {P W : Type 0} → Place P W → Asked → Type 0
+AreTwo at asked =
+    IfSome asked.options.report.path (λ path. IsAt (at.same at.before) asked.path (string_bytes path) false)
+
 -- None of the files that were read is said to be the one at the place of the index, nor, if a report is asked for, the
 -- one at its place; and the two have different paths, and aren't said to be one.
 pub record AreApart {P W Q V : Type 0} (at : Place P W) (report : Place Q V) (asked : Asked) (tree : List TreeFile)
     : Type 0 where
   pub index : IsRead at asked.options tree false
   pub reported : IfSome asked.options.report.path (λ _. IsRead report asked.options tree false)
-  pub two : IfSome asked.options.report.path (λ path.
-      IsAt (at.same at.before) asked.path (string_bytes path) false)
+  pub two : AreTwo at asked
 
 -- why no report is made of a tree: one of the files that were read is said to be the one at its place, whose path is
 -- named; or memory ran out
@@ -149,13 +153,16 @@ IsOneFile same asked (ReportIsOut named) =
 IsOneFile same asked (Load load.Memory) = Unit {0}
 IsOneFile same asked fault = ⊥
 
--- why no part is begun for a tree: one of the files that were read is said to be the one at a place, whose path is
--- named; or the report would go to the place of the index; or memory ran out
+-- why no part is begun for a tree, the first of these: one of the files that were read is said to be the one at the
+-- place of the index, whose path is named; the report would go there; one of them is said to be the one at its place,
+-- whose path is named. Memory may run out before each of them.
 abbrev pub MayNotBegin : {P W Q V : Type 0} → Place P W → Place Q V → Asked → List TreeFile → StartFault → Type 0
 MayNotBegin at report asked tree (IsSource named) =
     (string_bytes named ≡ asked.path) × IsRead at asked.options tree true
+MayNotBegin at report asked tree (ReportIsOut named) =
+    IsRead at asked.options tree false × IsOneFile (at.same at.before) asked (ReportIsOut named)
 MayNotBegin at report asked tree (ReportIsSource named) =
-    MayNotReport report asked.options tree (ReportIsSource named)
-MayNotBegin at report asked tree (ReportIsOut named) = IsOneFile (at.same at.before) asked (ReportIsOut named)
+    IsRead at asked.options tree false × AreTwo at asked
+    × MayNotReport report asked.options tree (ReportIsSource named)
 MayNotBegin at report asked tree (Load load.Memory) = Unit {0}
 MayNotBegin at report asked tree fault = ⊥

@@ -7,9 +7,9 @@ use Rattle.clap.proofs.OnLiterals.{clap_on_literals}
 use Rattle.command_line.specs.Program.{command_line}
 use Rattle.command_line.specs.Requests.{IsRefused, Prints}
 use Rattle.command_line.specs.Asks.{AsksBy, AsksFor}
-use Rattle.command_line.specs.Reports.{lacks_report}
+use Rattle.command_line.specs.Options.Report.{lacks_report}
 use Rattle.command_line.specs.Values.{rows_in}
-use Rattle.command_line.specs.declared.words.WordLists.{WordLists}
+use Rattle.command_line.specs.declared.options.WordLists.{WordLists}
 use Rattle.command_line.specs.declared.request.Request.{Request}
 use Rattle.command_line.specs.declared.request.Request.TheVariants as request
 

@@ -8,7 +8,7 @@ use Rattle.clap.specs.Words.{ReadsOne, Text}
 use Rattle.clap.specs.ValueTests.{is_unsigned_in}
 use Rattle.clap.specs.declared.builder.value_parser.ValueParser.TheVariants as values
 use Rattle.clap.proofs.ValueTestLemmas.{Accepts-accepts, accepts-Accepts}
-use Rattle.command_line.specs.Values.{in_limit, limit_in, most_limit}
+use Rattle.command_line.specs.Options.Limits.{in_limit, limit_in, most_limit}
 
 -- a number that the text spells
 fits_so : (t : Text) (n : ℕ) → ParsesUnsigned {E = ℕ} 64 10 t (Ok n) → in_limit (Some n) ≡ limit_in t

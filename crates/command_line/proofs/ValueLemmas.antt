@@ -8,7 +8,8 @@ use Rattle.clap.specs.Words.{Row, Text, subcommand_rows}
 use Rattle.clap.specs.declared.parser.matches.SubCommand.{SubCommand}
 use Rattle.clap.specs.declared.parser.matches.ArgMatches.TheViews.{out-SubCommand}
 use Rattle.command_line.specs.Asks.{name_of}
-use Rattle.command_line.specs.Values.{folders_in, rows_in}
+use Rattle.command_line.specs.Options.Include.{folders_in}
+use Rattle.command_line.specs.Values.{rows_in}
 
 -- the program that matches name, by its name, and by its rows
 pub matches_name : {Z : Type 0} (found : Option (Box SubCommand Z))

@@ -10,14 +10,14 @@ use Rattle.clap.specs.declared.builder.value_parser.ValueParser.TheVariants as v
 use Rattle.clap.proofs.ValueTestLemmas.{Accepts-accepts, accepts-Accepts}
 use Rattle.clap.proofs.WalkLemmas.{both}
 use Rattle.index_pool.specs.Workers.{most_workers}
-use Rattle.command_line.specs.Values.{fitting, workers_in}
+use Rattle.command_line.specs.Options.Workers.{fitting, workers_in}
 
 -- a number that the text spells
 fits_so : (t : Text) (n : ℕ) → ParsesUnsigned {E = ℕ} 64 10 t (Ok n) → fitting (Some n) ≡ workers_in t
 fits_so t n parsed = go (is_unsigned_in 1 most_workers t) refl (nat_le 1 n && nat_le n most_workers) refl
   where
     go : (b : Bool) → is_unsigned_in 1 most_workers t ≡ b → (d : Bool) → (nat_le 1 n && nat_le n most_workers) ≡ d
-        → cond d n 4 ≡ cond b (digits_value 10 (without_leading_plus t)) 4
+        → cond d n 1 ≡ cond b (digits_value 10 (without_leading_plus t)) 1
     go true e true f = parsed.1
     go false e false f = refl
     go true e false f =
@@ -39,7 +39,7 @@ fits_so t n parsed = go (is_unsigned_in 1 most_workers t) refl (nat_le 1 n && na
 none_so : (t : Text) (e : ℕ) → ParsesUnsigned {E = ℕ} 64 10 t (Err e) → fitting None ≡ workers_in t
 none_so t e unread = go (is_unsigned_in 1 most_workers t) refl
   where
-    go : (b : Bool) → is_unsigned_in 1 most_workers t ≡ b → 4 ≡ cond b (digits_value 10 (without_leading_plus t)) 4
+    go : (b : Bool) → is_unsigned_in 1 most_workers t ≡ b → 1 ≡ cond b (digits_value 10 (without_leading_plus t)) 1
     go false f = refl
     go true f = let accepted = accepts-Accepts false (values.Unsigned 1 most_workers) t f in
         absurd (unread (accepted.0, accepted.1))
@@ -53,6 +53,6 @@ reads E G only t None h = none_so t 0 (only t (Err h.0) h.1)
 pub fitting_is : (E : Type 0) (G : Text → Result ℕ E → Type 0)
     → ((u : Text) (x : Result ℕ E) → G u x → ParsesUnsigned 64 10 u x)
     → (text : Option Text) (r : Option ℕ) → (text ≡ None → r ≡ None) → ((t : Text) → text ≡ Some t → ReadsOne G t r)
-    → fitting r ≡ option_map_or workers_in text 4
+    → fitting r ≡ option_map_or workers_in text 1
 fitting_is E G only None r none some = ap fitting (none refl)
 fitting_is E G only (Some t) r none some = reads E G only t r (some t refl)

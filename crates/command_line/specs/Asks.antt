@@ -4,13 +4,15 @@ use Rattle.std.specs.Prelude.{◌≡◌, ◌≢◌, Bool, true, false, List, [],
 use Rattle.std.specs.Option.{option_map}
 use Rattle.clap.specs.Words.{Kinds, IsAmong, Row, Text, fault_of, subcommand_of}
 use Rattle.clap.specs.declared.error.kind.ErrorKind.{ErrorKind}
-use Rattle.command_line.specs.Values.{Carries, CarriesDump, CarriesPages, CarriesSnapshot}
-use Rattle.command_line.specs.Values.{explains_in, limits_of, quiet_in, rows_in, text_of}
+use Rattle.command_line.specs.Options.{AreListed, Carries, CarriesDump, CarriesPages, CarriesSnapshot}
+use Rattle.command_line.specs.Options.Explain.{explains_in}
+use Rattle.command_line.specs.Options.Limits.{limits_of}
+use Rattle.command_line.specs.Options.Quiet.{quiet_in}
+use Rattle.command_line.specs.Options.Report.{lacks_report}
 use Rattle.command_line.specs.Program.{command_line}
-use Rattle.command_line.specs.Reports.{lacks_report}
 use Rattle.command_line.specs.Requests.{IsRefused, Prints}
-use Rattle.command_line.specs.Words.{AreListed}
-use Rattle.command_line.specs.declared.words.WordLists.{WordLists}
+use Rattle.command_line.specs.Values.{rows_in, text_of}
+use Rattle.command_line.specs.declared.options.WordLists.{WordLists}
 use Rattle.command_line.specs.declared.request.Request.{Request}
 use Rattle.command_line.specs.declared.request.Request.TheVariants as request
 

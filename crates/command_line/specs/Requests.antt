@@ -4,7 +4,7 @@ use Rattle.clap.specs.Words.{Text}
 use Rattle.clap.specs.declared.error.kind.ErrorKind.{ErrorKind}
 use Rattle.clap.specs.declared.error.kind.ErrorKind.TheVariants as kind
 use Rattle.command_line.specs.declared.options.IndexOptions.{IndexOptions}
-use Rattle.command_line.specs.declared.options.Limits.{Limits}
+use Rattle.command_line.specs.declared.options.limits.Limits.{Limits}
 use Rattle.command_line.specs.declared.options.SnapshotOptions.{SnapshotOptions}
 use Rattle.command_line.specs.declared.options.PagesOptions.{PagesOptions}
 use Rattle.command_line.specs.declared.options.DumpOptions.{DumpOptions}

@@ -1,20 +1,24 @@
 //! The command line of the program `protoscip`: what it asks for, by the rules of `clap`.
 #![tactic(auto)]
 
-mod names;
-mod options;
-mod program;
-mod reading;
-mod report;
-mod request;
-mod tree;
+// How arguments and options of each kind are made, and what they are given.
+mod arguments;
 mod values;
-mod words;
+
+// The options, a file for each.
+mod options;
+
+// The programs.
+mod names;
+mod program;
+
+// What is asked for.
+mod reading;
+mod request;
 
 pub use options::{
-    AcceptWord, CustomOptionsWord, DocWord, DumpOptions, FaultyWord, IndexOptions, Limits,
-    LinksWord, PackageFolder, PagesOptions, PositionsWord, SnapshotOptions,
+    DumpOptions, IndexOptions, Limits, Links, PackageFolder, PagesOptions, ReportOptions,
+    SnapshotOptions,
 };
 pub use reading::{request_of, request_of_process};
-pub use report::{ReportOptions, ReportWord};
 pub use request::Request;

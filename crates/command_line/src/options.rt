@@ -1,9 +1,91 @@
-//! What `index` and `shell` are told of a tree.
+//! What the programs are told by their options. Each option has a file: its name, words, default and text of help, and
+//! how it is read.
 
-ghost use Rattle.std.specs.Prelude.{◌≤◌};
-ghost use Rattle.index_pool.specs.Workers.{most_workers};
+ghost use Rattle.std.specs.Prelude.{◌≡◌, ◌++◌, IfOk, OnOk, map};
+ghost use Rattle.clap.specs.Words.{found_of, rows_of, rule_of};
+ghost use Rattle.command_line.specs.Options.{
+  AreListed,
+  Carries,
+  CarriesDump,
+  CarriesPages,
+  CarriesSnapshot,
+  choice_rules,
+  own_rules,
+  reading_rules,
+  search_rules,
+  setting_rules,
+  tree_rules,
+};
 
-use crate::report::ReportOptions;
+pub(crate) mod accept;
+pub(crate) mod custom_options;
+mod doc;
+mod exclude;
+pub(crate) mod explain;
+mod faulty;
+mod include;
+pub(crate) mod limits;
+mod links;
+mod only;
+mod package;
+mod positions;
+mod project_root;
+pub(crate) mod quiet;
+pub(crate) mod report;
+pub(crate) mod to;
+mod workers;
+
+use crate::names::{INDEX_FILE, OUT, ROOT};
+use crate::options::accept::dialect_of;
+use crate::options::doc::doc_of;
+use crate::options::explain::explains_in;
+use crate::options::faulty::faulty_of;
+use crate::options::include::package_folders_of;
+use crate::options::links::links_of;
+use crate::options::positions::encoding_of;
+use crate::options::report::report_options_of;
+use crate::options::workers::workers_of;
+use crate::values::{optional_text_of, text_of, texts_of};
+use clap::{Arg, ArgMatches};
+pub use include::PackageFolder;
+use index_hooks::DocChoice;
+use index_pool::Workers;
+pub use limits::Limits;
+pub use links::Links;
+use proto_lex::Encoding;
+use proto_parse::Dialect;
+pub use report::ReportOptions;
+use scip_build::Faulty;
+use std::alloc::{AllocError, Global};
+
+/// The lists of words of the options that take only listed words.
+#[derive(Clone, Copy)]
+pub(crate) struct WordLists<'a> {
+    pub(crate) doc: &'a [&'a str],
+    pub(crate) positions: &'a [&'a str],
+    pub(crate) accept: &'a [&'a str],
+    pub(crate) custom_options: &'a [&'a str],
+    pub(crate) faulty: &'a [&'a str],
+    pub(crate) links: &'a [&'a str],
+    pub(crate) report_format: &'a [&'a str],
+}
+
+impl<'a> WordLists<'a> {
+    /// The words of each of these options.
+    pub(crate) fn new() -> WordLists<'a>
+        ensures { AreListed result }
+    {
+        WordLists {
+            doc: doc::WORDS.as_slice(),
+            positions: positions::WORDS.as_slice(),
+            accept: accept::WORDS.as_slice(),
+            custom_options: custom_options::WORDS.as_slice(),
+            faulty: faulty::WORDS.as_slice(),
+            links: links::WORDS.as_slice(),
+            report_format: report::WORDS.as_slice(),
+        }
+    }
+}
 
 /// The values of the argument ROOT and of the options of `index` and `shell`. An option that isn't given
 /// has its default.
@@ -11,8 +93,8 @@ use crate::report::ReportOptions;
 pub struct IndexOptions {
     /// The path of the folder whose sources are indexed, as it was written.
     pub root: String,
-    /// How many threads, 1 to `MAX_WORKERS`; 4 if it isn't given.
-    pub workers: usize,
+    /// How many threads.
+    pub workers: Workers,
     /// Where the sources' folder is, as a URI; `file:///` if it isn't given.
     pub project_root: String,
     /// The package's manager, empty if it isn't given.
@@ -21,49 +103,35 @@ pub struct IndexOptions {
     pub package: String,
     /// The package's release, empty if it isn't given.
     pub release: String,
-    /// The report that is made.
-    pub report: ReportOptions,
     /// The full name below which declarations are kept; `None` if all are.
     pub only: Option<String>,
     /// Which comments document a declaration, if it is given.
-    pub doc: Option<DocWord>,
+    pub doc: Option<DocChoice>,
     /// The paths of the folders with included files, in the order of the words.
     pub include: Vec<String>,
     /// The folders with included files that have a package of their own, in the order of the words.
     pub include_packages: Vec<PackageFolder>,
     /// The unit of columns; UTF-8 if it isn't given.
-    pub positions: PositionsWord,
-    /// Which sources are read; proto3 alone if it isn't given.
-    pub accept: AcceptWord,
-    /// What is done about custom options; they are refused if it isn't given.
-    pub custom_options: CustomOptionsWord,
+    pub encoding: Encoding,
+    /// Which sources are read; proto3 alone, and custom options refused, if it isn't given.
+    pub dialect: Dialect,
     /// What is done about a tree with faults; it is refused if it isn't given.
-    pub faulty: FaultyWord,
+    pub faulty: Faulty,
     /// Whether a fault is explained.
     pub explain: bool,
     /// What is left out of the folders, in the order of the words.
     pub exclude: Vec<String>,
     /// What is done about links below the folders; they are passed over if it isn't given.
-    pub links: LinksWord,
-    ghost workers_fit: { (1 ≤ workers) × (workers ≤ most_workers) },
-}
-
-/// The limits that `index` is given: if its index breaks one, the file that it would go to stays as it was.
-#[derive(Clone, Copy, Debug, PartialEq, Eq)]
-pub struct Limits {
-    /// How many files may be left out, 0 to 4294967295; any number if it isn't given.
-    pub max_skipped: Option<usize>,
-    /// How many sources have to be indexed, 0 to 4294967295; any number if it isn't given.
-    pub min_sources: Option<usize>,
+    pub links: Links,
+    /// The report that is made.
+    pub report: ReportOptions,
 }
 
 /// What `dump` is given.
 #[derive(Clone, Copy, Debug, PartialEq, Eq)]
 pub struct DumpOptions {
-    /// Which sources are read; proto3 alone if it isn't given.
-    pub accept: AcceptWord,
-    /// What is done about custom options; they are refused if it isn't given.
-    pub custom_options: CustomOptionsWord,
+    /// Which sources are read; proto3 alone, and custom options refused, if it isn't given.
+    pub dialect: Dialect,
     /// Whether a fault is explained.
     pub explain: bool,
 }
@@ -94,73 +162,146 @@ pub struct PagesOptions {
     pub explain: bool,
 }
 
-/// A folder with included files, and the package that these belong to.
-#[derive(Debug, Drop)]
-pub struct PackageFolder {
-    /// The package's manager, which may be empty, as may be the two that follow.
-    pub manager: String,
-    /// The package's name.
-    pub name: String,
-    /// The package's release.
-    pub release: String,
-    /// The path of the folder.
-    pub folder: String,
+/// The options of `index` alone.
+pub(crate) fn own_options<'a>(alloc: Global) -> Result<Vec<Arg<'a>>, AllocError>
+    ensures { IfOk result (λ args. map rule_of args.items ≡ own_rules) }
+{
+    Ok(vec![in alloc;
+        quiet::arg(alloc),
+        limits::max_skipped(alloc),
+        limits::min_sources(alloc),
+    ]?)
 }
 
-/// A word of `--doc`.
-#[derive(Clone, Copy, Debug, PartialEq, Eq)]
-pub enum DocWord {
-    /// `leading`: the comments before a declaration.
-    Leading,
-    /// `trailing`: the comments after it.
-    Trailing,
-    /// `both`: first those before it, then those after it.
-    Both,
-    /// `nothing`: no comments.
-    Nothing,
+/// The options on the run and on the package.
+fn settings<'a>(alloc: Global) -> Result<Vec<Arg<'a>>, AllocError>
+    ensures { IfOk result (λ args. map rule_of args.items ≡ setting_rules) }
+{
+    Ok(vec![in alloc;
+        workers::arg(alloc),
+        project_root::arg(alloc),
+        package::manager(alloc),
+        package::package(alloc),
+        package::release(alloc),
+    ]?)
 }
 
-/// A word of `--positions`.
-#[derive(Clone, Copy, Debug, PartialEq, Eq)]
-pub enum PositionsWord {
-    /// `utf8`: columns count bytes.
-    Utf8,
-    /// `utf16`: columns count UTF-16 code units.
-    Utf16,
+/// The options on what is indexed.
+fn choices<'a>(alloc: Global, lists: WordLists<'a>) -> Result<Vec<Arg<'a>>, AllocError>
+    ensures { IfOk result (λ args. map rule_of args.items ≡ choice_rules lists.entry) }
+{
+    Ok(vec![in alloc;
+        only::arg(alloc),
+        doc::arg(alloc, lists.doc),
+        include::include(alloc),
+        include::include_package(alloc),
+    ]?)
 }
 
-/// A word of `--accept`.
-#[derive(Clone, Copy, Debug, PartialEq, Eq)]
-pub enum AcceptWord {
-    /// `proto3`: proto3 sources.
-    Proto3,
-    /// `all`: proto2 sources, too, and `extend`. Custom options are read past, whatever `--custom-options` says.
-    All,
+/// The options on how it is read.
+fn readings<'a>(alloc: Global, lists: WordLists<'a>) -> Result<Vec<Arg<'a>>, AllocError>
+    ensures { IfOk result (λ args. map rule_of args.items ≡ reading_rules lists.entry) }
+{
+    Ok(vec![in alloc;
+        positions::arg(alloc, lists.positions),
+        accept::arg(alloc, lists.accept),
+        custom_options::arg(alloc, lists.custom_options),
+        faulty::arg(alloc, lists.faulty),
+        explain::arg(alloc),
+    ]?)
 }
 
-/// A word of `--custom-options`.
-#[derive(Clone, Copy, Debug, PartialEq, Eq)]
-pub enum CustomOptionsWord {
-    /// `refuse`: a source that has one is refused.
-    Refuse,
-    /// `skip`: they are read past.
-    Skip,
+/// The options on how folders are searched, and on the report.
+fn searching<'a>(alloc: Global, lists: WordLists<'a>) -> Result<Vec<Arg<'a>>, AllocError>
+    ensures { IfOk result (λ args. map rule_of args.items ≡ search_rules lists.entry) }
+{
+    Ok(vec![in alloc;
+        exclude::arg(alloc),
+        links::arg(alloc, lists.links),
+        report::report(alloc),
+        report::report_format(alloc, lists.report_format),
+    ]?)
 }
 
-/// A word of `--faulty`.
-#[derive(Clone, Copy, Debug, PartialEq, Eq)]
-pub enum FaultyWord {
-    /// `refuse`: a tree with a fault is refused.
-    Refuse,
-    /// `skip`: what has one is left out and reported.
-    Skip,
+/// Adds the options that the programs about a tree share.
+pub(crate) fn add_tree_options<'a>(
+    alloc: Global,
+    args: &mut Vec<Arg<'a>>,
+    lists: WordLists<'a>,
+) -> Result<(), AllocError>
+    ensures { OnOk result (map rule_of args.new.items ≡ map rule_of args.old.items ++ tree_rules lists.entry) }
+{
+    args.append(&mut settings(alloc)?)?;
+    args.append(&mut choices(alloc, lists)?)?;
+    args.append(&mut readings(alloc, lists)?)?;
+    args.append(&mut searching(alloc, lists)?)?;
+    Ok(())
 }
 
-/// A word of `--links`.
-#[derive(Clone, Copy, Debug, PartialEq, Eq)]
-pub enum LinksWord {
-    /// `ignore`: below a folder that is searched they are passed over.
-    Ignore,
-    /// `follow`: those to regular files and folders are followed, each folder once.
-    Follow,
+/// What a program about a tree is given.
+pub(crate) fn options_of(alloc: Global, given: &ArgMatches<'_>) -> Result<IndexOptions, AllocError>
+    ensures { IfOk result (Carries (rows_of (found_of given.now))) }
+{
+    Ok(IndexOptions {
+        root: text_of(alloc, given, ROOT)?,
+        workers: workers_of(given),
+        project_root: text_of(alloc, given, project_root::NAME)?,
+        manager: text_of(alloc, given, package::MANAGER)?,
+        package: text_of(alloc, given, package::PACKAGE)?,
+        release: text_of(alloc, given, package::RELEASE)?,
+        only: optional_text_of(alloc, given, only::NAME)?,
+        doc: doc_of(given),
+        include: texts_of(alloc, given, include::INCLUDE)?,
+        include_packages: package_folders_of(alloc, given)?,
+        encoding: encoding_of(given),
+        dialect: dialect_of(given),
+        faulty: faulty_of(given),
+        explain: explains_in(given),
+        exclude: texts_of(alloc, given, exclude::NAME)?,
+        links: links_of(given),
+        report: report_options_of(alloc, given)?,
+    })
+}
+
+/// What `dump` is given.
+pub(crate) fn dump_options_of(given: &ArgMatches<'_>) -> DumpOptions
+    ensures { CarriesDump (rows_of (found_of given.now)) result }
+{
+    DumpOptions {
+        dialect: dialect_of(given),
+        explain: explains_in(given),
+    }
+}
+
+/// What `snapshot` is given.
+pub(crate) fn snapshot_options_of(
+    alloc: Global,
+    given: &ArgMatches<'_>,
+) -> Result<SnapshotOptions, AllocError>
+    ensures { IfOk result (CarriesSnapshot (rows_of (found_of given.now))) }
+{
+    Ok(SnapshotOptions {
+        index: text_of(alloc, given, INDEX_FILE)?,
+        root: text_of(alloc, given, ROOT)?,
+        to: optional_text_of(alloc, given, to::NAME)?,
+        explain: explains_in(given),
+    })
+}
+
+/// What `pages` is given.
+pub(crate) fn pages_options_of(
+    alloc: Global,
+    given: &ArgMatches<'_>,
+) -> Result<PagesOptions, AllocError>
+    ensures { IfOk result (CarriesPages (rows_of (found_of given.now))) }
+{
+    let index = text_of(alloc, given, INDEX_FILE)?;
+    let root = text_of(alloc, given, ROOT)?;
+    let out = text_of(alloc, given, OUT)?;
+    Ok(PagesOptions {
+        index,
+        root,
+        out,
+        explain: explains_in(given),
+    })
 }

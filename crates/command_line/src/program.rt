@@ -1,10 +1,10 @@
 //! The programs of the command line.
 
-ghost use Rattle.std.specs.Prelude.{◌≡◌, map, IfOk, false};
+ghost use Rattle.std.specs.Prelude.{◌≡◌, map, IfOk, false, true};
 ghost use Rattle.clap.specs.Words.{Shape, app_of, rule_of, with_subcommand};
 ghost use Rattle.clap.specs.declared.builder.command.Command.TheViews.{out-Command as fields_of};
 ghost use Rattle.command_line.specs.Program.{
-  AreLocal,
+  are_simple,
   command_line,
   dump_line,
   index_line,
@@ -16,13 +16,11 @@ ghost use Rattle.command_line.specs.Program.{
   snapshot_line,
 };
 
-use crate::names::{DUMP, INDEX, INDEX_FILE, OUT, PAGES, QUERY, ROOT, SHELL, SNAPSHOT, TO};
-use crate::report::add_report_options;
-use crate::tree::{
-    accept, add_tree_options, custom_options, explain, max_skipped, min_sources, option, quiet,
-    required,
+use crate::arguments::required;
+use crate::names::{DUMP, INDEX, INDEX_FILE, OUT, PAGES, QUERY, ROOT, SHELL, SNAPSHOT};
+use crate::options::{
+    WordLists, accept, add_tree_options, custom_options, explain, own_options, to,
 };
-use crate::words::WordLists;
 use clap::{Arg, Command};
 use std::alloc::{AllocError, Global};
 use tool::{NAME, VERSION};
@@ -69,7 +67,7 @@ fn program_of<'a>(
     example: &'a str,
     arguments: Vec<Arg<'a>>,
 ) -> Result<Command<'a>, AllocError>
-    requires { AreLocal arguments.items }
+    requires { are_simple (map rule_of arguments.items) ≡ true }
     ensures line { IfOk result (λ c. (app_of c).top ≡ line_of name.entry.now (map rule_of arguments.entry.items)) }
     ensures local { IfOk result (λ c. (fields_of c).has_globals ≡ false) }
 {
@@ -88,12 +86,9 @@ fn index_program<'a>(alloc: Global, lists: WordLists<'a>) -> Result<Command<'a>,
     let mut args = vec![in alloc;
         required(alloc, ROOT, "The folder whose sources are indexed"),
         required(alloc, OUT, "The file to which the index is written"),
-        quiet(alloc),
-        max_skipped(alloc),
-        min_sources(alloc),
     ]?;
+    args.append(&mut own_options(alloc)?)?;
     add_tree_options(alloc, &mut args, lists)?;
-    add_report_options(alloc, &mut args, lists)?;
     program_of(alloc, INDEX, about, INDEX_EXAMPLE, args)
 }
 
@@ -106,7 +101,6 @@ fn shell_program<'a>(alloc: Global, lists: WordLists<'a>) -> Result<Command<'a>,
     let root = required(alloc, ROOT, "The folder whose sources are indexed");
     let mut args = vec![in alloc; root]?;
     add_tree_options(alloc, &mut args, lists)?;
-    add_report_options(alloc, &mut args, lists)?;
     program_of(alloc, SHELL, about, SHELL_EXAMPLE, args)
 }
 
@@ -118,7 +112,7 @@ fn query_program<'a>(alloc: Global) -> Result<Command<'a>, AllocError>
     let about = "Answers commands from standard input about an index";
     let args = vec![in alloc;
         required(alloc, INDEX_FILE, "A file with a SCIP index"),
-        explain(alloc),
+        explain::arg(alloc),
     ]?;
     program_of(alloc, QUERY, about, QUERY_EXAMPLE, args)
 }
@@ -129,12 +123,11 @@ fn snapshot_program<'a>(alloc: Global) -> Result<Command<'a>, AllocError>
     ensures local { IfOk result (λ c. (fields_of c).has_globals ≡ false) }
 {
     let about = "Shows the sources of an index, and below each line what the index says about it";
-    let to = "Writes each document to a file below this folder; if not given, they are printed";
     let args = vec![in alloc;
         required(alloc, INDEX_FILE, "A file with a SCIP index"),
         required(alloc, ROOT, "The folder with the sources that were indexed"),
-        option(alloc, TO, "DIR", to),
-        explain(alloc),
+        to::arg(alloc),
+        explain::arg(alloc),
     ]?;
     program_of(alloc, SNAPSHOT, about, SNAPSHOT_EXAMPLE, args)
 }
@@ -150,7 +143,7 @@ fn pages_program<'a>(alloc: Global) -> Result<Command<'a>, AllocError>
         required(alloc, INDEX_FILE, "A file with a SCIP index"),
         required(alloc, ROOT, "The folder with the sources that were indexed"),
         required(alloc, OUT, out),
-        explain(alloc),
+        explain::arg(alloc),
     ]?;
     program_of(alloc, PAGES, about, PAGES_EXAMPLE, args)
 }
@@ -162,9 +155,9 @@ fn dump_program<'a>(alloc: Global, lists: WordLists<'a>) -> Result<Command<'a>, 
 {
     let about = "Indexes one source from standard input and prints its occurrences";
     let args = vec![in alloc;
-        accept(alloc, lists.accept),
-        custom_options(alloc, lists.custom_options),
-        explain(alloc),
+        accept::arg(alloc, lists.accept),
+        custom_options::arg(alloc, lists.custom_options),
+        explain::arg(alloc),
     ]?;
     program_of(alloc, DUMP, about, DUMP_EXAMPLE, args)
 }

@@ -5,27 +5,28 @@ ghost use Rattle.std.specs.IoError.{error_kind};
 ghost use Rattle.std.specs.declared.io.ErrorKind.TheVariants.{OutOfMemory as Memory};
 ghost use Rattle.clap.specs.Words.{kind_of, subcommand_rows_of};
 ghost use Rattle.command_line.specs.Asks.{Asks, AsksFor, Names};
-ghost use Rattle.command_line.specs.Reports.{lacks_report};
-ghost use Rattle.command_line.specs.Values.{CarriesDump, rows_in};
+ghost use Rattle.command_line.specs.Options.{CarriesDump};
+ghost use Rattle.command_line.specs.Options.Report.{lacks_report};
 ghost use Rattle.command_line.specs.Requests.{IsRefused, Prints};
+ghost use Rattle.command_line.specs.Values.{rows_in};
 
 use crate::names::{INDEX, INDEX_FILE, OUT, PAGES, QUERY, SHELL, SNAPSHOT};
-use crate::options::{AcceptWord, CustomOptionsWord, DumpOptions};
-use crate::program::program;
-use crate::report::lacks_report;
-use crate::request::Request;
-use crate::values::{
-    dump_options_of, explains_in, limits_of, options_of, pages_options_of, quiet_in,
-    snapshot_options_of, text_of,
+use crate::options::accept::add_what_all_is;
+use crate::options::explain::explains_in;
+use crate::options::limits::limits_of;
+use crate::options::quiet::quiet_in;
+use crate::options::report::{FORM_ALONE, lacks_report};
+use crate::options::{
+    DumpOptions, WordLists, dump_options_of, options_of, pages_options_of, snapshot_options_of,
 };
-use crate::words::WordLists;
+use crate::program::program;
+use crate::request::Request;
+use crate::values::text_of;
 use clap::error::ErrorKind;
 use clap::{ArgMatches, Error};
+use proto_parse::{CustomOptions, Dialect};
 use std::alloc::{AllocError, Global};
 use std::io;
-
-/// Why a form for a report is refused that has no file.
-const FORM_ALONE: &str = "'--report-format <WORD>' can't be used without '--report <FILE>'";
 
 /// Why a command line is refused that isn't text, which the system allows.
 const OTHER_TEXT: &str = "invalid UTF-8 was detected in one or more arguments";
@@ -87,8 +88,7 @@ fn dump_options(matches: &ArgMatches<'_>) -> DumpOptions
     match matches.subcommand() {
         Some((_, given)) => dump_options_of(given),
         None => DumpOptions {
-            accept: AcceptWord::Proto3,
-            custom_options: CustomOptionsWord::Refuse,
+            dialect: Dialect::Proto3(CustomOptions::Refuse),
             explain: false,
         },
     }
@@ -119,14 +119,6 @@ fn refuse(alloc: Global, message: &str) -> Result<Request, AllocError>
         alloc,
         &program(alloc, WordLists::new())?.error(ErrorKind::ValueValidation, message)?,
     )
-}
-
-/// To a text that refuses a word of `--accept`, adds what `all` means, since `clap` proposes a word by its spelling.
-fn add_what_all_is(text: &mut String) -> Result<(), AllocError> {
-    if text.as_str().contains("for '--accept <WORD>'") {
-        text.push_str("\n`--accept all` reads proto2 sources, too.\n")?;
-    }
-    Ok(())
 }
 
 /// What an answer of `clap` other than a program asks for.

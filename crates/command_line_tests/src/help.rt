@@ -1,52 +1,12 @@
 //! Help and the version, in the form of `clap` of Rust: no contract says the texts.
 
 use crate::asked::{By, asked, see};
+use crate::options::OPTIONS;
 use std::test::Fail;
 
 /// A command line that asks for help or the version; the text that is printed, or, where `OPTIONS` follow, what is
 /// in front of them; and then what is behind them.
 type Printed = (&'static str, &'static str, Option<&'static str>);
-
-/// The options of `index` and of `shell`.
-const OPTIONS: &str = "      --workers <N>
-          How many threads to use, 1 to 16; the index is the same for any number [default: 4]
-      --project-root <URI>
-          Where the sources' folder is, for the index's metadata [default: file:///]
-      --manager <NAME>
-          The manager of the package that the symbols name, empty if not given
-      --package <NAME>
-          The name of that package, empty if not given
-      --release <TEXT>
-          The release of that package, empty if not given
-      --only <PREFIX>
-          Keeps only the declaration with this full name and those below it
-      --doc <WORD>
-          Which comments document a declaration; if not given, those before it [possible values: leading, trailing, both, nothing]
-      --include <DIR>
-          A folder with sources that may be imported but aren't indexed; may be given again
-      --include-package <MANAGER> <NAME> <RELEASE> <DIR>
-          Like --include, for a folder whose files belong to this package; may be given again
-      --positions <WORD>
-          The unit of columns: bytes, or UTF-16 code units [default: utf8] [possible values: utf8, utf16]
-      --accept <WORD>
-          Which sources are read: proto3 alone, or proto2 too, with extend and custom options [default: proto3] [possible values: proto3, all]
-      --custom-options <WORD>
-          What to do with custom options: refuse the source, or skip them, as --accept all always does [default: refuse] [possible values: refuse, skip]
-      --faulty <WORD>
-          What to do with faults: refuse the tree, or leave out what has one and report it [default: refuse] [possible values: refuse, skip]
-      --explain
-          Explains a fault: adds its line and column, a sentence, and the text of that line
-      --exclude <GLOB>
-          Leaves out files and folders by name or path, as .git, which is searched otherwise; may be given again
-      --links <WORD>
-          What to do with symbolic links below a folder: pass them over, or follow them [default: ignore] [possible values: ignore, follow]
-      --report <FILE>
-          Writes a report to this file: each fault, and what the index leaves out or lacks
-      --report-format <WORD>
-          The form of the report, jsonl if not given: lines of JSON, or SARIF for code hosts [possible values: jsonl, sarif]
-  -h, --help
-          Print help
-";
 
 // The last row reads: `protoscip --version` prints one line.
 static PRINTED: [Printed; 8] = [

@@ -1,7 +1,50 @@
-//! What command lines ask for: each program once by its defaults, and each option once.
+//! The options: how help shows them, what command lines ask for by them (each program once by its defaults, and each
+//! option once), and which are refused.
 
 use crate::asked::{By, asked, see};
+use crate::refusals::see_refused;
 use std::test::Fail;
+
+/// The options of `index` and of `shell`, as their help shows them.
+pub(crate) const OPTIONS: &str = "      --workers <N>
+          How many threads to use, 1 to 16; the index is the same for any number [default: 4]
+      --project-root <URI>
+          Where the sources' folder is, for the index's metadata [default: file:///]
+      --manager <NAME>
+          The manager of the package that the symbols name, empty if not given
+      --package <NAME>
+          The name of that package, empty if not given
+      --release <TEXT>
+          The release of that package, empty if not given
+      --only <PREFIX>
+          Keeps only the declaration with this full name and those below it
+      --doc <WORD>
+          Which comments document a declaration; if not given, those before it [possible values: leading, trailing, both, nothing]
+      --include <DIR>
+          A folder with sources that may be imported but aren't indexed; may be given again
+      --include-package <MANAGER> <NAME> <RELEASE> <DIR>
+          Like --include, for a folder whose files belong to this package; may be given again
+      --positions <WORD>
+          The unit of columns: bytes, or UTF-16 code units [default: utf8] [possible values: utf8, utf16]
+      --accept <WORD>
+          Which sources are read: proto3 alone, or proto2 too, with extend and custom options [default: proto3] [possible values: proto3, all]
+      --custom-options <WORD>
+          What to do with custom options: refuse the source, or skip them, as --accept all always does [default: refuse] [possible values: refuse, skip]
+      --faulty <WORD>
+          What to do with faults: refuse the tree, or leave out what has one and report it [default: refuse] [possible values: refuse, skip]
+      --explain
+          Explains a fault: adds its line and column, a sentence, and the text of that line
+      --exclude <GLOB>
+          Leaves out files and folders by name or path, as .git, which is searched otherwise; may be given again
+      --links <WORD>
+          What to do with symbolic links below a folder: pass them over, or follow them [default: ignore] [possible values: ignore, follow]
+      --report <FILE>
+          Writes a report to this file: each fault, and what the index leaves out or lacks
+      --report-format <WORD>
+          The form of the report, jsonl if not given: lines of JSON, or SARIF for code hosts [possible values: jsonl, sarif]
+  -h, --help
+          Print help
+";
 
 /// A command line, and what it asks for, as `Debug` prints it.
 struct Asked {
@@ -22,39 +65,39 @@ static ASKED: [Asked; 15] = [
     },
     Asked {
         words: "dump",
-        request: "Dump(DumpOptions { accept: Proto3, custom_options: Refuse, explain: false })",
+        request: "Dump(DumpOptions { dialect: Proto3(Refuse), explain: false })",
     },
     Asked {
         words: "dump --explain --custom-options skip",
-        request: "Dump(DumpOptions { accept: Proto3, custom_options: Skip, explain: true })",
+        request: "Dump(DumpOptions { dialect: Proto3(Skip), explain: true })",
     },
     Asked {
         words: "dump --accept all",
-        request: "Dump(DumpOptions { accept: All, custom_options: Refuse, explain: false })",
+        request: "Dump(DumpOptions { dialect: All, explain: false })",
     },
     Asked {
         words: "index api out",
-        request: "Index(IndexOptions { root: \"api\", workers: 4, project_root: \"file:///\", manager: \"\", package: \"\", release: \"\", report: ReportOptions { path: None, format: JsonLines }, only: None, doc: None, include: [], include_packages: [], positions: Utf8, accept: Proto3, custom_options: Refuse, faulty: Refuse, explain: false, exclude: [], links: Ignore }, \"out\", false, Limits { max_skipped: None, min_sources: None })",
+        request: "Index(IndexOptions { root: \"api\", workers: Workers { count: 4 }, project_root: \"file:///\", manager: \"\", package: \"\", release: \"\", only: None, doc: None, include: [], include_packages: [], encoding: Utf8, dialect: Proto3(Refuse), faulty: Refuse, explain: false, exclude: [], links: Ignore, report: ReportOptions { path: None, format: JsonLines } }, \"out\", false, Limits { max_skipped: None, min_sources: None })",
     },
     Asked {
         words: "index --workers 2 --quiet --max-skipped 3 --min-sources=812 --report f --report-format sarif --project-root u --manager m --package p --release r --only o --doc both --include j --include i --positions utf16 --accept all --custom-options skip --faulty skip --explain api out",
-        request: "Index(IndexOptions { root: \"api\", workers: 2, project_root: \"u\", manager: \"m\", package: \"p\", release: \"r\", report: ReportOptions { path: Some(\"f\"), format: Sarif }, only: Some(\"o\"), doc: Some(Both), include: [\"j\", \"i\"], include_packages: [], positions: Utf16, accept: All, custom_options: Skip, faulty: Skip, explain: true, exclude: [], links: Ignore }, \"out\", true, Limits { max_skipped: Some(3), min_sources: Some(812) })",
+        request: "Index(IndexOptions { root: \"api\", workers: Workers { count: 2 }, project_root: \"u\", manager: \"m\", package: \"p\", release: \"r\", only: Some(\"o\"), doc: Some(Both), include: [\"j\", \"i\"], include_packages: [], encoding: Utf16, dialect: All, faulty: Skip, explain: true, exclude: [], links: Ignore, report: ReportOptions { path: Some(\"f\"), format: Sarif } }, \"out\", true, Limits { max_skipped: Some(3), min_sources: Some(812) })",
     },
     Asked {
         words: "shell --workers 16 --project-root=u --manager=m --package=p --release=r --report=f --report-format=jsonl --only=o --doc=trailing --include=i --positions=utf8 --accept=proto3 --custom-options=refuse --faulty=refuse -- -api",
-        request: "Shell(IndexOptions { root: \"-api\", workers: 16, project_root: \"u\", manager: \"m\", package: \"p\", release: \"r\", report: ReportOptions { path: Some(\"f\"), format: JsonLines }, only: Some(\"o\"), doc: Some(Trailing), include: [\"i\"], include_packages: [], positions: Utf8, accept: Proto3, custom_options: Refuse, faulty: Refuse, explain: false, exclude: [], links: Ignore })",
+        request: "Shell(IndexOptions { root: \"-api\", workers: Workers { count: 16 }, project_root: \"u\", manager: \"m\", package: \"p\", release: \"r\", only: Some(\"o\"), doc: Some(Trailing), include: [\"i\"], include_packages: [], encoding: Utf8, dialect: Proto3(Refuse), faulty: Refuse, explain: false, exclude: [], links: Ignore, report: ReportOptions { path: Some(\"f\"), format: JsonLines } })",
     },
     Asked {
         words: "index api --include a --include-package m n r d --include b out --include-package '' '' '' e --include c",
-        request: "Index(IndexOptions { root: \"api\", workers: 4, project_root: \"file:///\", manager: \"\", package: \"\", release: \"\", report: ReportOptions { path: None, format: JsonLines }, only: None, doc: None, include: [\"a\", \"b\", \"c\"], include_packages: [PackageFolder { manager: \"m\", name: \"n\", release: \"r\", folder: \"d\" }, PackageFolder { manager: \"\", name: \"\", release: \"\", folder: \"e\" }], positions: Utf8, accept: Proto3, custom_options: Refuse, faulty: Refuse, explain: false, exclude: [], links: Ignore }, \"out\", false, Limits { max_skipped: None, min_sources: None })",
+        request: "Index(IndexOptions { root: \"api\", workers: Workers { count: 4 }, project_root: \"file:///\", manager: \"\", package: \"\", release: \"\", only: None, doc: None, include: [\"a\", \"b\", \"c\"], include_packages: [PackageFolder { manager: \"m\", name: \"n\", release: \"r\", folder: \"d\" }, PackageFolder { manager: \"\", name: \"\", release: \"\", folder: \"e\" }], encoding: Utf8, dialect: Proto3(Refuse), faulty: Refuse, explain: false, exclude: [], links: Ignore, report: ReportOptions { path: None, format: JsonLines } }, \"out\", false, Limits { max_skipped: None, min_sources: None })",
     },
     Asked {
         words: "index api out --max-skipped +0 --min-sources 04294967295 --report f",
-        request: "Index(IndexOptions { root: \"api\", workers: 4, project_root: \"file:///\", manager: \"\", package: \"\", release: \"\", report: ReportOptions { path: Some(\"f\"), format: JsonLines }, only: None, doc: None, include: [], include_packages: [], positions: Utf8, accept: Proto3, custom_options: Refuse, faulty: Refuse, explain: false, exclude: [], links: Ignore }, \"out\", false, Limits { max_skipped: Some(0), min_sources: Some(4294967295) })",
+        request: "Index(IndexOptions { root: \"api\", workers: Workers { count: 4 }, project_root: \"file:///\", manager: \"\", package: \"\", release: \"\", only: None, doc: None, include: [], include_packages: [], encoding: Utf8, dialect: Proto3(Refuse), faulty: Refuse, explain: false, exclude: [], links: Ignore, report: ReportOptions { path: Some(\"f\"), format: JsonLines } }, \"out\", false, Limits { max_skipped: Some(0), min_sources: Some(4294967295) })",
     },
     Asked {
         words: "index api --exclude .git --links follow --exclude=a/**/b out",
-        request: "Index(IndexOptions { root: \"api\", workers: 4, project_root: \"file:///\", manager: \"\", package: \"\", release: \"\", report: ReportOptions { path: None, format: JsonLines }, only: None, doc: None, include: [], include_packages: [], positions: Utf8, accept: Proto3, custom_options: Refuse, faulty: Refuse, explain: false, exclude: [\".git\", \"a/**/b\"], links: Follow }, \"out\", false, Limits { max_skipped: None, min_sources: None })",
+        request: "Index(IndexOptions { root: \"api\", workers: Workers { count: 4 }, project_root: \"file:///\", manager: \"\", package: \"\", release: \"\", only: None, doc: None, include: [], include_packages: [], encoding: Utf8, dialect: Proto3(Refuse), faulty: Refuse, explain: false, exclude: [\".git\", \"a/**/b\"], links: Follow, report: ReportOptions { path: None, format: JsonLines } }, \"out\", false, Limits { max_skipped: None, min_sources: None })",
     },
     Asked {
         words: "snapshot a.scip api",
@@ -74,6 +117,84 @@ static ASKED: [Asked; 15] = [
     },
 ];
 
+/// Command lines with an option that is refused, as in the table of other refusals.
+const REFUSED: &str = "shell api --quiet
+error: unexpected argument '--quiet' found
+
+shell api --max-skipped 1
+error: unexpected argument '--max-skipped' found
+
+shell api --min-sources 1
+error: unexpected argument '--min-sources' found
+
+index api out --max-skipped none
+error: invalid value 'none' for '--max-skipped <N>': invalid digit found in string
+
+index api out --max-skipped=-1
+error: invalid value '-1' for '--max-skipped <N>': invalid digit found in string
+
+index api out --min-sources 4294967296
+error: invalid value '4294967296' for '--min-sources <N>': 4294967296 is not in 0..=4294967295
+
+index api out --min-sources
+error: a value is required for '--min-sources <N>' but none was supplied
+
+index api out --min-sources 1 --min-sources 1
+error: the argument '--min-sources <N>' cannot be used multiple times
+
+index api out --report-format sarif
+error: '--report-format <WORD>' can't be used without '--report <FILE>'
+
+shell api --report-format jsonl
+error: '--report-format <WORD>' can't be used without '--report <FILE>'
+
+index api out --report f --report-format json
+error: invalid value 'json' for '--report-format <WORD>'
+  [possible values: jsonl, sarif]
+
+index api out --report f --report g
+error: the argument '--report <FILE>' cannot be used multiple times
+
+dump --report f
+error: unexpected argument '--report' found
+
+index api out --workers 0
+error: invalid value '0' for '--workers <N>': 0 is not in 1..=16
+
+index api out --doc none
+error: invalid value 'none' for '--doc <WORD>'
+  [possible values: leading, trailing, both, nothing]
+
+shell api --positions UTF8
+error: invalid value 'UTF8' for '--positions <WORD>'
+  [possible values: utf8, utf16]
+
+dump --accept proto2
+error: invalid value 'proto2' for '--accept <WORD>'
+  [possible values: proto3, all]
+
+dump --custom-options keep
+error: invalid value 'keep' for '--custom-options <WORD>'
+  [possible values: refuse, skip]
+
+index api out --faulty
+error: a value is required for '--faulty <WORD>' but none was supplied
+
+index api out --faulty yes
+error: invalid value 'yes' for '--faulty <WORD>'
+  [possible values: refuse, skip]
+
+index api out --only a --only=b
+error: the argument '--only <PREFIX>' cannot be used multiple times
+
+index api out --include-package
+error: a value is required for '--include-package <MANAGER> <NAME> <RELEASE> <DIR>' but none was supplied
+
+index api out --include-package m n r
+error: 4 values required for '--include-package <MANAGER> <NAME> <RELEASE> <DIR>' but 3 were provided
+
+";
+
 #[test]
 fn what_is_asked_for(rt: HostRuntime) -> Result<(), Fail> {
     for row in &ASKED {
@@ -91,5 +212,21 @@ fn words_of_the_system(rt: HostRuntime) -> Result<(), Fail> {
         text.as_str() == "Query(\"a.scip\", false)",
         text.as_str(),
     );
+    Ok(())
+}
+
+#[test]
+fn refused_options(rt: HostRuntime) -> Result<(), Fail> {
+    see_refused(&rt, rt.alloc(), REFUSED)?;
+    Ok(())
+}
+
+#[test]
+fn what_all_is_is_said(rt: HostRuntime) -> Result<(), Fail> {
+    let end = "\n`--accept all` reads proto2 sources, too.\n";
+    let text = asked(rt.alloc(), "dump --accept proto2", By::List)?;
+    see(&rt, text.as_str().ends_with(end), "--accept proto2");
+    let text = asked(rt.alloc(), "dump --custom-options keep", By::List)?;
+    see(&rt, !text.as_str().ends_with(end), "--custom-options keep");
     Ok(())
 }

@@ -13,7 +13,7 @@ use Rattle.std.proofs.lemmas.Slice.Eq.{bytes_eq-Decides}
 use Rattle.scip_symbol.specs.Package.{Package, IsPackage}
 use Rattle.scip_model.specs.Packages.{Root, Packages, ArePackages, with_path, package_among, package_of_path}
 use Rattle.command_line.specs.declared.options.IndexOptions.{IndexOptions}
-use Rattle.command_line.specs.declared.options.PackageFolder.{PackageFolder}
+use Rattle.command_line.specs.declared.options.include.PackageFolder.{PackageFolder}
 use Rattle.source_tree.specs.Files.{TreeFile, paths_of}
 use Rattle.source_files.specs.Listings.{Listing}
 use Rattle.source_files.specs.Roots.{AreFilesBelow, FilesBelow}

@@ -21,10 +21,10 @@ use Rattle.protoscip.specs.declared.fault.Fault.{Fault}
 use Rattle.protoscip.specs.declared.fault.Fault.TheVariants.{Spawn, Memory, Lex, Syntax, Duplicate, MissingImport}
 use Rattle.protoscip.specs.declared.fault.Fault.TheVariants.{Unresolved, TooLarge, Write, Read, Answer}
 use Rattle.protoscip.specs.declared.recorded.Recorded.{Recorded}
-use Rattle.command_line.specs.declared.options.Limits.{Limits}
-use Rattle.command_line.specs.declared.report.ReportOptions.{ReportOptions}
+use Rattle.command_line.specs.declared.options.limits.Limits.{Limits}
+use Rattle.command_line.specs.declared.options.report.ReportOptions.{ReportOptions}
 use Rattle.programs.specs.Placing.{Finishes, Place}
-use Rattle.programs.specs.Reporting.{GoesIfAsked, GoesTo, IsReport, IsToldBeside, Reports, due_status, format_of}
+use Rattle.programs.specs.Reporting.{GoesIfAsked, GoesTo, IsReport, IsToldBeside, Reports, due_status}
 use Rattle.programs.specs.Reporting.{path_asked, ran_of, told_by, cut_off, of_fault, of_index, put, refused, unmade}
 use Rattle.programs.specs.Settled.{settled}
 use Rattle.programs.specs.declared.limits.LimitFault.{LimitFault}
@@ -111,7 +111,7 @@ weaker at Is bytes workers _ is (unmade may left) = unmade may left
 -- if it is asked for
 pub goes_asked : {Q V T : Type 0} (bytes_of : T → List ℕ) (at : Place Q V) (options : ReportOptions)
     (Is : ReportFormat → List ℕ → Type 0) (workers : ℕ) (path : Option T) (reported : Result (Unit {0}) Fault)
-    → is_some path ≡ true → GoesTo at (Is (format_of options.format)) workers reported
+    → is_some path ≡ true → GoesTo at (Is options.format) workers reported
     → GoesIfAsked at options Is workers (option_map bytes_of path) reported
 goes_asked bytes_of at options Is workers None reported asked goes = absurd cc
 goes_asked bytes_of at options Is workers (Some path) reported asked goes = goes
@@ -144,7 +144,7 @@ asked_files : {Q V : Type 0} (at : Place Q V) (options : ReportOptions) (Is : Re
 asked_files at options Is workers tree None reported goes =
     subst (λ (r : Result (Unit {0}) Fault). IfErr r (HasFilesOf tree)) (sym goes.1) tt
 asked_files at options Is workers tree (Some path) reported goes =
-    goes_files at (Is (format_of options.format)) workers tree reported goes
+    goes_files at (Is options.format) workers tree reported goes
 
 pub reported_files : {Q V : Type 0} (at : Place Q V) (options : ReportOptions) (limits : Limits)
     (allows : Seen → Choice → Type 0) (settings : Settings) (workers : ℕ) (tree : List TreeFile)

@@ -5,17 +5,8 @@ use Rattle.index_hooks.specs.IsUnder.{IsUnder}
 use Rattle.index_hooks.specs.declared.choice.Choice.{Choice}
 use Rattle.index_hooks.specs.declared.choice.DocChoice.{DocChoice}
 use Rattle.index_hooks.specs.declared.choice.DocChoice.TheVariants.{Pass, Nothing, Leading, Trailing, Both}
-use Rattle.command_line.specs.declared.options.DocWord.{DocWord}
-use Rattle.command_line.specs.declared.options.DocWord.TheVariants as word
 
--- the answer that a word of `--doc` asks for
-abbrev pub choice_of_word : DocWord → DocChoice
-choice_of_word word.Leading = Leading
-choice_of_word word.Trailing = Trailing
-choice_of_word word.Both = Both
-choice_of_word word.Nothing = Nothing
-
--- which texts document a declaration by that answer; if there is none, the text before it
+-- which texts document a declaration by what `--doc` says; if it isn't given, the text before it
 abbrev pub documented_by : Option DocChoice → DocChoice
 documented_by None = Leading
 documented_by (Some Pass) = Leading

@@ -9,7 +9,7 @@ use Rattle.source_files.specs.Loads.{IsLoadedBelow}
 use Rattle.scip_symbol.specs.Package.{Package, IsPackage}
 use Rattle.scip_model.specs.Packages.{Root, Packages, ArePackages, package_among, package_of_path}
 use Rattle.command_line.specs.declared.options.IndexOptions.{IndexOptions}
-use Rattle.command_line.specs.declared.options.PackageFolder.{PackageFolder}
+use Rattle.command_line.specs.declared.options.include.PackageFolder.{PackageFolder}
 use Rattle.programs.specs.Settings.{leaves_out, package_in}
 
 -- the package that the files below a folder belong to

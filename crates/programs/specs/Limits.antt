@@ -10,7 +10,7 @@ use Rattle.source_tree.specs.Files.{TreeFile}
 use Rattle.source_tree.specs.Trees.{IsSourceCount}
 use Rattle.scip_build.specs.declared.fault.BuildFault.{BuildFault}
 use Rattle.scip_snapshot.specs.Showing.{Writer}
-use Rattle.command_line.specs.declared.options.Limits.{Limits}
+use Rattle.command_line.specs.declared.options.limits.Limits.{Limits}
 use Rattle.protoscip.specs.Lines.{plain_line}
 use Rattle.protoscip.specs.declared.fault.Fault.{Fault}
 use Rattle.protoscip.specs.ToldLines.{is_skipped_source, left_out}

@@ -16,7 +16,6 @@ use Rattle.scip_build.specs.declared.settings.Settings.{Settings}
 use Rattle.fault_reports.specs.Findings.{Found}
 use Rattle.fault_reports.specs.Reports.{report_of}
 use Rattle.fault_reports.specs.declared.report.ReportFormat.{ReportFormat}
-use Rattle.fault_reports.specs.declared.report.ReportFormat.TheVariants.{JsonLines, Sarif}
 use Rattle.protoscip.specs.Findings.{all_findings, counts_with, refused_findings}
 use Rattle.protoscip.specs.ToldTrees.{IsToldOf, MayNotTell}
 use Rattle.protoscip.specs.Statuses.{status_of}
@@ -24,10 +23,8 @@ use Rattle.protoscip.specs.declared.recorded.Recorded.{Recorded}
 use Rattle.protoscip.specs.declared.fault.Fault.{Fault}
 use Rattle.protoscip.specs.declared.fault.Fault.TheVariants.{Spawn, Memory, Lex, Syntax, Duplicate, MissingImport}
 use Rattle.protoscip.specs.declared.fault.Fault.TheVariants.{Unresolved, TooLarge, Write, Read, Answer}
-use Rattle.command_line.specs.declared.options.Limits.{Limits}
-use Rattle.command_line.specs.declared.report.ReportOptions.{ReportOptions}
-use Rattle.command_line.specs.declared.report.ReportWord.{ReportWord}
-use Rattle.command_line.specs.declared.report.ReportWord.TheVariants as word
+use Rattle.command_line.specs.declared.options.limits.Limits.{Limits}
+use Rattle.command_line.specs.declared.options.report.ReportOptions.{ReportOptions}
 use Rattle.programs.specs.Limits.{IsBrokenBy, limit_status}
 use Rattle.programs.specs.Placing.{Place, IsGivenUp, IsLeft, IsPut, IsRefused}
 use Rattle.programs.specs.declared.limits.LimitFault.{LimitFault}
@@ -113,15 +110,11 @@ pub data GoesTo {Q V : Type 0} (at : Place Q V) (Is : List ℕ → Type 0) (work
       → GoesTo at Is workers (Err (Write count))
   unmade : {fault : Fault} → MayNotTell workers fault → IsLeft at → GoesTo at Is workers (Err fault)
 
-abbrev pub format_of : ReportWord → ReportFormat
-format_of word.JsonLines = JsonLines
-format_of word.Sarif = Sarif
-
 -- only if it is asked for
 abbrev pub GoesIfAsked : {Q V : Type 0} → Place Q V → ReportOptions → (Is : ReportFormat → List ℕ → Type 0)
     → (workers : ℕ) → (asked : Option (List ℕ)) → (reported : Result (Unit {0}) Fault) → Type 0
 GoesIfAsked at options Is workers None reported = IsLeft at × (reported ≡ Ok tt)
-GoesIfAsked at options Is workers (Some path) reported = GoesTo at (Is (format_of options.format)) workers reported
+GoesIfAsked at options Is workers (Some path) reported = GoesTo at (Is options.format) workers reported
 
 abbrev pub path_asked : ReportOptions → Option (List ℕ)
 path_asked options = option_map string_bytes options.path

@@ -2,16 +2,16 @@
 use Rattle.std.specs.Prelude.{ℕ, Bool, true, false, List, Option, Result, Ok, Err, map, string_bytes}
 use Rattle.std.specs.declared.alloc.AllocError.{AllocError}
 use Rattle.command_line.specs.declared.options.IndexOptions.{IndexOptions}
-use Rattle.command_line.specs.declared.options.LinksWord.{LinksWord}
-use Rattle.command_line.specs.declared.options.LinksWord.TheVariants.{Ignore, Follow}
+use Rattle.command_line.specs.declared.options.links.Links.{Links}
+use Rattle.command_line.specs.declared.options.links.Links.TheVariants.{Ignore, Follow}
 use Rattle.command_line.specs.declared.request.Request.{Request}
 use Rattle.command_line.specs.declared.request.Request.TheVariants as request
 use Rattle.source_files.specs.Exclusions.{ListsWithout}
 use Rattle.source_files.specs.Listings.{Listing}
 use Rattle.programs.specs.Placing.{roots_in}
 
--- whether links are followed, by a word of `--links`
-abbrev pub follows : LinksWord → Bool
+-- whether links are followed
+abbrev pub follows : Links → Bool
 follows Ignore = false
 follows Follow = true
 

@@ -7,12 +7,12 @@ use Rattle.fault_reports.specs.Reports.{report_of}
 use Rattle.fault_reports.specs.declared.finding.FindingKind.TheVariants as kind
 use Rattle.fault_reports.specs.declared.report.ReportFormat.{ReportFormat}
 use Rattle.source_files.specs.declared.load_fault.LoadFault.TheVariants as load
-use Rattle.command_line.specs.declared.report.ReportOptions.{ReportOptions}
+use Rattle.command_line.specs.declared.options.report.ReportOptions.{ReportOptions}
 use Rattle.protoscip.specs.Findings.{counts_of}
 use Rattle.protoscip.specs.declared.fault.Fault.{Fault}
 use Rattle.protoscip.specs.declared.fault.Fault.TheVariants.{Write}
 use Rattle.programs.specs.Placing.{IsAt, IsLeft, Place}
-use Rattle.programs.specs.Reporting.{GoesTo, format_of}
+use Rattle.programs.specs.Reporting.{GoesTo}
 use Rattle.programs.specs.StartExplanations.{sentence_of}
 use Rattle.programs.specs.StartFaults.{name_of, status_of}
 use Rattle.programs.specs.declared.start_fault.StartFault.{StartFault}
@@ -73,6 +73,6 @@ pub data EndsUnstarted {Q V : Type 0} (at : Place Q V) (suspects : Bool → Type
   at_out : is_out ≡ true → IsLeft at → EndsUnstarted at suspects is_out options fault fault
   suspected : suspects true → IsLeft at → EndsUnstarted at suspects is_out options fault fault
   goes : (reported : Result (Unit {0}) Fault) → is_out ≡ false → suspects false
-      → GoesTo at (λ bytes. bytes ≡ report_of_start (format_of options.format) fault) 0 reported
+      → GoesTo at (λ bytes. bytes ≡ report_of_start options.format fault) 0 reported
       → is_tried reported ≡ true → EndsUnstarted at suspects is_out options fault fault
   lacking : IsLeft at → EndsUnstarted at suspects is_out options fault (Load load.Memory)

@@ -6,7 +6,7 @@ use Rattle.source_files.specs.declared.load_fault.LoadFault.TheVariants as load
 use Rattle.source_files.specs.Loads.{MayNotLoad}
 use Rattle.scip_symbol.specs.Package.{IsPackage}
 use Rattle.command_line.specs.declared.options.IndexOptions.{IndexOptions}
-use Rattle.command_line.specs.declared.options.PackageFolder.{PackageFolder}
+use Rattle.command_line.specs.declared.options.include.PackageFolder.{PackageFolder}
 use Rattle.programs.specs.declared.start_fault.StartFault.{StartFault}
 use Rattle.programs.specs.declared.start_fault.StartFault.TheVariants.{BadPart, BadFolder, Load, IsSource}
 use Rattle.programs.specs.declared.start_fault.StartFault.TheVariants.{ReportIsSource, ReportIsOut}

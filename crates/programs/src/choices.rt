@@ -4,9 +4,8 @@ ghost use Rattle.std.specs.Prelude.{◌≡◌, IfOk};
 ghost use Rattle.std.specs.Option.{option_map};
 ghost use Rattle.std.specs.String.{string_bytes};
 ghost use Rattle.index_hooks.specs.Turns.{place_of};
-ghost use Rattle.programs.specs.Choices.{IsKeptBy, choice_of_word, documented_by};
+ghost use Rattle.programs.specs.Choices.{IsKeptBy, documented_by};
 
-use command_line::DocWord;
 use index_hooks::{
     Choice, Chooses, DocAlways, DocChoice, DocHook, DocRule, Filter, FilterHook, NamePrefix,
     Ticket, Turns,
@@ -22,24 +21,12 @@ pub struct OptionChoices {
     rule: Option<DocRule<DocAlways, DocAlways>>,
 }
 
-/// The answer that a word of `--doc` asks for.
-fn choice_of_word(word: DocWord) -> DocChoice
-    ensures { result ≡ choice_of_word word }
+/// The rule that always gives what `--doc` says.
+fn rule_of(doc: Option<DocChoice>) -> Option<DocRule<DocAlways, DocAlways>>
+    ensures { option_map (λ rule. rule.promise.0) result ≡ doc }
 {
-    match word {
-        DocWord::Leading => DocChoice::Leading,
-        DocWord::Trailing => DocChoice::Trailing,
-        DocWord::Both => DocChoice::Both,
-        DocWord::Nothing => DocChoice::Nothing,
-    }
-}
-
-/// The rule that a word of `--doc` asks for.
-fn rule_of(word: Option<DocWord>) -> Option<DocRule<DocAlways, DocAlways>>
-    ensures { option_map (λ rule. rule.promise.0) result ≡ option_map choice_of_word word }
-{
-    match word {
-        Some(word) => Some(DocAlways(choice_of_word(word)).rule()),
+    match doc {
+        Some(choice) => Some(DocAlways(choice).rule()),
         None => None,
     }
 }
@@ -59,16 +46,15 @@ fn filter_of(
 }
 
 impl OptionChoices {
-    /// The choices for a full name of `--only` and a word of `--doc`.
+    /// The choices for a full name of `--only` and what `--doc` says.
     pub fn new(
         alloc: Global,
         only: Option<&str>,
-        doc: Option<DocWord>,
+        doc: Option<DocChoice>,
     ) -> Result<OptionChoices, AllocError>
         ensures only { IfOk result (λ choices. option_map (λ f. string_bytes f.promise.0) choices.filter ≡ option_map
             (λ text. text.now) only.entry) }
-        ensures doc { IfOk result (λ choices. option_map (λ r. r.promise.0) choices.rule
-            ≡ option_map choice_of_word doc) }
+        ensures doc { IfOk result (λ choices. option_map (λ r. r.promise.0) choices.rule ≡ doc) }
     {
         Ok(OptionChoices {
             filter: filter_of(alloc, only)?,

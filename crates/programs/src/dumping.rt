@@ -11,13 +11,11 @@ ghost use Rattle.protoscip.specs.Statuses.{status_of};
 ghost use Rattle.programs.specs.Dumping.{EndsDump, is_write};
 ghost use Rattle.programs.specs.Messages.{TellsOne};
 ghost use Rattle.programs.specs.Printing.{EndsCut, is_closed};
-ghost use Rattle.programs.specs.Settings.{dialect_of};
 
 use crate::ending::stop;
 use crate::host::Host;
 use crate::messages::report;
 use crate::output::is_closed;
-use crate::settings::dialect_of;
 use command_line::DumpOptions;
 use proto_parse::Dialect;
 use protoscip::{Fault, MEMORY_STATUS, dump_and_keep, dump_tree, explain_in};
@@ -85,16 +83,15 @@ pub(crate) fn dump_source<R: Threads + Wait, F, I: Feed, W: Sink + Caused, M: Si
     messages: &mut M,
 ) -> u8
     ensures { (done : Result (Unit {0}) Fault)
-        × IsDumped I.remaining W.contents W.failures (dialect_of options.now.accept options.now.custom_options)
-        input.old out.old out.new done
+        × IsDumped I.remaining W.contents W.failures options.now.dialect input.old out.old out.new done
         × LeavesReader I.failures I.reads I.ends input.old input.new done
         × IsReadBriefly I.reads input.old input.new
         × EndsDump I.remaining
-        (explain_in options.now.explain (dialect_of options.now.accept options.now.custom_options))
+        (explain_in options.now.explain options.now.dialect)
         (is_closed (W.cause out.new)) input.old done
         (writer M.contents M.failures messages.old messages.new) result }
 {
-    let dialect = dialect_of(options.accept, options.custom_options);
+    let dialect = options.dialect;
     let mut tree = match dump_tree(host.alloc, Vec::new(host.alloc)) {
         Ok(tree) => tree,
         Err(AllocError) => return report(Err(AllocError), MEMORY_STATUS, messages),

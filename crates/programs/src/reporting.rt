@@ -17,7 +17,6 @@ ghost use Rattle.programs.specs.Reporting.{
   IsToldBeside,
   Reports,
   due_status,
-  format_of,
   is_of_files,
   ran_of,
 };
@@ -27,7 +26,7 @@ use crate::folders::folders_read;
 use crate::limits::{LimitFault, broken_by};
 use crate::start_fault::StartFault;
 use crate::starting::TreeRun;
-use command_line::{IndexOptions, Limits, ReportOptions, ReportWord};
+use command_line::{IndexOptions, Limits, ReportOptions};
 use fault_reports::{ReportFormat, report_bytes};
 use index_pool::NoGate;
 use protoscip::{
@@ -99,16 +98,6 @@ fn is_of_files(fault: &Fault) -> bool
         | Fault::Write(_)
         | Fault::Read
         | Fault::Answer(_) => false,
-    }
-}
-
-/// The form of a report.
-pub(crate) fn format_of(word: ReportWord) -> ReportFormat
-    ensures { result ≡ format_of word }
-{
-    match word {
-        ReportWord::JsonLines => ReportFormat::JsonLines,
-        ReportWord::Sarif => ReportFormat::Sarif,
     }
 }
 
@@ -210,10 +199,10 @@ impl<R: Threads + Wait> Reporter<'_, R> {
         ensures made { IfOk result (λ bytes. IsReport (IsChosenBy (option_map (λ f. string_bytes f.promise.0)
             self.now.run.now.choices.filter) (option_map (λ r. r.promise.0) self.now.run.now.choices.rule))
             self.now.run.now.settings self.now.run.now.tree (map string_bytes self.now.run.now.unread.items)
-            (format_of self.now.options.now.format) (ran_of told.now fault) status bytes.items) }
+            self.now.options.now.format (ran_of told.now fault) status bytes.items) }
         ensures stops { IfErr result (MayNotTell self.now.run.now.workers) }
     {
-        let format = format_of(self.options.format);
+        let format = self.options.format;
         let tree = &self.run.tree;
         match &fault {
             Some(fault) => {

@@ -31,7 +31,6 @@ ghost use Rattle.programs.specs.Printing.{Prints, Refuses, is_closed};
 ghost use Rattle.programs.specs.Queries.{Queried};
 ghost use Rattle.programs.specs.Searches.{blamed_by, links_followed, searched_by};
 ghost use Rattle.programs.specs.Serving.{AnswersNavigable, Served};
-ghost use Rattle.programs.specs.Settings.{dialect_of};
 ghost use Rattle.programs.specs.Snapshotting.{RunsSnapshot};
 ghost use Rattle.programs.specs.Streams.{reader};
 
@@ -47,7 +46,7 @@ use crate::querying::query;
 use crate::serving::shell_searched;
 use crate::snapshotting::snapshot;
 use crate::statuses::COMMAND_LINE_STATUS;
-use command_line::{LinksWord, ReportOptions, Request};
+use command_line::{Links, ReportOptions, Request};
 use protoscip::{MEMORY_STATUS, plain_line};
 use source_files::{Caused, EmptyFolders, FolderPlace, LookAgain, MakeFiles, OutPlace, ReadFiles};
 use std::alloc::AllocError;
@@ -127,8 +126,8 @@ pub fn links_followed(asked: &Result<Request, AllocError>) -> bool
     ensures { result ≡ links_followed asked.now }
 {
     match asked {
-        Ok(Request::Index(options, _, _, _)) => matches!(options.links, LinksWord::Follow),
-        Ok(Request::Shell(options)) => matches!(options.links, LinksWord::Follow),
+        Ok(Request::Index(options, _, _, _)) => matches!(options.links, Links::Follow),
+        Ok(Request::Shell(options)) => matches!(options.links, Links::Follow),
         _ => false,
     }
 }
@@ -161,11 +160,10 @@ where
     // What `dump` promises of its answer, and what becomes of that.
     ensures dumped { IfOk asked.now (λ request. IfSome (dump_options request) (λ options.
         ((done : Result (Unit {0}) Fault)
-        × IsDumped I.remaining W.contents W.failures (dialect_of options.accept options.custom_options) input.old
-        out.old out.new done
+        × IsDumped I.remaining W.contents W.failures options.dialect input.old out.old out.new done
         × LeavesReader I.failures I.reads I.ends input.old input.new done
         × IsReadBriefly I.reads input.old input.new
-        × EndsDump I.remaining (explain_in options.explain (dialect_of options.accept options.custom_options))
+        × EndsDump I.remaining (explain_in options.explain options.dialect)
         (is_closed (W.cause out.new)) input.old done (writer M.contents M.failures messages.old messages.new) result)
         × (places.new ≡ places.old))) }
     // What `query` promises of its answers, and what becomes of that.

@@ -12,7 +12,7 @@ ghost use Rattle.programs.specs.StartReports.{
   whole_file,
 };
 
-use crate::reporting::{format_of, put_bytes};
+use crate::reporting::put_bytes;
 use crate::start_explanations::sentence_of;
 use crate::start_fault::StartFault;
 use command_line::ReportOptions;
@@ -114,7 +114,7 @@ pub(crate) fn put_start_report<Q: OutPlace>(
     if at.may_be_source() {
         return fault;
     }
-    let bytes = match bytes_of_start(alloc, format_of(options.format), &fault) {
+    let bytes = match bytes_of_start(alloc, options.format, &fault) {
         Ok(bytes) => bytes,
         Err(AllocError) => return StartFault::Load(LoadFault::Memory),
     };

@@ -4,7 +4,6 @@ ghost use Rattle.std.specs.Prelude.{◌≡◌, IfOk, IfErr, map};
 ghost use Rattle.programs.specs.NoSources.{NoneFoundBy, is_told};
 ghost use Rattle.std.specs.Option.{option_map};
 ghost use Rattle.std.specs.String.{string_bytes};
-ghost use Rattle.programs.specs.Choices.{choice_of_word};
 ghost use Rattle.programs.specs.Folders.{AreFolders, NamePackages};
 ghost use Rattle.programs.specs.Settings.{settings_in};
 ghost use Rattle.programs.specs.Starting.{MayNotStart};
@@ -14,7 +13,7 @@ use crate::choices::OptionChoices;
 use crate::folders::{Folders, load_folders};
 use crate::host::Host;
 use crate::no_sources::none_found;
-use crate::settings::{leaves_out, only_of, settings_of, workers_of};
+use crate::settings::{leaves_out, only_of, settings_of};
 use crate::start_fault::StartFault;
 use command_line::IndexOptions;
 use index_pool::Workers;
@@ -78,13 +77,12 @@ pub(crate) fn start<R: Threads + Wait, F: ReadFiles + LookAgain + Sync>(
         start.tree (option_map string_bytes start.none_found)) }
     ensures only { IfOk result (λ start. option_map (λ f. string_bytes f.promise.0) start.choices.filter ≡ option_map
         string_bytes options.now.only) }
-    ensures doc { IfOk result (λ start. option_map (λ r. r.promise.0) start.choices.rule ≡ option_map choice_of_word
-        options.now.doc) }
+    ensures doc { IfOk result (λ start. option_map (λ r. r.promise.0) start.choices.rule ≡ options.now.doc) }
     ensures workers { IfOk result (λ start. start.workers ≡ options.now.workers) }
     ensures settings { IfOk result (λ start. start.settings ≡ settings_in options.now start.settings.package) }
     ensures stops { IfErr result (MayNotStart (F.lists host.now.files.now) (F.gives host.now.files.now) options.now) }
 {
-    let workers = workers_of(options);
+    let workers = options.workers;
     let readers = Readers {
         rt: host.rt,
         alloc: host.alloc,

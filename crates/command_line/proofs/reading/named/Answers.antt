@@ -1,6 +1,6 @@
 use Rattle.std.proofs.Common.{◌∙◌, refl, sym, subst, List}
 use Rattle.clap.specs.Words.{Row}
-use Rattle.command_line.specs.Values.{Carries}
+use Rattle.command_line.specs.Options.{Carries}
 use Rattle.command_line.proofs.ValueLemmas.{matches_name, matches_rows}
 use Rattle.command_line.proofs.reading.named.Goals as goal
 

@@ -2,7 +2,7 @@ use Rattle.std.proofs.Common.{◌∙◌, ap, ap₂, sym, subst, map, string_byte
 use Rattle.std.proofs.lemmas.Result.{IfOk-weaker}
 use Rattle.clap.specs.Words.{Kinds, HasKind, Row, Text, fault_of, is_simple, is_simple_and_free, subcommand_of}
 use Rattle.command_line.specs.Asks.{AsksFor}
-use Rattle.command_line.specs.Reports.{lacks_report}
+use Rattle.command_line.specs.Options.Report.{lacks_report}
 use Rattle.command_line.specs.Values.{rows_in}
 use Rattle.command_line.proofs.AnswerLemmas.{asks_answer, asks_program, command_line_is_simple, command_line_is_walked}
 use Rattle.command_line.proofs.reading.request_of.Goals as goal

@@ -3,13 +3,12 @@ use Rattle.proto_parse.specs.tree.Dialect.{Dialect}
 use Rattle.scip_snapshot.specs.Showing.{writer}
 use Rattle.protoscip.specs.declared.fault.Fault.{Fault}
 use Rattle.protoscip.specs.declared.fault.Fault.TheVariants.{Memory}
-use Rattle.protoscip.specs.Dump.{IsDumped, dump_tree}
+use Rattle.protoscip.specs.Dump.{dump_tree}
 use Rattle.protoscip.specs.Explanations.{IsFaultText, explain_in}
 use Rattle.protoscip.specs.Statuses.{status_of}
 use Rattle.programs.specs.Dumping.{is_write}
 use Rattle.programs.specs.Messages.{TellsOne}
 use Rattle.programs.specs.Printing.{EndsCut, is_closed}
-use Rattle.programs.specs.Settings.{dialect_of}
 use Rattle.programs.proofs.DumpEndLemmas.{of_fault}
 use Rattle.programs.proofs.dumping.dump_source.Goals as goal
 
@@ -23,8 +22,7 @@ returns-in-Err g c =
       refl,
       omega arith,
       of_fault g.I.Feed.remaining
-          (explain_in c.args.options.now.explain
-          (dialect_of c.args.options.now.accept c.args.options.now.custom_options))
+          (explain_in c.args.options.now.explain c.args.options.now.dialect)
           (is_closed (g.W.Caused.cause c.args.out.now))
           c.args.input.now (writer g.M.Sink.contents g.M.Sink.failures c.args.messages.now c.report.new.messages)
           c.report.result Memory (dump_tree []) tt (inr c.report.ensures),
@@ -38,19 +36,15 @@ returns g c =
     let of = c.in-Err-dump_and_keep.ensures in
     let done : Result (Unit {0}) Fault = Err fault in
     let tree = c.dump_and_keep.new.tree in
-    let explain =
-    explain_in c.args.options.now.explain (dialect_of c.args.options.now.accept c.args.options.now.custom_options) in
+    let explain = explain_in c.args.options.now.explain c.args.options.now.dialect in
     let messages = writer g.M.Sink.contents g.M.Sink.failures c.args.messages.now c.stop_listing.new.messages in
     let closed = is_closed (g.W.Caused.cause c.dump_and_keep.new.out) in
     let Told : Option Dialect → Type 0 =
     λ asked. EndsCut (is_write fault && closed) (TellsOne (IsFaultText asked tree fault) (status_of fault) messages
     c.stop_listing.result) messages c.stop_listing.result in
-    let Dumped : Dialect → Type 0 =
-    λ dialect. IsDumped g.I.Feed.remaining g.W.Sink.contents g.W.Sink.failures dialect c.args.input.now c.args.out.now
-    c.dump_and_keep.new.out done in
-    let said = subst Told (rw c.dialect_of-dialect.ensures at c.explain_in-explain.ensures) c.stop_listing.ensures in (
+    let said = subst Told c.explain_in-explain.ensures c.stop_listing.ensures in (
       done,
-      subst Dumped c.dialect_of-dialect.ensures of.dumped,
+      of.dumped,
       of.reader,
       of.briefly,
       of_fault g.I.Feed.remaining explain closed c.args.input.now messages c.stop_listing.result fault tree of.tree

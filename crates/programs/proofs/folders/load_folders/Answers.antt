@@ -1,6 +1,6 @@
 use Rattle.std.proofs.Common.{◌∙◌, List, [], ap, length, map, sym, subst}
 use Rattle.std.specs.String.{string_bytes}
-use Rattle.command_line.specs.declared.options.PackageFolder.{PackageFolder}
+use Rattle.command_line.specs.declared.options.include.PackageFolder.{PackageFolder}
 use Rattle.scip_symbol.specs.Package.{Package}
 use Rattle.scip_model.specs.Packages.{Packages}
 use Rattle.programs.specs.Folders.{AreFolders}

@@ -5,7 +5,7 @@ use Rattle.std.specs.String.{string_bytes}
 use Rattle.fault_reports.specs.declared.report.ReportFormat.{ReportFormat}
 use Rattle.programs.specs.Choices.{IsChosenBy}
 use Rattle.programs.specs.Placing.{place}
-use Rattle.programs.specs.Reporting.{IsReport, due_status, format_of, ran_of, unmade}
+use Rattle.programs.specs.Reporting.{IsReport, due_status, ran_of, unmade}
 use Rattle.programs.proofs.ReportLemmas.{goes_asked, weaker}
 use Rattle.programs.proofs.reporting.report_run.Goals as goal
 
@@ -43,7 +43,7 @@ returns g c =
     let at = place g.Q.OutPlace.holds g.Q.OutPlace.same g.Q.OutPlace.refuses g.Q.OutPlace.gives_up
     g.Q.Part.Sink.contents g.Q.Part.Sink.failures c.args.at.now c.put_bytes.new.at in
     let bytes = c.as_slice.result.now in
-    let format = format_of options.format in
+    let format = options.format in
     let is : Is format due bytes = subst (λ (all : List ℕ). Is format due all) (sym c.as_slice.ensures.value)
     (subst (λ (status : ℕ). Is format status c.in_ok-bytes.bytes.items) c.due_status.ensures
     c.in_ok-bytes.ensures.made) in (

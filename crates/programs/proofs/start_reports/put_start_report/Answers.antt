@@ -1,7 +1,5 @@
-use Rattle.std.proofs.Common.{◌≡◌, ◌∙◌, ap, refl, subst, sym, List, ℕ}
-use Rattle.fault_reports.specs.declared.report.ReportFormat.{ReportFormat}
+use Rattle.std.proofs.Common.{◌≡◌, ◌∙◌, refl, subst, sym, List, ℕ}
 use Rattle.programs.specs.Placing.{place}
-use Rattle.programs.specs.Reporting.{format_of}
 use Rattle.programs.specs.StartReports.{at_out, goes, lacking, report_of_start, suspected, unasked}
 use Rattle.programs.proofs.ReportLemmas.{weaker}
 use Rattle.programs.proofs.StartReportLemmas.{left_untried}
@@ -27,9 +25,8 @@ returns-then-is_tried g c =
     let fault = c.args.fault in
     let reported = c.put_bytes-reported.result in
     let bytes = c.as_slice.result.now in
-    let Is : List ℕ → Type 0 = λ all. all ≡ report_of_start (format_of c.args.options.now.format) fault in
-    let is : Is bytes = c.as_slice.ensures.value
-    ∙ (c.in-Ok.ensures ∙ ap (λ (format : ReportFormat). report_of_start format fault) c.format_of.ensures) in
+    let Is : List ℕ → Type 0 = λ all. all ≡ report_of_start c.args.options.now.format fault in
+    let is : Is bytes = c.as_slice.ensures.value ∙ c.in-Ok.ensures in
     goes reported c.if-is_out.false
     (subst (g.Q.OutPlace.suspects c.args.at.now) c.if-may_be_source.false c.may_be_source.ensures.told)
     (weaker at Is bytes 0 reported is (c.put_bytes-reported.ensures 0)) (sym c.is_tried.ensures ∙ c.if-is_tried.true)

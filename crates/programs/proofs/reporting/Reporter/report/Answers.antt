@@ -1,12 +1,7 @@
-use Rattle.std.proofs.Common.{◌≡◌, map, subst}
+use Rattle.std.proofs.Common.{map}
 use Rattle.std.specs.Option.{option_map}
 use Rattle.std.specs.String.{string_bytes}
-use Rattle.fault_reports.specs.Reports.{report_of}
-use Rattle.fault_reports.specs.declared.report.ReportFormat.{ReportFormat}
-use Rattle.protoscip.specs.Findings.{all_findings, counts_of, counts_with, refused_findings}
-use Rattle.protoscip.specs.Statuses.{status_of}
 use Rattle.programs.specs.Choices.{IsChosenBy}
-use Rattle.programs.specs.Reporting.{format_of}
 use Rattle.programs.proofs.ReportLemmas.{of_a_fault, of_an_index}
 use Rattle.programs.proofs.reporting.Reporter.report.Goals as goal
 
@@ -19,11 +14,10 @@ returns-in_ok-report_of_fault-in-Some-clause-made g c =
     let allows = IsChosenBy (option_map (λ f. string_bytes f.promise.0) run.choices.filter)
     (option_map (λ r. r.promise.0) run.choices.rule) in
     rw c.in-Some.is
-    (of_a_fault allows run.settings run.tree (map string_bytes run.unread.items) (format_of c.args.self.now.options.now.format) c.args.status bytes fault told
+    (of_a_fault allows run.settings run.tree (map string_bytes run.unread.items)
+    c.args.self.now.options.now.format c.args.status bytes fault told
     (rw c.as_slice.ensures c.in_ok-beside-in-Some.ensures.told) (rw c.in-Some.is at c.requires.status)
-    (subst (λ (format : ReportFormat). bytes
-    ≡ report_of format (refused_findings run.tree fault told) (counts_of 0 told (status_of fault)))
-    c.format_of-format.ensures c.in_ok-report_of_fault-in-Some.ensures))
+    c.in_ok-report_of_fault-in-Some.ensures)
 
 pub returns-in_ok-report_of_index-in-None-clause-made : goal.returns-in_ok-report_of_index-in-None-clause-made
 returns-in_ok-report_of_index-in-None-clause-made g c =
@@ -35,9 +29,5 @@ returns-in_ok-report_of_index-in-None-clause-made g c =
     let allows = IsChosenBy (option_map (λ f. string_bytes f.promise.0) run.choices.filter)
     (option_map (λ r. r.promise.0) run.choices.rule) in
     rw c.in-None.is
-    (of_an_index allows run.settings run.tree unread (format_of c.args.self.now.options.now.format) c.args.status bytes told
-    made.0 made.1
-    (subst (λ (format : ReportFormat). bytes
-    ≡ report_of format (all_findings run.tree unread told) (counts_with made.0 unread told c.args.status))
-    c.format_of-format.ensures
-    made.2))
+    (of_an_index allows run.settings run.tree unread c.args.self.now.options.now.format c.args.status bytes told
+    made.0 made.1 made.2)

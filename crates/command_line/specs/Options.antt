@@ -1,0 +1,129 @@
+-- What the programs are told by their options: a file for each, with its words, its rule and what it says.
+use Rattle.std.specs.Prelude.{◌≡◌, List, [], ◌∷◌, ◌++◌, codes, map, string_bytes}
+use Rattle.std.specs.Option.{option_map}
+use Rattle.clap.specs.Words.{Row, Rule}
+use Rattle.command_line.specs.Arguments.{texts_at}
+use Rattle.command_line.specs.Values.{text_of}
+use Rattle.command_line.specs.Options.Accept.{accept_rule, accept_words, dialect_of}
+use Rattle.command_line.specs.Options.CustomOptions.{custom_options_rule, custom_options_words}
+use Rattle.command_line.specs.Options.Doc.{doc_of, doc_rule, doc_words}
+use Rattle.command_line.specs.Options.Exclude.{exclude_of, exclude_rule}
+use Rattle.command_line.specs.Options.Explain.{explain_rule, explains_in}
+use Rattle.command_line.specs.Options.Faulty.{faulty_of, faulty_rule, faulty_words}
+use Rattle.command_line.specs.Options.Include.{folder_of, include_of, include_package_rule, include_rule}
+use Rattle.command_line.specs.Options.Include.{package_folders_of}
+use Rattle.command_line.specs.Options.Limits.{max_skipped_rule, min_sources_rule}
+use Rattle.command_line.specs.Options.Links.{links_of, links_rule, links_words}
+use Rattle.command_line.specs.Options.Only.{only_of, only_rule}
+use Rattle.command_line.specs.Options.Package.{manager_of, manager_rule, package_of, package_rule, release_of}
+use Rattle.command_line.specs.Options.Package.{release_rule}
+use Rattle.command_line.specs.Options.Positions.{encoding_of, positions_rule, positions_words}
+use Rattle.command_line.specs.Options.ProjectRoot.{project_root_of, project_root_rule}
+use Rattle.command_line.specs.Options.Quiet.{quiet_rule}
+use Rattle.command_line.specs.Options.Report.{CarriesReport, format_rule, format_words, report_rule}
+use Rattle.command_line.specs.Options.To.{to_of}
+use Rattle.command_line.specs.Options.Workers.{workers_of, workers_rule}
+use Rattle.command_line.specs.declared.options.DumpOptions.{DumpOptions}
+use Rattle.command_line.specs.declared.options.IndexOptions.{IndexOptions}
+use Rattle.command_line.specs.declared.options.PagesOptions.{PagesOptions}
+use Rattle.command_line.specs.declared.options.SnapshotOptions.{SnapshotOptions}
+use Rattle.command_line.specs.declared.options.WordLists.{WordLists}
+pub mod Accept
+pub mod CustomOptions
+pub mod Doc
+pub mod Exclude
+pub mod Explain
+pub mod Faulty
+pub mod Include
+pub mod Limits
+pub mod Links
+pub mod Only
+pub mod Package
+pub mod Positions
+pub mod ProjectRoot
+pub mod Quiet
+pub mod Report
+pub mod To
+pub mod Workers
+
+-- ---- their rules
+
+-- the lists hold the words of the options that take only listed words
+pub record AreListed (lists : WordLists) : Type 0 where
+  pub doc : texts_at lists.doc ≡ doc_words
+  pub positions : texts_at lists.positions ≡ positions_words
+  pub accept : texts_at lists.accept ≡ accept_words
+  pub custom_options : texts_at lists.custom_options ≡ custom_options_words
+  pub faulty : texts_at lists.faulty ≡ faulty_words
+  pub links : texts_at lists.links ≡ links_words
+  pub report_format : texts_at lists.report_format ≡ format_words
+
+-- the options of `index` alone
+abbrev pub own_rules : List Rule
+own_rules = quiet_rule ∷ max_skipped_rule ∷ min_sources_rule ∷ []
+
+-- those of `index` and of `shell`: on the run and on the package
+abbrev pub setting_rules : List Rule
+setting_rules = workers_rule ∷ project_root_rule ∷ manager_rule ∷ package_rule ∷ release_rule ∷ []
+
+-- on what is indexed
+abbrev pub choice_rules : WordLists → List Rule
+choice_rules lists = only_rule ∷ doc_rule lists.doc ∷ include_rule ∷ include_package_rule ∷ []
+
+-- on how it is read
+abbrev pub reading_rules : WordLists → List Rule
+reading_rules lists = positions_rule lists.positions
+    ∷ accept_rule lists.accept
+    ∷ custom_options_rule lists.custom_options
+    ∷ faulty_rule lists.faulty
+    ∷ explain_rule
+    ∷ []
+
+-- on how folders are searched, and on the report
+abbrev pub search_rules : WordLists → List Rule
+search_rules lists = exclude_rule ∷ links_rule lists.links ∷ report_rule ∷ format_rule lists.report_format ∷ []
+
+-- all of them
+abbrev pub tree_rules : WordLists → List Rule
+tree_rules lists = setting_rules ++ (choice_rules lists ++ (reading_rules lists ++ search_rules lists))
+
+-- ---- what they say
+
+-- the options of `index` and of `shell` are those that the rows give, each by its name
+pub record Carries (rows : List Row) (options : IndexOptions) : Type 0 where
+  pub root : string_bytes options.root ≡ text_of (codes "ROOT") rows
+  pub workers : options.workers ≡ workers_of rows
+  pub project_root : string_bytes options.project_root ≡ project_root_of rows
+  pub manager : string_bytes options.manager ≡ manager_of rows
+  pub «package» : string_bytes options.«package» ≡ package_of rows
+  pub release : string_bytes options.release ≡ release_of rows
+  pub only : option_map string_bytes options.only ≡ only_of rows
+  pub doc : options.doc ≡ doc_of rows
+  pub include : map string_bytes options.include.items ≡ include_of rows
+  pub include_packages : map folder_of options.include_packages.items ≡ package_folders_of rows
+  pub encoding : options.encoding ≡ encoding_of rows
+  pub dialect : options.dialect ≡ dialect_of rows
+  pub faulty : options.faulty ≡ faulty_of rows
+  pub explain : options.explain ≡ explains_in rows
+  pub exclude : map string_bytes options.exclude.items ≡ exclude_of rows
+  pub links : options.links ≡ links_of rows
+  pub report : CarriesReport rows options.report
+
+-- and so those of `dump`
+pub record CarriesDump (rows : List Row) (options : DumpOptions) : Type 0 where
+  pub dialect : options.dialect ≡ dialect_of rows
+  pub explain : options.explain ≡ explains_in rows
+
+-- and those of `snapshot`
+pub record CarriesSnapshot (rows : List Row) (options : SnapshotOptions) : Type 0 where
+  pub index : string_bytes options.index ≡ text_of (codes "INDEX") rows
+  pub root : string_bytes options.root ≡ text_of (codes "ROOT") rows
+  pub to : option_map string_bytes options.to ≡ to_of rows
+  pub explain : options.explain ≡ explains_in rows
+
+-- and those of `pages`
+pub record CarriesPages (rows : List Row) (options : PagesOptions) : Type 0 where
+  pub index : string_bytes options.index ≡ text_of (codes "INDEX") rows
+  pub root : string_bytes options.root ≡ text_of (codes "ROOT") rows
+  pub out : string_bytes options.out ≡ text_of (codes "OUT") rows
+  pub explain : options.explain ≡ explains_in rows

@@ -1,6 +1,6 @@
 -- How a dump ends.
 use Rattle.std.proofs.Common.{ℕ, Bool, ◌&&◌, List, [], Option, Some, None, Err, subst}
-use Rattle.proto_parse.specs.tree.Dialect.{Dialect}
+use Rattle.proto_parse.specs.dialect.Dialect.{Dialect}
 use Rattle.source_tree.specs.Files.{TreeFile}
 use Rattle.source_tree.specs.Reading.{kept_bytes}
 use Rattle.scip_snapshot.specs.Showing.{Writer}

@@ -2,7 +2,7 @@
 -- `remaining` is the reader's, and `reader` it before the call; `messages` is the stream of messages. `closed` says
 -- whether the last write failed because its reader has closed the pipe.
 use Rattle.std.specs.Prelude.{◌≡◌, ℕ, ◌&&◌, Bool, true, false, List, Option, Some, Result, Ok, Err}
-use Rattle.proto_parse.specs.tree.Dialect.{Dialect}
+use Rattle.proto_parse.specs.dialect.Dialect.{Dialect}
 use Rattle.source_tree.specs.Reading.{kept_bytes}
 use Rattle.scip_snapshot.specs.Showing.{Writer}
 use Rattle.source_tree.specs.Files.{TreeFile}

@@ -5,7 +5,7 @@ use Rattle.std.specs.Prelude.{codes, if◌then◌else◌, nat_lt}
 use Rattle.std.specs.Fmt.{decimal}
 use Rattle.std.specs.List.{count_by}
 use Rattle.std.specs.Option.{option_or}
-use Rattle.proto_parse.specs.tree.Dialect.{Dialect}
+use Rattle.proto_parse.specs.dialect.Dialect.{Dialect}
 use Rattle.source_tree.specs.Files.{TreeFile}
 use Rattle.source_tree.specs.Trees.{IsSourceCount}
 use Rattle.scip_build.specs.declared.fault.BuildFault.{BuildFault}

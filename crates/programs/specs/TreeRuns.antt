@@ -2,7 +2,7 @@
 -- `lists` and `gives` are what the system of files gives, and `messages` is the stream of messages. `none_found` says
 -- which line, if any, is said of a tree whose index lacks nothing: that it has no source.
 use Rattle.std.specs.Prelude.{ℕ, List, [], ◌∷◌, Option, Result, Ok, Err}
-use Rattle.proto_parse.specs.tree.Dialect.{Dialect}
+use Rattle.proto_parse.specs.dialect.Dialect.{Dialect}
 use Rattle.source_tree.specs.Files.{TreeFile}
 use Rattle.source_tree.specs.Trees.{IsSourceCount}
 use Rattle.scip_model.specs.Packages.{Packages}

@@ -21,8 +21,9 @@ use Rattle.proto_parse.specs.Tree.{Body}
 use Rattle.proto_parse.specs.Tree.Body.{NoMore, LeafThen, BlockThen}
 use Rattle.proto_decl.specs.Names.{qualified, dotted, components_at, small_letters}
 use Rattle.proto_decl.specs.Outlines.{name_of, step_named, step_to, outline_at, inside, beside, within, scope_heading}
-use Rattle.proto_decl.specs.Outlines.{in_enum, in_head, in_leaf, in_body, in_item, package_spans, file_surrounding}
-use Rattle.proto_decl.specs.Outlines.{outlines_of}
+use Rattle.proto_decl.specs.Outlines.{in_head, package_spans, file_surrounding, outlines_of}
+use Rattle.proto_decl.specs.Walked.{in_enum, in_leaf, in_body, in_item}
+use Rattle.proto_decl.proofs.WalkedLemmas.{outlines_are}
 use Rattle.proto_decl.specs.Declares.{IsDeclaration}
 use Rattle.proto_decl.specs.Facts.{Facts, AreFactsOf}
 use Rattle.proto_decl.specs.declared.kind.DeclarationKind.{DeclarationKind}
@@ -189,12 +190,13 @@ module _ (text : List ℕ) where
       subst (λ (l : List Outline). AreIn s (outline_at text s k heading ∷ l)) (append-nil inner)
       (one s k heading i none)
 
-  values-in : (s : Surrounding) (headings : List Heading) → AreIn s (map (outline_at text s kind.Value) headings)
+  values-in : (s : Surrounding) (headings : List Heading)
+      → AreIn s (flat_map (λ (h : Heading). outline_at text s kind.Value h ∷ []) headings)
   values-in s [] = none
   values-in s (h ∷ headings) = one s kind.Value h none (values-in s headings)
 
   methods-in : (s : Surrounding) (methods : List Method)
-      → AreIn s (map (λ method. outline_at text s kind.Method method.heading) methods)
+      → AreIn s (flat_map (λ (m : Method). outline_at text s kind.Method m.heading ∷ []) methods)
   methods-in s [] = none
   methods-in s (m ∷ methods) = one s kind.Method m.heading none (methods-in s methods)
 
@@ -433,7 +435,7 @@ declarations-held number lexed file facts are named =
     let s = file_surrounding text file in
     let all : List Outline = outlines_of text file in
     let components : List (List ℕ) = component_names facts.package_name in
-    let tree : AreIn s all = items-in text s file.items in
+    let tree : AreIn s all = subst (AreIn s) (outlines_are text s file.items) (items-in text s file.items) in
     let some : AreSome components =
     names-some components (recursion_from_All (Spells Identifier) components named.of_components) in
     let same : components ≡ map (part_of text) (package_spans file.package_name) =

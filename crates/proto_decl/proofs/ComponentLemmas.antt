@@ -34,7 +34,7 @@ one_more : (t : Bool) (byte : ℕ) (parts : List (List ℕ)) (last : List ℕ) �
 one_more true byte parts last some = refl
 one_more false byte parts last some = onto_more byte parts last some
 
-pub components_some : (name : List ℕ) → 0 < length (components_of name)
+components_some : (name : List ℕ) → 0 < length (components_of name)
 components_some name = omega (arith, length-slice_split is_dot name)
 
 pub of_behind : (scope name : List ℕ) → IsPlain name

@@ -1,7 +1,7 @@
 -- The names of a file's package and those on the paths to its declarations are identifiers.
-use Rattle.std.proofs.Common.{sym, subst, ℕ, Option, Some, None, List, [], ◌∷◌, ◌++◌, map, option_to_list}
-use Rattle.std.specs.List.{All, AllZip, flat_map, slice_index_or}
-use Rattle.std.proofs.lemmas.List.Elements.{All-nil, All-cons, All-head, All-tail, All-append, All-push}
+use Rattle.std.proofs.Common.{sym, subst, ℕ, Option, Some, None, List, [], ◌∷◌, ◌++◌, option_to_list}
+use Rattle.std.specs.List.{All, AllZip, slice_index_or}
+use Rattle.std.proofs.lemmas.List.Elements.{All-nil, All-cons, All-head, All-tail, All-push}
 use Rattle.proto_lex.specs.Lexes.{Spells}
 use Rattle.proto_lex.specs.Lexed.{Lexed, IsLexed, part_of}
 use Rattle.proto_lex.specs.declared.span.Span.{Span}
@@ -11,24 +11,21 @@ use Rattle.proto_parse.specs.Lexeme.{lexemes_of}
 use Rattle.proto_parse.specs.tree.Heading.{Heading}
 use Rattle.proto_parse.specs.tree.Field.{Field}
 use Rattle.proto_parse.specs.tree.Method.{Method}
-use Rattle.proto_parse.specs.tree.Enum.{Enum}
 use Rattle.proto_parse.specs.tree.Head.{Head}
 use Rattle.proto_parse.specs.tree.Head.TheVariants as head
-use Rattle.proto_parse.specs.tree.Leaf.{Leaf}
-use Rattle.proto_parse.specs.tree.Leaf.TheVariants as leaf
 use Rattle.proto_parse.specs.tree.FileItem.{FileItem}
-use Rattle.proto_parse.specs.tree.FileItem.TheVariants as item
 use Rattle.proto_parse.specs.tree.File.{File}
-use Rattle.proto_parse.specs.Tree.{Body}
-use Rattle.proto_parse.specs.Tree.Body.{NoMore, LeafThen, BlockThen}
+use Rattle.proto_parse.specs.Parts.{Part, Placed, placed_parts, parts_in, parts_of}
+use Rattle.proto_parse.specs.Parts.Part.{BlockPart, EnumPart, ValuePart, FieldPart, MapFieldPart, ServicePart}
+use Rattle.proto_parse.specs.Parts.Part.{MethodPart}
 use Rattle.proto_parse.specs.Walk.{Mark, Among, marks_of_items, marks_of_package}
-use Rattle.proto_parse.proofs.Walk.Then.{Name, Other, each_then, names_then, type_name_then, heading_then, field_then}
-use Rattle.proto_parse.proofs.Walk.Then.{enum_then, head_then, leaf_then, body_then, method_then, item_then, items_are}
-use Rattle.proto_parse.proofs.Walk.Then.{package_is}
+use Rattle.proto_parse.proofs.PartLemmas.{flat-all, placed-all, items-around}
+use Rattle.proto_parse.proofs.Walk.Then.{Name, Other, each_then, names_then, type_name_then, field_then, head_then}
+use Rattle.proto_parse.proofs.Walk.Then.{method_then, parts_are, package_is}
 use Rattle.proto_decl.specs.Names.{components_at, small_letters}
-use Rattle.proto_decl.specs.Outlines.{step_named, step_to, outline_at, group_field, inside, beside, within}
-use Rattle.proto_decl.specs.Outlines.{scope_heading, in_enum, in_head, in_leaf, in_body, in_item}
-use Rattle.proto_decl.specs.Outlines.{file_surrounding, package_spans, outlines_of}
+use Rattle.proto_decl.specs.Outlines.{step_named, step_to, outline_at, group_field, within, scope_heading, in_head}
+use Rattle.proto_decl.specs.Outlines.{inside_part, declared_by, file_surrounding, package_spans, outlines_in}
+use Rattle.proto_decl.specs.Outlines.{outlines_of}
 use Rattle.proto_decl.specs.Declares.{IsDeclaration}
 use Rattle.proto_decl.specs.Facts.{Facts, AreFactsOf}
 use Rattle.proto_decl.specs.Ancestors.{component_names, AreNamed}
@@ -39,7 +36,8 @@ use Rattle.proto_decl.specs.declared.declaration.Outline.{Outline}
 use Rattle.proto_decl.specs.declared.declaration.Declaration.{Declaration}
 use Rattle.proto_decl.specs.declared.type_use.Component.{Component}
 use Rattle.proto_decl.specs.declared.surrounding.Surrounding.{Surrounding}
-use Rattle.proto_decl.proofs.MarkLemmas.{OfNames, of_lexemes, of_names, past_type_name, past_type}
+use Rattle.proto_decl.proofs.MarkLemmas.{OfNames, OfPartNames, of_lexemes, of_names, of_part_names, past_type_name}
+use Rattle.proto_decl.proofs.MarkLemmas.{past_type}
 use Rattle.proto_decl.proofs.SmallLemmas.{identifier_small}
 
 -- the names on a path are identifiers
@@ -66,22 +64,6 @@ module _ (text : List ℕ) where
       → Ident heading.name → OnPath (path ++ step_to text kind heading ∷ [])
   farther path kind heading on_path name = All-push IsSpelled path (step_to text kind heading) on_path name
 
-  each_on : {A : Type 0} (marks_then : A → List Mark → List Mark) (heading : A → Heading) (kind : DeclarationKind)
-      (surrounding : Surrounding) → OnPath surrounding.path
-      → ((x : A) (marks : List Mark) → OfNames Ident (marks_then x marks)
-      → Ident (heading x).name × OfNames Ident marks)
-      → (xs : List A) (marks : List Mark) → OfNames Ident (each_then marks_then xs marks)
-      → AreOnPaths (map (λ x. outline_at text surrounding kind (heading x)) xs) × OfNames Ident marks
-  each_on marks_then heading kind surrounding on_path has [] marks h = (All-nil IsOnPath, h)
-  each_on marks_then heading kind surrounding on_path has (x ∷ xs) marks h =
-      let first = has x (each_then marks_then xs marks) h in
-      let others = each_on marks_then heading kind surrounding on_path has xs marks first.1 in (
-        All-cons IsOnPath (outline_at text surrounding kind (heading x))
-            (map (λ y. outline_at text surrounding kind (heading y)) xs)
-            (farther surrounding.path kind (heading x) on_path first.0) others.0,
-        others.1,
-      )
-
   field_on : (field : Field) (marks : List Mark) → OfNames Ident (field_then field marks)
       → Ident field.heading.name × OfNames Ident marks
   field_on field marks h = let behind =
@@ -95,32 +77,6 @@ module _ (text : List ℕ) where
     past_type_name Ident method.output (Other method.heading.closing ∷ marks)
         (past_type_name Ident method.input (type_name_then method.output (Other method.heading.closing ∷ marks)) h.1),
   )
-
-  enum_on : (surrounding : Surrounding) (enum : Enum) (marks : List Mark) → OnPath surrounding.path
-      → OfNames Ident (enum_then enum marks) → AreOnPaths (in_enum text surrounding enum) × OfNames Ident marks
-  enum_on surrounding enum marks on_path h =
-      let self = farther surrounding.path kind.Enum enum.heading on_path h.0 in
-      let values = each_on heading_then (λ (value : Heading). value) kind.Value
-      (beside text surrounding kind.Enum enum.heading) self (λ value rest all. (all.0, all.1)) enum.values marks h.1
-      in
-      (All-cons IsOnPath _ _ self values.0, values.1)
-
-  leaf_on : (surrounding : Surrounding) (leaf : Leaf) (marks : List Mark) → OnPath surrounding.path
-      → OfNames Ident (leaf_then leaf marks) → AreOnPaths (in_leaf text surrounding leaf) × OfNames Ident marks
-  leaf_on surrounding (leaf.Enum enum) marks on_path h = enum_on surrounding enum marks on_path h
-  leaf_on surrounding (leaf.Field field) marks on_path h =
-      let name = field_on field marks h in (
-        All-cons IsOnPath (outline_at text surrounding kind.Field field.heading) []
-            (farther surrounding.path kind.Field field.heading on_path name.0) (All-nil IsOnPath),
-        name.1,
-      )
-  leaf_on surrounding (leaf.MapField field) marks on_path h =
-      let behind = past_type Ident field.value
-      (Name field.heading.name ∷ (Other field.heading.closing ∷ marks)) h.1 in (
-        All-cons IsOnPath (outline_at text surrounding kind.Field field.heading) []
-            (farther surrounding.path kind.Field field.heading on_path behind.0) (All-nil IsOnPath),
-        behind.1,
-      )
 
   -- what a block declares, and the path to what is in it
   head_on : (surrounding : Surrounding) (head : Head) (marks : List Mark) → OnPath surrounding.path
@@ -151,50 +107,48 @@ module _ (text : List ℕ) where
   head_on surrounding (head.Extend type) marks on_path h =
       (All-nil IsOnPath, on_path, past_type_name Ident type marks h)
 
-  body_on : (surrounding : Surrounding) (body : Body) (marks : List Mark) → OnPath surrounding.path
-      → OfNames Ident (body_then body marks) → AreOnPaths (in_body text surrounding body) × OfNames Ident marks
-  body_on surrounding NoMore marks on_path h = (All-nil IsOnPath, h)
-  body_on surrounding (LeafThen leaf others) marks on_path h =
-      let first = leaf_on surrounding leaf (body_then others marks) on_path h in
-      let rest = body_on surrounding others marks on_path first.1 in
-      (All-append IsOnPath (in_leaf text surrounding leaf) (in_body text surrounding others) first.0 rest.0, rest.1)
-  body_on surrounding (BlockThen head inner others) marks on_path h =
-      let around = within text surrounding (scope_heading head) in
-      let first = head_on surrounding head (body_then inner (body_then others marks)) on_path h in
-      let below = body_on around inner (body_then others marks) first.1 first.2 in
-      let rest = body_on surrounding others marks on_path below.1 in (
-        All-append IsOnPath (in_head text surrounding head)
-            (in_body text around inner ++ in_body text surrounding others)
-            first.0 (All-append IsOnPath (in_body text around inner) (in_body text surrounding others) below.0 rest.0),
-        rest.1,
-      )
+  alone_on : (surrounding : Surrounding) (kind : DeclarationKind) (heading : Heading) → OnPath surrounding.path
+      → Ident heading.name → AreOnPaths (outline_at text surrounding kind heading ∷ [])
+  alone_on surrounding kind heading on_path name =
+      All-cons IsOnPath (outline_at text surrounding kind heading) []
+      (farther surrounding.path kind heading on_path name) (All-nil IsOnPath)
 
-  item_on : (surrounding : Surrounding) (item : FileItem) (marks : List Mark) → OnPath surrounding.path
-      → OfNames Ident (item_then item marks) → AreOnPaths (in_item text surrounding item) × OfNames Ident marks
-  item_on surrounding (item.Block block) marks on_path h =
-      let around = within text surrounding (scope_heading block.head) in
-      let first = head_on surrounding block.head (body_then block.body marks) on_path h in
-      let below = body_on around block.body marks first.1 first.2 in (
-        All-append IsOnPath (in_head text surrounding block.head) (in_body text around block.body) first.0 below.0,
-        below.1,
-      )
-  item_on surrounding (item.Enum enum) marks on_path h = enum_on surrounding enum marks on_path h
-  item_on surrounding (item.Service service) marks on_path h =
-      let self = farther surrounding.path kind.Service service.heading on_path h.0 in
-      let methods = each_on method_then (λ (method : Method). method.heading) kind.Method
-      (inside text surrounding kind.Service service.heading) self method_on service.methods marks h.1 in
-      (All-cons IsOnPath _ _ self methods.0, methods.1)
+  part_on : (surrounding : Surrounding) (part : Part) → OnPath surrounding.path → OfPartNames Ident part
+      → AreOnPaths (declared_by text surrounding part)
+  part_on surrounding (BlockPart head) on_path h = (head_on surrounding head [] on_path h).0
+  part_on surrounding (EnumPart heading) on_path h = alone_on surrounding kind.Enum heading on_path h.0
+  part_on surrounding (ValuePart heading) on_path h = alone_on surrounding kind.Value heading on_path h.0
+  part_on surrounding (FieldPart field) on_path h =
+      alone_on surrounding kind.Field field.heading on_path (field_on field [] h).0
+  part_on surrounding (MapFieldPart field) on_path h =
+      alone_on surrounding kind.Field field.heading on_path
+      (past_type Ident field.value (Name field.heading.name ∷ (Other field.heading.closing ∷ [])) h.1).0
+  part_on surrounding (ServicePart heading) on_path h = alone_on surrounding kind.Service heading on_path h.0
+  part_on surrounding (MethodPart method) on_path h =
+      alone_on surrounding kind.Method method.heading on_path (method_on method [] h).0
 
-  items_on : (surrounding : Surrounding) (items : List FileItem) (marks : List Mark) → OnPath surrounding.path
-      → OfNames Ident (each_then item_then items marks)
-      → AreOnPaths (flat_map (in_item text surrounding) items) × OfNames Ident marks
-  items_on surrounding [] marks on_path h = (All-nil IsOnPath, h)
-  items_on surrounding (item ∷ items) marks on_path h =
-      let first = item_on surrounding item (each_then item_then items marks) on_path h in
-      let rest = items_on surrounding items marks on_path first.1 in (
-        All-append IsOnPath (in_item text surrounding item) (flat_map (in_item text surrounding) items) first.0 rest.0,
-        rest.1,
-      )
+  inside_on : (surrounding : Surrounding) (part : Part) → OnPath surrounding.path → OfPartNames Ident part
+      → OnPath (inside_part text surrounding part).path
+  inside_on surrounding (BlockPart head) on_path h = (head_on surrounding head [] on_path h).1
+  inside_on surrounding (EnumPart heading) on_path h = farther surrounding.path kind.Enum heading on_path h.0
+  inside_on surrounding (ValuePart heading) on_path h = on_path
+  inside_on surrounding (FieldPart field) on_path h = on_path
+  inside_on surrounding (MapFieldPart field) on_path h = on_path
+  inside_on surrounding (ServicePart heading) on_path h = farther surrounding.path kind.Service heading on_path h.0
+  inside_on surrounding (MethodPart method) on_path h = on_path
+
+  items_on : (surrounding : Surrounding) (items : List FileItem) → OnPath surrounding.path
+      → All (OfPartNames Ident) (parts_in items) → AreOnPaths (outlines_in text surrounding items)
+  items_on surrounding items on_path names =
+      let around = items-around (inside_part text) (declared_by text)
+      (λ (s : Surrounding). OnPath s.path) (OfPartNames Ident) (λ (o : Outline). Unit {0})
+      (λ s part here h known. inside_on s part here h) surrounding items on_path names (λ k d h. tt) in
+      let each = placed-all (inside_part text) (OfPartNames Ident) surrounding items names in
+      flat-all (λ (p : Placed Surrounding). declared_by text p.around p.part)
+      (λ (p : Placed Surrounding). OnPath p.around.path × OfPartNames Ident p.part) (λ (o : Outline). Unit {0}) IsOnPath
+      (λ p both known. part_on p.around p.part both.0 both.1)
+      (placed_parts (inside_part text) surrounding items)
+      (λ k d h. (around k d h, each k d h)) (λ k d h. tt)
 
   components_on : (names : List Span) (marks : List Mark) → OfNames Ident (names_then names marks)
       → All (Spells Identifier) (component_names (components_at text names))
@@ -238,6 +192,7 @@ facts_named number lexed file facts is of_file items package_name = record {
       (package_on lexed.text file.package_name
       (subst (OfNames (Ident lexed.text)) (sym (package_is file)) (identifiers lexed is package_name)));
   of_steps = declared_on lexed (outlines_of lexed.text file) facts.declarations of_file.declarations
-      (items_on lexed.text (file_surrounding lexed.text file) file.items [] (All-nil IsSpelled)
-      (subst (OfNames (Ident lexed.text)) (sym (items_are file.items)) (identifiers lexed is items))).0;
+      (items_on lexed.text (file_surrounding lexed.text file) file.items (All-nil IsSpelled)
+      (of_part_names (Ident lexed.text) (parts_of file)
+      (subst (OfNames (Ident lexed.text)) (sym (parts_are file.items)) (identifiers lexed is items))));
 }

@@ -1,6 +1,7 @@
 pub mod AncestorLemmas
 -- Walks over a tree
 pub mod OutlineLemmas
+pub mod WalkedLemmas
 -- Lines, and what stands on them
 pub mod LineLemmas
 pub mod LineEndLemmas
@@ -23,7 +24,6 @@ pub mod PlaceLemmas
 pub mod NameLemmas
 pub mod FullNameLemmas
 pub mod SmallLemmas
-pub mod SplitLemmas
 pub mod FilledLemmas
 pub mod PartLemmas
 pub mod BoolLemmas

@@ -1,7 +1,7 @@
 -- What holds of the spans of identifiers holds of the marks of names.
-use Rattle.std.proofs.Common.{◌≡◌, ℕ, Option, Some, None, List, [], ◌∷◌}
+use Rattle.std.proofs.Common.{◌≡◌, ◌∙◌, sym, subst, append-nil, ℕ, Option, Some, None, List, [], ◌∷◌, ◌++◌}
 use Rattle.std.specs.List.{All, AllByRecursion}
-use Rattle.std.proofs.lemmas.List.Elements.{All-head, All-tail}
+use Rattle.std.proofs.lemmas.List.Elements.{All-nil, All-cons, All-head, All-tail}
 use Rattle.proto_lex.specs.declared.span.Span.{Span}
 use Rattle.proto_lex.specs.declared.token.Token.{Token}
 use Rattle.proto_lex.specs.declared.token.TokenKind.TheVariants.{Identifier}
@@ -9,10 +9,12 @@ use Rattle.proto_parse.specs.Lexeme.{Lexeme, lexemes_of}
 use Rattle.proto_parse.specs.tree.TypeName.{TypeName}
 use Rattle.proto_parse.specs.tree.FieldType.{FieldType}
 use Rattle.proto_parse.specs.tree.FieldType.TheVariants.{Scalar, Named}
-use Rattle.proto_parse.specs.Walk.{Role, Mark, Among}
+use Rattle.proto_parse.specs.Parts.{Part}
+use Rattle.proto_parse.specs.Walk.{Role, Mark, Among, part_marks}
 use Rattle.proto_parse.specs.Walk.{Role as role}
 use Rattle.proto_parse.specs.Walk.Among.{none as no_marks, skip, token}
-use Rattle.proto_parse.proofs.Walk.Then.{names_then, dot_then, type_name_then, type_then}
+use Rattle.proto_parse.proofs.Walk.Then.{each_then, names_then, dot_then, type_name_then, type_then, part_then}
+use Rattle.proto_parse.proofs.Walk.Then.{part-is}
 
 module _ (N : Span → Type 0) where
   abbrev pub WithName : Role → Span → Type 0 → Type 0
@@ -64,3 +66,30 @@ module _ (N : Span → Type 0) where
   pub past_type : (type : FieldType) (marks : List Mark) → OfNames (type_then type marks) → OfNames marks
   past_type (Scalar word) marks h = h.1
   past_type (Named name) marks h = past_type_name name marks h
+
+  -- the names of each part
+
+  with_mark : (role : Role) (span : Span) (A B : Type 0) → (A → B) → WithName role span A → WithName role span B
+  with_mark role.First span A B f h = f h
+  with_mark role.Name span A B f h = (h.0, f h.1)
+  with_mark role.Literal span A B f h = f h
+  with_mark role.Other span A B f h = f h
+
+  names-split : (marks others : List Mark) → OfNames (marks ++ others) → OfNames marks × OfNames others
+  names-split [] others h = (tt, h)
+  names-split (mark ∷ marks) others h =
+      let rest = names-split marks others (past_mark mark.role mark.span (OfNames (marks ++ others)) h) in (
+        with_mark mark.role mark.span (OfNames (marks ++ others)) (OfNames marks) (λ all. rest.0) h,
+        rest.1,
+      )
+
+  abbrev pub OfPartNames : Part → Type 0
+  OfPartNames part = OfNames (part_then part [])
+
+  pub of_part_names : (parts : List Part) → OfNames (each_then part_then parts []) → All OfPartNames parts
+  of_part_names [] h = All-nil OfPartNames
+  of_part_names (part ∷ parts) h =
+      let behind : List Mark = each_then part_then parts [] in
+      let both = names-split (part_marks part) behind (subst OfNames (part-is part behind) h) in
+      All-cons OfPartNames part parts
+      (subst OfNames (sym (part-is part [] ∙ append-nil (part_marks part))) both.0) (of_part_names parts both.1)

@@ -3,19 +3,19 @@
 -- apart from the names.
 use Rattle.std.proofs.Common.{inl, inr, sym, subst, ℕ, ◌<◌, ◌≤◌, Bool, true, false, cond, List, [], ◌∷◌, ◌++◌}
 use Rattle.std.proofs.Common.{length, map, arith}
-use Rattle.std.specs.List.{All, flat_map}
+use Rattle.std.specs.List.{All}
 use Rattle.std.proofs.lemmas.List.Elements.{All-nil, All-cons, All-head, All-tail}
 use Rattle.proto_lex.specs.declared.span.Span.{Span}
 use Rattle.proto_lex.specs.Lexed.{AreInOrder, AreApart}
 use Rattle.proto_parse.specs.tree.FileItem.{FileItem}
 use Rattle.proto_parse.specs.tree.Import.{Import}
 use Rattle.proto_parse.specs.tree.File.{File}
-use Rattle.proto_parse.specs.Walk.{Mark, is_shared, place_behind, MarksAreInOrder, names_marks, item_marks}
+use Rattle.proto_parse.specs.Walk.{Mark, is_shared, place_behind, MarksAreInOrder, names_marks, marks_in}
 use Rattle.proto_parse.specs.Walk.{marks_of_items}
 use Rattle.proto_parse.proofs.Walk.Then.{each_then, literal_then, import_then, items_are, between_are}
 use Rattle.proto_parse.specs.Filled.{FilledImport}
 use Rattle.proto_decl.specs.Imports.{start_of, end_of, imports_of}
-use Rattle.proto_decl.specs.Outlines.{in_item, file_surrounding, package_scope, outlines_of}
+use Rattle.proto_decl.specs.Outlines.{file_surrounding, outlines_in, outlines_of}
 use Rattle.proto_decl.specs.Uses.{uses_of}
 use Rattle.proto_decl.specs.Facts.{use_spans}
 use Rattle.proto_decl.specs.declared.imported.Imported.{Imported}
@@ -99,7 +99,7 @@ module _ (text : List ℕ) (file : File) where
   file_beside : MarksAreInOrder 0 (marks_of_items file)
       → AreBeside 0 (heading_names (outlines_of text file)) (use_spans (uses_of text file))
   file_beside m =
-      beside (items_picked text (package_scope text file) (file_surrounding text file) file.items []) 0
+      beside (items_picked text (file_surrounding text file) file.items []) 0
       (subst (MarksAreInOrder 0) (sym (items_are file.items)) m)
 
   pub names_in_order : MarksAreInOrder 0 (marks_of_items file) → AreInOrder 0 (heading_names (outlines_of text file))
@@ -110,11 +110,11 @@ module _ (text : List ℕ) (file : File) where
 
   -- and so are the components of its package's name between the names of the items before and those of the items behind
   pub package_in_order : (before behind : List FileItem) (components : List Span)
-      → MarksAreInOrder 0 (flat_map item_marks before ++ (names_marks components ++ flat_map item_marks behind))
-      → AreInOrder 0 (heading_names (flat_map (in_item text (file_surrounding text file)) before)
-      ++ (components ++ heading_names (flat_map (in_item text (file_surrounding text file)) behind)))
+      → MarksAreInOrder 0 (marks_in before ++ (names_marks components ++ marks_in behind))
+      → AreInOrder 0 (heading_names (outlines_in text (file_surrounding text file) before)
+      ++ (components ++ heading_names (outlines_in text (file_surrounding text file) behind)))
   package_in_order before behind components m =
-      (beside (package_picked text (package_scope text file) (file_surrounding text file) before behind components) 0
+      (beside (package_picked text (file_surrounding text file) before behind components) 0
       (subst (MarksAreInOrder 0) (sym (between_are before behind components)) m)).names_in_order
 
 -- where the marks of imports are in order, the imports are

@@ -2,7 +2,7 @@
 use Rattle.std.proofs.Common.{sym, subst, ℕ, ◌<◌, ◌≤◌, Option, Some, None, List, [], ◌∷◌, ◌++◌, length, map}
 use Rattle.std.proofs.Common.{arith}
 use Rattle.std.specs.Prelude.{IsCharBoundary}
-use Rattle.std.specs.List.{All, flat_map}
+use Rattle.std.specs.List.{All}
 use Rattle.std.proofs.lemmas.List.Elements.{All-nil, All-cons, All-head, All-tail, All-append}
 use Rattle.proto_lex.specs.declared.span.Span.{Span}
 use Rattle.proto_lex.specs.Lexed.{IsPart, AreInOrder}
@@ -11,25 +11,22 @@ use Rattle.proto_parse.specs.tree.FieldType.{FieldType}
 use Rattle.proto_parse.specs.tree.FieldType.TheVariants.{Scalar, Named}
 use Rattle.proto_parse.specs.tree.Head.{Head}
 use Rattle.proto_parse.specs.tree.Head.TheVariants as head
-use Rattle.proto_parse.specs.tree.Leaf.{Leaf}
-use Rattle.proto_parse.specs.tree.Leaf.TheVariants as leaf
-use Rattle.proto_parse.specs.tree.Method.{Method}
 use Rattle.proto_parse.specs.tree.Import.{Import}
-use Rattle.proto_parse.specs.tree.FileItem.{FileItem}
-use Rattle.proto_parse.specs.tree.FileItem.TheVariants as item
 use Rattle.proto_parse.specs.tree.File.{File}
-use Rattle.proto_parse.specs.Tree.{Body}
-use Rattle.proto_parse.specs.Tree.Body.{NoMore, LeafThen, BlockThen}
+use Rattle.proto_parse.specs.Parts.{Part, Placed, placed_parts, parts_of, types_of, named_by, extended_by}
+use Rattle.proto_parse.specs.Parts.Part.{BlockPart, EnumPart, ValuePart, FieldPart, MapFieldPart, ServicePart}
+use Rattle.proto_parse.specs.Parts.Part.{MethodPart}
 use Rattle.proto_parse.specs.Filled.{FilledImport}
-use Rattle.proto_decl.specs.Names.{qualified, components_at}
-use Rattle.proto_decl.specs.Spans.{OfTypeName, OfType, OfHead, OfLeaf, OfBody, OfMethod, OfItem, OfPackage}
+use Rattle.proto_parse.proofs.PartLemmas.{flat-all, placed-all}
+use Rattle.proto_decl.specs.Names.{components_at}
+use Rattle.proto_decl.specs.Spans.{OfTypeName, OfType, OfHead, OfPart, OfPackage}
 use Rattle.proto_decl.specs.Imports.{start_of, end_of, imports_of}
-use Rattle.proto_decl.specs.Outlines.{name_of, scope_heading, package_scope, package_spans}
-use Rattle.proto_decl.specs.Uses.{use_of, uses_of_type, uses_in_leaf, uses_in_head, scope_within, uses_in_body}
-use Rattle.proto_decl.specs.Uses.{uses_of_method, uses_in_item, uses_of}
+use Rattle.proto_decl.specs.Outlines.{inside_part, file_surrounding, package_spans}
+use Rattle.proto_decl.specs.Uses.{use_of, used_by, uses_of}
 use Rattle.proto_decl.specs.Facts.{component_spans, name_spans, use_spans}
 use Rattle.proto_decl.specs.Laws.{IsNamedAt}
 use Rattle.proto_decl.specs.declared.declaration.Declaration.{Declaration}
+use Rattle.proto_decl.specs.declared.surrounding.Surrounding.{Surrounding}
 use Rattle.proto_decl.specs.declared.type_use.Use.{Use}
 use Rattle.proto_decl.specs.declared.imported.Imported.{Imported}
 use Rattle.proto_decl.proofs.PickLemmas.{spans_of_components}
@@ -47,56 +44,36 @@ module _ (text : List ℕ) where
   name_part : (scope : List ℕ) (name : TypeName) → OfTypeName (IsPart text) name → OfUse (use_of text scope name)
   name_part scope name h = components_part name.components h.1
 
-  type_part : (scope : List ℕ) (type : FieldType) → OfType (IsPart text) type → All OfUse (uses_of_type text scope type)
-  type_part scope (Scalar word) h = All-nil OfUse
-  type_part scope (Named name) h = All-cons OfUse (use_of text scope name) [] (name_part scope name h) (All-nil OfUse)
+  types_part : (scope : List ℕ) (names : List TypeName) → All (OfTypeName (IsPart text)) names
+      → All OfUse (map (use_of text scope) names)
+  types_part scope [] all = All-nil OfUse
+  types_part scope (name ∷ names) all =
+      All-cons OfUse (use_of text scope name) (map (use_of text scope) names)
+      (name_part scope name (All-head (OfTypeName (IsPart text)) name names all))
+      (types_part scope names (All-tail (OfTypeName (IsPart text)) name names all))
 
-  flat_part : {A : Type 0} (f : A → List Use) (Q : A → Type 0) → ((x : A) → Q x → All OfUse (f x)) → (xs : List A)
-      → All Q xs → All OfUse (flat_map f xs)
-  flat_part f Q has [] all = All-nil OfUse
-  flat_part f Q has (x ∷ xs) all =
-      All-append OfUse (f x) (flat_map f xs) (has x (All-head Q x xs all)) (flat_part f Q has xs (All-tail Q x xs all))
+  one_name : (name : TypeName) → OfTypeName (IsPart text) name → All (OfTypeName (IsPart text)) (name ∷ [])
+  one_name name h = All-cons (OfTypeName (IsPart text)) name [] h (All-nil (OfTypeName (IsPart text)))
 
-  leaf_part : (scope : List ℕ) (leaf : Leaf) → OfLeaf (IsPart text) leaf → All OfUse (uses_in_leaf text scope leaf)
-  leaf_part scope (leaf.Enum enum) h = All-nil OfUse
-  leaf_part scope (leaf.Field field) h = type_part scope field.field_type h.1
-  leaf_part scope (leaf.MapField field) h = type_part scope field.value h.1
+  type_names : (type : FieldType) → OfType (IsPart text) type → All (OfTypeName (IsPart text)) (named_by type)
+  type_names (Scalar word) h = All-nil (OfTypeName (IsPart text))
+  type_names (Named name) h = one_name name h
 
-  head_part : (scope : List ℕ) (head : Head) → OfHead (IsPart text) head → All OfUse (uses_in_head text scope head)
-  head_part scope (head.Message heading) h = All-nil OfUse
-  head_part scope (head.Group group) h = All-nil OfUse
-  head_part scope (head.Oneof heading) h = All-nil OfUse
-  head_part scope (head.Extend type) h =
-      All-cons OfUse (use_of text scope type) [] (name_part scope type h) (All-nil OfUse)
+  head_names : (head : Head) → OfHead (IsPart text) head → All (OfTypeName (IsPart text)) (extended_by head)
+  head_names (head.Message heading) h = All-nil (OfTypeName (IsPart text))
+  head_names (head.Group group) h = All-nil (OfTypeName (IsPart text))
+  head_names (head.Oneof heading) h = All-nil (OfTypeName (IsPart text))
+  head_names (head.Extend type) h = one_name type h
 
-  body_part : (scope : List ℕ) (body : Body) → OfBody (IsPart text) body → All OfUse (uses_in_body text scope body)
-  body_part scope NoMore h = All-nil OfUse
-  body_part scope (LeafThen leaf others) h =
-      All-append OfUse (uses_in_leaf text scope leaf) (uses_in_body text scope others) (leaf_part scope leaf h.0)
-      (body_part scope others h.1)
-  body_part scope (BlockThen head inner others) h =
-      let inner_scope = scope_within text scope (scope_heading head) in
-      All-append OfUse (uses_in_head text scope head)
-      (uses_in_body text inner_scope inner ++ uses_in_body text scope others) (head_part scope head h.0)
-      (All-append OfUse (uses_in_body text inner_scope inner) (uses_in_body text scope others)
-      (body_part inner_scope inner h.1) (body_part scope others h.2))
-
-  method_part : (scope : List ℕ) (method : Method) → OfMethod (IsPart text) method
-      → All OfUse (uses_of_method text scope method)
-  method_part scope method h =
-      All-cons OfUse (use_of text scope method.input) (use_of text scope method.output ∷ [])
-      (name_part scope method.input h.1)
-      (All-cons OfUse (use_of text scope method.output) [] (name_part scope method.output h.2) (All-nil OfUse))
-
-  item_part : (scope : List ℕ) (item : FileItem) → OfItem (IsPart text) item → All OfUse (uses_in_item text scope item)
-  item_part scope (item.Block block) h =
-      let inner_scope = scope_within text scope (scope_heading block.head) in
-      All-append OfUse (uses_in_head text scope block.head) (uses_in_body text inner_scope block.body)
-      (head_part scope block.head h.0) (body_part inner_scope block.body h.1)
-  item_part scope (item.Enum enum) h = All-nil OfUse
-  item_part scope (item.Service service) h =
-      let within = qualified scope (name_of text service.heading) in
-      flat_part (uses_of_method text within) (OfMethod (IsPart text)) (method_part within) service.methods h.1
+  part_names : (part : Part) → OfPart (IsPart text) part → All (OfTypeName (IsPart text)) (types_of part)
+  part_names (BlockPart head) h = head_names head h
+  part_names (EnumPart heading) h = All-nil (OfTypeName (IsPart text))
+  part_names (ValuePart heading) h = All-nil (OfTypeName (IsPart text))
+  part_names (FieldPart field) h = type_names field.field_type h.1
+  part_names (MapFieldPart field) h = type_names field.value h.1
+  part_names (ServicePart heading) h = All-nil (OfTypeName (IsPart text))
+  part_names (MethodPart method) h =
+      All-cons (OfTypeName (IsPart text)) method.input (method.output ∷ []) h.1 (one_name method.output h.2)
 
   all_parts : (uses : List Use) → All OfUse uses → All (IsPart text) (use_spans uses)
   all_parts [] all = All-nil (IsPart text)
@@ -104,12 +81,16 @@ module _ (text : List ℕ) where
       All-append (IsPart text) (component_spans used.components) (use_spans uses) (All-head OfUse used uses all)
       (all_parts uses (All-tail OfUse used uses all))
 
-  pub uses_part : (file : File) → All (OfItem (IsPart text)) file.items
+  pub uses_part : (file : File) → All (OfPart (IsPart text)) (parts_of file)
       → All (IsPart text) (use_spans (uses_of text file))
   uses_part file h =
+      let surrounding = file_surrounding text file in
       all_parts (uses_of text file)
-      (flat_part (uses_in_item text (package_scope text file)) (OfItem (IsPart text))
-      (item_part (package_scope text file)) file.items h)
+      (flat-all (λ (p : Placed Surrounding). used_by text p.around p.part)
+      (λ (p : Placed Surrounding). OfPart (IsPart text) p.part) (λ used. Unit {0}) OfUse
+      (λ p of_part known. types_part p.around.scope (types_of p.part) (part_names p.part of_part))
+      (placed_parts (inside_part text) surrounding file.items)
+      (placed-all (inside_part text) (OfPart (IsPart text)) surrounding file.items h) (λ k d h. tt))
 
   package_part_by : (name : Option (List Span)) → OfPackage (IsPart text) name → All (IsPart text) (package_spans name)
   package_part_by None h = All-nil (IsPart text)

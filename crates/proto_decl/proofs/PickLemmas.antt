@@ -26,11 +26,14 @@ use Rattle.proto_parse.specs.Walk.{Mark}
 use Rattle.proto_parse.proofs.Walk.Then.{Name, Other, each_then, names_then, dot_then, type_name_then, type_then}
 use Rattle.proto_parse.proofs.Walk.Then.{heading_then, field_then, map_field_then, enum_then, head_then, leaf_then}
 use Rattle.proto_parse.proofs.Walk.Then.{body_then, block_then, method_then, service_then, item_then}
-use Rattle.proto_decl.specs.Names.{qualified, components_at}
-use Rattle.proto_decl.specs.Outlines.{name_of, outline_at, inside, beside, within, scope_heading, in_enum, in_head}
-use Rattle.proto_decl.specs.Outlines.{in_leaf, in_body, in_block, in_service, in_item}
-use Rattle.proto_decl.specs.Uses.{use_of, uses_of_type, uses_in_leaf, uses_in_head, scope_within, uses_in_body}
-use Rattle.proto_decl.specs.Uses.{uses_of_method, uses_in_block, uses_in_service, uses_in_item}
+use Rattle.proto_parse.specs.Parts.Part.{ValuePart, MethodPart}
+use Rattle.proto_decl.specs.Names.{components_at}
+use Rattle.proto_decl.specs.Outlines.{inside, beside, within, scope_heading, in_head, declared_by, outlines_in}
+use Rattle.proto_decl.specs.Uses.{use_of, uses_in}
+use Rattle.proto_decl.specs.Walked.{in_enum, in_leaf, in_body, in_block, in_service, in_item, uses_of_type}
+use Rattle.proto_decl.specs.Walked.{uses_of_head, uses_of_method, uses_in_leaf, uses_in_body, uses_in_block}
+use Rattle.proto_decl.specs.Walked.{uses_in_service, uses_in_item}
+use Rattle.proto_decl.proofs.WalkedLemmas.{outlines_are, uses_are, enum_uses_none}
 use Rattle.proto_decl.specs.Facts.{use_spans}
 use Rattle.proto_decl.specs.declared.kind.DeclarationKind.TheVariants as kind
 use Rattle.proto_decl.specs.declared.declaration.Outline.{Outline}
@@ -76,11 +79,6 @@ each_picked marks_then names components picked (x ∷ xs) behind =
 -- where the declared names stand
 abbrev pub heading_names : List Outline → List Span
 heading_names outlines = map (λ (outline : Outline). outline.heading.name) outlines
-
-names_each : {A : Type 0} (k : A → Outline) (xs : List A)
-    → flat_map (λ x. (k x).heading.name ∷ []) xs ≡ heading_names (map k xs)
-names_each k [] = refl
-names_each k (x ∷ xs) = ap (λ ys. (k x).heading.name ∷ ys) (names_each k xs)
 
 names_flat : {A : Type 0} (k : A → List Outline) (xs : List A)
     → flat_map (λ x. heading_names (k x)) xs ≡ heading_names (flat_map k xs)
@@ -168,104 +166,107 @@ map_field_picked text scope field behind =
 enum_picked : (text : List ℕ) (surrounding : Surrounding) (enum : Enum) (behind : List Mark)
     → Picked (enum_then enum behind) (heading_names (in_enum text surrounding enum)) [] behind
 enum_picked text surrounding enum behind =
+    let around = beside text surrounding kind.Enum enum.heading in
     join (heading_picked enum.heading _)
-    (retyped (names_each (outline_at text (beside text surrounding kind.Enum enum.heading) kind.Value) enum.values)
+    (retyped (names_flat (λ (value : Heading). declared_by text around (ValuePart value)) enum.values)
     (none_each enum.values)
     (each_picked heading_then (λ (value : Heading). value.name ∷ []) no_spans heading_picked enum.values behind))
 
-head_picked : (text scope : List ℕ) (surrounding : Surrounding) (head : Head) (behind : List Mark)
+head_picked : (text : List ℕ) (surrounding : Surrounding) (head : Head) (behind : List Mark)
     → Picked (head_then head behind) (heading_names (in_head text surrounding head))
-    (use_spans (uses_in_head text scope head)) behind
-head_picked text scope surrounding (head.Message heading) behind = heading_picked heading behind
-head_picked text scope surrounding (head.Group group) behind = skip (a_name (a_name (skip none)))
-head_picked text scope surrounding (head.Oneof heading) behind = heading_picked heading behind
-head_picked text scope surrounding (head.Extend type) behind = type_name_picked text scope type behind
+    (use_spans (uses_of_head text surrounding head)) behind
+head_picked text surrounding (head.Message heading) behind = heading_picked heading behind
+head_picked text surrounding (head.Group group) behind = skip (a_name (a_name (skip none)))
+head_picked text surrounding (head.Oneof heading) behind = heading_picked heading behind
+head_picked text surrounding (head.Extend type) behind = type_name_picked text surrounding.scope type behind
 
-leaf_picked : (text scope : List ℕ) (surrounding : Surrounding) (leaf : Leaf) (behind : List Mark)
+leaf_picked : (text : List ℕ) (surrounding : Surrounding) (leaf : Leaf) (behind : List Mark)
     → Picked (leaf_then leaf behind) (heading_names (in_leaf text surrounding leaf))
-    (use_spans (uses_in_leaf text scope leaf)) behind
-leaf_picked text scope surrounding (leaf.Enum enum) behind = enum_picked text surrounding enum behind
-leaf_picked text scope surrounding (leaf.Field field) behind = field_picked text scope field behind
-leaf_picked text scope surrounding (leaf.MapField field) behind = map_field_picked text scope field behind
+    (use_spans (uses_in_leaf text surrounding leaf)) behind
+leaf_picked text surrounding (leaf.Enum enum) behind =
+    retyped refl (sym (ap use_spans (enum_uses_none text surrounding enum)))
+    (enum_picked text surrounding enum behind)
+leaf_picked text surrounding (leaf.Field field) behind = field_picked text surrounding.scope field behind
+leaf_picked text surrounding (leaf.MapField field) behind = map_field_picked text surrounding.scope field behind
 
-body_picked : (text scope : List ℕ) (surrounding : Surrounding) (body : Body) (behind : List Mark)
+body_picked : (text : List ℕ) (surrounding : Surrounding) (body : Body) (behind : List Mark)
     → Picked (body_then body behind) (heading_names (in_body text surrounding body))
-    (use_spans (uses_in_body text scope body)) behind
-body_picked text scope surrounding NoMore behind = none
-body_picked text scope surrounding (LeafThen leaf others) behind =
+    (use_spans (uses_in_body text surrounding body)) behind
+body_picked text surrounding NoMore behind = none
+body_picked text surrounding (LeafThen leaf others) behind =
     retyped (names-append (in_leaf text surrounding leaf) (in_body text surrounding others))
-    (components-append (uses_in_leaf text scope leaf) (uses_in_body text scope others))
-    (join (leaf_picked text scope surrounding leaf _) (body_picked text scope surrounding others behind))
-body_picked text scope surrounding (BlockThen head inner others) behind =
-    let inner_scope = scope_within text scope (scope_heading head) in
+    (components-append (uses_in_leaf text surrounding leaf) (uses_in_body text surrounding others))
+    (join (leaf_picked text surrounding leaf _) (body_picked text surrounding others behind))
+body_picked text surrounding (BlockThen head inner others) behind =
     let around = within text surrounding (scope_heading head) in
     retyped (ap (λ (names : List Span). heading_names (in_head text surrounding head) ++ names)
     (names-append (in_body text around inner) (in_body text surrounding others))
     ∙ names-append (in_head text surrounding head) (in_body text around inner ++ in_body text surrounding others))
-    (ap (λ (spans : List Span). use_spans (uses_in_head text scope head) ++ spans)
-    (components-append (uses_in_body text inner_scope inner) (uses_in_body text scope others))
-    ∙ components-append (uses_in_head text scope head)
-    (uses_in_body text inner_scope inner ++ uses_in_body text scope others))
-    (join (head_picked text scope surrounding head _)
-    (join (body_picked text inner_scope around inner _) (body_picked text scope surrounding others behind)))
+    (ap (λ (spans : List Span). use_spans (uses_of_head text surrounding head) ++ spans)
+    (components-append (uses_in_body text around inner) (uses_in_body text surrounding others))
+    ∙ components-append (uses_of_head text surrounding head)
+    (uses_in_body text around inner ++ uses_in_body text surrounding others))
+    (join (head_picked text surrounding head _)
+    (join (body_picked text around inner _) (body_picked text surrounding others behind)))
 
-block_picked : (text scope : List ℕ) (surrounding : Surrounding) (block : BlockTree) (behind : List Mark)
+block_picked : (text : List ℕ) (surrounding : Surrounding) (block : BlockTree) (behind : List Mark)
     → Picked (block_then block behind) (heading_names (in_block text surrounding block))
-    (use_spans (uses_in_block text scope block)) behind
-block_picked text scope surrounding block behind =
-    let inner_scope = scope_within text scope (scope_heading block.head) in
+    (use_spans (uses_in_block text surrounding block)) behind
+block_picked text surrounding block behind =
     let around = within text surrounding (scope_heading block.head) in
     retyped (names-append (in_head text surrounding block.head) (in_body text around block.body))
-    (components-append (uses_in_head text scope block.head) (uses_in_body text inner_scope block.body))
-    (join (head_picked text scope surrounding block.head _)
-    (body_picked text inner_scope around block.body behind))
+    (components-append (uses_of_head text surrounding block.head) (uses_in_body text around block.body))
+    (join (head_picked text surrounding block.head _) (body_picked text around block.body behind))
 
-method_picked : (text scope : List ℕ) (method : Method) (behind : List Mark)
+method_picked : (text : List ℕ) (surrounding : Surrounding) (method : Method) (behind : List Mark)
     → Picked (method_then method behind) (method.heading.name ∷ [])
-    (use_spans (uses_of_method text scope method)) behind
-method_picked text scope method behind =
+    (use_spans (uses_of_method text surrounding method)) behind
+method_picked text surrounding method behind =
+    let scope = surrounding.scope in
     skip (a_name (retyped refl
     (append-nil _ ∙ components-append (use_of text scope method.input ∷ []) (use_of text scope method.output ∷ []))
     (join (join (type_name_picked text scope method.input _) (type_name_picked text scope method.output _))
     (skip none))))
 
-service_picked : (text scope : List ℕ) (surrounding : Surrounding) (service : Service) (behind : List Mark)
+service_picked : (text : List ℕ) (surrounding : Surrounding) (service : Service) (behind : List Mark)
     → Picked (service_then service behind) (heading_names (in_service text surrounding service))
-    (use_spans (uses_in_service text scope service)) behind
-service_picked text scope surrounding service behind =
-    let within = qualified scope (name_of text service.heading) in
+    (use_spans (uses_in_service text surrounding service)) behind
+service_picked text surrounding service behind =
+    let around = inside text surrounding kind.Service service.heading in
     join (heading_picked service.heading _)
-    (retyped (names_each (λ (method : Method). outline_at text
-    (inside text surrounding kind.Service service.heading) kind.Method method.heading) service.methods)
-    (components_flat (uses_of_method text within) service.methods)
+    (retyped (names_flat (λ (method : Method). declared_by text around (MethodPart method)) service.methods)
+    (components_flat (uses_of_method text around) service.methods)
     (each_picked method_then (λ (method : Method). method.heading.name ∷ [])
-    (λ (method : Method). use_spans (uses_of_method text within method))
-    (method_picked text within) service.methods behind))
+    (λ (method : Method). use_spans (uses_of_method text around method))
+    (method_picked text around) service.methods behind))
 
-item_picked : (text scope : List ℕ) (surrounding : Surrounding) (item : FileItem) (behind : List Mark)
+item_picked : (text : List ℕ) (surrounding : Surrounding) (item : FileItem) (behind : List Mark)
     → Picked (item_then item behind) (heading_names (in_item text surrounding item))
-    (use_spans (uses_in_item text scope item)) behind
-item_picked text scope surrounding (item.Block block) behind = block_picked text scope surrounding block behind
-item_picked text scope surrounding (item.Enum enum) behind = enum_picked text surrounding enum behind
-item_picked text scope surrounding (item.Service service) behind = service_picked text scope surrounding service behind
+    (use_spans (uses_in_item text surrounding item)) behind
+item_picked text surrounding (item.Block block) behind = block_picked text surrounding block behind
+item_picked text surrounding (item.Enum enum) behind =
+    retyped refl (sym (ap use_spans (enum_uses_none text surrounding enum)))
+    (enum_picked text surrounding enum behind)
+item_picked text surrounding (item.Service service) behind = service_picked text surrounding service behind
 
 -- the declared names of items and the components of their uses
-pub items_picked : (text scope : List ℕ) (surrounding : Surrounding) (items : List FileItem) (behind : List Mark)
-    → Picked (each_then item_then items behind) (heading_names (flat_map (in_item text surrounding) items))
-    (use_spans (flat_map (uses_in_item text scope) items)) behind
-items_picked text scope surrounding items behind =
-    retyped (names_flat (in_item text surrounding) items) (components_flat (uses_in_item text scope) items)
+pub items_picked : (text : List ℕ) (surrounding : Surrounding) (items : List FileItem) (behind : List Mark)
+    → Picked (each_then item_then items behind) (heading_names (outlines_in text surrounding items))
+    (use_spans (uses_in text surrounding items)) behind
+items_picked text surrounding items behind =
+    retyped (names_flat (in_item text surrounding) items ∙ ap heading_names (outlines_are text surrounding items))
+    (components_flat (uses_in_item text surrounding) items ∙ ap use_spans (uses_are text surrounding items))
     (each_picked item_then (λ (item : FileItem). heading_names (in_item text surrounding item))
-    (λ (item : FileItem). use_spans (uses_in_item text scope item))
-    (item_picked text scope surrounding) items behind)
+    (λ (item : FileItem). use_spans (uses_in_item text surrounding item))
+    (item_picked text surrounding) items behind)
 
 -- and with them, as names, the components of the package's name, behind some of the items and before the others
-pub package_picked : (text scope : List ℕ) (surrounding : Surrounding) (before behind : List FileItem)
+pub package_picked : (text : List ℕ) (surrounding : Surrounding) (before behind : List FileItem)
     (components : List Span)
     → Picked (each_then item_then before (names_then components (each_then item_then behind [])))
-    (heading_names (flat_map (in_item text surrounding) before)
-    ++ (components ++ heading_names (flat_map (in_item text surrounding) behind)))
-    (use_spans (flat_map (uses_in_item text scope) before) ++ use_spans (flat_map (uses_in_item text scope) behind)) []
-package_picked text scope surrounding before behind components =
-    join (items_picked text scope surrounding before _)
-    (join (as_names components _) (items_picked text scope surrounding behind []))
+    (heading_names (outlines_in text surrounding before)
+    ++ (components ++ heading_names (outlines_in text surrounding behind)))
+    (use_spans (uses_in text surrounding before) ++ use_spans (uses_in text surrounding behind)) []
+package_picked text surrounding before behind components =
+    join (items_picked text surrounding before _)
+    (join (as_names components _) (items_picked text surrounding behind []))

@@ -3,11 +3,10 @@
 use Rattle.std.proofs.Common.{◌≡◌, ◌∙◌, sym, ap, refl, subst, ◌⊎◌, inl, inr, ℕ, ◌<◌, ◌≤◌, ◌==◌, Option, Some, None}
 use Rattle.std.proofs.Common.{List, [], ◌∷◌, ◌++◌, length, map, arith, append-nil}
 use Rattle.std.specs.Prelude.{if◌then◌else◌}
-use Rattle.std.specs.List.{All, Contains, slice_index_or, flat_map}
+use Rattle.std.specs.List.{All, Contains, slice_index_or}
 use Rattle.std.proofs.lemmas.Bool.Decides.{nat_tests}
 use Rattle.std.proofs.lemmas.List.Elements.{All-nil, All-cons, All-head, All-weaker, All-map, All-contains}
 use Rattle.std.proofs.lemmas.List.Elements.{Contains-append_left, Contains-append_right, Contains-append_cases}
-use Rattle.std.proofs.lemmas.Grind.{flat_map-append}
 use Rattle.proto_lex.specs.declared.span.Span.{Span}
 use Rattle.proto_lex.specs.declared.token.Token.{Token}
 use Rattle.proto_lex.specs.declared.token.TokenKind.{TokenKind}
@@ -19,8 +18,8 @@ use Rattle.proto_parse.specs.Filled.{FilledImport}
 use Rattle.proto_parse.specs.Walk.{Mark, Among, MarksAreInOrder, PackageIsAmongItems, marks_of_items, marks_of_imports}
 use Rattle.proto_parse.proofs.Walk.Then.{each_then, item_then, items_are, between_are}
 use Rattle.proto_decl.specs.Imports.{start_of, imported_by}
-use Rattle.proto_decl.specs.Outlines.{in_item, file_surrounding, package_scope, package_spans, outlines_of}
-use Rattle.proto_decl.specs.Uses.{uses_in_item}
+use Rattle.proto_decl.specs.Outlines.{file_surrounding, package_spans, outlines_in, outlines_of}
+use Rattle.proto_decl.specs.Uses.{uses_in}
 use Rattle.proto_decl.specs.Facts.{Facts, AreFactsOf, component_spans, use_spans}
 use Rattle.proto_decl.specs.Places.{named_spans}
 use Rattle.proto_decl.specs.declared.imported.Imported.{Imported}
@@ -29,6 +28,7 @@ use Rattle.proto_decl.proofs.MarkLemmas.{OfNames, past_mark, of_lexemes, of_name
 use Rattle.proto_decl.proofs.PickLemmas.{Picked, retyped, heading_names, spans_of_components, names-append}
 use Rattle.proto_decl.proofs.PickLemmas.{components-append, items_picked, package_picked}
 use Rattle.proto_decl.proofs.PickLemmas.Picked.{none, skip, a_name, a_component}
+use Rattle.proto_decl.proofs.WalkedLemmas.{outlines-append, uses-append}
 use Rattle.proto_decl.proofs.OrderLemmas.{beside}
 use Rattle.proto_decl.proofs.FactLemmas.{same_names}
 
@@ -127,37 +127,33 @@ module _ (number : ℕ) (lexed : Lexed) (file : File) (facts : Facts) (is : AreF
     among = subst (λ (marks : List Mark). Among marks tokens) (sym (items_are file.items)) among;
     names = heading_names (outlines_of lexed.text file);
     picked = retyped refl (sym (ap use_spans is.uses))
-        (items_picked lexed.text (package_scope lexed.text file) (file_surrounding lexed.text file) file.items []);
+        (items_picked lexed.text (file_surrounding lexed.text file) file.items []);
     all_named = λ span h. subst (λ (spans : List Span). Contains spans span) (named None e ∙ append-nil _) h;
   }
   marks_of tokens among (Some components) e place =
       let text = lexed.text in
       let surrounding = file_surrounding text file in
-      let scope = package_scope text file in
       let before = place.0 in
       let behind = place.1.0 in
       let uses : use_spans facts.uses
-      ≡ use_spans (flat_map (uses_in_item text scope) before)
-      ++ use_spans (flat_map (uses_in_item text scope) behind) =
-      ap use_spans (is.uses ∙ (ap (flat_map (uses_in_item text scope)) place.1.1.0
-      ∙ flat_map-append (uses_in_item text scope) before behind))
-      ∙ sym (components-append (flat_map (uses_in_item text scope) before) (flat_map (uses_in_item text scope) behind))
-      in
+      ≡ use_spans (uses_in text surrounding before) ++ use_spans (uses_in text surrounding behind) =
+      ap use_spans
+      (is.uses ∙ (ap (uses_in text surrounding) place.1.1.0 ∙ uses-append text surrounding before behind))
+      ∙ sym (components-append (uses_in text surrounding before) (uses_in text surrounding behind)) in
       let names : heading_names (outlines_of text file)
-      ≡ heading_names (flat_map (in_item text surrounding) before)
-      ++ heading_names (flat_map (in_item text surrounding) behind) =
-      ap heading_names (ap (flat_map (in_item text surrounding)) place.1.1.0
-      ∙ flat_map-append (in_item text surrounding) before behind)
-      ∙ sym (names-append (flat_map (in_item text surrounding) before) (flat_map (in_item text surrounding) behind)) in
+      ≡ heading_names (outlines_in text surrounding before) ++ heading_names (outlines_in text surrounding behind) =
+      ap heading_names
+      (ap (outlines_in text surrounding) place.1.1.0 ∙ outlines-append text surrounding before behind)
+      ∙ sym (names-append (outlines_in text surrounding before) (outlines_in text surrounding behind)) in
       record {
         marks = _;
         among = subst (λ (marks : List Mark). Among marks tokens) (sym (between_are before behind components))
             place.1.1.1;
         names = _;
-        picked = retyped refl (sym uses) (package_picked text scope surrounding before behind components);
+        picked = retyped refl (sym uses) (package_picked text surrounding before behind components);
         all_named = λ span h.
-            names_among (heading_names (flat_map (in_item text surrounding) before))
-            (heading_names (flat_map (in_item text surrounding) behind)) components span
+            names_among (heading_names (outlines_in text surrounding before))
+            (heading_names (outlines_in text surrounding behind)) components span
             (subst (λ (spans : List Span). Contains spans span)
             (named (Some components) e ∙ ap (λ (spans : List Span). spans ++ components) names) h);
       }

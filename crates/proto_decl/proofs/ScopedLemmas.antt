@@ -1,9 +1,9 @@
 -- Each declaration has a simple name in a scope of its file.
 use Rattle.std.proofs.Common.{◌≡◌, ◌∙◌, sym, ap, refl, subst, ℕ, ◌==◌, Bool, true, false, not, Option, Some}
 use Rattle.std.proofs.Common.{None, List, [], ◌∷◌, ◌++◌, map, arith, option_to_list}
-use Rattle.std.specs.List.{All, AllZip, Contains, flat_map, list_all}
+use Rattle.std.specs.List.{All, AllZip, Contains, list_all}
 use Rattle.std.proofs.lemmas.Bool.Decides.{nat_tests}
-use Rattle.std.proofs.lemmas.List.Elements.{All-nil, All-cons, All-head, All-tail, All-append, All-contains_itself}
+use Rattle.std.proofs.lemmas.List.Elements.{All-nil, All-cons, All-head, All-tail, All-contains_itself}
 use Rattle.std.proofs.lemmas.Bool.{and_parts}
 use Rattle.proto_lex.specs.Bytes.{is_letter, is_word}
 use Rattle.proto_lex.specs.Lexes.{Spells}
@@ -17,26 +17,25 @@ use Rattle.proto_parse.specs.Lexeme.{lexemes_of}
 use Rattle.proto_parse.specs.tree.Heading.{Heading}
 use Rattle.proto_parse.specs.tree.Field.{Field}
 use Rattle.proto_parse.specs.tree.Method.{Method}
-use Rattle.proto_parse.specs.tree.Enum.{Enum}
 use Rattle.proto_parse.specs.tree.Head.{Head}
 use Rattle.proto_parse.specs.tree.Head.TheVariants as head
-use Rattle.proto_parse.specs.tree.Leaf.{Leaf}
-use Rattle.proto_parse.specs.tree.Leaf.TheVariants as leaf
 use Rattle.proto_parse.specs.tree.FileItem.{FileItem}
-use Rattle.proto_parse.specs.tree.FileItem.TheVariants as item
 use Rattle.proto_parse.specs.tree.File.{File}
-use Rattle.proto_parse.specs.Tree.{Body}
-use Rattle.proto_parse.specs.Tree.Body.{NoMore, LeafThen, BlockThen}
+use Rattle.proto_parse.specs.Parts.{Part, Placed, placed_parts, parts_in, parts_of}
+use Rattle.proto_parse.specs.Parts.Part.{BlockPart, EnumPart, ValuePart, FieldPart, MapFieldPart, ServicePart}
+use Rattle.proto_parse.specs.Parts.Part.{MethodPart}
 use Rattle.proto_parse.specs.Walk.{Mark, Among, marks_of_items}
-use Rattle.proto_parse.proofs.Walk.Then.{Name, Other, each_then, names_then, type_name_then, heading_then, field_then}
-use Rattle.proto_parse.proofs.Walk.Then.{enum_then, head_then, leaf_then, body_then, method_then, item_then, items_are}
-use Rattle.proto_decl.proofs.MarkLemmas.{OfNames, of_lexemes, of_names, past_type_name, past_type}
+use Rattle.proto_parse.proofs.PartLemmas.{flat-all, placed-all, items-around}
+use Rattle.proto_parse.proofs.Walk.Then.{Name, Other, each_then, names_then, type_name_then, field_then, head_then}
+use Rattle.proto_parse.proofs.Walk.Then.{method_then, parts_are}
+use Rattle.proto_decl.proofs.MarkLemmas.{OfNames, OfPartNames, of_lexemes, of_names, of_part_names, past_type_name}
+use Rattle.proto_decl.proofs.MarkLemmas.{past_type}
 use Rattle.proto_decl.proofs.SmallLemmas.{simple_small}
-use Rattle.proto_decl.proofs.SplitLemmas.{all_left, all_right}
+use Rattle.proto_decl.proofs.WalkedLemmas.{outlines_are}
 use Rattle.proto_decl.specs.Names.{qualified, IsSimple, dotted, components_at, small_letters}
-use Rattle.proto_decl.specs.Outlines.{name_of, outline_at, group_field, inside, beside, within, scope_heading, in_enum}
-use Rattle.proto_decl.specs.Outlines.{in_head, in_leaf, in_body, in_item}
-use Rattle.proto_decl.specs.Outlines.{file_surrounding, package_scope, package_spans, outlines_of}
+use Rattle.proto_decl.specs.Outlines.{name_of, outline_at, group_field, within, scope_heading, in_head, inside_part}
+use Rattle.proto_decl.specs.Outlines.{declared_by, file_surrounding, package_scope, package_spans, outlines_in}
+use Rattle.proto_decl.specs.Outlines.{outlines_of}
 use Rattle.proto_decl.specs.Declares.{IsDeclaration}
 use Rattle.proto_decl.specs.Facts.{Facts, AreFactsOf}
 use Rattle.proto_decl.specs.Laws.{IsScope, StandsInScope}
@@ -103,23 +102,6 @@ module _ (text : List ℕ) (K : List ℕ → Type 0) where
   scoped surrounding kind heading known simple =
       record { scope = surrounding.scope; name = name_of text heading; simple = simple; full = refl; known = known }
 
-  -- each of a list is declared in one scope
-  each_scoped : {A : Type 0} (marks_then : A → List Mark → List Mark) (heading : A → Heading) (kind : DeclarationKind)
-      (surrounding : Surrounding) → K surrounding.scope
-      → ((x : A) (marks : List Mark) → OfNames Simple (marks_then x marks)
-      → Simple (heading x).name × OfNames Simple marks)
-      → (xs : List A) (marks : List Mark) → OfNames Simple (each_then marks_then xs marks)
-      → Scoped (map (λ x. outline_at text surrounding kind (heading x)) xs) × OfNames Simple marks
-  each_scoped marks_then heading kind surrounding known has [] marks h = (All-nil (IsScoped K), h)
-  each_scoped marks_then heading kind surrounding known has (x ∷ xs) marks h =
-      let first = has x (each_then marks_then xs marks) h in
-      let others = each_scoped marks_then heading kind surrounding known has xs marks first.1 in (
-        All-cons (IsScoped K) (outline_at text surrounding kind (heading x))
-            (map (λ y. outline_at text surrounding kind (heading y)) xs)
-            (scoped surrounding kind (heading x) known first.0) others.0,
-        others.1,
-      )
-
   field_simple : (field : Field) (marks : List Mark) → OfNames Simple (field_then field marks)
       → Simple field.heading.name × OfNames Simple marks
   field_simple field marks h = let behind =
@@ -134,35 +116,6 @@ module _ (text : List ℕ) (K : List ℕ → Type 0) where
         (past_type_name Simple method.input
         (type_name_then method.output (Other method.heading.closing ∷ marks)) h.1),
   )
-
-  enum_scoped : (surrounding : Surrounding) (enum : Enum) (marks : List Mark) → K surrounding.scope
-      → OfNames Simple (enum_then enum marks) → Scoped (in_enum text surrounding enum) × OfNames Simple marks
-  enum_scoped surrounding enum marks known h =
-      let around = beside text surrounding kind.Enum enum.heading in
-      let values = each_scoped heading_then (λ (value : Heading). value) kind.Value around known
-      (λ value rest all. (all.0, all.1)) enum.values marks h.1 in (
-        All-cons (IsScoped K) (outline_at text surrounding kind.Enum enum.heading)
-            (map (outline_at text around kind.Value) enum.values)
-            (scoped surrounding kind.Enum enum.heading known h.0) values.0,
-        values.1,
-      )
-
-  leaf_scoped : (surrounding : Surrounding) (leaf : Leaf) (marks : List Mark) → K surrounding.scope
-      → OfNames Simple (leaf_then leaf marks) → Scoped (in_leaf text surrounding leaf) × OfNames Simple marks
-  leaf_scoped surrounding (leaf.Enum enum) marks known h = enum_scoped surrounding enum marks known h
-  leaf_scoped surrounding (leaf.Field field) marks known h =
-      let name = field_simple field marks h in (
-        All-cons (IsScoped K) (outline_at text surrounding kind.Field field.heading) []
-            (scoped surrounding kind.Field field.heading known name.0) (All-nil (IsScoped K)),
-        name.1,
-      )
-  leaf_scoped surrounding (leaf.MapField field) marks known h =
-      let behind = past_type Simple field.value
-      (Name field.heading.name ∷ (Other field.heading.closing ∷ marks)) h.1 in (
-        All-cons (IsScoped K) (outline_at text surrounding kind.Field field.heading) []
-            (scoped surrounding kind.Field field.heading known behind.0) (All-nil (IsScoped K)),
-        behind.1,
-      )
 
   -- what a block declares, and the scope of what is in it
   head_scoped : (surrounding : Surrounding) (head : Head) (marks : List Mark) → K surrounding.scope
@@ -200,65 +153,49 @@ module _ (text : List ℕ) (K : List ℕ → Type 0) where
   head_scoped surrounding (head.Extend type) marks known all h =
       (All-nil (IsScoped K), known, past_type_name Simple type marks h)
 
-  body_scoped : (surrounding : Surrounding) (body : Body) (marks : List Mark) → K surrounding.scope
-      → All Known (in_body text surrounding body) → OfNames Simple (body_then body marks)
-      → Scoped (in_body text surrounding body) × OfNames Simple marks
-  body_scoped surrounding NoMore marks known all h = (All-nil (IsScoped K), h)
-  body_scoped surrounding (LeafThen leaf others) marks known all h =
-      let first = leaf_scoped surrounding leaf (body_then others marks) known h in
-      let rest = body_scoped surrounding others marks known
-      (all_right Known (in_leaf text surrounding leaf) (in_body text surrounding others) all) first.1 in
-      (All-append (IsScoped K) (in_leaf text surrounding leaf) (in_body text surrounding others) first.0 rest.0, rest.1)
-  body_scoped surrounding (BlockThen head inner others) marks known all h =
-      let around = within text surrounding (scope_heading head) in
-      let declared = in_head text surrounding head in
-      let below = in_body text around inner in
-      let later = in_body text surrounding others in
-      let behind = all_right Known declared (below ++ later) all in
-      let first = head_scoped surrounding head (body_then inner (body_then others marks)) known
-      (all_left Known declared (below ++ later) all) h in
-      let middle = body_scoped around inner (body_then others marks) first.1
-      (all_left Known below later behind) first.2 in
-      let rest = body_scoped surrounding others marks known (all_right Known below later behind) middle.1 in (
-        All-append (IsScoped K) declared (below ++ later) first.0
-            (All-append (IsScoped K) below later middle.0 rest.0),
-        rest.1,
-      )
+  alone_scoped : (surrounding : Surrounding) (kind : DeclarationKind) (heading : Heading) → K surrounding.scope
+      → Simple heading.name → Scoped (outline_at text surrounding kind heading ∷ [])
+  alone_scoped surrounding kind heading known simple =
+      All-cons (IsScoped K) (outline_at text surrounding kind heading) [] (scoped surrounding kind heading known simple)
+      (All-nil (IsScoped K))
 
-  item_scoped : (surrounding : Surrounding) (item : FileItem) (marks : List Mark) → K surrounding.scope
-      → All Known (in_item text surrounding item) → OfNames Simple (item_then item marks)
-      → Scoped (in_item text surrounding item) × OfNames Simple marks
-  item_scoped surrounding (item.Block block) marks known all h =
-      let around = within text surrounding (scope_heading block.head) in
-      let declared = in_head text surrounding block.head in
-      let below = in_body text around block.body in
-      let first = head_scoped surrounding block.head (body_then block.body marks) known
-      (all_left Known declared below all) h in
-      let middle = body_scoped around block.body marks first.1 (all_right Known declared below all) first.2 in
-      (All-append (IsScoped K) declared below first.0 middle.0, middle.1)
-  item_scoped surrounding (item.Enum enum) marks known all h = enum_scoped surrounding enum marks known h
-  item_scoped surrounding (item.Service service) marks known all h =
-      let around = inside text surrounding kind.Service service.heading in
-      let self = outline_at text surrounding kind.Service service.heading in
-      let outlines = map (λ (method : Method). outline_at text around kind.Method method.heading) service.methods in
-      let methods = each_scoped method_then (λ (method : Method). method.heading) kind.Method around
-      (All-head Known self outlines all) method_simple service.methods marks h.1 in (
-        All-cons (IsScoped K) self outlines (scoped surrounding kind.Service service.heading known h.0) methods.0,
-        methods.1,
-      )
+  part_scoped : (surrounding : Surrounding) (part : Part) → K surrounding.scope → OfPartNames Simple part
+      → All Known (declared_by text surrounding part) → Scoped (declared_by text surrounding part)
+  part_scoped surrounding (BlockPart head) known h all = (head_scoped surrounding head [] known all h).0
+  part_scoped surrounding (EnumPart heading) known h all = alone_scoped surrounding kind.Enum heading known h.0
+  part_scoped surrounding (ValuePart heading) known h all = alone_scoped surrounding kind.Value heading known h.0
+  part_scoped surrounding (FieldPart field) known h all =
+      alone_scoped surrounding kind.Field field.heading known (field_simple field [] h).0
+  part_scoped surrounding (MapFieldPart field) known h all =
+      alone_scoped surrounding kind.Field field.heading known
+      (past_type Simple field.value (Name field.heading.name ∷ (Other field.heading.closing ∷ [])) h.1).0
+  part_scoped surrounding (ServicePart heading) known h all = alone_scoped surrounding kind.Service heading known h.0
+  part_scoped surrounding (MethodPart method) known h all =
+      alone_scoped surrounding kind.Method method.heading known (method_simple method [] h).0
 
-  items_scoped : (surrounding : Surrounding) (items : List FileItem) (marks : List Mark) → K surrounding.scope
-      → All Known (flat_map (in_item text surrounding) items)
-      → OfNames Simple (each_then item_then items marks)
-      → Scoped (flat_map (in_item text surrounding) items) × OfNames Simple marks
-  items_scoped surrounding [] marks known all h = (All-nil (IsScoped K), h)
-  items_scoped surrounding (item ∷ items) marks known all h =
-      let here = in_item text surrounding item in
-      let later = flat_map (in_item text surrounding) items in
-      let first = item_scoped surrounding item (each_then item_then items marks) known (all_left Known here later all) h
-      in
-      let rest = items_scoped surrounding items marks known (all_right Known here later all) first.1 in
-      (All-append (IsScoped K) here later first.0 rest.0, rest.1)
+  inside_scoped : (surrounding : Surrounding) (part : Part) → K surrounding.scope → OfPartNames Simple part
+      → All Known (declared_by text surrounding part) → K (inside_part text surrounding part).scope
+  inside_scoped surrounding (BlockPart head) known h all = (head_scoped surrounding head [] known all h).1
+  inside_scoped surrounding (EnumPart heading) known h all = known
+  inside_scoped surrounding (ValuePart heading) known h all = known
+  inside_scoped surrounding (FieldPart field) known h all = known
+  inside_scoped surrounding (MapFieldPart field) known h all = known
+  inside_scoped surrounding (ServicePart heading) known h all =
+      All-head Known (outline_at text surrounding kind.Service heading) [] all
+  inside_scoped surrounding (MethodPart method) known h all = known
+
+  items_scoped : (surrounding : Surrounding) (items : List FileItem) → K surrounding.scope
+      → All (OfPartNames Simple) (parts_in items) → All Known (outlines_in text surrounding items)
+      → Scoped (outlines_in text surrounding items)
+  items_scoped surrounding items known names all =
+      let around = items-around (inside_part text) (declared_by text) (λ (s : Surrounding). K s.scope)
+      (OfPartNames Simple) Known inside_scoped surrounding items known names
+      (subst (λ (os : List Outline). All Known os) (sym (outlines_are text surrounding items)) all) in
+      let each = placed-all (inside_part text) (OfPartNames Simple) surrounding items names in
+      flat-all (λ (p : Placed Surrounding). declared_by text p.around p.part)
+      (λ (p : Placed Surrounding). K p.around.scope × OfPartNames Simple p.part) Known (IsScoped K)
+      (λ p both declared. part_scoped p.around p.part both.0 both.1 declared)
+      (placed_parts (inside_part text) surrounding items) (λ k d h. (around k d h, each k d h)) all
 
 -- the names of a text's marks are simple
 pub names_simple : (lexed : Lexed) → IsLexed lexed.text lexed.tokens lexed.comments → {marks : List Mark}
@@ -329,6 +266,6 @@ module _ (number : ℕ) (lexed : Lexed) (file : File) (facts : Facts) (is : AreF
       let outlines = outlines_of lexed.text file in
       let known = outlines_known outlines facts.declarations is.declarations (All-contains_itself facts.declarations) in
       declared_scoped outlines facts.declarations is.declarations
-      (items_scoped lexed.text (IsScope facts)
-      (file_surrounding lexed.text file) file.items [] package_known known
-      (subst (OfNames (λ span. IsSimple (part_of lexed.text span))) (sym (items_are file.items)) simple)).0
+      (items_scoped lexed.text (IsScope facts) (file_surrounding lexed.text file) file.items package_known
+      (of_part_names (λ span. IsSimple (part_of lexed.text span)) (parts_of file)
+      (subst (OfNames (λ span. IsSimple (part_of lexed.text span))) (sym (parts_are file.items)) simple)) known)

@@ -2,11 +2,10 @@
 use Rattle.std.specs.Prelude.{ℕ, ◌≡◌, ◌<◌, ◌≤◌, List, [], ◌∷◌, ◌++◌, length, map, All, Contains}
 use Rattle.proto_lex.specs.declared.span.Span.{Span}
 use Rattle.proto_lex.specs.Lexed.{Lexed, IsLexed, IsPart, part_of}
-use Rattle.proto_parse.specs.tree.Dialect.{Dialect}
 use Rattle.proto_parse.specs.tree.File.{File}
-use Rattle.proto_parse.specs.Derives.{Derives}
+use Rattle.proto_parse.specs.Derives.{DerivesBySome}
 use Rattle.proto_decl.specs.Names.{qualified, IsSimple, small_letters, dotted, components_of, package_of, prefix_of}
-use Rattle.proto_decl.specs.Names.{scopes_of}
+use Rattle.proto_decl.specs.Names.{IsAround}
 use Rattle.proto_decl.specs.Outlines.{step_named}
 use Rattle.proto_decl.specs.Comments.{IsLeadingText, IsTrailingText}
 use Rattle.proto_decl.specs.Declares.{simple_name}
@@ -55,9 +54,9 @@ pub record IsNamedAt (text : List ℕ) (declarations : List Declaration) (declar
   pub full : declaration.full_name ≡ qualified scope (simple_name declaration.path)
 
 abbrev pub NamesAreSpelled : Type 0
-NamesAreSpelled = (dialect : Dialect) (number : ℕ) (lexed : Lexed) (file : File) (facts : Facts)
+NamesAreSpelled = (number : ℕ) (lexed : Lexed) (file : File) (facts : Facts)
     → IsLexed lexed.text lexed.tokens lexed.comments
-    → Derives dialect lexed.text lexed.tokens file → AreFactsOf number lexed file facts
+    → DerivesBySome lexed.text lexed.tokens file → AreFactsOf number lexed file facts
     → All (IsNamedAt lexed.text facts.declarations) facts.declarations
 
 -- The full name of a scope of a file: of its package, which is the root's if it has none, or of a declaration.
@@ -88,10 +87,13 @@ PrefixesAreEntities facts =
     All (λ declaration. (count : ℕ) → 0 < count → count ≤ length (components_of declaration.full_name)
     → IsEntity facts (prefix_of declaration.full_name count)) facts.declarations
 
--- The scopes of a full name are that name and the scopes of the scope around it.
+-- Around the full name of a simple name in a scope is that scope.
 abbrev pub ScopesNest : Type 0
-ScopesNest = (scope name : List ℕ) → IsSimple name
-    → scopes_of (qualified scope name) ≡ qualified scope name ∷ scopes_of scope
+ScopesNest = (scope name : List ℕ) → IsSimple name → IsAround (qualified scope name) scope
+
+-- One scope at most is around each.
+abbrev pub OneAround : Type 0
+OneAround = (scope outer other : List ℕ) → IsAround scope outer → IsAround scope other → outer ≡ other
 
 -- The components of the package's name and of uses, the imports and the declared names are parts of the text.
 pub record StandInText (text : List ℕ) (facts : Facts) : Type 0 where

@@ -14,6 +14,8 @@ pub mod Layout
 pub mod Declares
 -- which types a file uses
 pub mod Uses
+-- what is found on a walk
+pub mod Walked
 -- all of it
 pub mod Facts
 -- what is law of it

@@ -6,18 +6,14 @@ use Rattle.std.specs.List.{flat_map}
 use Rattle.proto_lex.specs.declared.span.Span.{Span}
 use Rattle.proto_lex.specs.Lexed.{part_of}
 use Rattle.proto_parse.specs.tree.Heading.{Heading}
-use Rattle.proto_parse.specs.tree.Enum.{Enum}
 use Rattle.proto_parse.specs.tree.Group.{Group}
 use Rattle.proto_parse.specs.tree.Head.{Head}
 use Rattle.proto_parse.specs.tree.Head.TheVariants as head
-use Rattle.proto_parse.specs.tree.Service.{Service}
-use Rattle.proto_parse.specs.tree.Leaf.{Leaf}
-use Rattle.proto_parse.specs.tree.Leaf.TheVariants as leaf
 use Rattle.proto_parse.specs.tree.FileItem.{FileItem}
-use Rattle.proto_parse.specs.tree.FileItem.TheVariants as item
 use Rattle.proto_parse.specs.tree.File.{File}
-use Rattle.proto_parse.specs.Tree.{Body, BlockTree}
-use Rattle.proto_parse.specs.Tree.Body.{NoMore, LeafThen, BlockThen}
+use Rattle.proto_parse.specs.Parts.{Part, placed_parts}
+use Rattle.proto_parse.specs.Parts.Part.{BlockPart, EnumPart, ValuePart, FieldPart, MapFieldPart, ServicePart}
+use Rattle.proto_parse.specs.Parts.Part.{MethodPart}
 use Rattle.proto_decl.specs.Names.{qualified, dotted, small_letters}
 use Rattle.proto_decl.specs.declared.kind.DeclarationKind.{DeclarationKind}
 use Rattle.proto_decl.specs.declared.kind.DeclarationKind.TheVariants.{Message, Enum as EnumKind}
@@ -61,11 +57,6 @@ abbrev pub beside : (text : List ℕ) → Surrounding → DeclarationKind → He
 beside text surrounding kind heading =
     record { scope = surrounding.scope; path = surrounding.path ++ step_to text kind heading ∷ [] }
 
-abbrev pub in_enum : (text : List ℕ) → Surrounding → Enum → List Outline
-in_enum text surrounding enum =
-    outline_at text surrounding EnumKind enum.heading
-    ∷ map (outline_at text (beside text surrounding EnumKind enum.heading) Value) enum.values
-
 -- A group declares a field, which is named as the group, but in small letters. It is at the word `group` (the
 -- profile's, so that no two declarations have one place).
 abbrev pub field_heading : Group → Heading
@@ -97,33 +88,22 @@ abbrev pub within : (text : List ℕ) → Surrounding → Option Heading → Sur
 within text surrounding None = surrounding
 within text surrounding (Some heading) = inside text surrounding Message heading
 
-abbrev pub in_leaf : (text : List ℕ) → Surrounding → Leaf → List Outline
-in_leaf text surrounding (leaf.Enum enum) = in_enum text surrounding enum
-in_leaf text surrounding (leaf.Field field) = outline_at text surrounding Field field.heading ∷ []
-in_leaf text surrounding (leaf.MapField field) = outline_at text surrounding Field field.heading ∷ []
+-- What surrounds what is in a part, by what surrounds the part.
+abbrev pub inside_part : (text : List ℕ) → Surrounding → Part → Surrounding
+inside_part text surrounding (BlockPart head) = within text surrounding (scope_heading head)
+inside_part text surrounding (EnumPart heading) = beside text surrounding EnumKind heading
+inside_part text surrounding (ServicePart heading) = inside text surrounding ServiceKind heading
+inside_part text surrounding _ = surrounding
 
-abbrev pub in_body : (text : List ℕ) → Surrounding → Body → List Outline
-in_body text surrounding NoMore = []
-in_body text surrounding (LeafThen leaf others) = in_leaf text surrounding leaf ++ in_body text surrounding others
-in_body text surrounding (BlockThen head inner others) =
-    in_head text surrounding head
-    ++ (in_body text (within text surrounding (scope_heading head)) inner ++ in_body text surrounding others)
-
-abbrev pub in_block : (text : List ℕ) → Surrounding → BlockTree → List Outline
-in_block text surrounding block =
-    in_head text surrounding block.head
-    ++ in_body text (within text surrounding (scope_heading block.head)) block.body
-
-abbrev pub in_service : (text : List ℕ) → Surrounding → Service → List Outline
-in_service text surrounding service =
-    outline_at text surrounding ServiceKind service.heading
-    ∷ map (λ method. outline_at text
-    (inside text surrounding ServiceKind service.heading) Method method.heading) service.methods
-
-abbrev pub in_item : (text : List ℕ) → Surrounding → FileItem → List Outline
-in_item text surrounding (item.Block block) = in_block text surrounding block
-in_item text surrounding (item.Enum enum) = in_enum text surrounding enum
-in_item text surrounding (item.Service service) = in_service text surrounding service
+-- What a part declares.
+abbrev pub declared_by : (text : List ℕ) → Surrounding → Part → List Outline
+declared_by text surrounding (BlockPart head) = in_head text surrounding head
+declared_by text surrounding (EnumPart heading) = outline_at text surrounding EnumKind heading ∷ []
+declared_by text surrounding (ValuePart heading) = outline_at text surrounding Value heading ∷ []
+declared_by text surrounding (FieldPart field) = outline_at text surrounding Field field.heading ∷ []
+declared_by text surrounding (MapFieldPart field) = outline_at text surrounding Field field.heading ∷ []
+declared_by text surrounding (ServicePart heading) = outline_at text surrounding ServiceKind heading ∷ []
+declared_by text surrounding (MethodPart method) = outline_at text surrounding Method method.heading ∷ []
 
 -- The spans of a package's components; none if a file has no package.
 abbrev pub package_spans : Option (List Span) → List Span
@@ -138,6 +118,11 @@ package_scope text file = dotted (map (part_of text) (package_spans file.package
 abbrev pub file_surrounding : (text : List ℕ) → File → Surrounding
 file_surrounding text file = record { scope = package_scope text file; path = [] }
 
+-- All that items declare that this surrounds, part by part.
+abbrev pub outlines_in : (text : List ℕ) → Surrounding → List FileItem → List Outline
+outlines_in text surrounding items =
+    flat_map (λ placed. declared_by text placed.around placed.part) (placed_parts (inside_part text) surrounding items)
+
 -- All that a file declares.
 abbrev pub outlines_of : (text : List ℕ) → File → List Outline
-outlines_of text file = flat_map (in_item text (file_surrounding text file)) file.items
+outlines_of text file = outlines_in text (file_surrounding text file) file.items

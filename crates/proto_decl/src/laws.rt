@@ -6,7 +6,7 @@ ghost use Rattle.proto_decl.specs.Facts.{PackageInOrder, NamesAreFilled, UsesAre
 ghost use Rattle.proto_decl.specs.Names.{IsSimple};
 ghost use Rattle.proto_decl.specs.Places.{StandApart};
 ghost use Rattle.proto_decl.specs.Laws.{OneLeadingText, OneTrailingText, OneFacts, NamesAreSpelled, StandsInScope};
-ghost use Rattle.proto_decl.specs.Laws.{PrefixesAreEntities, FactsStandInText, ScopesNest};
+ghost use Rattle.proto_decl.specs.Laws.{PrefixesAreEntities, FactsStandInText, ScopesNest, OneAround};
 
 use proto_parse::{names_have_components, spans_in_order, spans_of_tokens};
 
@@ -89,7 +89,8 @@ pub fn prefixes_are_entities()
     facts_are_filled();
 }
 
-/// The scopes of a name are its own and those of the scope around it.
+/// Around the full name of a simple name in a scope is that scope, and no other.
 pub fn scopes_nest()
-    ensures { ScopesNest }
+    ensures nest { ScopesNest }
+    ensures one { OneAround }
 {}

@@ -1,10 +1,13 @@
 //! What a file declares, before the comments are looked for.
 
-ghost use Rattle.std.specs.Prelude.{◌≡◌, ◌++◌, map, All, IfOk, OnOk};
+ghost use Rattle.std.specs.Prelude.{◌≡◌, ◌++◌, All, IfOk, OnOk};
+ghost use Rattle.std.specs.List.{flat_map};
 ghost use Rattle.proto_lex.specs.Lexed.{IsPart};
 ghost use Rattle.proto_parse.specs.tree.Head.TheVariants as Head;
-ghost use Rattle.proto_decl.specs.Spans.{OfHeading, OfGroup, OfHead, OfMethod, OfLeaf, OfEnum};
+ghost use Rattle.proto_decl.specs.Spans.{OfHeading, OfGroup, OfHead, OfMethod, OfParts};
+ghost use Rattle.proto_parse.specs.Parts.Part.{ValuePart, MethodPart};
 ghost use Rattle.proto_decl.specs.Outlines as spec;
+ghost use Rattle.proto_decl.specs.Walked as walked;
 
 use crate::declaration::{DeclarationStep, Outline};
 use crate::kind::DeclarationKind;
@@ -49,9 +52,9 @@ pub(crate) fn outline_enum<'t>(
     declared: &Enum,
     outlines: &mut Vec<Outline<'t>>,
 ) -> Result<(), AllocError>
-    requires { OfEnum (IsPart text.now) declared.now }
+    requires { OfParts (IsPart text.now) (walked.parts_in_enum declared.now) }
     ensures { OnOk result (outlines.new.items
-        ≡ outlines.old.items ++ spec.in_enum text.now surrounding.now declared.now) }
+        ≡ outlines.old.items ++ walked.in_enum text.now surrounding.now declared.now) }
 {
     let heading = declared.heading;
     outlines.push(outline_at(text, surrounding, DeclarationKind::Enum, heading)?)?;
@@ -68,7 +71,8 @@ fn outline_values<'t>(
 ) -> Result<(), AllocError>
     requires { All (OfHeading (IsPart text.now)) values.now }
     ensures { OnOk result (outlines.new.items
-        ≡ outlines.old.items ++ map (spec.outline_at text.now surrounding.now DeclarationKind.Value) values.now) }
+        ≡ outlines.old.items ++ flat_map (λ value. spec.declared_by text.now surrounding.now (ValuePart value))
+        values.now) }
 {
     for value in values {
         outlines.push(outline_at(text, surrounding, DeclarationKind::Value, *value)?)?;
@@ -85,8 +89,8 @@ pub(crate) fn outline_methods<'t>(
 ) -> Result<(), AllocError>
     requires { All (OfMethod (IsPart text.now)) methods.now }
     ensures { OnOk result (outlines.new.items
-        ≡ outlines.old.items
-        ++ map (λ method. spec.outline_at text.now surrounding.now DeclarationKind.Method method.heading) methods.now) }
+        ≡ outlines.old.items ++ flat_map (λ method. spec.declared_by text.now surrounding.now (MethodPart method))
+        methods.now) }
 {
     for method in methods {
         outlines.push(outline_at(text, surrounding, DeclarationKind::Method, method.heading)?)?;
@@ -102,8 +106,9 @@ pub(crate) fn outline_leaf<'t>(
     leaf: &Leaf,
     outlines: &mut Vec<Outline<'t>>,
 ) -> Result<(), AllocError>
-    requires { OfLeaf (IsPart text.now) leaf.now }
-    ensures { OnOk result (outlines.new.items ≡ outlines.old.items ++ spec.in_leaf text.now surrounding.now leaf.now) }
+    requires { OfParts (IsPart text.now) (walked.parts_in_leaf leaf.now) }
+    ensures { OnOk result (outlines.new.items
+        ≡ outlines.old.items ++ walked.in_leaf text.now surrounding.now leaf.now) }
 {
     let heading = match leaf {
         Leaf::Enum(declared) => return outline_enum(alloc, text, surrounding, declared, outlines),

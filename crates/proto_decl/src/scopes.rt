@@ -1,8 +1,8 @@
 //! Scopes, by their full names.
 
-ghost use Rattle.std.specs.Prelude.{◌≡◌, ◌≢◌, ◌<◌, ◌∷◌, [], ℕ, length, get_or, IfSome, MatchOption, IsCharBoundary};
+ghost use Rattle.std.specs.Prelude.{◌≡◌, ◌≢◌, ◌<◌, [], ℕ, length, get_or, IfSome, MatchOption, IsCharBoundary};
 ghost use Rattle.proto_lex.specs.Ascii as ascii;
-ghost use Rattle.proto_decl.specs.Names.{scopes_of};
+ghost use Rattle.proto_decl.specs.Names.{IsAround};
 
 /// Where the last dot of a name is.
 #[tactic(auto, using(crate::proofs::ScopeLemmas::found_dot))]
@@ -22,7 +22,7 @@ fn last_dot(name: &str) -> Option<usize>
 #[tactic(auto, using(crate::proofs::ScopeLemmas::around_dot, crate::proofs::ScopeLemmas::around_none))]
 pub fn scope_around(scope: &str) -> Option<&str>
     ensures around { MatchOption result (scope.now ≡ [])
-        (λ outer. scopes_of scope.now ≡ scope.now ∷ scopes_of outer.now) }
+        (λ outer. IsAround scope.now outer.now) }
     ensures shorter { IfSome result (λ outer. length outer.now < length scope.now) }
 {
     if scope.is_empty() {

@@ -4,8 +4,9 @@ ghost use Rattle.std.specs.Prelude.{◌≡◌, ◌++◌, All, IfOk, OnOk};
 ghost use Rattle.std.specs.List.{flat_map};
 ghost use Rattle.proto_lex.specs.Lexed.{IsPart};
 ghost use Rattle.proto_decl.specs.Names.{components_at};
-ghost use Rattle.proto_decl.specs.Spans.{OfTypeName, OfType, OfHead, OfMethod, OfLeaf};
+ghost use Rattle.proto_decl.specs.Spans.{OfTypeName, OfType, OfHead, OfMethod, OfParts};
 ghost use Rattle.proto_decl.specs.Uses as spec;
+ghost use Rattle.proto_decl.specs.Walked as walked;
 
 use crate::imports::{end_of, start_of};
 use crate::names::spelling_at;
@@ -79,7 +80,7 @@ fn use_type<'t>(
 ) -> Result<(), AllocError>
     requires { OfType (IsPart text.now) field_type.now }
     ensures { OnOk result (uses.new.items
-        ≡ uses.old.items ++ spec.uses_of_type text.now surrounding.now.scope field_type.now) }
+        ≡ uses.old.items ++ walked.uses_of_type text.now surrounding.now.scope field_type.now) }
 {
     match field_type {
         FieldType::Scalar(_) => Ok(()),
@@ -100,7 +101,7 @@ pub(crate) fn use_methods<'t>(
 ) -> Result<(), AllocError>
     requires { All (OfMethod (IsPart text.now)) methods.now }
     ensures { OnOk result (uses.new.items
-        ≡ uses.old.items ++ flat_map (spec.uses_of_method text.now surrounding.now.scope) methods.now) }
+        ≡ uses.old.items ++ flat_map (walked.uses_of_method text.now surrounding.now) methods.now) }
 {
     for method in methods {
         uses.push(use_of(alloc, text, surrounding, &method.input)?)?;
@@ -110,6 +111,7 @@ pub(crate) fn use_methods<'t>(
 }
 
 /// Appends the uses of what stands in a block, other than a block.
+#[tactic(auto, using(crate::proofs::WalkedLemmas::enum_uses_none))]
 pub(crate) fn use_leaf<'t>(
     alloc: Global,
     text: &'t str,
@@ -117,9 +119,9 @@ pub(crate) fn use_leaf<'t>(
     leaf: &Leaf,
     uses: &mut Vec<Use<'t>>,
 ) -> Result<(), AllocError>
-    requires { OfLeaf (IsPart text.now) leaf.now }
+    requires { OfParts (IsPart text.now) (walked.parts_in_leaf leaf.now) }
     ensures { OnOk result (uses.new.items
-        ≡ uses.old.items ++ spec.uses_in_leaf text.now surrounding.now.scope leaf.now) }
+        ≡ uses.old.items ++ walked.uses_in_leaf text.now surrounding.now leaf.now) }
 {
     match leaf {
         Leaf::Enum(_) => Ok(()),
@@ -138,7 +140,7 @@ pub(crate) fn use_head<'t>(
 ) -> Result<(), AllocError>
     requires { OfHead (IsPart text.now) head.now }
     ensures { OnOk result (uses.new.items
-        ≡ uses.old.items ++ spec.uses_in_head text.now surrounding.now.scope head.now) }
+        ≡ uses.old.items ++ walked.uses_of_head text.now surrounding.now head.now) }
 {
     match head {
         Head::Extend(name) => {

@@ -1,6 +1,6 @@
 -- Each step of a loop takes a token.
 use Rattle.std.proofs.Common.{◌≡◌, Bool, ap}
-use Rattle.proto_grammar.specs.declared.tree.CustomOptions.{CustomOptions}
+use Rattle.proto_grammar.specs.declared.dialect.CustomOptions.{CustomOptions}
 use Rattle.proto_grammar.specs.Reading.Repetition.{adding, passing}
 use Rattle.proto_grammar.specs.Reading.Names.{dot_name_at, pass_dot_name_at}
 use Rattle.proto_grammar.specs.Reading.Options.{dot_part_at, literal_at, comma_setting_at}

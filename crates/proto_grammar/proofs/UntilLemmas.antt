@@ -2,11 +2,9 @@
 use Rattle.std.proofs.Common.{◌≡◌, ℕ, zero, suc, ◌<◌, ◌≤◌, Bool, true, false, cond, Result, Ok, Err, Option}
 use Rattle.std.proofs.Common.{option_to_list}
 use Rattle.std.proofs.Common.{List, ◌++◌, length, refl, sym, ◌∙◌, ap, subst, arith}
-use Rattle.proto_grammar.specs.declared.tree.CustomOptions.{CustomOptions}
+use Rattle.proto_grammar.specs.declared.dialect.CustomOptions.{CustomOptions}
 use Rattle.proto_grammar.specs.declared.fault.SyntaxFault.{SyntaxFault}
-use Rattle.proto_grammar.specs.declared.fault.SyntaxFault.TheVariants.{NotProto3, CustomOption, Aggregate, Extend}
-use Rattle.proto_grammar.specs.declared.fault.SyntaxFault.TheVariants.{TwoPackages, ImportEscape, TooDeep, Grammar}
-use Rattle.proto_grammar.specs.declared.fault.SyntaxFault.TheVariants.{Memory}
+use Rattle.proto_grammar.specs.declared.fault.SyntaxFault.TheVariants.{CustomOption, Aggregate, Extend, Memory}
 use Rattle.proto_grammar.specs.Lexeme.{Lexeme, Place, place_of}
 use Rattle.proto_grammar.specs.Gives.{Fails}
 use Rattle.proto_grammar.specs.Grammar.Repetition.{Until, Adds, Passes}
@@ -21,15 +19,11 @@ use Rattle.proto_lex.proofs.ReadLemmas.{chosen}
 pub Fails-of : {Y Z : Type 0} (custom : CustomOptions) (fault : SyntaxFault) (part : Result Y SyntaxFault)
     (whole : Result Z SyntaxFault)
     → ((met : SyntaxFault) → part ≡ Err met → whole ≡ Err met) → Fails custom fault part → Fails custom fault whole
-Fails-of custom (NotProto3 offset) part whole stops fails = stops (NotProto3 offset) fails
 Fails-of custom (CustomOption offset) part whole stops fails = (fails.0, stops (CustomOption offset) fails.1)
 Fails-of custom (Aggregate offset) part whole stops fails = (fails.0, stops (Aggregate offset) fails.1)
 Fails-of custom (Extend offset) part whole stops fails = (fails.0, stops (Extend offset) fails.1)
-Fails-of custom (TwoPackages offset) part whole stops fails = stops (TwoPackages offset) fails
-Fails-of custom (ImportEscape offset) part whole stops fails = stops (ImportEscape offset) fails
-Fails-of custom (TooDeep offset) part whole stops fails = stops (TooDeep offset) fails
-Fails-of custom (Grammar offset) part whole stops fails = stops (Grammar offset) fails
 Fails-of custom Memory part whole stops fails = tt
+Fails-of custom fault part whole stops fails = stops fault fails
 
 -- each step takes a token
 abbrev pub Falls : {S : Type 0} → (S → Read S) → Type 0

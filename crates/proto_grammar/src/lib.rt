@@ -5,6 +5,7 @@
 //! gives the fault that it meets.
 #![tactic(auto)]
 
+mod dialect;
 mod fault;
 mod fields;
 mod kept;
@@ -14,10 +15,11 @@ mod parser;
 mod reserved;
 mod tree;
 
+pub use dialect::{CustomOptions, Dialect, Syntax};
 pub use fault::SyntaxFault;
 pub use kept::keep;
 pub use parser::{Lexeme, Parser};
 pub use tree::{
-    Block, CustomOptions, Dialect, Enum, Field, FieldType, File, FileItem, Group, Head, Heading,
-    Import, ImportKind, Item, Label, Leaf, MapField, Method, Service, Syntax, TypeName,
+    Block, Enum, Field, FieldType, File, FileItem, Group, Head, Heading, Import, ImportKind, Item,
+    Label, Leaf, MapField, Method, Service, TypeName,
 };

@@ -2,7 +2,7 @@
 
 ghost use Rattle.std.specs.Prelude.{◌≡◌};
 ghost use Rattle.proto_grammar.specs.Gives.{Gives};
-ghost use Rattle.proto_grammar.specs.declared.tree.CustomOptions.TheVariants.{Skip};
+ghost use Rattle.proto_grammar.specs.declared.dialect.CustomOptions.TheVariants.{Skip};
 ghost use Rattle.proto_grammar.specs.Reading.Names.{dot_name_at, dot_names_at, name_at, pass_dot_name_at, pass_name_at};
 ghost use Rattle.proto_grammar.specs.Reading.Names.{pass_dot_names_at, leading_dot_at, type_name_at, pass_type_name_at};
 ghost use Rattle.proto_grammar.specs.Reading.Names.{named_type_at, type_at};

@@ -89,8 +89,8 @@ qualified_fit (byte ∷ scope) name =
     ∙ ap (λ n. count_by is_dot (byte ∷ scope) + n) (sum_by-cons ones 46 name) in
     omega (arith, counted, length-slice_split is_dot name, length-slice_split is_dot ((byte ∷ scope) ++ 46 ∷ name))
 
-fits : {files : List File} {file : ℕ} {dot : Bool} {words scopes : List (List ℕ)} {name : List ℕ}
-    → ResolvesIn files file dot words scopes name → length words ≤ length (components_of name)
+fits : {files : List File} {file : ℕ} {dot : Bool} {words : List (List ℕ)} {from name : List ℕ}
+    → ResolvesIn files file dot words from name → length words ≤ length (components_of name)
 fits (absolute {words = words} known) = words_fit words
 fits (single {word = word} {scope = scope} innermost) = omega (arith, words_fit (word ∷ []), qualified_fit scope word)
 fits (compound {first = first} {second = second} {scope = scope} {others = others} innermost known) =
@@ -103,13 +103,13 @@ used_fit files file type_use name r =
 
 -- ---- and is that of a type
 
-known_there : {files : List File} {file : ℕ} {admits : NameKind → Bool} {word : List ℕ} {scopes : List (List ℕ)}
-    {scope : List ℕ} → Innermost files file admits word scopes scope → KnowsAs files file admits (qualified scope word)
+known_there : {files : List File} {file : ℕ} {admits : NameKind → Bool} {word from scope : List ℕ}
+    → Innermost files file admits word from scope → KnowsAs files file admits (qualified scope word)
 known_there (here known) = known
-known_there (farther absent innermost) = known_there innermost
+known_there (farther absent is innermost) = known_there innermost
 
-is_of_type : {files : List File} {file : ℕ} {dot : Bool} {words scopes : List (List ℕ)} {name : List ℕ}
-    → ResolvesIn files file dot words scopes name → KnowsAs files file is_type name
+is_of_type : {files : List File} {file : ℕ} {dot : Bool} {words : List (List ℕ)} {from name : List ℕ}
+    → ResolvesIn files file dot words from name → KnowsAs files file is_type name
 is_of_type (absolute known) = known
 is_of_type (single innermost) = known_there innermost
 is_of_type (compound innermost known) = known

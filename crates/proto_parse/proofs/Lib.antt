@@ -12,6 +12,9 @@ pub mod StepsFall
 pub mod Exact
 -- What is left of the tokens
 pub mod Tails
+-- The parts of a tree
+pub mod SplitLemmas
+pub mod PartLemmas
 -- Where the spans of a tree stand
 pub mod Walk
 -- The lists of a tree that are never empty

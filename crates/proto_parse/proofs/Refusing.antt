@@ -5,11 +5,11 @@ use Rattle.std.proofs.Common.{List, [], ◌∷◌, ◌++◌, length, IfErr, refl
 use Rattle.proto_lex.specs.declared.token.TokenKind.TheVariants.{StringLiteral, Semicolon, Equals}
 use Rattle.proto_grammar.specs.declared.fault.SyntaxFault.{SyntaxFault}
 use Rattle.proto_grammar.specs.declared.fault.SyntaxFault.TheVariants as variant
-use Rattle.proto_grammar.specs.declared.tree.CustomOptions.TheVariants.{Refuse, Skip}
-use Rattle.proto_grammar.specs.declared.tree.Dialect.{Dialect}
-use Rattle.proto_grammar.specs.declared.tree.Dialect.TheVariants.{Proto3, All}
-use Rattle.proto_grammar.specs.declared.tree.Syntax.{Syntax}
-use Rattle.proto_grammar.specs.declared.tree.Syntax.TheVariants as grammar
+use Rattle.proto_grammar.specs.declared.dialect.CustomOptions.TheVariants.{Refuse, Skip}
+use Rattle.proto_grammar.specs.declared.dialect.Dialect.{Dialect}
+use Rattle.proto_grammar.specs.declared.dialect.Dialect.TheVariants.{Proto3, All}
+use Rattle.proto_grammar.specs.declared.dialect.Syntax.{Syntax}
+use Rattle.proto_grammar.specs.declared.dialect.Syntax.TheVariants as grammar
 use Rattle.proto_grammar.specs.declared.tree.File.{File}
 use Rattle.proto_grammar.specs.Gives.{Gives}
 use Rattle.proto_lex.specs.declared.token.Token.{Token}
@@ -409,20 +409,11 @@ pub file_of_refused : (dialect : Dialect) (p rest : Place) (result : Result File
     → Gives (custom_in dialect) (λ x. x) rest result (file_at max_message_depth dialect p)
     → IfErr result (λ fault. (fault ≡ variant.Memory) ⊎ IsRefused dialect p.left p.end fault)
 file_of_refused dialect p rest (Ok f) e = tt
-file_of_refused dialect p rest (Err (variant.NotProto3 offset)) e =
-    inr (met_fault dialect p _ e (λ is. absurd (false≢true is)))
 file_of_refused dialect p rest (Err (variant.CustomOption offset)) e =
     inr (met_fault dialect p _ e.1 (λ is. refuses dialect e.0))
 file_of_refused dialect p rest (Err (variant.Aggregate offset)) e =
     inr (met_fault dialect p _ e.1 (λ is. refuses dialect e.0))
 file_of_refused dialect p rest (Err (variant.Extend offset)) e =
     inr (met_fault dialect p _ e.1 (λ is. refuses dialect e.0))
-file_of_refused dialect p rest (Err (variant.TwoPackages offset)) e =
-    inr (met_fault dialect p _ e (λ is. absurd (false≢true is)))
-file_of_refused dialect p rest (Err (variant.ImportEscape offset)) e =
-    inr (met_fault dialect p _ e (λ is. absurd (false≢true is)))
-file_of_refused dialect p rest (Err (variant.TooDeep offset)) e =
-    inr (met_fault dialect p _ e (λ is. absurd (false≢true is)))
-file_of_refused dialect p rest (Err (variant.Grammar offset)) e =
-    inr (met_fault dialect p _ e (λ is. absurd (false≢true is)))
 file_of_refused dialect p rest (Err variant.Memory) e = inl refl
+file_of_refused dialect p rest (Err fault) e = inr (met_fault dialect p fault e (λ is. absurd (false≢true is)))

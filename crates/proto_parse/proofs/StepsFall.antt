@@ -1,7 +1,7 @@
 -- Each step of a loop takes a token.
 use Rattle.std.proofs.Common.{ℕ}
-use Rattle.proto_grammar.specs.declared.tree.CustomOptions.{CustomOptions}
-use Rattle.proto_grammar.specs.declared.tree.Syntax.{Syntax}
+use Rattle.proto_grammar.specs.declared.dialect.CustomOptions.{CustomOptions}
+use Rattle.proto_grammar.specs.declared.dialect.Syntax.{Syntax}
 use Rattle.proto_parse.specs.declared.statement.Within.{Within}
 use Rattle.proto_parse.specs.Grammar.Messages.{IsInside}
 use Rattle.proto_grammar.specs.Reading.Repetition.{adding, passing}

@@ -5,7 +5,7 @@ ghost use Rattle.proto_parse.specs.Reading.Choice.{file_statement_of};
 ghost use Rattle.proto_parse.specs.Limits.{max_message_depth};
 ghost use Rattle.proto_grammar.specs.Gives.{Gives};
 ghost use Rattle.proto_grammar.specs.Syntax.{custom_of, custom_in};
-ghost use Rattle.proto_grammar.specs.declared.tree.CustomOptions.TheVariants.{Skip};
+ghost use Rattle.proto_grammar.specs.declared.dialect.CustomOptions.TheVariants.{Skip};
 ghost use Rattle.proto_parse.specs.Reading.Files.{import_kind_at, path_literal_at, path_literals_at, import_at};
 ghost use Rattle.proto_parse.specs.Reading.Files.{package_at, only_package_at, statement_at, statements_at, file_at};
 

@@ -5,7 +5,7 @@ ghost use Rattle.proto_parse.specs.Reading.Choice.{version_of};
 ghost use Rattle.proto_grammar.specs.Gives.{Gives};
 ghost use Rattle.proto_grammar.specs.Terminal.{first, behind};
 ghost use Rattle.proto_grammar.specs.Syntax.{custom_of, custom_in, proto3_in};
-ghost use Rattle.proto_grammar.specs.declared.tree.CustomOptions.TheVariants.{Skip};
+ghost use Rattle.proto_grammar.specs.declared.dialect.CustomOptions.TheVariants.{Skip};
 ghost use Rattle.proto_parse.specs.Reading.Syntax.{stripped_of, is_left, content_of, joined_of, past_literals};
 ghost use Rattle.proto_parse.specs.Reading.Syntax.{version_at, syntax_statement_at, syntax_at};
 

@@ -2,9 +2,9 @@
 -- `failures`, `reads` and `ends` are the feed's, `contents` the sink's; `before` and `after` are it around the call.
 use Rattle.std.specs.Prelude.{◌≡◌, ℕ, false, List, [], ◌∷◌, Option, Some, Result, Ok, Err, codes}
 use Rattle.proto_lex.specs.declared.position.Encoding.TheVariants.{Utf8}
-use Rattle.proto_parse.specs.tree.CustomOptions.TheVariants as custom
-use Rattle.proto_parse.specs.tree.Dialect.{Dialect}
-use Rattle.proto_parse.specs.tree.Dialect.TheVariants.{Proto3}
+use Rattle.proto_parse.specs.dialect.CustomOptions.TheVariants as custom
+use Rattle.proto_parse.specs.dialect.Dialect.{Dialect}
+use Rattle.proto_parse.specs.dialect.Dialect.TheVariants.{Proto3}
 use Rattle.proto_decl.specs.Seen.{Seen}
 use Rattle.index_hooks.specs.declared.choice.Choice.{Choice}
 use Rattle.index_hooks.specs.MayChoose.{IsDefaultChoice}

@@ -16,7 +16,7 @@ ghost use Rattle.protoscip.specs.Dump.{
 };
 ghost use Rattle.protoscip.specs.FaultLines.{HasFilesOf};
 ghost use Rattle.protoscip.specs.Writing.{IsNotReadBack};
-ghost use Rattle.proto_parse.specs.tree.Dialect.{Dialect};
+ghost use Rattle.proto_parse.specs.dialect.Dialect.{Dialect};
 
 use crate::fault::Fault;
 use crate::listing::dump_text;

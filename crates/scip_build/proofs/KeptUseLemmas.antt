@@ -78,24 +78,24 @@ module _ (files : List File) (omissions : Omissions) where
     knows_as admits name back known =
         record { kind = known.kind; known = back known.kind known.known; admitted = known.admitted }
 
-    innermost : (admits : NameKind → Bool) (word : List ℕ) {scopes : List (List ℕ)} {scope : List ℕ}
-        → Innermost files (among number) admits word scopes scope → KnowsBack (qualified scope word)
-        → Innermost kept number admits word scopes scope
+    innermost : (admits : NameKind → Bool) (word : List ℕ) {from scope : List ℕ}
+        → Innermost files (among number) admits word from scope → KnowsBack (qualified scope word)
+        → Innermost kept number admits word from scope
     innermost admits word (here {scope = scope} known) back =
         here (knows_as admits (qualified scope word) back known)
-    innermost admits word (farther {scope = scope} absent inner) back =
+    innermost admits word (farther {scope = scope} absent is inner) back =
         farther
         (λ known. absent (record {
           kind = known.kind;
           known = knows_among number (qualified scope word) known.kind known.known;
           admitted = known.admitted;
-        }))
+        })) is
         (innermost admits word inner back)
 
-    resolves : {dot : Bool} {words scopes : List (List ℕ)} {name : List ℕ}
-        → ResolvesIn files (among number) dot words scopes name
+    resolves : {dot : Bool} {words : List (List ℕ)} {from name : List ℕ}
+        → ResolvesIn files (among number) dot words from name
         → ((text : List ℕ) → IsFoundBy words name text → KnowsBack text)
-        → ResolvesIn kept number dot words scopes name
+        → ResolvesIn kept number dot words from name
     resolves (absolute {words = words} known) back =
         absolute (knows_as is_type (dotted words) (back (dotted words) whole_name) known)
     resolves (single {word = word} {scope = scope} inner) back =

@@ -11,7 +11,7 @@ use Rattle.proto_lex.specs.declared.fault.LexFault.{LexFault}
 use Rattle.proto_lex.specs.declared.fault.LexFault.TheVariants.{TooLong, NotUtf8, BadByte, OpenString, OpenComment}
 use Rattle.proto_lex.specs.declared.fault.LexFault.TheVariants.{BadEscape, BadNumber, Memory}
 use Rattle.proto_lex.specs.declared.token.Token.{Token}
-use Rattle.proto_parse.specs.tree.Dialect.{Dialect}
+use Rattle.proto_parse.specs.dialect.Dialect.{Dialect}
 use Rattle.proto_parse.specs.tree.File.{File}
 use Rattle.proto_parse.specs.fault.SyntaxFault.{SyntaxFault}
 use Rattle.proto_parse.specs.Derives.{Derives}

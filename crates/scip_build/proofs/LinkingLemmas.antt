@@ -6,7 +6,7 @@ use Rattle.std.proofs.lemmas.Option.{slice_get_within, none-some, same_Some}
 use Rattle.proto_visibility.specs.Files.{File}
 use Rattle.proto_visibility.specs.Files as link
 use Rattle.proto_visibility.proofs.FirstLemmas.{item_at}
-use Rattle.proto_parse.specs.tree.Dialect.{Dialect}
+use Rattle.proto_parse.specs.dialect.Dialect.{Dialect}
 use Rattle.proto_decl.specs.Seen.{Seen}
 use Rattle.index_hooks.specs.declared.choice.Choice.{Choice}
 use Rattle.source_tree.specs.Files.{TreeFile}

@@ -1,7 +1,7 @@
 -- A refusal of a stage is one of the whole.
 use Rattle.std.proofs.Common.{◌≡◌, ℕ, List, Result, Ok, Err, sym, ◌∙◌, inl, inr}
 use Rattle.std.specs.Prelude.{MatchResult}
-use Rattle.proto_parse.specs.tree.Dialect.{Dialect}
+use Rattle.proto_parse.specs.dialect.Dialect.{Dialect}
 use Rattle.proto_decl.specs.Seen.{Seen}
 use Rattle.index_hooks.specs.declared.choice.Choice.{Choice}
 use Rattle.proto_visibility.specs.Files.{File}

@@ -137,14 +137,13 @@ declared_all facts spelled origin d listed =
 
 -- a resolved name is a known type's
 
-innermost_known : {files : List File} {file : ℕ} {admits : NameKind → Bool} {word : List ℕ} {scopes : List (List ℕ)}
-    {scope : List ℕ}
-    → Innermost files file admits word scopes scope → KnowsAs files file admits (qualified scope word)
+innermost_known : {files : List File} {file : ℕ} {admits : NameKind → Bool} {word from scope : List ℕ}
+    → Innermost files file admits word from scope → KnowsAs files file admits (qualified scope word)
 innermost_known (here k) = k
-innermost_known (farther absent m) = innermost_known m
+innermost_known (farther absent is m) = innermost_known m
 
-resolved_known : {files : List File} {file : ℕ} {dot : Bool} {words scopes : List (List ℕ)} {name : List ℕ}
-    → ResolvesIn files file dot words scopes name → KnowsAs files file is_type name
+resolved_known : {files : List File} {file : ℕ} {dot : Bool} {words : List (List ℕ)} {from name : List ℕ}
+    → ResolvesIn files file dot words from name → KnowsAs files file is_type name
 resolved_known (absolute k) = k
 resolved_known (single m) = innermost_known m
 resolved_known (compound m k) = k

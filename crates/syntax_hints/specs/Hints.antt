@@ -1,7 +1,7 @@
 -- What could be at a place of a source, by what is before the place.
 use Rattle.std.specs.Prelude.{◌≡◌, ◌≤◌, ◌<◌, ◌⊎◌, ℕ, Bool, true, false, nat_eq, List, [], ◌∷◌, ◌++◌, length}
 use Rattle.std.specs.Prelude.{Option, Some, None}
-use Rattle.proto_parse.specs.tree.Dialect.{Dialect}
+use Rattle.proto_parse.specs.dialect.Dialect.{Dialect}
 use Rattle.syntax_hints.specs.Answers.{IsAnswer}
 use Rattle.syntax_hints.specs.Candidates.{signs, number, whole_numbers, literal, versions, name, words}
 use Rattle.syntax_hints.specs.Wording.{hints_text}

@@ -5,7 +5,7 @@ use Rattle.proto_lex.specs.declared.span.Span.{Span}
 use Rattle.proto_lex.specs.declared.token.TokenKind.{TokenKind}
 use Rattle.proto_lex.specs.declared.token.TokenKind.TheVariants.{Identifier, Integer, Float, StringLiteral, OpenBrace}
 use Rattle.proto_lex.specs.declared.token.TokenKind.TheVariants.{CloseBrace, OpenParenthesis, Comma, Dot, Plus, Minus}
-use Rattle.proto_grammar.specs.declared.tree.CustomOptions.{CustomOptions}
+use Rattle.proto_grammar.specs.declared.dialect.CustomOptions.{CustomOptions}
 use Rattle.proto_grammar.specs.Lexeme.{Lexeme}
 use Rattle.proto_grammar.specs.Terminal.{is_kind, first_is, of_kind, is_sign, is_numeral, not_next}
 use Rattle.proto_grammar.specs.Grammar.Repetition.{One, Passes}

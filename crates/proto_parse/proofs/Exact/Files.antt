@@ -3,16 +3,14 @@ use Rattle.std.proofs.Common.{◌≡◌, ℕ, true, Option, Some, List, refl, sy
 use Rattle.std.specs.Prelude.{Result, Ok, Err, MatchResult}
 use Rattle.proto_lex.specs.declared.span.Span.{Span}
 use Rattle.proto_lex.specs.declared.token.TokenKind.TheVariants.{StringLiteral}
-use Rattle.proto_grammar.specs.declared.tree.Dialect.{Dialect}
-use Rattle.proto_grammar.specs.declared.tree.Dialect.TheVariants.{All}
-use Rattle.proto_grammar.specs.declared.tree.Syntax.{Syntax}
-use Rattle.proto_grammar.specs.declared.tree.Syntax.TheVariants.{Proto2}
+use Rattle.proto_grammar.specs.declared.dialect.Dialect.{Dialect}
+use Rattle.proto_grammar.specs.declared.dialect.Dialect.TheVariants.{All}
+use Rattle.proto_grammar.specs.declared.dialect.Syntax.{Syntax}
+use Rattle.proto_grammar.specs.declared.dialect.Syntax.TheVariants.{Proto2}
 use Rattle.proto_grammar.specs.declared.tree.Import.{Import}
 use Rattle.proto_grammar.specs.declared.tree.ImportKind.{ImportKind}
 use Rattle.proto_grammar.specs.declared.tree.File.{File}
 use Rattle.proto_grammar.specs.declared.fault.SyntaxFault.{SyntaxFault}
-use Rattle.proto_grammar.specs.declared.fault.SyntaxFault.TheVariants.{NotProto3, CustomOption, Aggregate, Extend}
-use Rattle.proto_grammar.specs.declared.fault.SyntaxFault.TheVariants.{TwoPackages, ImportEscape, TooDeep, Grammar}
 use Rattle.proto_grammar.specs.declared.fault.SyntaxFault.TheVariants.{Memory}
 use Rattle.proto_parse.specs.declared.statement.FileStatement.{FileStatement}
 use Rattle.proto_parse.specs.declared.statement.FileStatement.TheVariants as choice
@@ -190,15 +188,8 @@ same_tree tree other d e =
 pub only_memory : (end : ℕ) {dialect : Dialect} {a : List Lexeme} {tree : File} → (fault : SyntaxFault)
     → Fails (custom_in dialect) fault (file_at max_message_depth dialect (place_of end a)) → IsFile dialect a tree
     → fault ≡ Memory
-only_memory end (NotProto3 offset) fails d = let read = (file_exact end d).1 in cc
-only_memory end (CustomOption offset) fails d = let read = (file_exact end d).1 in cc
-only_memory end (Aggregate offset) fails d = let read = (file_exact end d).1 in cc
-only_memory end (Extend offset) fails d = let read = (file_exact end d).1 in cc
-only_memory end (TwoPackages offset) fails d = let read = (file_exact end d).1 in cc
-only_memory end (ImportEscape offset) fails d = let read = (file_exact end d).1 in cc
-only_memory end (TooDeep offset) fails d = let read = (file_exact end d).1 in cc
-only_memory end (Grammar offset) fails d = let read = (file_exact end d).1 in cc
 only_memory end Memory fails d = refl
+only_memory end fault fails d = let read = (file_exact end d).1 in cc
 
 -- of what the parser gives
 pub file_of_exact : (dialect : Dialect) (tokens rest : Place) (result : Result File SyntaxFault)

@@ -5,7 +5,7 @@ use Rattle.std.proofs.Common.{List, [], codes}
 use Rattle.proto_lex.specs.declared.token.TokenKind.TheVariants.{Identifier, Semicolon, Equals, OpenBrace}
 use Rattle.proto_lex.specs.declared.token.TokenKind.TheVariants.{CloseBrace}
 use Rattle.proto_grammar.specs.declared.fault.SyntaxFault.{SyntaxFault}
-use Rattle.proto_grammar.specs.declared.tree.CustomOptions.{CustomOptions}
+use Rattle.proto_grammar.specs.declared.dialect.CustomOptions.{CustomOptions}
 use Rattle.proto_grammar.specs.declared.tree.Heading.{Heading}
 use Rattle.proto_grammar.specs.Lexeme.{Place}
 use Rattle.proto_grammar.specs.Terminal.{is_word}

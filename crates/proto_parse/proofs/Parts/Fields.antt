@@ -3,10 +3,10 @@ use Rattle.std.proofs.Common.{◌≡◌, ℕ, Bool, true, false, Ok, Option, Lis
 use Rattle.proto_lex.specs.declared.span.Span.{Span}
 use Rattle.proto_lex.specs.declared.token.TokenKind.TheVariants.{Identifier, Integer, StringLiteral, Semicolon, Equals}
 use Rattle.proto_lex.specs.declared.token.TokenKind.TheVariants.{Less, Greater, Comma, Minus}
-use Rattle.proto_grammar.specs.declared.tree.CustomOptions.{CustomOptions}
-use Rattle.proto_grammar.specs.declared.tree.CustomOptions.TheVariants.{Skip}
-use Rattle.proto_grammar.specs.declared.tree.Syntax.{Syntax}
-use Rattle.proto_grammar.specs.declared.tree.Syntax.TheVariants.{Proto3}
+use Rattle.proto_grammar.specs.declared.dialect.CustomOptions.{CustomOptions}
+use Rattle.proto_grammar.specs.declared.dialect.CustomOptions.TheVariants.{Skip}
+use Rattle.proto_grammar.specs.declared.dialect.Syntax.{Syntax}
+use Rattle.proto_grammar.specs.declared.dialect.Syntax.TheVariants.{Proto3}
 use Rattle.proto_grammar.specs.declared.tree.Label.{Label}
 use Rattle.proto_grammar.specs.Lexeme.{Lexeme, Place, place_of}
 use Rattle.proto_grammar.specs.Syntax.{is_proto2}

@@ -7,7 +7,7 @@ use Rattle.proto_lex.specs.declared.span.Span.{Span}
 use Rattle.proto_lex.specs.declared.token.TokenKind.TheVariants.{Identifier, Semicolon}
 use Rattle.proto_grammar.specs.declared.fault.SyntaxFault.{SyntaxFault}
 use Rattle.proto_grammar.specs.declared.fault.SyntaxFault.TheVariants as variant
-use Rattle.proto_grammar.specs.declared.tree.Syntax.{Syntax}
+use Rattle.proto_grammar.specs.declared.dialect.Syntax.{Syntax}
 use Rattle.proto_grammar.specs.declared.tree.File.{File}
 use Rattle.proto_parse.specs.declared.statement.FileStatement.{FileStatement}
 use Rattle.proto_parse.specs.declared.statement.FileStatement.TheVariants as choice
@@ -21,8 +21,8 @@ use Rattle.proto_parse.specs.Reading.Files.{only_package_at, statement_by, state
 use Rattle.proto_parse.specs.Reading.Messages.{inside_at, message_at, enum_at, extend_statement_at}
 use Rattle.proto_parse.specs.Reading.Services.{service_at}
 use Rattle.proto_grammar.specs.Reading.Options.{option_at}
-use Rattle.proto_grammar.specs.declared.tree.CustomOptions.TheVariants.{Refuse, Skip}
-use Rattle.proto_grammar.specs.declared.tree.Syntax.TheVariants.{Proto3, Extended, Proto2}
+use Rattle.proto_grammar.specs.declared.dialect.CustomOptions.TheVariants.{Refuse, Skip}
+use Rattle.proto_grammar.specs.declared.dialect.Syntax.TheVariants.{Proto3, Extended, Proto2}
 use Rattle.proto_grammar.proofs.Steps.{read_as, bind_ok, same_ok, kept_ok}
 use Rattle.proto_grammar.proofs.Places.{Behind}
 use Rattle.proto_grammar.proofs.UntilLemmas.{until_at-step}

@@ -8,8 +8,8 @@ use Rattle.proto_lex.specs.declared.token.TokenKind.TheVariants.{OpenBracket, Cl
 use Rattle.proto_lex.specs.declared.token.TokenKind.TheVariants.{CloseParenthesis}
 use Rattle.proto_lex.specs.declared.token.TokenKind.TheVariants.{Greater}
 use Rattle.proto_lex.specs.declared.token.TokenKind.TheVariants.{Comma, Dot}
-use Rattle.proto_grammar.specs.declared.tree.CustomOptions.{CustomOptions}
-use Rattle.proto_grammar.specs.declared.tree.CustomOptions.TheVariants.{Refuse, Skip}
+use Rattle.proto_grammar.specs.declared.dialect.CustomOptions.{CustomOptions}
+use Rattle.proto_grammar.specs.declared.dialect.CustomOptions.TheVariants.{Refuse, Skip}
 use Rattle.proto_grammar.specs.Lexeme.{Lexeme}
 use Rattle.proto_parse.proofs.Machine.{sees, take_by}
 use Rattle.proto_parse.proofs.Machine.Test.{OfKind, Word}

@@ -4,8 +4,8 @@ use Rattle.proto_lex.specs.declared.token.TokenKind.TheVariants.{Identifier, Str
 use Rattle.proto_lex.specs.declared.token.TokenKind.TheVariants.{OpenBrace}
 use Rattle.proto_lex.specs.declared.token.TokenKind.TheVariants.{OpenBracket, CloseBracket, OpenParenthesis}
 use Rattle.proto_lex.specs.declared.token.TokenKind.TheVariants.{CloseParenthesis, Comma, Dot}
-use Rattle.proto_grammar.specs.declared.tree.CustomOptions.{CustomOptions}
-use Rattle.proto_grammar.specs.declared.tree.CustomOptions.TheVariants.{Refuse, Skip}
+use Rattle.proto_grammar.specs.declared.dialect.CustomOptions.{CustomOptions}
+use Rattle.proto_grammar.specs.declared.dialect.CustomOptions.TheVariants.{Refuse, Skip}
 use Rattle.proto_grammar.specs.Lexeme.{Place}
 use Rattle.proto_grammar.specs.Terminal.{not_next}
 use Rattle.proto_grammar.specs.Reading.Repetition.{passing}

@@ -2,7 +2,7 @@
 use Rattle.std.proofs.Common.{[], codes}
 use Rattle.proto_lex.specs.declared.token.TokenKind.TheVariants.{Identifier, Semicolon, OpenBrace, CloseBrace}
 use Rattle.proto_lex.specs.declared.token.TokenKind.TheVariants.{OpenParenthesis, CloseParenthesis}
-use Rattle.proto_grammar.specs.declared.tree.CustomOptions.{CustomOptions}
+use Rattle.proto_grammar.specs.declared.dialect.CustomOptions.{CustomOptions}
 use Rattle.proto_grammar.specs.Lexeme.{Place}
 use Rattle.proto_grammar.specs.Reading.Repetition.{adding, passing}
 use Rattle.proto_parse.specs.Reading.Services.{stream_at, method_type_at, method_item_at, method_items_at}

@@ -1,5 +1,5 @@
 use Rattle.std.proofs.Common.{inr, refl, arith, ◌&&◌, [], Option, Result, Err, subst}
-use Rattle.proto_parse.specs.tree.Dialect.{Dialect}
+use Rattle.proto_parse.specs.dialect.Dialect.{Dialect}
 use Rattle.scip_snapshot.specs.Showing.{writer}
 use Rattle.protoscip.specs.declared.fault.Fault.{Fault}
 use Rattle.protoscip.specs.declared.fault.Fault.TheVariants.{Memory}

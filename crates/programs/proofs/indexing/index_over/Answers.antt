@@ -2,7 +2,7 @@ use Rattle.std.proofs.Common.{◌≡◌, map, refl, subst, sym, ℕ, Option, Non
 use Rattle.std.specs.Prelude.{IfErr, MatchResult}
 use Rattle.std.specs.Option.{option_map}
 use Rattle.std.specs.String.{string_bytes}
-use Rattle.proto_parse.specs.tree.Dialect.{Dialect}
+use Rattle.proto_parse.specs.dialect.Dialect.{Dialect}
 use Rattle.scip_snapshot.specs.Showing.{writer}
 use Rattle.protoscip.specs.Explanations.{explain_in}
 use Rattle.protoscip.specs.FaultLines.{HasFilesOf}

@@ -1,7 +1,11 @@
-use Rattle.std.proofs.Common.{◌≡◌, ◌+◌, ◌∷◌, ◌∙◌, ap, drop, arith}
+use Rattle.std.proofs.Common.{◌≡◌, ◌+◌, ◌∷◌, ◌∙◌, ap, drop, sym, subst, arith}
+use Rattle.std.proofs.lemmas.List.Elements.{All-get_or}
+use Rattle.proto_parse.specs.tree.Item.{Item}
 use Rattle.proto_parse.specs.tree.Item.TheVariants.{Block}
 use Rattle.proto_lex.specs.Lexed.{IsPart}
-use Rattle.proto_decl.proofs.OutlineLemmas.{left_at, nested-smaller, spans-block}
+use Rattle.proto_decl.specs.Spans.{OfParts}
+use Rattle.proto_decl.specs.Walked.{parts_of_inner}
+use Rattle.proto_decl.proofs.OutlineLemmas.{left_at, nested-smaller}
 use Rattle.proto_decl.proofs.walk.+walk.Goals as goal
 
 pub walk_items-walk_block-requires : goal.walk_items-walk_block-requires
@@ -11,6 +15,7 @@ walk_items-walk_block-requires t c =
     let left : drop c.loop-item.item-index items ≡ Block c.in-Block.block ∷ rest =
     left_at items c.loop-item.item-index c.item-item.result c.loop-item-test.true c.item-item.is
     ∙ ap (λ x. x ∷ rest) c.in-Block.is in
-    let parts = spans-block (IsPart c.args.text.now) _ rest c.in-Block.block left c.loop-item.invariant.parts in
     let smaller = nested-smaller items rest c.loop-item.item-index c.in-Block.block left in
-    (omega (arith, smaller), parts.0)
+    let of_parts = λ (item : Item). OfParts (IsPart c.args.text.now) (parts_of_inner item) in
+    let here = All-get_or of_parts items c.loop-item.item-index c.item-item.result c.loop-item-test.true c.requires in
+    (omega (arith, smaller), subst of_parts c.in-Block.is (subst of_parts (sym c.item-item.is) here))

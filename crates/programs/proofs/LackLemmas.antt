@@ -8,7 +8,7 @@ use Rattle.std.proofs.lemmas.Bool.{eqb-true}
 use Rattle.std.proofs.lemmas.Option.{same_Some}
 use Rattle.proto_parse.specs.dialect.Dialect.{Dialect}
 use Rattle.source_tree.specs.Files.{TreeFile}
-use Rattle.scip_build.specs.declared.fault.BuildFault.{BuildFault}
+use Rattle.scip_build.specs.declared.omission.Omission.{Omission}
 use Rattle.scip_snapshot.specs.Showing.{Writer}
 use Rattle.protoscip.specs.ToldLines.{IsTextOfAllLacks, IsToldText, IsToldTextWith, is_import, is_skipped}
 use Rattle.protoscip.specs.ToldLines.{is_skipped_source, is_use, numbers_line}
@@ -17,7 +17,7 @@ use Rattle.programs.specs.Messages.{Says, SaysIfAny, SaysOfSuccess}
 use Rattle.programs.specs.TreeRuns.{Ends, Lacks, SaysAll}
 
 -- where all could be read, the text of what an index lacks is the whole text
-all_read : (explain : Option Dialect) (tree : List TreeFile) (sources : ℕ) (told : List BuildFault) (text : List ℕ)
+all_read : (explain : Option Dialect) (tree : List TreeFile) (sources : ℕ) (told : List Omission) (text : List ℕ)
     → IsToldText explain tree sources told text → IsToldTextWith explain tree sources [] told text
 all_read explain tree sources told text is =
     let skipped = count_by is_skipped told in
@@ -40,7 +40,7 @@ module _ {M : Type 0} (says : (List ℕ → Type 0) → Writer M → (status : �
     (tree : List TreeFile) (messages : Writer M) (status : ℕ) where
   module _ {X : Type 0} (path_of : X → List ℕ) where
     -- nothing is lacking
-    pub nothing : (unread : List X) (told : List BuildFault) → (length unread == 0 && length told == 0) ≡ true
+    pub nothing : (unread : List X) (told : List Omission) → (length unread == 0 && length told == 0) ≡ true
         → (line : Option (List ℕ)) → none_found line → SaysIfAny line messages status
         → Lacks says none_found explain tree (map path_of unread) told messages status
     nothing [] [] none line found said = (line, found, said)
@@ -49,7 +49,7 @@ module _ {M : Type 0} (says : (List ℕ → Type 0) → Writer M → (status : �
         absurd (no_items (length unread) (first_holds (suc (length unread) == 0) (length told == 0) none))
 
     -- something is
-    pub something : (unread : List X) (told : List BuildFault) → (length unread == 0 && length told == 0) ≡ false
+    pub something : (unread : List X) (told : List Omission) → (length unread == 0 && length told == 0) ≡ false
         → SaysAll says explain tree (map path_of unread) told messages status
         → Lacks says none_found explain tree (map path_of unread) told messages status
     something [] [] some tells = absurd cc
@@ -57,14 +57,14 @@ module _ {M : Type 0} (says : (List ℕ → Type 0) → Writer M → (status : �
     something (path ∷ unread) told some tells = tells
 
   -- the line of none found is one of which `none_found` holds
-  pub lacks_of : (line : Option (List ℕ)) → none_found line → (unread : List (List ℕ)) (told : List BuildFault)
+  pub lacks_of : (line : Option (List ℕ)) → none_found line → (unread : List (List ℕ)) (told : List Omission)
       → Lacks says (λ l. l ≡ line) explain tree unread told messages status
       → Lacks says none_found explain tree unread told messages status
   lacks_of line found [] [] lacks = (lacks.0, subst none_found (sym lacks.1) found, lacks.2)
   lacks_of line found [] (first ∷ others) lacks = lacks
   lacks_of line found (path ∷ unread) told lacks = lacks
 
-  pub ends_of : {A : Type 0} (unread : List (List ℕ)) (told_of : A → List BuildFault) (done : Result A Fault)
+  pub ends_of : {A : Type 0} (unread : List (List ℕ)) (told_of : A → List Omission) (done : Result A Fault)
       (line : Option (List ℕ)) → none_found line
       → Ends says (λ l. l ≡ line) explain tree unread told_of done messages status
       → Ends says none_found explain tree unread told_of done messages status
@@ -79,7 +79,7 @@ any_success messages status (Some text) said = (refl, said.1)
 
 -- a success has the status 0
 pub is_success : {M : Type 0} (none_found : Option (List ℕ) → Type 0) (explain : Option Dialect)
-    (tree : List TreeFile) (messages : Writer M) (status : ℕ) (unread : List (List ℕ)) (told : List BuildFault)
+    (tree : List TreeFile) (messages : Writer M) (status : ℕ) (unread : List (List ℕ)) (told : List Omission)
     → Lacks SaysOfSuccess none_found explain tree unread told messages status
     → Lacks SaysOfSuccess none_found explain tree unread told messages 0
 is_success none_found explain tree messages status [] [] lacks =
@@ -91,7 +91,7 @@ is_success none_found explain tree messages status (path ∷ unread) told says =
 
 -- the text that was made of it is said; or, if there is none, the line of none found
 pub text_is_said : {M T : Type 0} (bytes : T → List ℕ) (explain : Option Dialect) (tree : List TreeFile)
-    (messages : Writer M) (status : ℕ) (line : Option (List ℕ)) (unread : List (List ℕ)) (told : List BuildFault)
+    (messages : Writer M) (status : ℕ) (line : Option (List ℕ)) (unread : List (List ℕ)) (told : List Omission)
     (text : Option T)
     → IsTextOfAllLacks explain tree unread told (option_map bytes text)
     → IfSome text (λ (t : T). Says (bytes t) 0 messages status)

@@ -11,7 +11,7 @@ use Rattle.source_tree.specs.Files.{TreeFile}
 use Rattle.source_files.specs.declared.load_fault.LoadFault.TheVariants.{Unreadable, TooMany, BadPath, SamePath}
 use Rattle.source_files.specs.declared.load_fault.LoadFault.TheVariants as load
 use Rattle.scip_snapshot.specs.Showing.{Writer}
-use Rattle.protoscip.specs.Statuses.{lex_status, syntax_status, status_of}
+use Rattle.protoscip.specs.FaultTexts.{lex_status, syntax_status, status_of}
 use Rattle.protoscip.specs.declared.fault.Fault.{Fault}
 use Rattle.protoscip.specs.declared.fault.Fault.TheVariants.{Spawn, Memory, Lex, Syntax, Duplicate, MissingImport}
 use Rattle.protoscip.specs.declared.fault.Fault.TheVariants.{Unresolved, TooLarge, Write, Read, Answer}

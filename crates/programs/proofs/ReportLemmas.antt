@@ -8,13 +8,13 @@ use Rattle.proto_decl.specs.Seen.{Seen}
 use Rattle.index_hooks.specs.declared.choice.Choice.{Choice}
 use Rattle.source_tree.specs.Files.{TreeFile}
 use Rattle.source_tree.specs.Trees.{IsSourceCount}
-use Rattle.scip_build.specs.declared.fault.BuildFault.{BuildFault}
+use Rattle.scip_build.specs.declared.omission.Omission.{Omission}
 use Rattle.scip_build.specs.declared.settings.Settings.{Settings}
 use Rattle.fault_reports.specs.Reports.{report_of}
 use Rattle.fault_reports.specs.declared.report.ReportFormat.{ReportFormat}
 use Rattle.protoscip.specs.FaultLines.{HasFilesOf}
 use Rattle.protoscip.specs.Findings.{all_findings, counts_of, counts_with, refused_findings}
-use Rattle.protoscip.specs.Statuses.{status_of}
+use Rattle.protoscip.specs.FaultTexts.{status_of}
 use Rattle.protoscip.specs.ToldLines.{is_skipped}
 use Rattle.protoscip.specs.ToldTrees.{MayNotTell}
 use Rattle.protoscip.specs.declared.fault.Fault.{Fault}
@@ -32,8 +32,8 @@ use Rattle.programs.proofs.MoveLemmas.{moved2}
 use Rattle.programs.proofs.TreeRunLemmas.{part_of}
 
 -- what is reported of what a run lacks, or of its fault, is reported of its answer
-pub reported_by : {A : Type 0} (f : A → Recorded) (ran : Result A Fault) (told : List BuildFault)
-    (fault : Option Fault) (P : Result (List BuildFault) Fault → Type 0)
+pub reported_by : {A : Type 0} (f : A → Recorded) (ran : Result A Fault) (told : List Omission)
+    (fault : Option Fault) (P : Result (List Omission) Fault → Type 0)
     → MatchResult ran (λ a. told ≡ (f a).told) (λ _. told ≡ [])
     → MatchResult ran (λ _. fault ≡ None) (λ e. fault ≡ Some e)
     → P (ran_of told fault) → P (told_by (part_of f ran))
@@ -41,8 +41,8 @@ reported_by f (Ok a) told fault P is none reports = moved2 (λ t e. P (ran_of t 
 reported_by f (Err e) told fault P is some reports = moved2 (λ t e. P (ran_of t e)) is some reports
 
 -- the same of an answer that is all that is recorded
-pub reported_of : (ran : Result Recorded Fault) (told : List BuildFault) (fault : Option Fault)
-    (P : Result (List BuildFault) Fault → Type 0)
+pub reported_of : (ran : Result Recorded Fault) (told : List Omission) (fault : Option Fault)
+    (P : Result (List Omission) Fault → Type 0)
     → MatchResult ran (λ recorded. told ≡ recorded.told) (λ _. told ≡ [])
     → MatchResult ran (λ _. fault ≡ None) (λ e. fault ≡ Some e)
     → P (ran_of told fault) → P (told_by ran)
@@ -57,7 +57,7 @@ any_if_some P (Some a) p = p
 -- ---- what is reported
 
 -- the counts where all could be read
-counts_alone : (told : List BuildFault) (status : ℕ) → counts_of 0 told status ≡ counts_with 0 [] told status
+counts_alone : (told : List Omission) (status : ℕ) → counts_of 0 told status ≡ counts_with 0 [] told status
 counts_alone told status =
     let skipped = count_by is_skipped told in
     let none : skipped ≡ 0 + skipped = omega arith in
@@ -65,7 +65,7 @@ counts_alone told status =
 
 module _ (allows : Seen → Choice → Type 0) (settings : Settings) (tree : List TreeFile)
     (unread : List (List ℕ)) (format : ReportFormat) (status : ℕ) (bytes : List ℕ) where
-  pub of_an_index : (told : List BuildFault) (sources : ℕ) → IsSourceCount tree sources
+  pub of_an_index : (told : List Omission) (sources : ℕ) → IsSourceCount tree sources
       → bytes ≡ report_of format (all_findings tree unread told) (counts_with sources unread told status)
       → IsReport allows settings tree unread format (Ok told) status bytes
   of_an_index told sources counted are = record {
@@ -78,7 +78,7 @@ module _ (allows : Seen → Choice → Type 0) (settings : Settings) (tree : Lis
     bytes_are = are;
   }
 
-  pub of_a_fault : (fault : Fault) (told : List BuildFault) → IsToldBeside allows settings tree fault told
+  pub of_a_fault : (fault : Fault) (told : List Omission) → IsToldBeside allows settings tree fault told
       → status ≡ status_of fault
       → bytes ≡ report_of format (refused_findings tree fault told) (counts_of 0 told (status_of fault))
       → IsReport allows settings tree unread format (Err fault) status bytes
@@ -148,7 +148,7 @@ asked_files at options Is workers tree (Some path) reported goes =
 
 pub reported_files : {Q V : Type 0} (at : Place Q V) (options : ReportOptions) (limits : Limits)
     (allows : Seen → Choice → Type 0) (settings : Settings) (workers : ℕ) (tree : List TreeFile)
-    (unread : List (List ℕ)) (ran : Result (List BuildFault) Fault) (reported : Result (Unit {0}) Fault)
+    (unread : List (List ℕ)) (ran : Result (List Omission) Fault) (reported : Result (Unit {0}) Fault)
     → Reports at options limits allows settings workers tree unread ran reported → IfErr reported (HasFilesOf tree)
 reported_files at options limits allows settings workers tree unread ran reported reports =
     asked_files at options

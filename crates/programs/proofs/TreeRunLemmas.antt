@@ -4,7 +4,7 @@ use Rattle.std.specs.Prelude.{MatchResult}
 use Rattle.std.specs.Result.{result_map_both}
 use Rattle.proto_parse.specs.dialect.Dialect.{Dialect}
 use Rattle.source_tree.specs.Files.{TreeFile}
-use Rattle.scip_build.specs.declared.fault.BuildFault.{BuildFault}
+use Rattle.scip_build.specs.declared.omission.Omission.{Omission}
 use Rattle.scip_snapshot.specs.Showing.{Writer}
 use Rattle.protoscip.specs.declared.fault.Fault.{Fault}
 use Rattle.proto_decl.specs.Seen.{Seen}
@@ -29,7 +29,7 @@ holds_of_part f P (Ok a) holds = holds
 holds_of_part f P (Err e) holds = holds
 
 -- a run ends alike, if what is told is of the part
-pub ends_alike : {M A B : Type 0} (f : A → B) (told_of : B → List BuildFault)
+pub ends_alike : {M A B : Type 0} (f : A → B) (told_of : B → List Omission)
     (says : (List ℕ → Type 0) → Writer M → (status : ℕ) → Type 0) (none_found : Option (List ℕ) → Type 0)
     (explain : Option Dialect) (tree : List TreeFile) (unread : List (List ℕ)) (done : Result A Fault)
     (messages : Writer M) (status : ℕ)

@@ -10,7 +10,7 @@ use Rattle.protoscip.specs.Dump.{dump_tree}
 use Rattle.protoscip.specs.declared.fault.Fault.{Fault}
 use Rattle.protoscip.specs.declared.fault.Fault.TheVariants.{Write}
 use Rattle.protoscip.specs.Explanations.{IsFaultText}
-use Rattle.protoscip.specs.Statuses.{status_of}
+use Rattle.protoscip.specs.FaultTexts.{status_of}
 use Rattle.programs.specs.Messages.{IsSilent, TellsOne}
 use Rattle.programs.specs.Printing.{EndsCut}
 

@@ -8,7 +8,7 @@ use Rattle.std.specs.Option.{option_or}
 use Rattle.proto_parse.specs.dialect.Dialect.{Dialect}
 use Rattle.source_tree.specs.Files.{TreeFile}
 use Rattle.source_tree.specs.Trees.{IsSourceCount}
-use Rattle.scip_build.specs.declared.fault.BuildFault.{BuildFault}
+use Rattle.scip_build.specs.declared.omission.Omission.{Omission}
 use Rattle.scip_snapshot.specs.Showing.{Writer}
 use Rattle.command_line.specs.declared.options.limits.Limits.{Limits}
 use Rattle.protoscip.specs.Lines.{plain_line}
@@ -35,18 +35,18 @@ too_few (Some least) indexed = if nat_lt indexed least then Some (TooFewSources 
 
 -- The limit that an index breaks which lacks this, of a tree with this many sources, without what couldn't be read:
 -- that of what is left out, or else the other one. Both count as the line with the numbers does.
-abbrev pub broken_by : Limits → (sources : ℕ) → (unread : List (List ℕ)) → List BuildFault → Option LimitFault
+abbrev pub broken_by : Limits → (sources : ℕ) → (unread : List (List ℕ)) → List Omission → Option LimitFault
 broken_by limits sources unread told =
     option_or (too_many limits.max_skipped (left_out unread told))
     (too_few limits.min_sources (sources - count_by (is_skipped_source sources) told))
 
 -- the limit that an index of a tree breaks which lacks this, if it breaks one
-abbrev pub Breaks : Limits → List TreeFile → (unread : List (List ℕ)) → List BuildFault → Option LimitFault → Type 0
+abbrev pub Breaks : Limits → List TreeFile → (unread : List (List ℕ)) → List Omission → Option LimitFault → Type 0
 Breaks limits tree unread told broken =
     (sources : ℕ) × IsSourceCount tree sources × (broken ≡ broken_by limits sources unread told)
 
 -- the limit that the index of a run breaks; without an index it breaks none
-abbrev pub IsBrokenBy : Limits → List TreeFile → (unread : List (List ℕ)) → (ran : Result (List BuildFault) Fault)
+abbrev pub IsBrokenBy : Limits → List TreeFile → (unread : List (List ℕ)) → (ran : Result (List Omission) Fault)
     → Option LimitFault → Type 0
 IsBrokenBy limits tree unread (Ok told) broken = Breaks limits tree unread told broken
 IsBrokenBy limits tree unread (Err fault) broken = broken ≡ None
@@ -80,7 +80,7 @@ limit_status = SOURCES_STATUS
 -- the end of a run whose index lacks this and breaks a limit: what it lacks is said as after a success, and then the
 -- limit; `dialect` is the one with which the former is explained
 abbrev pub EndsShort : {M : Type 0} → (none_found : Option (List ℕ) → Type 0) → (explain : Bool)
-    → (dialect : Option Dialect) → List TreeFile → (unread : List (List ℕ)) → List BuildFault → LimitFault → Writer M
+    → (dialect : Option Dialect) → List TreeFile → (unread : List (List ℕ)) → List Omission → LimitFault → Writer M
     → (status : ℕ) → Type 0
 EndsShort {M} none_found explain dialect tree unread lacks fault messages status =
     (said : M) × Lacks SaysOfSuccess none_found dialect tree unread lacks (record messages { after = said }) 0

@@ -7,7 +7,7 @@ ghost use Rattle.protoscip.specs.declared.fault.Fault.{Fault};
 ghost use Rattle.protoscip.specs.Dump.{IsDumped, LeavesReader};
 ghost use Rattle.protoscip.specs.Explanations.{IsFaultText, explain_in};
 ghost use Rattle.protoscip.specs.FaultLines.{HasFilesOf};
-ghost use Rattle.protoscip.specs.Statuses.{status_of};
+ghost use Rattle.protoscip.specs.FaultTexts.{status_of};
 ghost use Rattle.programs.specs.Dumping.{EndsDump, is_write};
 ghost use Rattle.programs.specs.Messages.{TellsOne};
 ghost use Rattle.programs.specs.Printing.{EndsCut, is_closed};

@@ -4,7 +4,7 @@ ghost use Rattle.std.specs.Prelude.{◌≡◌, map, string_bytes};
 ghost use Rattle.std.specs.Option.{option_map};
 ghost use Rattle.protoscip.specs.Explanations.{IsFaultText};
 ghost use Rattle.protoscip.specs.FaultLines.{HasFilesOf, HaveFilesOf};
-ghost use Rattle.protoscip.specs.Statuses.{status_of};
+ghost use Rattle.protoscip.specs.FaultTexts.{status_of};
 ghost use Rattle.scip_snapshot.specs.Showing.{writer};
 ghost use Rattle.programs.specs.Messages.{SaysIfAny, TellsOfSuccess, TellsOne};
 ghost use Rattle.programs.specs.TreeRuns.{Lacks};
@@ -13,7 +13,7 @@ use crate::messages::report;
 use crate::starting::TreeRun;
 use proto_parse::Dialect;
 use protoscip::{Fault, Telling, fault_text, lacks_nothing, told_text_with};
-use scip_build::BuildFault;
+use scip_build::Omission;
 use scip_snapshot::say;
 use source_tree::Tree;
 use std::alloc::Global;
@@ -24,7 +24,7 @@ use streams::Sink;
 pub(crate) fn tell<M: Sink>(
     alloc: Global,
     run: &TreeRun,
-    told: &[BuildFault],
+    told: &[Omission],
     explain: Option<Dialect>,
     messages: &mut M,
 ) -> u8

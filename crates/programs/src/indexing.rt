@@ -33,7 +33,7 @@ use crate::starting::{TreeRun, start};
 use command_line::{IndexOptions, Limits};
 use proto_parse::Dialect;
 use protoscip::{Fault, KeptIndex, Telling, explain_in, index_and_tell};
-use scip_build::BuildFault;
+use scip_build::Omission;
 use source_files::{Excluding, LookAgain, OutPlace, ReadFiles, is_read_from};
 use source_tree::Tree;
 use std::alloc::Global;
@@ -183,7 +183,7 @@ fn broken_limit(
 }
 
 /// What an index lacks; nothing if there is none.
-fn told_in<'a>(ran: &'a Result<KeptIndex<'_>, Fault>) -> &'a [BuildFault]
+fn told_in<'a>(ran: &'a Result<KeptIndex<'_>, Fault>) -> &'a [Omission]
     ensures { MatchResult ran.now (λ kept. result.now ≡ kept.built.told) (λ _. result.now ≡ []) }
 {
     match ran {

@@ -17,7 +17,7 @@ ghost use Rattle.programs.specs.Messages.{Tells};
 use crate::messages::report;
 use command_line::Limits;
 use protoscip::{SOURCES_STATUS, count_left_out, count_skipped_sources, plain_line};
-use scip_build::BuildFault;
+use scip_build::Omission;
 use std::alloc::{AllocError, Global};
 use streams::Sink;
 
@@ -123,7 +123,7 @@ pub(crate) fn broken_by(
     limits: Limits,
     sources: usize,
     unread: &[String],
-    told: &[BuildFault],
+    told: &[Omission],
 ) -> Option<LimitFault>
     ensures { result ≡ broken_by limits sources (map string_bytes unread.now) told.now }
 {

@@ -24,7 +24,7 @@ use command_line::IndexOptions;
 use index_pool::NoGate;
 use proto_parse::Dialect;
 use protoscip::{Fault, Recorded, explain_in, session};
-use scip_build::BuildFault;
+use scip_build::Omission;
 use source_files::{Excluding, LookAgain, OutPlace, ReadFiles};
 use std::alloc::Global;
 use std::sync::Wait;
@@ -53,7 +53,7 @@ fn end<M: Sink>(
 }
 
 /// What an index lacked; nothing if there was none.
-fn told_in(ran: &Result<Recorded, Fault>) -> &[BuildFault]
+fn told_in(ran: &Result<Recorded, Fault>) -> &[Omission]
     ensures { MatchResult ran.now (λ recorded. result.now ≡ recorded.told) (λ _. result.now ≡ []) }
 {
     match ran {

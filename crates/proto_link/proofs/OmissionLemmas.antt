@@ -5,9 +5,8 @@ use Rattle.std.specs.List.{slice_get}
 use Rattle.std.proofs.lemmas.Option.{same_Some}
 use Rattle.proto_decl.specs.Facts.{Facts, AreOfSomeFile, NamesInOrder, PackageInOrder}
 use Rattle.proto_visibility.specs.declared.place.FilePlace.{FilePlace}
-use Rattle.proto_visibility.specs.declared.fault.LinkFault.{LinkFault}
-use Rattle.proto_visibility.specs.declared.fault.LinkFault.TheVariants.{Broken, Duplicate, MissingImport, Unresolved}
-use Rattle.proto_visibility.specs.declared.fault.LinkFault.TheVariants.{Memory}
+use Rattle.proto_visibility.specs.declared.omissions.FileOmission.{FileOmission}
+use Rattle.proto_visibility.specs.declared.omissions.FileOmission.TheVariants.{Broken, Duplicate}
 use Rattle.proto_visibility.specs.Files.{File, HasFacts, HaveOrigins}
 use Rattle.proto_visibility.specs.Items.{Before, Item, IsItem}
 use Rattle.proto_visibility.specs.Items.IsItem.{declared, packaged}
@@ -75,27 +74,21 @@ module _ (files : List File) (origins : HaveOrigins files)
           by (inl less) = inr (less, its.1)
           by (inr same) = inl same.0
 
-  one_omission : (a b : Omissions) → AreOmissions files a → AreOmissions files b → (number : ℕ) (o p : Option LinkFault)
+  one_omission : (a b : Omissions) → AreOmissions files a → AreOmissions files b → (number : ℕ)
+      (o p : Option FileOmission)
       → slice_get a number ≡ Some o → slice_get b number ≡ Some p
       → IsOmission files a number o → IsOmission files b number p → o ≡ p
   one_omission a b are too number None p at there x y =
       sym (same_Some p None (sym there ∙ (one_kept files a b are too number).0 at))
-  one_omission a b are too number (Some (MissingImport place)) p at there x y = absurd x
-  one_omission a b are too number (Some (Unresolved place)) p at there x y = absurd x
-  one_omission a b are too number (Some Memory) p at there x y = absurd x
-  one_omission a b are too number (Some (Broken m)) None at there x y =
-      same_Some (Some (Broken m)) None (sym at ∙ (one_kept files a b are too number).1 there)
-  one_omission a b are too number (Some (Broken m)) (Some (Broken n)) at there x y =
-      ap (λ k. Some (Broken k)) (x.0 ∙ sym y.0)
-  one_omission a b are too number (Some (Broken m)) (Some (Duplicate first second)) at there x y =
-      absurd (unread_or_clash b too number first second x.1 y)
-  one_omission a b are too number (Some (Broken m)) (Some (MissingImport place)) at there x y = absurd y
-  one_omission a b are too number (Some (Broken m)) (Some (Unresolved place)) at there x y = absurd y
-  one_omission a b are too number (Some (Broken m)) (Some Memory) at there x y = absurd y
+  one_omission a b are too number (Some Broken) None at there x y =
+      same_Some (Some Broken) None (sym at ∙ (one_kept files a b are too number).1 there)
+  one_omission a b are too number (Some Broken) (Some Broken) at there x y = refl
+  one_omission a b are too number (Some Broken) (Some (Duplicate first second)) at there x y =
+      absurd (unread_or_clash b too number first second x y)
   one_omission a b are too number (Some (Duplicate first second)) None at there x y =
       same_Some (Some (Duplicate first second)) None (sym at ∙ (one_kept files a b are too number).1 there)
-  one_omission a b are too number (Some (Duplicate first second)) (Some (Broken n)) at there x y =
-      absurd (unread_or_clash a are number first second y.1 x)
+  one_omission a b are too number (Some (Duplicate first second)) (Some Broken) at there x y =
+      absurd (unread_or_clash a are number first second y x)
   one_omission a b are too number (Some (Duplicate first second)) (Some (Duplicate other its)) at there x y =
       let same : (item : Item) → IsMet (IsItem files) a number item ↔ IsMet (IsItem files) b number item =
       λ item. (
@@ -105,9 +98,6 @@ module _ (files : List File) (origins : HaveOrigins files)
       let one = one_clash_of files origins names packages (IsMet (IsItem files) b number)
       (λ item is. is.is_item) first second other its (clash_by same first second x) y in
       ap (λ place. Some (Duplicate place second)) one.0 ∙ ap (λ place. Some (Duplicate other place)) one.1
-  one_omission a b are too number (Some (Duplicate first second)) (Some (MissingImport place)) at there x y = absurd y
-  one_omission a b are too number (Some (Duplicate first second)) (Some (Unresolved place)) at there x y = absurd y
-  one_omission a b are too number (Some (Duplicate first second)) (Some Memory) at there x y = absurd y
 
   pub one_omission_list : (a b : Omissions) → AreOmissions files a → AreOmissions files b → a ≡ b
   one_omission_list a b are too =

@@ -28,6 +28,7 @@ use Rattle.proto_visibility.specs.Knows.Knows.{declared as known_declared, packa
 use Rattle.proto_link.specs.Targets.{IsNamed, IsTarget}
 use Rattle.proto_link.specs.Targets.IsNamed.{packaged, declared}
 use Rattle.proto_visibility.specs.Linked.{MayRefuse}
+use Rattle.proto_visibility.specs.Linked.MayRefuse.{broken_file, clashing, absent_import, lacks_memory}
 use Rattle.proto_link.specs.Laws.{IsDeclaredAt, HasPackage}
 use Rattle.proto_link.proofs.LawLemmas.{one_name_a_use, one_broken_file}
 use Rattle.proto_visibility.proofs.FactLemmas.{one_list_of_facts}
@@ -184,23 +185,20 @@ module _ (files : List File) (origins : HaveOrigins files)
 
   pub one_refusal : (a b : LinkFault) → MayRefuse files a → MayRefuse files b → a ≢ fault.Memory → b ≢ fault.Memory
       → a ≡ b
-  one_refusal (fault.Broken n) (fault.Broken m) p q x y = ap fault.Broken (one_broken_file files n m p q)
-  one_refusal (fault.Broken n) (fault.Duplicate f s) p q x y = absurd (q.0 n p.unread)
-  one_refusal (fault.Broken n) (fault.MissingImport place) p q x y = absurd (q.0 n p.unread)
-  one_refusal (fault.Broken n) (fault.Unresolved place) p q x y = absurd q
-  one_refusal (fault.Broken n) fault.Memory p q x y = absurd (y refl)
-  one_refusal (fault.Duplicate f s) (fault.Broken m) p q x y = absurd (p.0 m q.unread)
-  one_refusal (fault.Duplicate f s) (fault.Duplicate g t) p q x y =
-      let same = one_clash files origins names packages f s g t p.1 q.1 in
+  one_refusal _ _ (broken_file {number = n} p) (broken_file {number = m} q) x y =
+      ap fault.Broken (one_broken_file files n m p q)
+  one_refusal _ _ (broken_file {number = n} p) (clashing read clash) x y = absurd (read n p.unread)
+  one_refusal _ _ (broken_file {number = n} p) (absent_import read clear absent) x y = absurd (read n p.unread)
+  one_refusal _ _ (broken_file p) lacks_memory x y = absurd (y refl)
+  one_refusal _ _ (clashing read clash) (broken_file {number = m} q) x y = absurd (read m q.unread)
+  one_refusal _ _ (clashing {first = f} {second = s} read clash) (clashing {first = g} {second = t} also other) x y =
+      let same = one_clash files origins names packages f s g t clash other in
       ap (λ place. fault.Duplicate place s) same.0 ∙ ap (fault.Duplicate g) same.1
-  one_refusal (fault.Duplicate f s) (fault.MissingImport place) p q x y = absurd (no_clash p.1 q.1)
-  one_refusal (fault.Duplicate f s) (fault.Unresolved place) p q x y = absurd q
-  one_refusal (fault.Duplicate f s) fault.Memory p q x y = absurd (y refl)
-  one_refusal (fault.MissingImport place) (fault.Broken m) p q x y = absurd (p.0 m q.unread)
-  one_refusal (fault.MissingImport place) (fault.Duplicate g t) p q x y = absurd (no_clash q.1 p.1)
-  one_refusal (fault.MissingImport place) (fault.MissingImport other) p q x y =
-      ap fault.MissingImport (one_absence files origins imports place other p.2 q.2)
-  one_refusal (fault.MissingImport place) (fault.Unresolved other) p q x y = absurd q
-  one_refusal (fault.MissingImport place) fault.Memory p q x y = absurd (y refl)
-  one_refusal (fault.Unresolved place) b p q x y = absurd p
-  one_refusal fault.Memory b p q x y = absurd (x refl)
+  one_refusal _ _ (clashing read clash) (absent_import also clear absent) x y = absurd (no_clash clash clear)
+  one_refusal _ _ (clashing read clash) lacks_memory x y = absurd (y refl)
+  one_refusal _ _ (absent_import read clear absent) (broken_file {number = m} q) x y = absurd (read m q.unread)
+  one_refusal _ _ (absent_import read clear absent) (clashing also clash) x y = absurd (no_clash clash clear)
+  one_refusal _ _ (absent_import {place = p} read clear absent) (absent_import {place = q} also none lacks) x y =
+      ap fault.MissingImport (one_absence files origins imports p q absent lacks)
+  one_refusal _ _ (absent_import read clear absent) lacks_memory x y = absurd (y refl)
+  one_refusal _ _ lacks_memory q x y = absurd (x refl)

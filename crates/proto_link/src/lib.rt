@@ -16,7 +16,7 @@ pub use laws::{
 };
 pub use linker::Linker;
 pub use proto_visibility::{
-    CheckedFiles, Entity, FilePlace, LinkFault, LinkFile, ListedNames, have_own_paths,
-    kept_files_are_clear, left_out, nothing_is_left_out_of_good_files, one_kept,
+    CheckedFiles, Entity, FileOmission, FilePlace, LinkFault, LinkFile, ListedNames,
+    have_own_paths, kept_files_are_clear, left_out, nothing_is_left_out_of_good_files, one_kept,
 };
 pub use target::Target;

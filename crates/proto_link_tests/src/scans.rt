@@ -1,7 +1,7 @@
 //! Which files see which, and why files can't be linked, found by scans of all files.
 
 use crate::items::{add_items_of, first_clash};
-use proto_link::{FilePlace, LinkFault, LinkFile};
+use proto_link::{FileOmission, FilePlace, LinkFault, LinkFile};
 use proto_parse::ImportKind;
 use std::alloc::Global;
 use test_kit::Made;
@@ -137,8 +137,12 @@ pub(crate) fn absent_of(alloc: Global, files: &[LinkFile]) -> Made<Vec<FilePlace
     Ok(absent)
 }
 
-/// The first clash in files with these numbers.
-fn clash_of(alloc: Global, files: &[LinkFile], numbers: &[usize]) -> Made<Option<LinkFault>> {
+/// The places of the first clash in files with these numbers.
+fn clash_of(
+    alloc: Global,
+    files: &[LinkFile],
+    numbers: &[usize],
+) -> Made<Option<(FilePlace, FilePlace)>> {
     let mut items = Vec::new(alloc);
     add_items_of(alloc, &mut items, files, numbers)?;
     Ok(first_clash(items.as_slice()))
@@ -153,9 +157,8 @@ fn fault_of_counted(
     if let Some(file) = first_unread(files, counted) {
         return Ok(Some(LinkFault::Broken(file)));
     }
-    let clash = clash_of(alloc, files, counted)?;
-    if clash.is_some() {
-        return Ok(clash);
+    if let Some((first, second)) = clash_of(alloc, files, counted)? {
+        return Ok(Some(LinkFault::Duplicate(first, second)));
     }
     let absent = absent_of(alloc, files)?;
     Ok(absent.first().map(|place| LinkFault::MissingImport(*place)))
@@ -169,16 +172,18 @@ fn omission_of(
     kept: &mut Vec<usize>,
     number: usize,
     file: &LinkFile,
-) -> Made<Option<LinkFault>> {
+) -> Made<Option<FileOmission>> {
     if file.facts.is_none() {
-        return Ok(Some(LinkFault::Broken(number)));
+        return Ok(Some(FileOmission::Broken));
     }
     kept.push(number)?;
-    let clash = clash_of(alloc, files, kept.as_slice())?;
-    if clash.is_some() {
-        kept.pop();
+    match clash_of(alloc, files, kept.as_slice())? {
+        Some((first, second)) => {
+            kept.pop();
+            Ok(Some(FileOmission::Duplicate(first, second)))
+        }
+        None => Ok(None),
     }
-    Ok(clash)
 }
 
 /// Adds for each file why it is left out, if it is. These files count.
@@ -187,7 +192,7 @@ fn add_omissions(
     files: &[LinkFile],
     counted: &[usize],
     kept: &mut Vec<usize>,
-    omissions: &mut Vec<Option<LinkFault>>,
+    omissions: &mut Vec<Option<FileOmission>>,
 ) -> Made<()> {
     for (number, file) in files.iter().enumerate() {
         let omission = if counted.contains(&number) {
@@ -201,7 +206,7 @@ fn add_omissions(
 }
 
 /// For each file why it is left out, if it is.
-pub(crate) fn omissions_of(alloc: Global, files: &[LinkFile]) -> Made<Vec<Option<LinkFault>>> {
+pub(crate) fn omissions_of(alloc: Global, files: &[LinkFile]) -> Made<Vec<Option<FileOmission>>> {
     let counted = counted_of(alloc, files)?;
     let mut kept = Vec::new(alloc);
     let mut omissions = Vec::new(alloc);

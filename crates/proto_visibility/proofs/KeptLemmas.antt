@@ -5,9 +5,8 @@ use Rattle.std.specs.List.{slice_get}
 use Rattle.std.proofs.lemmas.Bool.{cases_lt, cases_order}
 use Rattle.std.proofs.lemmas.Option.{slice_get_within, slice_get-get_or}
 use Rattle.proto_decl.specs.Facts.{Facts}
-use Rattle.proto_visibility.specs.declared.fault.LinkFault.{LinkFault}
-use Rattle.proto_visibility.specs.declared.fault.LinkFault.TheVariants.{Broken, Duplicate, MissingImport, Unresolved}
-use Rattle.proto_visibility.specs.declared.fault.LinkFault.TheVariants.{Memory}
+use Rattle.proto_visibility.specs.declared.omissions.FileOmission.{FileOmission}
+use Rattle.proto_visibility.specs.declared.omissions.FileOmission.TheVariants.{Broken, Duplicate}
 use Rattle.proto_visibility.specs.Files.{File, HasFacts, Imports}
 use Rattle.proto_visibility.specs.Sees.{LeadsTo, Sees, Counts}
 use Rattle.proto_visibility.specs.Sees.LeadsTo.{at_once, through}
@@ -53,15 +52,12 @@ module _ (files : List File) where
       back : (m : ℕ) → m < n → IsKept b m ↔ IsKept a m
       back m h = ((below m h).1, (below m h).0)
 
-      by : (o : Option LinkFault) → slice_get b n ≡ Some o → IsOmission files b n o → IsKept b n
+      by : (o : Option FileOmission) → slice_get b n ≡ Some o → IsOmission files b n o → IsKept b n
       by None at is = at
-      by (Some (Broken other)) at is = absurd ((are.each n None kept).0 is.1)
+      by (Some Broken) at is = absurd ((are.each n None kept).0 is)
       by (Some (Duplicate first second)) at is =
           absurd ((are.each n None kept).1 is.earlier is.later
           (excludes_as is.earlier is.later (met b a n back is.earlier) (met b a n back is.later) is.exclude))
-      by (Some (MissingImport place)) at is = absurd is
-      by (Some (Unresolved place)) at is = absurd is
-      by (Some Memory) at is = absurd is
 
   below : (a b : Omissions) → AreOmissions files a → AreOmissions files b → (n m : ℕ) → m < n → IsKept a m ↔ IsKept b m
   below a b are others zero m h = absurd (omega arith)
@@ -111,15 +107,13 @@ nothing_is_left_out files omissions are = (
     meets all a b is (inl less) = inr (less, kept all a.place.file (file_of files a is))
     meets all a b is (inr same) = inl same.0
 
-    by : NoneBroken files → NoClash files → (k : ℕ) (o : Option LinkFault) → IsOmission files omissions k o → o ≡ None
+    by : NoneBroken files → NoClash files → (k : ℕ) (o : Option FileOmission) → IsOmission files omissions k o
+        → o ≡ None
     by read clear k None is = refl
-    by read clear k (Some (Broken other)) is = absurd (read k is.1)
+    by read clear k (Some Broken) is = absurd (read k is)
     by read clear k (Some (Duplicate first second)) is =
         absurd (clear is.earlier is.later
         (excludes_as is.earlier is.later (λ m. m.is_item) (λ m. m.is_item) is.exclude))
-    by read clear k (Some (MissingImport place)) is = absurd is
-    by read clear k (Some (Unresolved place)) is = absurd is
-    by read clear k (Some Memory) is = absurd is
 
 -- ---- a file that is kept, among all files
 

@@ -19,3 +19,4 @@ pub mod ListedLemmas
 pub mod OriginLemmas
 pub mod KeptLemmas
 pub mod PassLemmas
+pub mod RefusalRules

@@ -48,6 +48,7 @@ impl<'a, 't> Model for CheckedFiles<'a, 't> {
 
 impl<'a, 't> CheckedFiles<'a, 't> {
     /// Checks files, no two of which have one path, as `Namespace::new` does: it refuses them alike.
+    #[tactic(auto, using(crate::proofs::RefusalRules::refusals))]
     pub fn of(
         alloc: Global,
         files: &'a [LinkFile<'a, 't>],
@@ -63,6 +64,7 @@ impl<'a, 't> CheckedFiles<'a, 't> {
     }
 
     /// The same, by the names of their packages' prefixes.
+    #[tactic(auto, using(crate::proofs::RefusalRules::refusals))]
     pub(crate) fn by_prefixes(
         alloc: Global,
         files: &'a [LinkFile<'a, 't>],

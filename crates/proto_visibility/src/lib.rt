@@ -36,6 +36,6 @@ pub use laws::{kept_files_are_clear, nothing_is_left_out_of_good_files, one_kept
 pub use link_file::LinkFile;
 pub use listed_names::ListedNames;
 pub use namespace::Namespace;
-pub use omissions::left_out;
+pub use omissions::{FileOmission, left_out};
 pub use place::FilePlace;
 pub use role::Role;

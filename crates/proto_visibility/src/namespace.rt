@@ -61,6 +61,7 @@ impl<'a, 't> Namespace<'a, 't> {
     ///
     /// An included file has an effect only where some source sees it. A weak import counts as a
     /// plain one.
+    #[tactic(auto, using(crate::proofs::RefusalRules::refusals))]
     pub fn new(alloc: Global, files: &'a [LinkFile<'a, 't>]) -> Result<Namespace<'a, 't>, LinkFault>
         requires { HaveOwnPaths files.now }
         ensures linked { IfOk result (λ namespace. namespace ≡ files.now) }

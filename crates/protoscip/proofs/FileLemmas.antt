@@ -7,9 +7,10 @@ use Rattle.std.proofs.lemmas.List.{length-map}
 use Rattle.proto_parse.specs.dialect.Dialect.{Dialect}
 use Rattle.proto_decl.specs.Seen.{Seen}
 use Rattle.proto_visibility.specs.declared.place.FilePlace.{FilePlace}
-use Rattle.proto_visibility.specs.declared.fault.LinkFault.{LinkFault}
-use Rattle.proto_visibility.specs.declared.fault.LinkFault.TheVariants as link
+use Rattle.proto_visibility.specs.declared.omissions.FileOmission.{FileOmission}
+use Rattle.proto_visibility.specs.declared.omissions.FileOmission.TheVariants as left_for
 use Rattle.proto_visibility.specs.Files.{File}
+use Rattle.proto_visibility.specs.Linked.MayRefuse.{clashing, absent_import}
 use Rattle.proto_visibility.specs.Kept.{Omissions, IsOmission, AreOmissions, kept_of, number_among_all}
 use Rattle.proto_visibility.specs.Items.{Item, IsItem, declared, packaged}
 use Rattle.proto_visibility.specs.Absences.{IsNeeded, of_source, of_included}
@@ -21,6 +22,7 @@ use Rattle.scip_build.specs.Kept.{IsLeftFor, IsTold}
 use Rattle.scip_build.specs.Kept.IsTold.{of_file, of_import as told_import, of_use}
 use Rattle.scip_build.specs.Files.{ReadFile}
 use Rattle.scip_build.specs.Linking.{linked_file, linked_files, HasFault}
+use Rattle.scip_build.specs.Linking.MayRefuseReadings.{is_unread, is_duplicate, is_missing}
 use Rattle.scip_build.specs.declared.faulty.Faulty.{Faulty}
 use Rattle.scip_build.specs.declared.faulty.Faulty.TheVariants.{Refuse}
 use Rattle.scip_build.specs.Readings.{AreReadingsOf}
@@ -28,9 +30,11 @@ use Rattle.scip_build.specs.declared.settings.Settings.{Settings}
 use Rattle.scip_build.specs.declared.built.Built.{Built}
 use Rattle.scip_build.specs.declared.fault.BuildFault.{BuildFault}
 use Rattle.scip_build.specs.declared.fault.BuildFault.TheVariants as build
+use Rattle.scip_build.specs.declared.omission.Omission.{Omission}
+use Rattle.scip_build.specs.declared.omission.Omission.TheVariants as omitted
 use Rattle.scip_build.specs.declared.fault.FileFault.{FileFault}
 use Rattle.scip_build.specs.declared.fault.FileFault.TheVariants as file
-use Rattle.protoscip.specs.Faults.{fault_of_build}
+use Rattle.protoscip.specs.Faults.{fault_of_build, fault_of_omission}
 use Rattle.protoscip.specs.FaultLines.{HasFile, HasFilesOf, HaveFilesOf}
 use Rattle.protoscip.proofs.LinkedLemmas.{at_all_linked}
 
@@ -62,22 +66,23 @@ module _ (allows : Seen → Choice → Type 0) (faulty : Faulty) (dialect : Dial
       slice_get_within tree number first.file first.numbered
   files_of_build workers (build.File number (file.Syntax e)) (refuse, inl first) =
       slice_get_within tree number first.file first.numbered
-  files_of_build workers (build.File number (file.Lex e)) (refuse, inr of) =
-      subst (λ (n : ℕ). number < n) of.1.one_each (slice_get_within of.0 number of.2.1.reading of.2.1.numbered)
-  files_of_build workers (build.File number (file.Syntax e)) (refuse, inr of) =
-      subst (λ (n : ℕ). number < n) of.1.one_each (slice_get_within of.0 number of.2.1.reading of.2.1.numbered)
-  files_of_build workers (build.Duplicate first second) (refuse, is) =
-      let clash = is.2.1 in
-      let files = linked_files is.0 in
+  files_of_build workers (build.File number (file.Lex e)) (refuse, inr (readings, are, is_unread none has)) =
+      subst (λ (n : ℕ). number < n) are.one_each (slice_get_within readings number has.reading has.numbered)
+  files_of_build workers (build.File number (file.Syntax e)) (refuse, inr (readings, are, is_unread none has)) =
+      subst (λ (n : ℕ). number < n) are.one_each (slice_get_within readings number has.reading has.numbered)
+  files_of_build workers (build.Duplicate first second) (refuse, (readings, are, is_duplicate (clashing read clash))) =
+      let files = linked_files readings in
       let earlier = of_item files clash.earlier clash.exclude.first_is in
       let later = of_item files clash.later clash.exclude.second_is in
       let Within : FilePlace → Type 0 = λ place. place.file < length files in (
-        in_tree Refuse is.0 first.file is.1 (subst Within clash.first_is earlier),
-        in_tree Refuse is.0 second.file is.1 (subst Within clash.second_is later),
+        in_tree Refuse readings first.file are (subst Within clash.first_is earlier),
+        in_tree Refuse readings second.file are (subst Within clash.second_is later),
       )
-  files_of_build workers (build.MissingImport place) (refuse, is) =
-      let missing = is.2.2.missing in
-      in_tree Refuse is.0 place.file is.1 (of_import (linked_files is.0) place.file missing.import missing.needed)
+  files_of_build workers (build.MissingImport place)
+      (refuse, (readings, are, is_missing (absent_import read clear absent))) =
+      let missing = absent.missing in
+      in_tree Refuse readings place.file are
+      (of_import (linked_files readings) place.file missing.import missing.needed)
   files_of_build workers (build.Unresolved place) (refuse, is) =
       let source = is.2.1.source in
       in_tree Refuse is.0 place.file is.1 (slice_get_within (linked_files is.0) place.file source.file source.numbered)
@@ -100,50 +105,46 @@ module _ (allows : Seen → Choice → Type 0) (faulty : Faulty) (dialect : Dial
       within there (slice_get_within (linked_files all) there file (at_all_linked omissions all number file at))
 
   fault_within : (number : ℕ) (fault : FileFault) → HasFault all number fault
-      → HasFilesOf tree (fault_of_build (build.File number fault))
+      → HasFilesOf tree (fault_of_omission (omitted.File number fault))
   fault_within number (file.Lex e) has =
       subst (λ (n : ℕ). number < n) read.one_each (slice_get_within all number has.reading has.numbered)
   fault_within number (file.Syntax e) has =
       subst (λ (n : ℕ). number < n) read.one_each (slice_get_within all number has.reading has.numbered)
 
-  of_left : (number : ℕ) (omission : Option LinkFault) (told : BuildFault)
-      → IsOmission (linked_files all) omissions number omission → IsLeftFor all omission told
-      → HasFilesOf tree (fault_of_build told)
-  of_left number None told out left = absurd left
-  of_left number (Some (link.Broken other)) told out left =
-      let Has : BuildFault → Type 0 = λ f. HasFilesOf tree (fault_of_build f) in
-      subst Has (sym left.2) (fault_within other left.0 left.1)
-  of_left number (Some (link.Duplicate first second)) told out left =
+  of_left : (number : ℕ) (omission : FileOmission) (told : Omission)
+      → IsOmission (linked_files all) omissions number (Some omission) → IsLeftFor all number omission told
+      → HasFilesOf tree (fault_of_omission told)
+  of_left number left_for.Broken told out left =
+      let Has : Omission → Type 0 = λ o. HasFilesOf tree (fault_of_omission o) in
+      subst Has (sym left.2) (fault_within number left.0 left.1)
+  of_left number (left_for.Duplicate first second) told out left =
       let files = linked_files all in
       let earlier = of_item files out.earlier out.exclude.first_is.is_item in
       let later = of_item files out.later out.exclude.second_is.is_item in
       let Within : FilePlace → Type 0 = λ place. place.file < length files in
-      let Has : BuildFault → Type 0 = λ f. HasFilesOf tree (fault_of_build f) in
+      let Has : Omission → Type 0 = λ o. HasFilesOf tree (fault_of_omission o) in
       subst Has (sym left) (
         within first.file (subst Within out.first_is earlier),
         within second.file (subst Within out.second_is later),
       )
-  of_left number (Some (link.MissingImport place)) told out left = absurd left
-  of_left number (Some (link.Unresolved place)) told out left = absurd left
-  of_left number (Some link.Memory) told out left = absurd left
 
   needed_at : (number : ℕ) (import : Imported) → IsNeeded kept number import
       → (file : File) × (slice_get kept number ≡ Some file)
   needed_at number import (of_source source has listed) = (has.file, has.numbered)
   needed_at number import (of_included counts has listed public) = (has.file, has.numbered)
 
-  file_of_told : (told : BuildFault) → IsTold all omissions told → HasFilesOf tree (fault_of_build told)
-  file_of_told told (of_file n o at left) = of_left n o told (are.each n o at) left
+  file_of_told : (told : Omission) → IsTold all omissions told → HasFilesOf tree (fault_of_omission told)
+  file_of_told told (of_file n o at left) = of_left n o told (are.each n (Some o) at) left
   file_of_told _ (told_import p missing) =
       let at = needed_at p.file missing.import missing.needed in kept_within p.file at.0 at.1
   file_of_told _ (of_use p is) = kept_within p.file is.source.file is.source.numbered
 
-  pub files_of_told : (told : List BuildFault)
-      → ((fault : BuildFault) → Contains told fault → IsTold all omissions fault)
+  pub files_of_told : (told : List Omission)
+      → ((omission : Omission) → Contains told omission → IsTold all omissions omission)
       → HaveFilesOf tree told
   files_of_told told is =
-      All-weaker (Contains told) (λ fault. HasFilesOf tree (fault_of_build fault))
-      (λ fault there. file_of_told fault (is fault there)) told (All-contains_itself told)
+      All-weaker (Contains told) (λ omission. HasFilesOf tree (fault_of_omission omission))
+      (λ omission there. file_of_told omission (is omission there)) told (All-contains_itself told)
 
 -- of what was built
 pub files_of_built : (allows : Seen → Choice → Type 0) (settings : Settings) (tree : List TreeFile) (built : Built)

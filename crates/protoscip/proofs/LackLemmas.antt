@@ -6,12 +6,12 @@ use Rattle.std.proofs.lemmas.Bool.{eqb-true}
 use Rattle.proto_parse.specs.dialect.Dialect.{Dialect}
 use Rattle.source_tree.specs.Files.{TreeFile}
 use Rattle.source_tree.specs.Trees.{IsSourceCount}
-use Rattle.scip_build.specs.declared.fault.BuildFault.{BuildFault}
+use Rattle.scip_build.specs.declared.omission.Omission.{Omission}
 use Rattle.protoscip.specs.ToldLines.{IsTextOfAllLacks, IsToldText, IsToldTextWith, is_import, is_skipped}
 use Rattle.protoscip.specs.ToldLines.{is_skipped_source, is_use, numbers_line}
 
 -- where all could be read, the text is that of what an index lacks
-pub all_read : (explain : Option Dialect) (tree : List TreeFile) (sources : ℕ) (told : List BuildFault) (text : List ℕ)
+pub all_read : (explain : Option Dialect) (tree : List TreeFile) (sources : ℕ) (told : List Omission) (text : List ℕ)
     → IsToldTextWith explain tree sources [] told text → IsToldText explain tree sources told text
 all_read explain tree sources told text is =
     let skipped = count_by is_skipped told in
@@ -31,7 +31,7 @@ first_holds false b both = both
 
 module _ {X : Type 0} (path_of : X → List ℕ) (explain : Option Dialect) (tree : List TreeFile) where
   -- it lacks nothing
-  pub nothing : (unread : List X) (told : List BuildFault) → (length unread == 0 && length told == 0) ≡ true
+  pub nothing : (unread : List X) (told : List Omission) → (length unread == 0 && length told == 0) ≡ true
       → IsTextOfAllLacks explain tree (map path_of unread) told None
   nothing [] [] none = refl
   nothing [] (first ∷ others) none = absurd (no_items (length others) none)
@@ -39,7 +39,7 @@ module _ {X : Type 0} (path_of : X → List ℕ) (explain : Option Dialect) (tre
       absurd (no_items (length unread) (first_holds (suc (length unread) == 0) (length told == 0) none))
 
   -- it lacks something
-  pub something : (unread : List X) (told : List BuildFault) (text : List ℕ)
+  pub something : (unread : List X) (told : List Omission) (text : List ℕ)
       → (length unread == 0 && length told == 0) ≡ false
       → ((sources : ℕ) × IsSourceCount tree sources
       × IsToldTextWith explain tree sources (map path_of unread) told text)

@@ -17,31 +17,25 @@ use Rattle.std.proofs.lemmas.List.Kept.{AllPairs-cons, AllPairs-filter}
 use Rattle.std.proofs.lemmas.Map.Keys.{Less-from_sorted}
 use Rattle.std.proofs.lemmas.Option.{slice_get-get_or}
 use Rattle.proto_decl.specs.Seen.{Seen}
-use Rattle.proto_visibility.specs.declared.fault.LinkFault.{LinkFault}
-use Rattle.proto_visibility.specs.declared.fault.LinkFault.TheVariants as link
-use Rattle.proto_visibility.specs.Kept.{Omissions}
 use Rattle.index_hooks.specs.declared.choice.Choice.{Choice}
 use Rattle.source_tree.specs.Files.{TreeFile}
 use Rattle.source_tree.specs.Trees.{HaveOwnPaths}
 use Rattle.scip_model.proofs.SortLemmas.{not-below}
 use Rattle.scip_build.specs.Builds.{IsBuilt}
-use Rattle.scip_build.specs.Files.{ReadFile}
-use Rattle.scip_build.specs.Kept.{IsLeftFor, IsTold, Key, key_cmp, told_cmp, told_key}
-use Rattle.scip_build.specs.Kept.IsTold.{of_file, of_import, of_use}
+use Rattle.scip_build.specs.Kept.{Key, key_cmp, told_cmp, told_key}
 use Rattle.scip_build.specs.declared.settings.Settings.{Settings}
 use Rattle.scip_build.specs.declared.built.Built.{Built}
-use Rattle.scip_build.specs.declared.fault.BuildFault.{BuildFault}
-use Rattle.scip_build.specs.declared.fault.BuildFault.TheVariants as build
-use Rattle.scip_build.specs.declared.fault.FileFault.{FileFault}
+use Rattle.scip_build.specs.declared.omission.Omission.{Omission}
+use Rattle.scip_build.specs.declared.omission.Omission.TheVariants as omitted
 use Rattle.scip_build.specs.declared.fault.FileFault.TheVariants as file
 use Rattle.proto_visibility.specs.declared.place.FilePlace.{FilePlace}
 use Rattle.fault_reports.specs.Findings.{Found, FoundPlace}
 use Rattle.fault_reports.specs.declared.finding.FindingKind.{FindingKind}
 use Rattle.fault_reports.specs.declared.finding.FindingKind.TheVariants as kind
-use Rattle.protoscip.specs.Faults.{fault_of_build}
+use Rattle.protoscip.specs.Faults.{fault_of_omission}
 use Rattle.protoscip.specs.FaultLines.{HasFile, HasFilesOf, HaveFilesOf, path_of}
 use Rattle.protoscip.specs.FindingLaws.{AreApart, FindingsComeOnce}
-use Rattle.protoscip.specs.Findings.{faults_of, faults_with, finding_of, is_one_place, is_other, kind_of, tells_same}
+use Rattle.protoscip.specs.Findings.{faults_of, faults_with, is_one_place, is_other, tells_same, told_finding}
 use Rattle.protoscip.specs.Findings.{told_findings}
 use Rattle.protoscip.specs.declared.fault.Fault.{Fault}
 use Rattle.protoscip.specs.declared.fault.Fault.TheVariants as fault
@@ -51,9 +45,9 @@ use Rattle.protoscip.proofs.UnreadLemmas.{with_unread}
 
 -- ---- files
 
-pub have_files : (tree : List TreeFile) (told : List BuildFault) → HaveFilesOf tree told
+pub have_files : (tree : List TreeFile) (told : List Omission) → HaveFilesOf tree told
     → All (HasFilesOf tree) (faults_of told)
-have_files tree told have = All-map (HasFilesOf tree) fault_of_build told have
+have_files tree told have = All-map (HasFilesOf tree) fault_of_omission told have
 
 pub have_all : (tree : List TreeFile) (own : Fault) (told : List Fault) → HasFilesOf tree own
     → All (HasFilesOf tree) told → All (HasFilesOf tree) (faults_with own told)
@@ -78,8 +72,12 @@ key_total = then_total
     (then_total (on_total (λ (x : Key). x.0.0) nat_cmp_total) (on_total (λ (x : Key). x.0.1) nat_cmp_total))
     (then_total (on_total (λ (x : Key). x.1.0) nat_cmp_total) (on_total (λ (x : Key). x.1.1) bool_cmp_total))
 
+-- an element of no list
+abbrev nothing : Omission
+nothing = omitted.MissingImport (record { file = 0; span = record { start = 0; end = 0 } })
+
 -- what comes later in order isn't at the same place
-keys_differ : (told : List BuildFault) → IsStrictlySortedBy told_cmp told → (i j : ℕ) (d : BuildFault) → i < j
+keys_differ : (told : List Omission) → IsStrictlySortedBy told_cmp told → (i j : ℕ) (d : Omission) → i < j
     → j < length told → told_key (get_or told i d) ≢ told_key (get_or told j d)
 keys_differ told rising i j d before within same =
     let key = told_key (get_or told i d) in
@@ -96,24 +94,22 @@ fault_key (fault.MissingImport place) = ((place.file, place.span.start), (place.
 fault_key (fault.Unresolved place) = ((place.file, place.span.start), (place.span.end, true))
 fault_key other = ((0, 0), (0, false))
 
-key_of_fault : (told : BuildFault) → fault_key (fault_of_build told) ≡ told_key told
-key_of_fault build.Spawn = refl
-key_of_fault build.Memory = refl
-key_of_fault (build.File number (file.Lex e)) = refl
-key_of_fault (build.File number (file.Syntax e)) = refl
-key_of_fault (build.Duplicate first second) = refl
-key_of_fault (build.MissingImport place) = refl
-key_of_fault (build.Unresolved place) = refl
+key_of_fault : (told : Omission) → fault_key (fault_of_omission told) ≡ told_key told
+key_of_fault (omitted.File number (file.Lex e)) = refl
+key_of_fault (omitted.File number (file.Syntax e)) = refl
+key_of_fault (omitted.Duplicate first second) = refl
+key_of_fault (omitted.MissingImport place) = refl
+key_of_fault (omitted.Unresolved place) = refl
 
-faults_apart : (told : List BuildFault) → IsStrictlySortedBy told_cmp told → AreApart (faults_of told)
+faults_apart : (told : List Omission) → IsStrictlySortedBy told_cmp told → AreApart (faults_of told)
 faults_apart told rising i j d before within same =
-    let inside : j < length told = subst (λ (n : ℕ). j < n) (length-map told fault_of_build) within in
+    let inside : j < length told = subst (λ (n : ℕ). j < n) (length-map told fault_of_omission) within in
     let there : i < length told = omega (arith, before, inside) in
-    let first = get_or-map fault_of_build told i build.Spawn d there in
-    let second = get_or-map fault_of_build told j build.Spawn d inside in
-    keys_differ told rising i j build.Spawn before inside
-    (sym (key_of_fault (get_or told i build.Spawn)) ∙ (ap fault_key (sym first ∙ (same ∙ second))
-    ∙ key_of_fault (get_or told j build.Spawn)))
+    let first = get_or-map fault_of_omission told i nothing d there in
+    let second = get_or-map fault_of_omission told j nothing d inside in
+    keys_differ told rising i j nothing before inside
+    (sym (key_of_fault (get_or told i nothing)) ∙ (ap fault_key (sym first ∙ (same ∙ second))
+    ∙ key_of_fault (get_or told j nothing)))
 
 -- ---- the findings of what is told
 
@@ -132,37 +128,20 @@ IsOfFile fault.Read = ⊥
 IsOfFile (fault.Answer count) = ⊥
 
 -- so is what is told
-abbrev IsToldOfFile : BuildFault → Type 0
-IsToldOfFile told = IsOfFile (fault_of_build told)
+told_of_file : (told : Omission) → IsOfFile (fault_of_omission told)
+told_of_file (omitted.File number (file.Lex e)) = tt
+told_of_file (omitted.File number (file.Syntax e)) = tt
+told_of_file (omitted.Duplicate first second) = tt
+told_of_file (omitted.MissingImport place) = tt
+told_of_file (omitted.Unresolved place) = tt
 
-of_file_fault : (number : ℕ) (e : FileFault) → IsToldOfFile (build.File number e)
-of_file_fault number (file.Lex e) = tt
-of_file_fault number (file.Syntax e) = tt
-
-left_of_file : (all : List ReadFile) (omission : Option LinkFault) (told : BuildFault) → IsLeftFor all omission told
-    → IsToldOfFile told
-left_of_file all None told left = absurd left
-left_of_file all (Some (link.Broken number)) told left = subst IsToldOfFile (sym left.2) (of_file_fault number left.0)
-left_of_file all (Some (link.Duplicate first second)) told left = subst IsToldOfFile (sym left) tt
-left_of_file all (Some (link.MissingImport place)) told left = absurd left
-left_of_file all (Some (link.Unresolved place)) told left = absurd left
-left_of_file all (Some link.Memory) told left = absurd left
-
-told_of_file : (all : List ReadFile) (omissions : Omissions) (told : BuildFault) → IsTold all omissions told
-    → IsToldOfFile told
-told_of_file all omissions told (of_file number omission at left) = left_of_file all omission told left
-told_of_file all omissions _ (of_import place missing) = tt
-told_of_file all omissions _ (of_use place unresolved) = tt
-
-file_of : (tree : List TreeFile) (told : BuildFault) → IsToldOfFile told → HasFilesOf tree (fault_of_build told)
+file_of : (tree : List TreeFile) (told : Omission) → HasFilesOf tree (fault_of_omission told)
     → HasFile tree (told_key told).0.0
-file_of tree build.Spawn of have = absurd of
-file_of tree build.Memory of have = absurd of
-file_of tree (build.File number (file.Lex e)) of have = have
-file_of tree (build.File number (file.Syntax e)) of have = have
-file_of tree (build.Duplicate first second) of have = have.1
-file_of tree (build.MissingImport place) of have = have
-file_of tree (build.Unresolved place) of have = have
+file_of tree (omitted.File number (file.Lex e)) have = have
+file_of tree (omitted.File number (file.Syntax e)) have = have
+file_of tree (omitted.Duplicate first second) have = have.1
+file_of tree (omitted.MissingImport place) have = have
+file_of tree (omitted.Unresolved place) have = have
 
 -- where it is told, by the path of the file; it is seen from its finding
 abbrev PathKey : Type 0
@@ -182,18 +161,13 @@ key_at kind.Fault is_use place = ((place.path, 0), (0, false))
 abbrev found_key : Found → PathKey
 found_key found = key_at found.kind (bytes_eq found.name (codes "Unresolved")) (unwrap_or found.place no_place)
 
-abbrev finding : List TreeFile → Fault → Found
-finding tree f = finding_of (kind_of f) tree f
-
-key_found : (tree : List TreeFile) (told : BuildFault) → IsToldOfFile told
-    → found_key (finding tree (fault_of_build told)) ≡ path_key tree (told_key told)
-key_found tree build.Spawn of = absurd of
-key_found tree build.Memory of = absurd of
-key_found tree (build.File number (file.Lex e)) of = refl
-key_found tree (build.File number (file.Syntax e)) of = refl
-key_found tree (build.Duplicate first second) of = refl
-key_found tree (build.MissingImport place) of = refl
-key_found tree (build.Unresolved place) of = refl
+key_found : (tree : List TreeFile) (told : Omission)
+    → found_key (told_finding tree told) ≡ path_key tree (told_key told)
+key_found tree (omitted.File number (file.Lex e)) = refl
+key_found tree (omitted.File number (file.Syntax e)) = refl
+key_found tree (omitted.Duplicate first second) = refl
+key_found tree (omitted.MissingImport place) = refl
+key_found tree (omitted.Unresolved place) = refl
 
 module _ (tree : List TreeFile) (own : HaveOwnPaths tree) where
   -- a path is that of one file
@@ -215,32 +189,24 @@ module _ (tree : List TreeFile) (own : HaveOwnPaths tree) where
       let rest : k.1 ≡ l.1 = ap (λ (x : PathKey). x.1) same in
       λ i. ((number i, start i), rest i)
 
-  alike : (a b : BuildFault) → IsToldOfFile a → IsToldOfFile b → HasFilesOf tree (fault_of_build a)
-      → HasFilesOf tree (fault_of_build b) → finding tree (fault_of_build a) ≡ finding tree (fault_of_build b)
-      → told_key a ≡ told_key b
-  alike a b of_a of_b have_a have_b same =
-      one_key (told_key a) (told_key b) (file_of tree a of_a have_a) (file_of tree b of_b have_b)
-      (sym (key_found tree a of_a) ∙ (ap found_key same ∙ key_found tree b of_b))
+  alike : (a b : Omission) → HasFilesOf tree (fault_of_omission a) → HasFilesOf tree (fault_of_omission b)
+      → told_finding tree a ≡ told_finding tree b → told_key a ≡ told_key b
+  alike a b have_a have_b same =
+      one_key (told_key a) (told_key b) (file_of tree a have_a) (file_of tree b have_b)
+      (sym (key_found tree a) ∙ (ap found_key same ∙ key_found tree b))
 
-  findings_apart : (told : List BuildFault) → IsStrictlySortedBy told_cmp told → All IsToldOfFile told
-      → HaveFilesOf tree told → AreApart (told_findings tree told)
-  findings_apart told rising of have i j d before within same =
-      let faults = faults_of told in
-      let inside : j < length told = subst (λ (n : ℕ). j < n)
-      (length-map faults (finding tree) ∙ length-map told fault_of_build) within in
+  findings_apart : (told : List Omission) → IsStrictlySortedBy told_cmp told → HaveFilesOf tree told
+      → AreApart (told_findings tree told)
+  findings_apart told rising have i j d before within same =
+      let inside : j < length told = subst (λ (n : ℕ). j < n) (length-map told (told_finding tree)) within in
       let there : i < length told = omega (arith, before, inside) in
-      keys_differ told rising i j build.Spawn before inside
-      (alike (get_or told i build.Spawn) (get_or told j build.Spawn)
-      (of i build.Spawn there) (of j build.Spawn inside) (have i build.Spawn there) (have j build.Spawn inside)
+      keys_differ told rising i j nothing before inside
+      (alike (get_or told i nothing) (get_or told j nothing) (have i nothing there) (have j nothing inside)
       (sym (at i d there) ∙ (same ∙ at j d inside)))
     where
       at : (k : ℕ) (d : Found) → k < length told
-          → get_or (told_findings tree told) k d ≡ finding tree (fault_of_build (get_or told k build.Spawn))
-      at k d within =
-          let faults = faults_of told in
-          get_or-map (finding tree) faults k fault.Spawn d
-          (subst (λ (n : ℕ). k < n) (sym (length-map told fault_of_build)) within)
-          ∙ ap (finding tree) (get_or-map fault_of_build told k build.Spawn fault.Spawn within)
+          → get_or (told_findings tree told) k d ≡ told_finding tree (get_or told k nothing)
+      at k d within = get_or-map (told_finding tree) told k nothing d within
 
 -- ---- the faults of a run that is refused, each once
 
@@ -270,38 +236,29 @@ other_so own other of passes same =
     let fails : is_other own other ≡ false = ap not tells in
     absurd cc
 
-refused_apart : (own : Fault) (told : List BuildFault) → IsStrictlySortedBy told_cmp told → All IsToldOfFile told
+refused_apart : (own : Fault) (told : List Omission) → IsStrictlySortedBy told_cmp told
     → AreApart (faults_with own (faults_of told))
-refused_apart own told rising of =
+refused_apart own told rising =
     let faults = faults_of told in
     let others = filter (is_other own) faults in
+    let of = All-map IsOfFile fault_of_omission told (λ i d within. told_of_file (get_or told i d)) in
     AllPairs-cons (λ x y. x ≢ y) own others
     (All-weaker (Contains others) (λ y. own ≢ y)
     (λ y there. let passed = filtered (is_other own) faults y there in
-    other_so own y (All-contains IsOfFile faults y (All-map IsOfFile fault_of_build told of) passed.0) passed.1)
+    other_so own y (All-contains IsOfFile faults y of passed.0) passed.1)
     others (All-contains_itself others))
     (AllPairs-filter (λ x y. x ≢ y) (is_other own) faults (faults_apart told rising))
 
 -- ---- the law
 
-module _ (allows : Seen → Choice → Type 0) (settings : Settings) (tree : List TreeFile) (built : Built)
-    (is : IsBuilt allows settings tree built) where
-  all_of_files : All IsToldOfFile built.told
-  all_of_files =
-      let kept = is.of_files.kept in
-      All-weaker (Contains built.told) IsToldOfFile
-      (λ told there. told_of_file is.all kept.omissions told ((kept.told_is.exact told).0 there))
-      built.told (All-contains_itself built.told)
-
 pub come_once : (allows : Seen → Choice → Type 0) → FindingsComeOnce allows
 come_once allows = record {
   of_told = λ settings tree built own is.
       findings_apart tree own built.told is.of_files.kept.told_is.ascends
-      (all_of_files allows settings tree built is) (files_of_built allows settings tree built is);
+      (files_of_built allows settings tree built is);
   of_all = λ settings tree unread built own is apart.
       with_unread tree unread built.told apart
       (findings_apart tree own built.told is.of_files.kept.told_is.ascends
-      (all_of_files allows settings tree built is) (files_of_built allows settings tree built is));
-  of_refused = λ settings tree built own is.
-      refused_apart own built.told is.of_files.kept.told_is.ascends (all_of_files allows settings tree built is);
+      (files_of_built allows settings tree built is));
+  of_refused = λ settings tree built own is. refused_apart own built.told is.of_files.kept.told_is.ascends;
 }

@@ -1,6 +1,6 @@
 -- What couldn't be read, in a report: each once, and unlike all else.
 use Rattle.std.proofs.Common.{◌≡◌, ◌≢◌, ℕ, suc, false, true, List, [], ◌∷◌, ◌++◌, map, ap, refl, sym}
-use Rattle.std.proofs.Common.{arith, None}
+use Rattle.std.proofs.Common.{arith, None, get_or}
 use Rattle.std.specs.Prelude.{unwrap_or}
 use Rattle.std.specs.List.{All}
 use Rattle.std.specs.Str.{bytes_eq}
@@ -15,11 +15,11 @@ use Rattle.proto_parse.specs.FaultNames.{syntax_name}
 use Rattle.proto_parse.specs.fault.SyntaxFault.{SyntaxFault}
 use Rattle.proto_parse.specs.fault.SyntaxFault.TheVariants as parsing
 use Rattle.source_tree.specs.Files.{TreeFile}
-use Rattle.scip_build.specs.declared.fault.BuildFault.{BuildFault}
-use Rattle.protoscip.specs.FaultLines.{name_of}
+use Rattle.scip_build.specs.declared.omission.Omission.{Omission}
+use Rattle.protoscip.specs.FaultTexts.{name_of}
 use Rattle.protoscip.specs.FindingLaws.{AreApart}
-use Rattle.protoscip.specs.Findings.{all_findings, faults_of, finding_of, kind_of, told_findings}
-use Rattle.protoscip.specs.Faults.{fault_of_build}
+use Rattle.protoscip.specs.Findings.{all_findings, told_finding, told_findings}
+use Rattle.protoscip.specs.Faults.{fault_of_omission}
 use Rattle.protoscip.specs.Unread.{unread_finding, unread_name}
 use Rattle.protoscip.specs.declared.fault.Fault.{Fault}
 use Rattle.protoscip.specs.declared.fault.Fault.TheVariants as fault
@@ -64,11 +64,9 @@ unlike (fault.Answer count) = refl
 abbrev HasOther : Found → Type 0
 HasOther found = bytes_eq found.name unread_name ≡ false
 
-have_other : (tree : List TreeFile) (told : List BuildFault) → All HasOther (told_findings tree told)
+have_other : (tree : List TreeFile) (told : List Omission) → All HasOther (told_findings tree told)
 have_other tree told =
-    All-map HasOther (λ f. finding_of (kind_of f) tree f) (faults_of told)
-    (All-map (λ f. HasOther (finding_of (kind_of f) tree f)) fault_of_build told
-    (λ i d within. unlike _))
+    All-map HasOther (told_finding tree) told (λ i d within. unlike (fault_of_omission (get_or told i d)))
 
 -- ---- none is alike
 
@@ -104,7 +102,7 @@ before_apart (p ∷ paths) others apart also named =
     (λ i d within. unlike_told p _ (named i d within)))
     (before_apart paths others (others_apart p paths apart) also named)
 
-pub with_unread : (tree : List TreeFile) (unread : List (List ℕ)) (told : List BuildFault) → AreApart unread
+pub with_unread : (tree : List TreeFile) (unread : List (List ℕ)) (told : List Omission) → AreApart unread
     → AreApart (told_findings tree told) → AreApart (all_findings tree unread told)
 with_unread tree unread told apart also =
     before_apart unread (told_findings tree told) apart also (have_other tree told)

@@ -4,27 +4,15 @@ use Rattle.std.specs.Fmt.{decimal}
 use Rattle.std.specs.List.{All, slice_get}
 use Rattle.std.specs.Option.{option_map, unwrap_or}
 use Rattle.source_tree.specs.Files.{TreeFile}
-use Rattle.proto_lex.specs.FaultNames.{lex_name, lex_offset}
-use Rattle.proto_parse.specs.FaultNames.{syntax_name, syntax_offset}
-use Rattle.scip_build.specs.declared.fault.BuildFault.{BuildFault}
-use Rattle.protoscip.specs.Faults.{fault_of_build}
+use Rattle.proto_lex.specs.FaultNames.{lex_offset}
+use Rattle.proto_parse.specs.FaultNames.{syntax_offset}
+use Rattle.scip_build.specs.declared.omission.Omission.{Omission}
+use Rattle.protoscip.specs.FaultTexts.{name_of}
+use Rattle.protoscip.specs.Faults.{fault_of_omission}
 use Rattle.protoscip.specs.Lines.{plain_line, line_at, placed_line}
 use Rattle.protoscip.specs.declared.fault.Fault.{Fault}
 use Rattle.protoscip.specs.declared.fault.Fault.TheVariants.{Spawn, Memory, Lex, Syntax, Duplicate, MissingImport}
 use Rattle.protoscip.specs.declared.fault.Fault.TheVariants.{Unresolved, TooLarge, Write, Read, Answer}
-
-abbrev pub name_of : Fault → List ℕ
-name_of Spawn = codes "Spawn"
-name_of Memory = codes "Memory"
-name_of (Lex number fault) = lex_name fault
-name_of (Syntax number fault) = syntax_name fault
-name_of (Duplicate first second) = codes "Duplicate"
-name_of (MissingImport place) = codes "MissingImport"
-name_of (Unresolved place) = codes "Unresolved"
-name_of TooLarge = codes "TooLarge"
-name_of (Write count) = codes "Write"
-name_of Read = codes "Read"
-name_of (Answer count) = codes "Answer"
 
 -- ---- lines
 
@@ -77,5 +65,5 @@ HasFilesOf tree Read = ⊤
 HasFilesOf tree (Answer count) = ⊤
 
 -- it has those of all that is told
-abbrev pub HaveFilesOf : List TreeFile → List BuildFault → Type 0
-HaveFilesOf tree told = All (λ fault. HasFilesOf tree (fault_of_build fault)) told
+abbrev pub HaveFilesOf : List TreeFile → List Omission → Type 0
+HaveFilesOf tree told = All (λ omission. HasFilesOf tree (fault_of_omission omission)) told

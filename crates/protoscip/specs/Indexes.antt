@@ -9,7 +9,7 @@ use Rattle.streams.specs.WholeWrites.{IsWritten, IsCutOff}
 use Rattle.scip_records.specs.declared.records.Index.{Index}
 use Rattle.scip_build.specs.Builds.{IsBuilt, IsBuildFault}
 use Rattle.scip_build.specs.declared.built.Built.{Built}
-use Rattle.scip_build.specs.declared.fault.BuildFault.{BuildFault}
+use Rattle.scip_build.specs.declared.omission.Omission.{Omission}
 use Rattle.scip_build.specs.declared.settings.Settings.{Settings}
 use Rattle.scip_build.specs.declared.fault.BuildFault.TheVariants as build
 use Rattle.scip_build.specs.declared.fault.FileFault.TheVariants as file
@@ -28,7 +28,7 @@ pub record IsSpelled (index : Index) (bytes : List ℕ) : Type 0 where
   pub alone : (other : Index) → Decodes bytes other → other ≡ index
 
 -- what was recorded beside an index: the choices that it is made by, and what was left out
-abbrev pub recorded_of : Chosen → List BuildFault → Recorded
+abbrev pub recorded_of : Chosen → List Omission → Recorded
 recorded_of choices told = record { choices = choices; told = told }
 
 abbrev pub built_of : Index → Recorded → Built

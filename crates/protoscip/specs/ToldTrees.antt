@@ -6,7 +6,7 @@ use Rattle.index_hooks.specs.declared.choice.Choice.{Choice}
 use Rattle.source_tree.specs.Files.{TreeFile}
 use Rattle.scip_build.specs.Builds.{IsBuilt}
 use Rattle.scip_build.specs.declared.built.Built.{Built}
-use Rattle.scip_build.specs.declared.fault.BuildFault.{BuildFault}
+use Rattle.scip_build.specs.declared.omission.Omission.{Omission}
 use Rattle.scip_build.specs.declared.faulty.Faulty.TheVariants.{Skip}
 use Rattle.scip_build.specs.declared.settings.Settings.{Settings}
 use Rattle.protoscip.specs.Dump.{dump_settings}
@@ -19,7 +19,7 @@ skipping dialect = record (dump_settings dialect) { faulty = Skip }
 
 -- it is told of an index that is built from the tree by these
 pub record IsToldOf (allows : Seen → Choice → Type 0) (dialect : Dialect) (tree : List TreeFile)
-    (told : List BuildFault) : Type 0 where
+    (told : List Omission) : Type 0 where
   pub built : Built
   pub is : IsBuilt allows (skipping dialect) tree built
   pub told_is : built.told ≡ told

@@ -9,7 +9,7 @@ use crate::fault::Fault;
 use index_hooks::Chooses;
 use index_pool::Gate;
 use proto_parse::Dialect;
-use scip_build::{BuildFault, DocumentForm, Faulty, Run, Settings, build_in_form};
+use scip_build::{DocumentForm, Faulty, Omission, Run, Settings, build_in_form};
 use scip_model::DocumentPlan;
 use sequences::Sequence;
 use source_tree::Tree;
@@ -51,7 +51,7 @@ pub fn told_of_tree<R: Threads + Wait, C: Chooses + Sync, G: Gate>(
     tree: &Tree,
     chooser: &C,
     dialect: Dialect,
-) -> Result<Sequence<BuildFault>, Fault>
+) -> Result<Sequence<Omission>, Fault>
     ensures told { IfOk result (IsToldOf (C.allows chooser.now) dialect tree.now) }
     ensures files { IfOk result (HaveFilesOf tree.now) }
     ensures stops { IfErr result (MayNotTell run.now.workers) }

@@ -5,14 +5,14 @@ use Rattle.std.specs.List.{Contains, slice_get}
 use Rattle.std.proofs.lemmas.Bool.{cases_lt}
 use Rattle.std.proofs.lemmas.Option.{same_Some, slice_get_within}
 use Rattle.std.proofs.lemmas.List.Elements.{Contains-append_right, Contains-append_left, Contains-append_cases}
-use Rattle.scip_build.specs.declared.fault.BuildFault.{BuildFault}
+use Rattle.scip_build.specs.declared.omission.Omission.{Omission}
 use Rattle.scip_build.specs.Telling.{Adds, FromFront}
 use Rattle.source_tree.proofs.OrderLemmas.{in_either, in_nothing, in_front}
 
-module _ {X : Type 0} (IsOf : X → BuildFault → Type 0) (xs : List X) where
+module _ {X : Type 0} (IsOf : ℕ → X → Omission → Type 0) (xs : List X) where
   -- one element more
-  pub adds_more : (count : ℕ) (element : X) (old mid new : List BuildFault) → slice_get xs count ≡ Some element
-      → Adds (FromFront IsOf xs count) old mid → Adds (IsOf element) mid new
+  pub adds_more : (count : ℕ) (element : X) (old mid new : List Omission) → slice_get xs count ≡ Some element
+      → Adds (FromFront IsOf xs count) old mid → Adds (IsOf count element) mid new
       → Adds (FromFront IsOf xs (count + 1)) old new
   adds_more count element old mid new at before now = λ x. (
     λ there. elim ((now x).0 there) [
@@ -38,12 +38,13 @@ module _ {X : Type 0} (IsOf : X → BuildFault → Type 0) (xs : List X) where
             let same : front.index ≡ count = omega (arith, last, front.within) in
             let one : front.element ≡ element =
             same_Some front.element element (sym front.stands ∙ (ap (slice_get xs) same ∙ at)) in
-            (now x).1 (inr (subst (λ (e : X). IsOf e x) one front.is)))
+            let is = subst (λ (n : ℕ). IsOf n front.element x) same front.is in
+            (now x).1 (inr (subst (λ (e : X). IsOf count e x) one is)))
       ]
     ],
   )
 
-  pub adds_all : (count : ℕ) (old new : List BuildFault) → length xs ≤ count → Adds (FromFront IsOf xs count) old new
+  pub adds_all : (count : ℕ) (old new : List Omission) → length xs ≤ count → Adds (FromFront IsOf xs count) old new
       → Adds (FromFront IsOf xs (length xs)) old new
   adds_all count old new past before = λ x. (
     λ there. elim ((before x).0 there) [
@@ -69,7 +70,7 @@ module _ {X : Type 0} (IsOf : X → BuildFault → Type 0) (xs : List X) where
     ],
   )
 
-pub adds_none : (Is : BuildFault → Type 0) (told : List BuildFault) → ((x : BuildFault) → Is x → ⊥) → Adds Is told told
+pub adds_none : (Is : Omission → Type 0) (told : List Omission) → ((x : Omission) → Is x → ⊥) → Adds Is told told
 adds_none Is told none = λ x. (
   λ there. inl there,
   λ either. elim either [
@@ -78,8 +79,8 @@ adds_none Is told none = λ x. (
   ],
 )
 
-pub adds_one : (Is : BuildFault → Type 0) (told : List BuildFault) (one : BuildFault) → Is one
-    → ((x : BuildFault) → Is x → one ≡ x) → Adds Is told (told ++ one ∷ [])
+pub adds_one : (Is : Omission → Type 0) (told : List Omission) (one : Omission) → Is one
+    → ((x : Omission) → Is x → one ≡ x) → Adds Is told (told ++ one ∷ [])
 adds_one Is told one is only = λ x. (
   λ there. elim (Contains-append_cases told (one ∷ []) x there) [
     | inl kept ↦ inl kept
@@ -95,6 +96,6 @@ adds_one Is told one is only = λ x. (
 )
 
 -- of none nothing comes
-pub adds_front : {X : Type 0} (IsOf : X → BuildFault → Type 0) (xs : List X) (told : List BuildFault)
+pub adds_front : {X : Type 0} (IsOf : ℕ → X → Omission → Type 0) (xs : List X) (told : List Omission)
     → Adds (FromFront IsOf xs 0) told told
 adds_front IsOf xs told = adds_none (FromFront IsOf xs 0) told (λ x from. let n = from.within in omega (arith, n))

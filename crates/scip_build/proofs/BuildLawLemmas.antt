@@ -15,6 +15,7 @@ use Rattle.index_hooks.specs.declared.choice.Choice.{Choice}
 use Rattle.proto_visibility.specs.Files.{File, HaveOrigins}
 use Rattle.proto_link.specs.Laws.{OneRefusal}
 use Rattle.proto_visibility.specs.Linked.{CanBeLinked, MayRefuse}
+use Rattle.proto_visibility.specs.Linked.MayRefuse.{broken_file, clashing, absent_import, lacks_memory}
 use Rattle.proto_visibility.specs.declared.place.FilePlace.{FilePlace}
 use Rattle.proto_visibility.specs.declared.fault.LinkFault.{LinkFault}
 use Rattle.proto_visibility.specs.declared.fault.LinkFault.TheVariants as link
@@ -31,6 +32,7 @@ use Rattle.scip_build.specs.Parsed.{IsUnreadable}
 use Rattle.scip_build.specs.Files.{FileContents}
 use Rattle.scip_build.specs.Readings.{HasContents, AreReadingsOf, IsFirstFaulty}
 use Rattle.scip_build.specs.Linking.{linked_files}
+use Rattle.scip_build.specs.Linking.MayRefuseReadings.{is_unread, is_duplicate, is_missing}
 use Rattle.scip_build.specs.Documents.{IsLeastUnresolved}
 use Rattle.scip_build.specs.Builds.{OfReadings, IsBuildFault}
 use Rattle.scip_build.specs.Laws.{OneFileFault, OneFirstFaulty, OneLinking, NoReadingsWhereFaulty}
@@ -116,12 +118,10 @@ module _ (files : List File) where
       ⊎ (CanBeLinked files × (place : FilePlace) × (fault ≡ link.Unresolved place) × IsLeastUnresolved files place)
 
   linked_is_linked : CanBeLinked files → (fault : LinkFault) → MayRefuse files fault → fault ≢ link.Memory → ⊥
-  linked_is_linked can (link.Broken number) wrong other = can.read number wrong.unread
-  linked_is_linked can (link.Duplicate first second) wrong other =
-      can.clear wrong.1.earlier wrong.1.later wrong.1.exclude
-  linked_is_linked can (link.MissingImport place) wrong other = can.complete place wrong.2.missing
-  linked_is_linked can (link.Unresolved place) wrong other = absurd wrong
-  linked_is_linked can link.Memory wrong other = absurd (other refl)
+  linked_is_linked can _ (broken_file {number = number} wrong) other = can.read number wrong.unread
+  linked_is_linked can _ (clashing read clash) other = can.clear clash.earlier clash.later clash.exclude
+  linked_is_linked can _ (absent_import {place = place} read clear absent) other = can.complete place absent.missing
+  linked_is_linked can _ lacks_memory other = absurd (other refl)
 
   one_cause : OneRefusal → HaveOrigins files → (a b : LinkFault) → Refuses a → Refuses b → a ≢ link.Memory
       → b ≢ link.Memory → a ≡ b
@@ -149,12 +149,12 @@ reason faulty dialect allows tree workers build.Spawn is not = absurd (not refl)
 reason faulty dialect allows tree workers build.Memory is not = absurd (not refl)
 reason faulty dialect allows tree workers (build.File number fault) (refuse, inl first) not =
     (refuse, inl (number, fault, refl, first))
-reason faulty dialect allows tree workers (build.File number fault) (refuse, inr later) not =
-    (refuse, inr (later.0, later.1, inl later.2.0))
-reason faulty dialect allows tree workers (build.Duplicate first second) (refuse, is) not =
-    (refuse, inr (is.0, is.1, inl is.2))
-reason faulty dialect allows tree workers (build.MissingImport place) (refuse, is) not =
-    (refuse, inr (is.0, is.1, inl is.2))
+reason faulty dialect allows tree workers (build.File number fault) (refuse, inr (readings, are, is_unread broken has))
+    not = (refuse, inr (readings, are, inl (broken_file broken)))
+reason faulty dialect allows tree workers (build.Duplicate first second) (refuse, (readings, are, is_duplicate is))
+    not = (refuse, inr (readings, are, inl is))
+reason faulty dialect allows tree workers (build.MissingImport place) (refuse, (readings, are, is_missing is)) not =
+    (refuse, inr (readings, are, inl is))
 reason faulty dialect allows tree workers (build.Unresolved place) (refuse, is) not =
     (refuse, inr (is.0, is.1, inr (is.2.0, place, refl, is.2.1)))
 
@@ -209,13 +209,12 @@ named : (faulty : Faulty) (dialect : Dialect) (allows : Seen → Choice → Type
     → IsBuildFault allows faulty dialect tree workers (build.File number fault) → IsNamed dialect tree number fault
 named faulty dialect allows tree workers number fault (refuse, inl first) =
     record { file = first.file; numbered = first.numbered; unreadable = first.faulty.unreadable }
-named faulty dialect allows tree workers number fault (refuse, inr later) =
-    let has = later.2.1 in
+named faulty dialect allows tree workers number fault (refuse, inr (readings, are, is_unread broken has)) =
     let within : number < length tree =
-    rw (sym later.1.one_each) (slice_get_within later.0 number has.reading has.numbered) in
+    rw (sym are.one_each) (slice_get_within readings number has.reading has.numbered) in
     let there = item_at tree number within in
     let Contents : Result FileContents FileFault → Type 0 = HasContents Refuse dialect allows number there.0 in
-    let contents = subst Contents has.unread (later.1.each number there.0 has.reading there.1 has.numbered).contents in
+    let contents = subst Contents has.unread (are.each number there.0 has.reading there.1 has.numbered).contents in
     record { file = there.0; numbered = there.1; unreadable = contents.1 }
 
 -- two faults of the file that is named are one

@@ -19,7 +19,7 @@ use Rattle.scip_build.specs.declared.settings.Settings.{Settings}
 use Rattle.scip_build.specs.declared.made.Made.{Made}
 use Rattle.scip_build.specs.declared.parts.Parts.{Parts}
 use Rattle.scip_build.specs.declared.faulty.Faulty.TheVariants.{Refuse, Skip}
-use Rattle.scip_build.specs.declared.fault.BuildFault.{BuildFault}
+use Rattle.scip_build.specs.declared.omission.Omission.{Omission}
 use Rattle.scip_build.specs.Files.{ReadFile}
 use Rattle.scip_build.specs.Linking.{linked_file, linked_files}
 use Rattle.scip_build.specs.Readings.{AreReadingsOf}
@@ -40,7 +40,7 @@ none_ascends = tt
 -- ---- where faults are refused
 
 pub whole_built : {Out : Type 0} (Is : Document → Out → Type 0) (all : List ReadFile) (settings : Settings)
-    (made : Made Out) (told : List BuildFault) → settings.faulty ≡ Refuse → told ≡ []
+    (made : Made Out) (told : List Omission) → settings.faulty ≡ Refuse → told ≡ []
     → IsLinkedAndMade Is all settings made → IsBuiltOfInForm Is all settings made.choices told made.parts
 whole_built {Out} Is all settings made told refuse none of =
     let files = linked_files all in
@@ -94,7 +94,7 @@ kept_ready kept_clear all readings omissions tree are kept =
     subst (AreKeptOf all) (sym kept) of
 
 pub kept_built : {Out : Type 0} (Is : Document → Out → Type 0) (all readings : List ReadFile) (settings : Settings)
-    (made : Made Out) (numbers : List ℕ) (left once : List BuildFault) (missing : List FilePlace)
+    (made : Made Out) (numbers : List ℕ) (left once : List Omission) (missing : List FilePlace)
     → settings.faulty ≡ Skip → (of_files : AreKeptFiles all readings numbers left)
     → IsMadeOf Is readings settings made → AreMissing (linked_files readings) missing
     → AreInOrder (all_told left numbers missing made.gaps) once
@@ -137,7 +137,7 @@ kept_built Is all readings settings made numbers left once missing skip kept of 
 -- ---- of a tree
 
 pub tree_built : {Out : Type 0} (Is : Document → Out → Type 0) (allows : Seen → Choice → Type 0) (settings : Settings)
-    (tree : List TreeFile) (all : List ReadFile) (choices : Chosen) (told : List BuildFault) (parts : Parts Out)
+    (tree : List TreeFile) (all : List ReadFile) (choices : Chosen) (told : List Omission) (parts : Parts Out)
     → AreReadingsOf settings.faulty settings.dialect allows tree all
     → IsBuiltOfInForm Is all settings choices told parts → IsBuiltInForm Is allows settings tree choices told parts
 tree_built Is allows settings tree all choices told parts read of = record {

@@ -17,11 +17,12 @@ use Rattle.scip_model.proofs.GapLemmas.{all_resolve}
 use Rattle.scip_model.specs.Laws.{OneDocument}
 use Rattle.scip_build.specs.declared.faulty.Faulty.TheVariants.{Refuse}
 use Rattle.scip_build.specs.declared.settings.Settings.{Settings}
-use Rattle.scip_build.specs.declared.fault.BuildFault.{BuildFault}
-use Rattle.scip_build.specs.declared.fault.BuildFault.TheVariants as build
+use Rattle.scip_build.specs.declared.source_document.NoDocument.{NoDocument}
+use Rattle.scip_build.specs.declared.source_document.NoDocument.TheVariants as lacking
 use Rattle.scip_build.specs.Files.{ReadFile}
 use Rattle.scip_build.specs.Documents.{text_in, text_of, texts_of, HasReadText, AreReady, IsDocumentAt, GivesDocument}
-use Rattle.scip_build.specs.Documents.{MayRefuseDocuments}
+use Rattle.scip_build.specs.Documents.{fault_of_source, MayRefuseDocuments}
+use Rattle.scip_build.specs.Documents.MayRefuseDocuments.{documents_lack_memory, first_is_unresolved}
 use Rattle.scip_build.proofs.LinkingLemmas.{mapped_at}
 use Rattle.scip_build.proofs.PlaceLemmas.{rising_from_places}
 
@@ -129,24 +130,14 @@ module _ (readings : List ReadFile) (files : List File) (chosen : Chosen) (setti
       all_resolve files number made.unresolved is.gaps none
 
   -- why a source has no document, the first of those that have none, is why there are no documents
-  pub refused_of : (workers number : ℕ) (fault : BuildFault)
+  pub refused_of : (workers number : ℕ) (fault : NoDocument)
       → IsLeastFault (GivesDocument readings files chosen settings) count number fault
-      → MayRefuseDocuments settings.faulty files workers fault
-  refused_of workers number build.Spawn least = absurd least.1
-  refused_of workers number build.Memory least = tt
-  refused_of workers number (build.File other fault) least = absurd least.1
-  refused_of workers number (build.Duplicate first second) least = absurd least.1
-  refused_of workers number (build.MissingImport place) least = absurd least.1
-  refused_of workers number (build.Unresolved place) least =
-      let (refuse, same, is_first) = least.1 in
-      let First : ℕ → Type 0 = λ k. IsFirstUnresolved files k place.span in (
-        refuse,
-        record {
-          source = subst (IsSource files) (sym same) ((ready.sources number).0 least.0);
-          first = subst First (sym same) is_first;
-          before = λ lesser less is.
-              let Below : ℕ → Type 0 = λ k. lesser < k in
-              let of = least.2 lesser (subst Below same less) in
-              resolves lesser of.0 of.1 refuse;
-        },
-      )
+      → MayRefuseDocuments settings.faulty files workers (fault_of_source number fault)
+  refused_of workers number lacking.Memory least = documents_lack_memory
+  refused_of workers number (lacking.Unresolved span) least =
+      let (refuse, is_first) = least.1 in
+      first_is_unresolved refuse (record {
+        source = (ready.sources number).0 least.0;
+        first = is_first;
+        before = λ lesser less is. let of = least.2 lesser less in resolves lesser of.0 of.1 refuse;
+      })

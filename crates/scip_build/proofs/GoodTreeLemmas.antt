@@ -6,8 +6,8 @@ use Rattle.std.specs.Option.{option_map}
 use Rattle.std.proofs.lemmas.List.{length-map}
 use Rattle.std.proofs.lemmas.Option.{same_Some, none-some, slice_get_within, slice_get-get_or, slice_get-map}
 use Rattle.std.proofs.lemmas.Option.{get_or_from_slice_get}
-use Rattle.proto_visibility.specs.declared.fault.LinkFault.{LinkFault}
-use Rattle.proto_visibility.specs.declared.fault.LinkFault.TheVariants as link
+use Rattle.proto_visibility.specs.declared.omissions.FileOmission.{FileOmission}
+use Rattle.proto_visibility.specs.declared.omissions.FileOmission.TheVariants as left_for
 use Rattle.proto_visibility.specs.Files.{File}
 use Rattle.proto_visibility.specs.Absences.{IsUnread}
 use Rattle.proto_visibility.specs.Linked.{CanBeLinked, HaveClearNames}
@@ -28,22 +28,22 @@ use Rattle.scip_build.specs.declared.settings.Settings.{Settings}
 use Rattle.scip_build.specs.declared.faulty.Faulty.{Faulty}
 use Rattle.scip_build.specs.declared.faulty.Faulty.TheVariants.{Refuse, Skip}
 use Rattle.scip_build.specs.declared.fault.FileFault.{FileFault}
-use Rattle.scip_build.specs.declared.fault.BuildFault.{BuildFault}
-use Rattle.scip_build.specs.declared.fault.BuildFault.TheVariants as build
+use Rattle.scip_build.specs.declared.omission.Omission.{Omission}
+use Rattle.scip_build.specs.declared.omission.Omission.TheVariants as omitted
 use Rattle.scip_build.specs.Files.{FileContents, ReadFile}
 use Rattle.scip_build.specs.Linking.{facts_in, linked_file, linked_files, HasFault}
 use Rattle.scip_build.specs.Parsed.{IsUnreadable}
 use Rattle.scip_build.specs.Readings.{AreContentsOf, may_be_unread, HasContents, AreReadingsOf}
 use Rattle.scip_build.specs.Documents.{texts_of, AllAreDecided}
 use Rattle.scip_build.specs.BuildLaws.{SetTheSame, BuiltWhereNothingIsTold}
-use Rattle.scip_build.specs.Kept.{IsLeftFor, IsTold, NothingIsToldOfAGoodTree}
+use Rattle.scip_build.specs.Kept.{IsTold, NothingIsToldOfAGoodTree}
 use Rattle.scip_build.specs.Kept.IsTold.{of_file, of_import, of_use}
 use Rattle.scip_build.proofs.LinkingLemmas.{mapped_at}
 use Rattle.scip_build.proofs.KeptTreeLemmas.{all_of}
 
 -- ---- where nothing is left out
 
-abbrev not_one : File → Option LinkFault
+abbrev not_one : File → Option FileOmission
 not_one file = None
 
 abbrev pub all_kept : List File → Omissions
@@ -57,15 +57,15 @@ good_files_are_kept files good = record {
       by number omission (none_is (slice_get files number) omission (sym (slice_get-map not_one files number) ∙ out));
 }
   where
-    none_is : (file : Option File) (omission : Option LinkFault) → option_map not_one file ≡ Some omission
+    none_is : (file : Option File) (omission : Option FileOmission) → option_map not_one file ≡ Some omission
         → None ≡ omission
     none_is None omission e = absurd (none-some omission e)
     none_is (Some file) omission e = same_Some None omission e
 
-    by : (number : ℕ) (omission : Option LinkFault) → None ≡ omission
+    by : (number : ℕ) (omission : Option FileOmission) → None ≡ omission
         → IsOmission files (all_kept files) number omission
     by number omission is =
-        let Is : Option LinkFault → Type 0 = λ o. IsOmission files (all_kept files) number o in
+        let Is : Option FileOmission → Type 0 = λ o. IsOmission files (all_kept files) number o in
         let kept : Is None = (
           good.read number,
           λ a b e. good.clear a b (excludes_as a b (λ m. m.is_item) (λ m. m.is_item) e),
@@ -86,7 +86,7 @@ are_all_kept files k d within =
 
 module _ (all : List ReadFile) (omissions : Omissions) (one_each : length omissions ≡ length all)
     (none : AreAllKept omissions) where
-  kept_at : (number : ℕ) (omission : Option LinkFault) → slice_get omissions number ≡ Some omission → omission ≡ None
+  kept_at : (number : ℕ) (omission : Option FileOmission) → slice_get omissions number ≡ Some omission → omission ≡ None
   kept_at number omission at =
       let within = slice_get_within omissions number omission at in
       sym (get_or_from_slice_get omissions number omission omission at) ∙ none number omission within
@@ -94,11 +94,9 @@ module _ (all : List ReadFile) (omissions : Omissions) (one_each : length omissi
   all_are : kept_of omissions all ≡ all
   all_are = all_of omissions all one_each none
 
-  pub none_told : CanBeLinked (linked_files all) → AllResolve (linked_files all) → (told : BuildFault)
+  pub none_told : CanBeLinked (linked_files all) → AllResolve (linked_files all) → (told : Omission)
       → IsTold all omissions told → ⊥
-  none_told can resolve told (of_file n o at left) =
-      let Left : Option LinkFault → Type 0 = λ x. IsLeftFor all x told in
-      subst Left (kept_at n o at) left
+  none_told can resolve told (of_file n o at left) = none-some o (sym (kept_at n (Some o) at))
   none_told can resolve _ (of_import p missing) =
       let Can : List ReadFile → Type 0 = λ rs. CanBeLinked (linked_files rs) in
       (subst Can (sym all_are) can).complete p missing
@@ -107,7 +105,7 @@ module _ (all : List ReadFile) (omissions : Omissions) (one_each : length omissi
       let named = subst Resolve (sym all_are) resolve p.file is.facts is.type_use is.source is.known is.listed in
       is.unresolved named.0 named.1
 
-none_listed : (told : List BuildFault) → ((fault : BuildFault) → Contains told fault → ⊥) → told ≡ []
+none_listed : (told : List Omission) → ((fault : Omission) → Contains told fault → ⊥) → told ≡ []
 none_listed [] none = refl
 none_listed (x ∷ xs) none = absurd (none x (in_front x xs))
 
@@ -130,20 +128,14 @@ fault_of all number unread =
 
 -- what is left out is told
 pub left_told : (all : List ReadFile) (omissions : Omissions) → AreOmissions (linked_files all) omissions → (number : ℕ)
-    (omission : Option LinkFault) → slice_get omissions number ≡ Some omission
-    → (omission ≡ None) ⊎ ((told : BuildFault) × IsTold all omissions told)
+    (omission : Option FileOmission) → slice_get omissions number ≡ Some omission
+    → (omission ≡ None) ⊎ ((told : Omission) × IsTold all omissions told)
 left_told all omissions are number None at = inl refl
-left_told all omissions are number (Some (link.Broken other)) at =
-    let is = are.each number (Some (link.Broken other)) at in
-    let fault = fault_of all other (subst (IsUnread (linked_files all)) (sym is.0) is.1) in
-    inr (build.File other fault.0, of_file number (Some (link.Broken other)) at (fault.0, fault.1, refl))
-left_told all omissions are number (Some (link.Duplicate first second)) at =
-    inr (build.Duplicate first second, of_file number (Some (link.Duplicate first second)) at refl)
-left_told all omissions are number (Some (link.MissingImport place)) at =
-    absurd (are.each number (Some (link.MissingImport place)) at)
-left_told all omissions are number (Some (link.Unresolved place)) at =
-    absurd (are.each number (Some (link.Unresolved place)) at)
-left_told all omissions are number (Some link.Memory) at = absurd (are.each number (Some link.Memory) at)
+left_told all omissions are number (Some left_for.Broken) at =
+    let fault = fault_of all number (are.each number (Some left_for.Broken) at) in
+    inr (omitted.File number fault.0, of_file number left_for.Broken at (fault.0, fault.1, refl))
+left_told all omissions are number (Some (left_for.Duplicate first second)) at =
+    inr (omitted.Duplicate first second, of_file number (left_for.Duplicate first second) at refl)
 
 module _ (good : NothingIsLeftOutOfGoodFiles) where
   pub nothing_is_told : NothingIsToldOfAGoodTree
@@ -182,9 +174,9 @@ module _ (good : NothingIsLeftOutOfGoodFiles) where
             ],
       )
         where
-          none_is : (fault : BuildFault) → IsTold all kept.omissions fault → ⊥
+          none_is : (fault : Omission) → IsTold all kept.omissions fault → ⊥
           none_is fault is =
-              in_nothing fault (subst (λ (l : List BuildFault). Contains l fault) none
+              in_nothing fault (subst (λ (l : List Omission). Contains l fault) none
               ((kept.told_is.exact fault).1 is))
 
           all_kept : AreAllKept kept.omissions

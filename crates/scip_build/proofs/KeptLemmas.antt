@@ -16,14 +16,14 @@ use Rattle.scip_model.specs.Indexes.{metadata_of, AreExternals}
 use Rattle.scip_model.specs.Laws.{OneDocument}
 use Rattle.scip_model.specs.declared.source_document.SourceDocument.{SourceDocument}
 use Rattle.scip_build.specs.declared.faulty.Faulty.TheVariants.{Refuse}
-use Rattle.scip_build.specs.declared.fault.BuildFault.{BuildFault}
+use Rattle.scip_build.specs.declared.source_document.NoDocument.{NoDocument}
 use Rattle.scip_build.specs.declared.made.MadeDocument.{MadeDocument}
 use Rattle.scip_build.specs.declared.made.Made.{Made}
 use Rattle.scip_build.specs.declared.parts.Parts.{Parts}
 use Rattle.scip_build.specs.declared.settings.Settings.{Settings}
 use Rattle.scip_build.specs.Files.{ReadFile}
 use Rattle.scip_build.specs.Documents.{AreReady, IsDocumentAt, GivesDocument, AllAreDecided, IsUnresolvedAt}
-use Rattle.scip_build.specs.Documents.{MayRefuseDocuments}
+use Rattle.scip_build.specs.Documents.{fault_of_source, MayRefuseDocuments}
 use Rattle.scip_build.specs.Documents.{texts_of}
 use Rattle.scip_build.specs.Linking.{linked_files, choices_of}
 use Rattle.scip_build.specs.Making.{IsMade}
@@ -186,9 +186,9 @@ module _ {Out : Type 0} (Is : Document → Out → Type 0) (readings : List Read
         kept = each_kept Is of.items outs of.kept;
       }
 
-  pub not_kept_of : (workers number : ℕ) (fault : BuildFault)
+  pub not_kept_of : (workers number : ℕ) (fault : NoDocument)
       → IsLeastFault (GivesKept Is readings files chosen settings) count number fault
-      → MayRefuseDocuments settings.faulty files workers fault
+      → MayRefuseDocuments settings.faulty files workers (fault_of_source number fault)
   not_kept_of workers number fault least =
       let made : IsLeastFault (GivesDocument readings files chosen settings) count number fault =
       (least.0, least.1, λ lesser less. let of = least.2 lesser less in (of.1.document, of.1.made)) in

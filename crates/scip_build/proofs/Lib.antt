@@ -19,7 +19,8 @@ mod ToldLemmas
 mod GoodTreeLemmas
 mod KeptUseLemmas
 mod BuiltLemmas
--- a refusal of a stage is one of the whole
+-- what a stage may refuse, and a refusal of a stage is one of the whole
+pub mod RefusalRules
 mod RefusalLemmas
 -- the laws of what is built
 mod BuildLawLemmas

@@ -15,8 +15,8 @@ use Rattle.proto_decl.specs.Facts.{Facts}
 use Rattle.proto_decl.specs.Seen.{Seen}
 use Rattle.proto_decl.specs.declared.declaration.Declaration.{Declaration}
 use Rattle.proto_lex.specs.declared.position.Encoding.{Encoding}
-use Rattle.proto_visibility.specs.declared.fault.LinkFault.{LinkFault}
-use Rattle.proto_visibility.specs.declared.fault.LinkFault.TheVariants as link
+use Rattle.proto_visibility.specs.declared.omissions.FileOmission.{FileOmission}
+use Rattle.proto_visibility.specs.declared.omissions.FileOmission.TheVariants as left_for
 use Rattle.proto_visibility.specs.Files.{File}
 use Rattle.proto_visibility.specs.Absences.{IsUnread, IsMissing}
 use Rattle.proto_visibility.specs.Kept.{Omissions, IsOmission, AreOmissions, kept_of}
@@ -34,8 +34,8 @@ use Rattle.scip_build.specs.declared.settings.Settings.{Settings}
 use Rattle.scip_build.specs.declared.built.Built.{Built}
 use Rattle.scip_build.specs.declared.faulty.Faulty.{Faulty}
 use Rattle.scip_build.specs.declared.fault.FileFault.{FileFault}
-use Rattle.scip_build.specs.declared.fault.BuildFault.{BuildFault}
-use Rattle.scip_build.specs.declared.fault.BuildFault.TheVariants as build
+use Rattle.scip_build.specs.declared.omission.Omission.{Omission}
+use Rattle.scip_build.specs.declared.omission.Omission.TheVariants as omitted
 use Rattle.scip_build.specs.Parsed.{IsUnreadable}
 use Rattle.scip_build.specs.Files.{FileContents, ReadFile}
 use Rattle.scip_build.specs.Readings.{seen_of, AreChosen, AreContentsOf, HasContents, AreReadingsOf}
@@ -221,36 +221,33 @@ module _ (one : OneListOfFacts) (apart : NoFactsWhereUnreadable) (one_fault : On
       one_fault settings.dialect x.0.bytes fault more x.2
       (subst (λ c. IsUnreadable c x.0.bytes more) (sym same.dialect) bytes)
 
-  of_left : (number : ℕ) (omission : Option LinkFault) (told : BuildFault) → slice_get b number ≡ Some omission
-      → IsOmission (linked_files again) b number omission → IsLeftFor all omission told → IsTold again b told
-  of_left number None told at out left = absurd left
-  of_left number (Some (link.Broken k)) told at out left =
-      let unread = subst (IsUnread (linked_files again)) (sym out.0) out.1 in
-      let fault = fault_of again k unread in
-      let here = subst (HasFault again k) (sym (same_unread k left.0 fault.0 left.1 fault.1)) fault.1 in
-      of_file number (Some (link.Broken k)) at (left.0, here, left.2)
-  of_left number (Some (link.Duplicate first second)) told at out left =
-      of_file number (Some (link.Duplicate first second)) at left
-  of_left number (Some (link.MissingImport place)) told at out left = absurd left
-  of_left number (Some (link.Unresolved place)) told at out left = absurd left
-  of_left number (Some link.Memory) told at out left = absurd left
+  of_left : (number : ℕ) (omission : FileOmission) (told : Omission) → slice_get b number ≡ Some (Some omission)
+      → IsOmission (linked_files again) b number (Some omission) → IsLeftFor all number omission told
+      → IsTold again b told
+  of_left number left_for.Broken told at out left =
+      let fault = fault_of again number out in
+      let here = subst (HasFault again number) (sym (same_unread number left.0 fault.0 left.1 fault.1)) fault.1 in
+      of_file number left_for.Broken at (left.0, here, left.2)
+  of_left number (left_for.Duplicate first second) told at out left =
+      of_file number (left_for.Duplicate first second) at left
 
   kept_files : linked_files (kept_of a all) ≡ linked_files (kept_of b again)
   kept_files = kept_same linked_file all again (kept_of a all) (kept_of b again) a b refl refl same_omissions all_linked
 
   -- what is told of one is told of the other
-  told_too : (told : BuildFault) → IsTold all a told → IsTold again b told
+  told_too : (told : Omission) → IsTold all a told → IsTold again b told
   told_too told (of_file n o at left) =
-      let there : slice_get b n ≡ Some o = subst (λ (x : Omissions). slice_get x n ≡ Some o) same_omissions at in
-      of_left n o told there (also.of_files.kept.left_out.each n o there) left
+      let there : slice_get b n ≡ Some (Some o) =
+      subst (λ (x : Omissions). slice_get x n ≡ Some (Some o)) same_omissions at in
+      of_left n o told there (also.of_files.kept.left_out.each n (Some o) there) left
   told_too _ (of_import p missing) =
       let place : place_among_all a p ≡ place_among_all b p = ap (λ o. place_among_all o p) same_omissions in
       let missing_too = subst (λ fs. IsMissing fs p) kept_files missing in
-      subst (IsTold again b) (ap build.MissingImport (sym place)) (of_import p missing_too)
+      subst (IsTold again b) (ap omitted.MissingImport (sym place)) (of_import p missing_too)
   told_too _ (of_use p is_use) =
       let place : place_among_all a p ≡ place_among_all b p = ap (λ o. place_among_all o p) same_omissions in
       let use_too = subst (λ fs. IsUnresolvedAt fs p) kept_files is_use in
-      subst (IsTold again b) (ap build.Unresolved (sym place)) (of_use p use_too)
+      subst (IsTold again b) (ap omitted.Unresolved (sym place)) (of_use p use_too)
 
   keys_there : (key : Key) → Contains (map told_key built.told) key → Contains (map told_key other.told) key
   keys_there key there =
@@ -299,7 +296,7 @@ module _ (one : OneListOfFacts) (apart : NoFactsWhereUnreadable) (one_fault : On
           (set_the_same settings another same) also is)
 
       -- what is at one place of the two lists is one
-      at_one_place : (k : ℕ) (x y : BuildFault) → slice_get built.told k ≡ Some x → slice_get other.told k ≡ Some y
+      at_one_place : (k : ℕ) (x y : Omission) → slice_get built.told k ≡ Some x → slice_get other.told k ≡ Some y
           → x ≡ y
       at_one_place k x y at and =
           let key_x : slice_get (map told_key built.told) k ≡ Some (told_key x) =
@@ -320,7 +317,7 @@ module _ (one : OneListOfFacts) (apart : NoFactsWhereUnreadable) (one_fault : On
 
       told : built.told ≡ other.told
       told = sym (map-id built.told)
-          ∙ (same_mapped (λ (x : BuildFault). x) built.told other.told count at_one_place ∙ map-id other.told)
+          ∙ (same_mapped (λ (x : Omission). x) built.told other.told count at_one_place ∙ map-id other.told)
 
   pub one_built : OneBuilt allows others
   one_built settings another tree built other agree same is also =

@@ -11,13 +11,15 @@ use Rattle.index_pool.specs.Phase.{AnswersEach, IsLeastFault}
 use Rattle.scip_build.specs.declared.faulty.Faulty.{Faulty}
 use Rattle.scip_build.specs.declared.faulty.Faulty.TheVariants.{Refuse}
 use Rattle.scip_build.specs.declared.fault.FileFault.{FileFault}
-use Rattle.scip_build.specs.declared.fault.BuildFault.{BuildFault}
-use Rattle.scip_build.specs.declared.fault.BuildFault.TheVariants as build
+use Rattle.scip_build.specs.declared.file_reading.NoContents.{NoContents}
+use Rattle.scip_build.specs.declared.file_reading.NoContents.TheVariants as lacking
+use Rattle.scip_build.specs.FileFaults.{fault_of_file}
 use Rattle.scip_build.specs.Laws.{NoFactsWhereUnreadable}
 use Rattle.source_tree.specs.Files.{TreeFile}
 use Rattle.scip_build.specs.Files.{FileContents, ReadFile}
 use Rattle.scip_build.specs.Readings.{may_be_unread, HasContents, IsReadingOf, AreReadingsOf, IsReadIfSource}
 use Rattle.scip_build.specs.Readings.{IsFirstFaulty, GivesReading, MayRefuseFiles, MayRefuseReading}
+use Rattle.scip_build.specs.Readings.MayRefuseFiles.{files_lack_memory, first_is_faulty}
 use Rattle.proto_visibility.proofs.FirstLemmas.{item_at}
 
 -- what holds where a list has something, holds of what it has
@@ -46,36 +48,29 @@ module _ (faulty : Faulty) (dialect : Dialect) (allows : Seen → Choice → Typ
   }
 
   -- why a file stops the run, the first of those that do, is why the files aren't read
-  pub refused_of : (workers number : ℕ) (fault : BuildFault)
+  pub refused_of : (workers number : ℕ) (fault : NoContents)
       → IsLeastFault (GivesReading faulty dialect allows files) (length files) number fault
-      → MayRefuseFiles faulty dialect files workers fault
+      → MayRefuseFiles faulty dialect files workers (fault_of_file number fault)
   refused_of workers number fault least =
       let there = item_at files number least.0 in
       by fault there.0 there.1
-      (holds_at (λ f. MayRefuseReading faulty dialect number f fault) files number there.0 there.1 least.1)
+      (holds_at (λ f. MayRefuseReading faulty dialect f fault) files number there.0 there.1 least.1)
     where
-      by : (fault : BuildFault) (file : TreeFile) → slice_get files number ≡ Some file
-          → MayRefuseReading faulty dialect number file fault → MayRefuseFiles faulty dialect files workers fault
-      by build.Spawn file at may = absurd may
-      by build.Memory file at may = tt
-      by (build.File other of_file) file at may =
-          let At : ℕ → Type 0 = λ k. slice_get files k ≡ Some file in (
-            may.0,
-            record {
-              file = file;
-              numbered = subst At (sym may.1) at;
-              faulty = may.2;
-              before = λ lesser before less there.
-                  let Below : ℕ → Type 0 = λ k. lesser < k in
-                  let read = least.2 lesser (subst Below may.1 less) in
-                  source_has_facts faulty may.0 dialect allows lesser before read.0.contents
-                  (holds_at (λ f. IsReadingOf faulty dialect allows lesser f read.0) files lesser before there
-                  read.1).contents;
-            },
-          )
-      by (build.Duplicate first second) file at may = absurd may
-      by (build.MissingImport place) file at may = absurd may
-      by (build.Unresolved place) file at may = absurd may
+      by : (fault : NoContents) (file : TreeFile) → slice_get files number ≡ Some file
+          → MayRefuseReading faulty dialect file fault
+          → MayRefuseFiles faulty dialect files workers (fault_of_file number fault)
+      by lacking.Memory file at may = files_lack_memory
+      by (lacking.Unreadable of_file) file at may =
+          first_is_faulty may.0 (record {
+            file = file;
+            numbered = at;
+            faulty = may.1;
+            before = λ lesser before less there.
+                let read = least.2 lesser less in
+                source_has_facts faulty may.0 dialect allows lesser before read.0.contents
+                (holds_at (λ f. IsReadingOf faulty dialect allows lesser f read.0) files lesser before there
+                read.1).contents;
+          })
 
   -- files with readings have no faulty source, where it is refused
   pub no_readings_where_faulty : faulty ≡ Refuse → NoFactsWhereUnreadable

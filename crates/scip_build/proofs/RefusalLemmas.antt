@@ -19,29 +19,29 @@ use Rattle.scip_build.specs.Readings.{AreReadingsOf, MayRefuseFiles}
 use Rattle.scip_build.specs.Linking.{linked_files, MayRefuseReadings}
 use Rattle.scip_build.specs.Documents.{MayRefuseDocuments}
 use Rattle.scip_build.specs.Making.{MayRefuseMaking, MayRefuseSkipping}
+use Rattle.scip_build.specs.Readings.MayRefuseFiles.{files_lack_thread, files_lack_memory, first_is_faulty}
+use Rattle.scip_build.specs.Linking.MayRefuseReadings.{linking_lacks_memory, is_unread, is_duplicate, is_missing}
+use Rattle.scip_build.specs.Documents.MayRefuseDocuments.{documents_lack_thread, documents_lack_memory}
+use Rattle.scip_build.specs.Documents.MayRefuseDocuments.{first_is_unresolved}
+use Rattle.scip_build.specs.Making.MayRefuseSkipping.{skipping_lacks_thread, skipping_lacks_memory}
 use Rattle.scip_build.specs.Forms.{IsMadeOf, IsLinkedAndMade}
 use Rattle.scip_build.specs.Builds.{IsBuildFault}
 
 -- why files that were read can't be linked
 pub of_linking : (readings : List ReadFile) (workers : ℕ) (fault : BuildFault) → MayRefuseReadings readings fault
     → MayRefuseMaking readings workers fault
-of_linking readings workers build.Spawn is = absurd is
-of_linking readings workers build.Memory is = tt
-of_linking readings workers (build.File number fault) is = is
-of_linking readings workers (build.Duplicate first second) is = is
-of_linking readings workers (build.MissingImport place) is = is
-of_linking readings workers (build.Unresolved place) is = absurd is
+of_linking readings workers _ linking_lacks_memory = tt
+of_linking readings workers _ (is_unread broken has) = is_unread broken has
+of_linking readings workers _ (is_duplicate is) = is_duplicate is
+of_linking readings workers _ (is_missing is) = is_missing is
 
 -- why their documents aren't made
 of_documents : (faulty : Faulty) (readings : List ReadFile) (workers : ℕ) (fault : BuildFault)
     → CanBeLinked (linked_files readings) → MayRefuseDocuments faulty (linked_files readings) workers fault
     → MayRefuseMaking readings workers fault
-of_documents faulty readings workers build.Spawn linked is = is
-of_documents faulty readings workers build.Memory linked is = tt
-of_documents faulty readings workers (build.File number fault) linked is = absurd is
-of_documents faulty readings workers (build.Duplicate first second) linked is = absurd is
-of_documents faulty readings workers (build.MissingImport place) linked is = absurd is
-of_documents faulty readings workers (build.Unresolved place) linked is = (linked, is.1)
+of_documents faulty readings workers _ linked (documents_lack_thread more) = more
+of_documents faulty readings workers _ linked documents_lack_memory = tt
+of_documents faulty readings workers _ linked (first_is_unresolved refuse least) = (linked, least)
 
 pub not_both : (faulty : Faulty) → faulty ≡ Skip → faulty ≡ Refuse → ⊥
 not_both faulty skip refuse = apart (sym skip ∙ refuse)
@@ -52,12 +52,9 @@ not_both faulty skip refuse = apart (sym skip ∙ refuse)
 -- the same, where faults are skipped
 pub of_skipping : (faulty : Faulty) (files : List File) (workers : ℕ) (fault : BuildFault) → faulty ≡ Skip
     → MayRefuseDocuments faulty files workers fault → MayRefuseSkipping workers fault
-of_skipping faulty files workers build.Spawn skip is = is
-of_skipping faulty files workers build.Memory skip is = tt
-of_skipping faulty files workers (build.File number fault) skip is = absurd is
-of_skipping faulty files workers (build.Duplicate first second) skip is = absurd is
-of_skipping faulty files workers (build.MissingImport place) skip is = absurd is
-of_skipping faulty files workers (build.Unresolved place) skip is = absurd (not_both faulty skip is.0)
+of_skipping faulty files workers _ skip (documents_lack_thread more) = skipping_lacks_thread more
+of_skipping faulty files workers _ skip documents_lack_memory = skipping_lacks_memory
+of_skipping faulty files workers _ skip (first_is_unresolved refuse least) = absurd (not_both faulty skip refuse)
 
 -- files that were linked
 pub linked_of : {Out : Type 0} (Is : Document → Out → Type 0) (readings : List ReadFile) (settings : Settings)
@@ -74,12 +71,9 @@ module _ (allows : Seen → Choice → Type 0) (faulty : Faulty) (dialect : Dial
   -- why files aren't read
   pub of_reading : (fault : BuildFault) → MayRefuseFiles faulty dialect tree workers fault
       → IsBuildFault allows faulty dialect tree workers fault
-  of_reading build.Spawn is = is
-  of_reading build.Memory is = tt
-  of_reading (build.File number fault) is = (is.0, inl is.1)
-  of_reading (build.Duplicate first second) is = absurd is
-  of_reading (build.MissingImport place) is = absurd is
-  of_reading (build.Unresolved place) is = absurd is
+  of_reading _ (files_lack_thread more) = more
+  of_reading _ files_lack_memory = tt
+  of_reading _ (first_is_faulty refuse first) = (refuse, inl first)
 
   -- why files that were read make no index
   pub of_making : faulty ≡ Refuse → (readings : List ReadFile) → AreReadingsOf Refuse dialect allows tree readings
@@ -95,9 +89,5 @@ module _ (allows : Seen → Choice → Type 0) (faulty : Faulty) (dialect : Dial
   -- why what is kept of them makes none
   pub of_kept : (fault : BuildFault) → MayRefuseSkipping workers fault
       → IsBuildFault allows faulty dialect tree workers fault
-  of_kept build.Spawn is = is
-  of_kept build.Memory is = tt
-  of_kept (build.File number fault) is = absurd is
-  of_kept (build.Duplicate first second) is = absurd is
-  of_kept (build.MissingImport place) is = absurd is
-  of_kept (build.Unresolved place) is = absurd is
+  of_kept _ (skipping_lacks_thread more) = more
+  of_kept _ skipping_lacks_memory = tt

@@ -11,8 +11,8 @@ use Rattle.std.proofs.lemmas.Map.Lookups.{exact_unsigned}
 use Rattle.std.proofs.lemmas.Option.{same_Some, slice_get_within}
 use Rattle.std.proofs.lemmas.List.Elements.{Contains-append_right, Contains-append_left, Contains-append_cases}
 use Rattle.proto_visibility.specs.declared.place.FilePlace.{FilePlace}
-use Rattle.proto_visibility.specs.declared.fault.LinkFault.{LinkFault}
-use Rattle.proto_visibility.specs.declared.fault.LinkFault.TheVariants as link
+use Rattle.proto_visibility.specs.declared.omissions.FileOmission.{FileOmission}
+use Rattle.proto_visibility.specs.declared.omissions.FileOmission.TheVariants as left_for
 use Rattle.proto_visibility.specs.Files as files
 use Rattle.proto_visibility.specs.Items.{IsItem}
 use Rattle.proto_visibility.specs.Clashes.{ClashBy}
@@ -21,16 +21,15 @@ use Rattle.proto_visibility.specs.Absences.IsNeeded.{of_source, of_included}
 use Rattle.proto_visibility.specs.Kept.{Omissions, IsMet, IsOmission, AreOmissions, kept_of, number_among_all}
 use Rattle.proto_visibility.proofs.KeptLemmas.{is_kept, excludes_as}
 use Rattle.scip_build.specs.declared.fault.FileFault.{FileFault}
-use Rattle.scip_build.specs.declared.fault.BuildFault.{BuildFault}
-use Rattle.scip_build.specs.declared.fault.BuildFault.TheVariants.{Memory, File, Duplicate, MissingImport}
-use Rattle.scip_build.specs.declared.fault.BuildFault.TheVariants.{Unresolved}
+use Rattle.scip_build.specs.declared.omission.Omission.{Omission}
+use Rattle.scip_build.specs.declared.omission.Omission.TheVariants.{File, Duplicate, MissingImport, Unresolved}
 use Rattle.scip_build.specs.Files.{FileContents, ReadFile}
 use Rattle.scip_build.specs.Linking.{linked_file, linked_files, HasFault}
 use Rattle.scip_build.specs.Documents.{IsUnresolvedAt}
 use Rattle.scip_build.specs.Kept.{IsLeftFor, place_among_all, IsTold, Key, told_key, key_cmp, told_cmp}
 use Rattle.scip_build.specs.Kept.IsTold.{of_file, of_import, of_use}
 use Rattle.scip_build.specs.Keeping.{kept_numbers}
-use Rattle.scip_build.specs.Telling.{Adds, FromFront, place_by, told_import, told_use, HaveOwnKeys}
+use Rattle.scip_build.specs.Telling.{Adds, FromFront, IsLeftIf, place_by, told_import, told_use, HaveOwnKeys}
 use Rattle.scip_build.proofs.LinkingLemmas.{mapped_at}
 use Rattle.scip_build.proofs.KeptTreeLemmas.{number_of}
 use Rattle.proto_link.proofs.OneItemLemmas.{contains_map}
@@ -49,7 +48,7 @@ pub told_total : IsTotalOrder told_cmp
 told_total = on_total told_key key_total
 
 pub told_rank : IsStrictWeakOrder (λ x y. is_lt (told_cmp x y))
-told_rank = ranks_by told_total (λ (fault : BuildFault). fault)
+told_rank = ranks_by told_total (λ (fault : Omission). fault)
 
 one_bool : (a b : Bool) → bool_cmp a b ≡ Equal → a ≡ b
 one_bool false false e = refl
@@ -100,15 +99,11 @@ one_fault all number a b first second =
     one e = cc
 
 -- a file is left out for one fault
-pub one_left : (all : List ReadFile) (omission : Option LinkFault) (a b : BuildFault) → IsLeftFor all omission a
-    → IsLeftFor all omission b → a ≡ b
-one_left all None a b first second = absurd first
-one_left all (Some (link.Broken number)) a b first second =
+pub one_left : (all : List ReadFile) (number : ℕ) (omission : FileOmission) (a b : Omission)
+    → IsLeftFor all number omission a → IsLeftFor all number omission b → a ≡ b
+one_left all number left_for.Broken a b first second =
     first.2 ∙ (ap (File number) (one_fault all number first.0 second.0 first.1 second.1) ∙ sym second.2)
-one_left all (Some (link.Duplicate p q)) a b first second = first ∙ sym second
-one_left all (Some (link.MissingImport place)) a b first second = absurd first
-one_left all (Some (link.Unresolved place)) a b first second = absurd first
-one_left all (Some link.Memory) a b first second = absurd first
+one_left all number (left_for.Duplicate p q) a b first second = first ∙ sym second
 
 module _ (all : List ReadFile) (omissions : Omissions) (are : AreOmissions (linked_files all) omissions) where
   abbrev kept : List files.File
@@ -137,28 +132,23 @@ module _ (all : List ReadFile) (omissions : Omissions) (are : AreOmissions (link
         (excludes_as clash.earlier clash.later (λ _. met) (λ _. itself) clash.exclude)))
   ]
 
-  left_in : (number : ℕ) (omission : Option LinkFault) (told : BuildFault)
-      → IsOmission (linked_files all) omissions number omission → IsLeftFor all omission told
+  left_in : (number : ℕ) (omission : FileOmission) (told : Omission)
+      → IsOmission (linked_files all) omissions number (Some omission) → IsLeftFor all number omission told
       → (told_key told).0.0 ≡ number
-  left_in number None told is left = absurd left
-  left_in number (Some (link.Broken other)) told is left = ap (λ (f : BuildFault). (told_key f).0.0) left.2 ∙ is.0
-  left_in number (Some (link.Duplicate first second)) told is left =
-      ap (λ (f : BuildFault). (told_key f).0.0) left ∙ second_in number first second is
-  left_in number (Some (link.MissingImport place)) told is left = absurd left
-  left_in number (Some (link.Unresolved place)) told is left = absurd left
-  left_in number (Some link.Memory) told is left = absurd left
+  left_in number left_for.Broken told is left = ap (λ (o : Omission). (told_key o).0.0) left.2
+  left_in number (left_for.Duplicate first second) told is left =
+      ap (λ (o : Omission). (told_key o).0.0) left ∙ second_in number first second is
 
   -- the number of a file that is left out is none of a file that is kept
-  not_kept : (number : ℕ) (omission : Option LinkFault) (told : BuildFault) → slice_get omissions number ≡ Some omission
-      → IsLeftFor all omission told → (k : ℕ) (reading : ReadFile)
-      → slice_get (kept_of omissions all) k ≡ Some reading
+  not_kept : (number : ℕ) (omission : FileOmission) → slice_get omissions number ≡ Some (Some omission)
+      → (k : ℕ) (reading : ReadFile) → slice_get (kept_of omissions all) k ≡ Some reading
       → number ≡ number_among_all omissions k → ⊥
-  not_kept number omission told at left k reading there same =
+  not_kept number omission at k reading there same =
       let is = is_kept omissions all k reading there in
-      let here : omission ≡ None =
-      same_Some omission None (sym at ∙ (ap (λ n. slice_get omissions n) same ∙ is)) in
-      let Left : Option LinkFault → Type 0 = λ o. IsLeftFor all o told in
-      subst Left here left
+      some_is (same_Some (Some omission) None (sym at ∙ (ap (λ n. slice_get omissions n) same ∙ is)))
+    where
+      some_is : ◌≡◌ {A = Option FileOmission} (Some omission) None → ⊥
+      some_is e = cc
 
   reading_at : (k : ℕ) (file : files.File) → slice_get kept k ≡ Some file
       → (reading : ReadFile) × (slice_get (kept_of omissions all) k ≡ Some reading)
@@ -179,26 +169,28 @@ module _ (all : List ReadFile) (omissions : Omissions) (are : AreOmissions (link
 
   -- ---- no two are told at one key
 
-  left_of : (number : ℕ) (omission : Option LinkFault) (told : BuildFault) → slice_get omissions number ≡ Some omission
-      → IsLeftFor all omission told → (told_key told).0.0 ≡ number
-  left_of number omission told at left = left_in number omission told (are.each number omission at) left
+  left_of : (number : ℕ) (omission : FileOmission) (told : Omission)
+      → slice_get omissions number ≡ Some (Some omission)
+      → IsLeftFor all number omission told → (told_key told).0.0 ≡ number
+  left_of number omission told at left = left_in number omission told (are.each number (Some omission) at) left
 
-  pub one_told : (a b : BuildFault) → IsTold all omissions a → IsTold all omissions b
+  pub one_told : (a b : Omission) → IsTold all omissions a → IsTold all omissions b
       → AreOneKey (told_key a) (told_key b) → a ≡ b
   one_told a b (of_file n o at left) (of_file m p and right) same =
       let numbers : n ≡ m = sym (left_of n o a at left) ∙ (same.file ∙ left_of m p b and right) in
-      let omission : o ≡ p = same_Some o p (sym at ∙ (ap (λ k. slice_get omissions k) numbers ∙ and)) in
-      let Left : Option LinkFault → Type 0 = λ x. IsLeftFor all x a in
-      one_left all p a b (subst Left omission left) right
+      let omission : o ≡ p =
+      same_Some o p (same_Some (Some o) (Some p) (sym at ∙ (ap (λ k. slice_get omissions k) numbers ∙ and))) in
+      let here = subst (λ k. IsLeftFor all k o a) numbers left in
+      one_left all m p a b (subst (λ (x : FileOmission). IsLeftFor all m x a) omission here) right
   one_told a _ (of_file n o at left) (of_import q missing) same =
       let there = import_at q missing in
-      absurd (not_kept n o a at left q.file there.0 there.1 (sym (left_of n o a at left) ∙ same.file))
+      absurd (not_kept n o at q.file there.0 there.1 (sym (left_of n o a at left) ∙ same.file))
   one_told a _ (of_file n o at left) (of_use q is) same =
       let there = use_at q is in
-      absurd (not_kept n o a at left q.file there.0 there.1 (sym (left_of n o a at left) ∙ same.file))
+      absurd (not_kept n o at q.file there.0 there.1 (sym (left_of n o a at left) ∙ same.file))
   one_told _ b (of_import p missing) (of_file m o and right) same =
       let there = import_at p missing in
-      absurd (not_kept m o b and right p.file there.0 there.1 (sym (left_of m o b and right) ∙ sym same.file))
+      absurd (not_kept m o and p.file there.0 there.1 (sym (left_of m o b and right) ∙ sym same.file))
   one_told _ _ (of_import p missing) (of_import q also) same =
       ap MissingImport (one_place (place_among_all omissions p) (place_among_all omissions q) same.file same.start
       same.end)
@@ -208,7 +200,7 @@ module _ (all : List ReadFile) (omissions : Omissions) (are : AreOmissions (link
       apart e = cc
   one_told _ b (of_use p is) (of_file m o and right) same =
       let there = use_at p is in
-      absurd (not_kept m o b and right p.file there.0 there.1 (sym (left_of m o b and right) ∙ sym same.file))
+      absurd (not_kept m o and p.file there.0 there.1 (sym (left_of m o b and right) ∙ sym same.file))
   one_told _ _ (of_use p is) (of_import q missing) same = absurd (apart same.is_use)
     where
       apart : true ≡ false → ⊥
@@ -219,28 +211,33 @@ module _ (all : List ReadFile) (omissions : Omissions) (are : AreOmissions (link
 
   -- ---- what is told
 
+  of_left : (number : ℕ) (omission : Option FileOmission) (told : Omission) → slice_get omissions number ≡ Some omission
+      → IsLeftIf all number omission told → IsTold all omissions told
+  of_left number None told at is = absurd is
+  of_left number (Some left) told at is = of_file number left at is
+
   moved : (place : FilePlace) (reading : ReadFile) → slice_get (kept_of omissions all) place.file ≡ Some reading
       → place_by (kept_numbers 0 omissions) place ≡ place_among_all omissions place
   moved place reading at =
       let to : ℕ → FilePlace = λ n. record { file = n; span = place.span } in
       ap to (number_of omissions all place.file reading at)
 
-  module _ (left : List BuildFault) (missing gaps : List FilePlace)
-      (left_are : Adds (FromFront (IsLeftFor all) omissions (length omissions)) [] left)
+  module _ (left : List Omission) (missing gaps : List FilePlace)
+      (left_are : Adds (FromFront (IsLeftIf all) omissions (length omissions)) [] left)
       (missing_are : AreMissing kept missing)
       (gaps_are : (place : FilePlace) → Contains gaps place ↔ IsUnresolvedAt kept place) where
-    abbrev imports : List BuildFault
+    abbrev imports : List Omission
     imports = map (told_import (kept_numbers 0 omissions)) missing
 
-    abbrev uses : List BuildFault
+    abbrev uses : List Omission
     uses = map (told_use (kept_numbers 0 omissions)) gaps
 
-    pub is_told : (fault : BuildFault) → Contains ((left ++ imports) ++ uses) fault → IsTold all omissions fault
+    pub is_told : (fault : Omission) → Contains ((left ++ imports) ++ uses) fault → IsTold all omissions fault
     is_told fault there = elim (Contains-append_cases (left ++ imports) uses fault there) [
       | inl front ↦ elim (Contains-append_cases left imports fault front) [
         | inl one ↦ elim ((left_are fault).0 one) [
           | inl none ↦ absurd (in_nothing fault none)
-          | inr from ↦ of_file from.index from.element from.stands from.is
+          | inr from ↦ of_left from.index from.element fault from.stands from.is
         ]
         | inr import ↦ (
             let of = mapped_from (told_import (kept_numbers 0 omissions)) missing fault import in
@@ -255,12 +252,12 @@ module _ (all : List ReadFile) (omissions : Omissions) (are : AreOmissions (link
           subst (IsTold all omissions) (ap Unresolved (sym (moved of.0 at.0 at.1)) ∙ of.2) (of_use of.0 is))
     ]
 
-    pub told_is : (fault : BuildFault) → IsTold all omissions fault → Contains ((left ++ imports) ++ uses) fault
+    pub told_is : (fault : Omission) → IsTold all omissions fault → Contains ((left ++ imports) ++ uses) fault
     told_is fault (of_file n o at found) =
         let there = (left_are fault).1 (inr (record {
           index = n;
-          element = o;
-          within = slice_get_within omissions n o at;
+          element = Some o;
+          within = slice_get_within omissions n (Some o) at;
           stands = at;
           is = found;
         })) in
@@ -268,13 +265,13 @@ module _ (all : List ReadFile) (omissions : Omissions) (are : AreOmissions (link
     told_is _ (of_import p is) =
         let at = import_at p is in
         let there = contains_map (told_import (kept_numbers 0 omissions)) missing p ((missing_are.each p).1 is) in
-        let fault : BuildFault = MissingImport (place_among_all omissions p) in
+        let fault : Omission = MissingImport (place_among_all omissions p) in
         Contains-append_left (left ++ imports) uses fault (Contains-append_right left imports fault
         (subst (Contains imports) (ap MissingImport (moved p at.0 at.1)) there))
     told_is _ (of_use p is) =
         let at = use_at p is in
         let there = contains_map (told_use (kept_numbers 0 omissions)) gaps p ((gaps_are p).1 is) in
-        let fault : BuildFault = Unresolved (place_among_all omissions p) in
+        let fault : Omission = Unresolved (place_among_all omissions p) in
         Contains-append_right (left ++ imports) uses fault
         (subst (Contains uses) (ap Unresolved (moved p at.0 at.1)) there)
 

@@ -24,6 +24,8 @@ use Rattle.scip_build.specs.declared.faulty.Faulty.TheVariants.{Refuse}
 use Rattle.scip_build.specs.declared.fault.FileFault.{FileFault}
 use Rattle.scip_build.specs.declared.fault.BuildFault.{BuildFault}
 use Rattle.scip_build.specs.declared.fault.BuildFault.TheVariants as build
+use Rattle.scip_build.specs.declared.source_document.NoDocument.{NoDocument}
+use Rattle.scip_build.specs.declared.source_document.NoDocument.TheVariants as lacking
 use Rattle.scip_build.specs.Files.{FileContents, ReadFile}
 
 -- a file's text; none if it has no contents
@@ -79,18 +81,18 @@ pub record IsDocumentAt (readings : List ReadFile) (files : List File) (chosen :
   pub refused : settings.faulty ≡ Refuse → made.unresolved ≡ []
 
 -- why a source has no document: its first use that names no type, if such are refused; nothing is said about memory
-abbrev pub MayRefuseSource : Faulty → List File → (number : ℕ) → BuildFault → Type 0
-MayRefuseSource faulty files number build.Spawn = ⊥
-MayRefuseSource faulty files number build.Memory = ⊤
-MayRefuseSource faulty files number (build.File other fault) = ⊥
-MayRefuseSource faulty files number (build.Duplicate first second) = ⊥
-MayRefuseSource faulty files number (build.MissingImport place) = ⊥
-MayRefuseSource faulty files number (build.Unresolved place) =
-    (faulty ≡ Refuse) × (place.file ≡ number) × IsFirstUnresolved files number place.span
+abbrev pub MayRefuseSource : Faulty → List File → (number : ℕ) → NoDocument → Type 0
+MayRefuseSource faulty files number lacking.Memory = ⊤
+MayRefuseSource faulty files number (lacking.Unresolved span) = (faulty ≡ Refuse) × IsFirstUnresolved files number span
+
+-- the fault of a build that stops since the source with this number has no document
+abbrev pub fault_of_source : (number : ℕ) → NoDocument → BuildFault
+fault_of_source number lacking.Memory = build.Memory
+fault_of_source number (lacking.Unresolved span) = build.Unresolved (record { file = number; span = span })
 
 -- what the making of a document gives
 abbrev pub GivesDocument : List ReadFile → List File → Chosen → Settings → (number : ℕ)
-    → Result SourceDocument BuildFault → Type 0
+    → Result SourceDocument NoDocument → Type 0
 GivesDocument readings files chosen settings number result =
     MatchResult result (IsDocumentAt readings files chosen settings number)
     (MayRefuseSource settings.faulty files number)
@@ -130,10 +132,8 @@ pub record IsLeastUnresolved (files : List File) (place : FilePlace) : Type 0 wh
 
 -- Why the documents aren't made: a use, if such are refused. A thread is refused only if one is to be started;
 -- nothing is said about memory.
-abbrev pub MayRefuseDocuments : Faulty → List File → (workers : ℕ) → BuildFault → Type 0
-MayRefuseDocuments faulty files workers build.Spawn = 1 < workers
-MayRefuseDocuments faulty files workers build.Memory = ⊤
-MayRefuseDocuments faulty files workers (build.File other fault) = ⊥
-MayRefuseDocuments faulty files workers (build.Duplicate first second) = ⊥
-MayRefuseDocuments faulty files workers (build.MissingImport place) = ⊥
-MayRefuseDocuments faulty files workers (build.Unresolved place) = (faulty ≡ Refuse) × IsLeastUnresolved files place
+pub data MayRefuseDocuments (faulty : Faulty) (files : List File) (workers : ℕ) : BuildFault → Type 0 where
+  documents_lack_thread : 1 < workers → MayRefuseDocuments faulty files workers build.Spawn
+  documents_lack_memory : MayRefuseDocuments faulty files workers build.Memory
+  first_is_unresolved : {place : FilePlace} → faulty ≡ Refuse → IsLeastUnresolved files place
+      → MayRefuseDocuments faulty files workers (build.Unresolved place)

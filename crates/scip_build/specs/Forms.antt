@@ -15,7 +15,8 @@ use Rattle.scip_build.specs.declared.settings.Settings.{Settings}
 use Rattle.scip_build.specs.declared.parts.Parts.{Parts}
 use Rattle.scip_build.specs.declared.made.Made.{Made}
 use Rattle.scip_build.specs.declared.made.MadeDocument.{MadeDocument}
-use Rattle.scip_build.specs.declared.fault.BuildFault.{BuildFault}
+use Rattle.scip_build.specs.declared.source_document.NoDocument.{NoDocument}
+use Rattle.scip_build.specs.declared.omission.Omission.{Omission}
 use Rattle.scip_build.specs.Files.{ReadFile}
 use Rattle.scip_build.specs.Documents.{IsDocumentAt, MayRefuseSource, AreDocuments}
 use Rattle.scip_build.specs.Linking.{linked_files, choices_of}
@@ -40,7 +41,7 @@ module _ {Out : Type 0} (Is : Document → Out → Type 0) where
     pub gaps : out.unresolved ≡ document.unresolved
 
   abbrev pub GivesKept : List ReadFile → List File → Chosen → Settings → (number : ℕ)
-      → Result (MadeDocument Out) BuildFault → Type 0
+      → Result (MadeDocument Out) NoDocument → Type 0
   GivesKept readings files chosen settings number result =
       MatchResult result (IsKeptAt readings files chosen settings number)
       (MayRefuseSource settings.faulty files number)
@@ -72,7 +73,7 @@ module _ {Out : Type 0} (Is : Document → Out → Type 0) where
 
   -- there is an index of what is kept of files that were read, made by these choices, this is told of the rest, and
   -- these are its parts
-  pub record IsBuiltOfInForm (all : List ReadFile) (settings : Settings) (choices : Chosen) (told : List BuildFault)
+  pub record IsBuiltOfInForm (all : List ReadFile) (settings : Settings) (choices : Chosen) (told : List Omission)
       (parts : Parts Out) : Type 0 where
     pub index : Index
     pub built : IsBuiltOf all settings (record { index = index; choices = choices; told = told })
@@ -80,7 +81,7 @@ module _ {Out : Type 0} (Is : Document → Out → Type 0) where
 
   -- the same for a tree
   pub record IsBuiltInForm (allows : Seen → Choice → Type 0) (settings : Settings) (tree : List TreeFile)
-      (choices : Chosen) (told : List BuildFault) (parts : Parts Out) : Type 0 where
+      (choices : Chosen) (told : List Omission) (parts : Parts Out) : Type 0 where
     pub index : Index
     pub built : IsBuilt allows settings tree (record { index = index; choices = choices; told = told })
     pub are : ArePartsOf index parts

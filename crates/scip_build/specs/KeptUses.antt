@@ -11,7 +11,7 @@ use Rattle.proto_visibility.specs.Kept.{Omissions, number_among_all}
 use Rattle.proto_link.specs.declared.target.Target.{Target}
 use Rattle.proto_link.specs.Resolves.{words_of}
 use Rattle.proto_link.specs.Targets.{IsNamed, IsTarget}
-use Rattle.scip_build.specs.declared.fault.BuildFault.{BuildFault}
+use Rattle.scip_build.specs.declared.omission.Omission.{Omission}
 use Rattle.scip_build.specs.Files.{ReadFile}
 use Rattle.scip_build.specs.Linking.{linked_files}
 use Rattle.scip_build.specs.Kept.{AreKept}
@@ -54,7 +54,7 @@ pub record NamesTheSame (kept : List File) (omissions : Omissions) (number : ℕ
 
 -- A use of a kept file that names nothing of a file that is left out names what it named before.
 abbrev pub KeptResolvesAlike : Type 0
-KeptResolvesAlike = (all readings : List ReadFile) (told : List BuildFault) (kept : AreKept all readings told)
+KeptResolvesAlike = (all readings : List ReadFile) (told : List Omission) (kept : AreKept all readings told)
     → (number : ℕ) (type_use : Use) (target : Target)
     → (is : IsTarget (linked_files all) (number_among_all kept.omissions number) type_use target)
     → NamesNothingLeftOut (linked_files all) (linked_files readings) kept.omissions number type_use target is

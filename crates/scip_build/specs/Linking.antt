@@ -1,8 +1,9 @@
 -- What is linked of files that were read, and why they can't be.
-use Rattle.std.specs.Prelude.{◌≡◌, ℕ, ⊤, Option, Some, None, Result, Ok, Err, List, [], map}
+use Rattle.std.specs.Prelude.{◌≡◌, ℕ, Option, Some, None, Result, Ok, Err, List, [], map}
 use Rattle.std.specs.List.{slice_get}
 use Rattle.proto_decl.specs.Facts.{Facts}
 use Rattle.proto_visibility.specs.declared.fault.LinkFault.TheVariants as link
+use Rattle.proto_visibility.specs.declared.place.FilePlace.{FilePlace}
 use Rattle.proto_visibility.specs.Files.{File}
 use Rattle.proto_visibility.specs.Absences.{Broken}
 use Rattle.proto_visibility.specs.Linked.{CanBeLinked, MayRefuse}
@@ -42,15 +43,14 @@ pub record HasFault (readings : List ReadFile) (number : ℕ) (fault : FileFault
 -- Why files that were read can't be linked: the least of the sources and included sources that has no contents, and
 -- the fault of that; else what the linker refuses. Nothing is said about memory, and threads and uses are no matter
 -- of it.
-abbrev pub MayRefuseReadings : List ReadFile → BuildFault → Type 0
-MayRefuseReadings readings build.Spawn = ⊥
-MayRefuseReadings readings build.Memory = ⊤
-MayRefuseReadings readings (build.File number fault) =
-    Broken (linked_files readings) number × HasFault readings number fault
-MayRefuseReadings readings (build.Duplicate first second) =
-    MayRefuse (linked_files readings) (link.Duplicate first second)
-MayRefuseReadings readings (build.MissingImport place) = MayRefuse (linked_files readings) (link.MissingImport place)
-MayRefuseReadings readings (build.Unresolved place) = ⊥
+pub data MayRefuseReadings (readings : List ReadFile) : BuildFault → Type 0 where
+  linking_lacks_memory : MayRefuseReadings readings build.Memory
+  is_unread : {number : ℕ} {fault : FileFault} → Broken (linked_files readings) number
+      → HasFault readings number fault → MayRefuseReadings readings (build.File number fault)
+  is_duplicate : {first second : FilePlace} → MayRefuse (linked_files readings) (link.Duplicate first second)
+      → MayRefuseReadings readings (build.Duplicate first second)
+  is_missing : {place : FilePlace} → MayRefuse (linked_files readings) (link.MissingImport place)
+      → MayRefuseReadings readings (build.MissingImport place)
 
 -- the files can be linked, and are those of the linker
 abbrev pub AreLinked : List ReadFile → List File → Type 0

@@ -35,10 +35,6 @@ MayRefuseMaking readings workers (build.Unresolved place) =
     CanBeLinked (linked_files readings) × IsLeastUnresolved (linked_files readings) place
 
 -- why what is kept of a tree makes no index
-abbrev pub MayRefuseSkipping : (workers : ℕ) → BuildFault → Type 0
-MayRefuseSkipping workers build.Spawn = 1 < workers
-MayRefuseSkipping workers build.Memory = ⊤
-MayRefuseSkipping workers (build.File number fault) = ⊥
-MayRefuseSkipping workers (build.Duplicate first second) = ⊥
-MayRefuseSkipping workers (build.MissingImport place) = ⊥
-MayRefuseSkipping workers (build.Unresolved place) = ⊥
+pub data MayRefuseSkipping (workers : ℕ) : BuildFault → Type 0 where
+  skipping_lacks_thread : 1 < workers → MayRefuseSkipping workers build.Spawn
+  skipping_lacks_memory : MayRefuseSkipping workers build.Memory

@@ -12,8 +12,9 @@ use Rattle.scip_build.specs.declared.faulty.Faulty.{Faulty}
 use Rattle.scip_build.specs.declared.faulty.Faulty.TheVariants.{Refuse, Skip}
 use Rattle.scip_build.specs.declared.fault.FileFault.{FileFault}
 use Rattle.scip_build.specs.declared.fault.BuildFault.{BuildFault}
-use Rattle.scip_build.specs.declared.fault.BuildFault.TheVariants.{Spawn, Memory, File, Duplicate, MissingImport}
-use Rattle.scip_build.specs.declared.fault.BuildFault.TheVariants.{Unresolved}
+use Rattle.scip_build.specs.declared.fault.BuildFault.TheVariants.{Spawn, Memory, File}
+use Rattle.scip_build.specs.declared.file_reading.NoContents.{NoContents}
+use Rattle.scip_build.specs.declared.file_reading.NoContents.TheVariants as lacking
 use Rattle.scip_build.specs.Parsed.{AreFactsIn, IsUnreadable}
 use Rattle.source_tree.specs.Files.{TreeFile}
 use Rattle.scip_build.specs.Files.{FileContents, ReadFile}
@@ -93,29 +94,22 @@ pub record IsFirstFaulty (dialect : Dialect) (files : List TreeFile) (number : �
 
 -- Why the files aren't read: a source can't be, and such sources are refused. A thread is refused only if one is to
 -- be started, that is, for two workers or more; nothing is said about memory.
-abbrev pub MayRefuseFiles : Faulty → Dialect → List TreeFile → (workers : ℕ) → BuildFault → Type 0
-MayRefuseFiles faulty dialect files workers Spawn = 1 < workers
-MayRefuseFiles faulty dialect files workers Memory = ⊤
-MayRefuseFiles faulty dialect files workers (File number fault) =
-    (faulty ≡ Refuse) × IsFirstFaulty dialect files number fault
-MayRefuseFiles faulty dialect files workers (Duplicate first second) = ⊥
-MayRefuseFiles faulty dialect files workers (MissingImport place) = ⊥
-MayRefuseFiles faulty dialect files workers (Unresolved place) = ⊥
+pub data MayRefuseFiles (faulty : Faulty) (dialect : Dialect) (files : List TreeFile) (workers : ℕ)
+    : BuildFault → Type 0 where
+  files_lack_thread : 1 < workers → MayRefuseFiles faulty dialect files workers Spawn
+  files_lack_memory : MayRefuseFiles faulty dialect files workers Memory
+  first_is_faulty : {number : ℕ} {fault : FileFault} → faulty ≡ Refuse → IsFirstFaulty dialect files number fault
+      → MayRefuseFiles faulty dialect files workers (File number fault)
 
--- why the file with this number stops the run: it is a source that can't be read; nothing is said about memory
-abbrev pub MayRefuseReading : Faulty → Dialect → (number : ℕ) → TreeFile → BuildFault → Type 0
-MayRefuseReading faulty dialect number file Spawn = ⊥
-MayRefuseReading faulty dialect number file Memory = ⊤
-MayRefuseReading faulty dialect number file (File other fault) =
-    (faulty ≡ Refuse) × (other ≡ number) × IsFaultySource dialect file fault
-MayRefuseReading faulty dialect number file (Duplicate first second) = ⊥
-MayRefuseReading faulty dialect number file (MissingImport place) = ⊥
-MayRefuseReading faulty dialect number file (Unresolved place) = ⊥
+-- why a file stops the run: it is a source that can't be read, and such are refused; nothing is said about memory
+abbrev pub MayRefuseReading : Faulty → Dialect → TreeFile → NoContents → Type 0
+MayRefuseReading faulty dialect file lacking.Memory = ⊤
+MayRefuseReading faulty dialect file (lacking.Unreadable fault) = (faulty ≡ Refuse) × IsFaultySource dialect file fault
 
 -- what the reading of the file with this number gives
 abbrev pub GivesReading : Faulty → Dialect → (allows : Seen → Choice → Type 0) → List TreeFile → ℕ
-    → Result ReadFile BuildFault → Type 0
+    → Result ReadFile NoContents → Type 0
 GivesReading faulty dialect allows files number result =
     IfSome (slice_get files number)
     (λ file. MatchResult result (IsReadingOf faulty dialect allows number file)
-    (MayRefuseReading faulty dialect number file))
+    (MayRefuseReading faulty dialect file))

@@ -62,6 +62,7 @@ fn metadata(alloc: Global, project_root: &OwnedText) -> Result<Metadata, AllocEr
 
 /// The parts of the index of linked files, and the uses that name no type: the documents come by path, so
 /// none is looked for.
+#[tactic(auto, using(crate::proofs::RefusalRules::of_documents))]
 fn make_parts<R: Threads + Wait, G: Gate, F: DocumentForm + Sync>(
     run: &Run<'_, R, G>,
     sources: &LinkedSources<'_, '_, '_, '_>,
@@ -95,6 +96,7 @@ fn make_parts<R: Threads + Wait, G: Gate, F: DocumentForm + Sync>(
 }
 
 /// What is made of linked files that were read.
+#[tactic(auto, using(crate::proofs::RefusalRules::of_documents))]
 fn make_linked<R: Threads + Wait, G: Gate, F: DocumentForm + Sync>(
     run: &Run<'_, R, G>,
     linker: &Linker<'_, '_>,
@@ -145,6 +147,7 @@ fn make_whole<R: Threads + Wait, G: Gate, F: DocumentForm + Sync>(
 }
 
 /// What is made of the files that are kept, and the imports of them that name no file.
+#[tactic(auto, using(crate::proofs::RefusalRules::of_skipping))]
 fn make_kept<R: Threads + Wait, G: Gate, F: DocumentForm + Sync>(
     run: &Run<'_, R, G>,
     readings: &[Reading<'_>],
@@ -189,6 +192,7 @@ fn build_whole<'a, R: Threads + Wait, G: Gate, F: DocumentForm + Sync>(
 }
 
 /// The parts of the index of what is kept of a tree that was read, and what is told of the rest.
+#[tactic(auto, using(crate::proofs::RefusalRules::of_skipping))]
 fn build_kept<'a, R: Threads + Wait, G: Gate, F: DocumentForm + Sync>(
     run: &Run<'_, R, G>,
     all: Vec<Reading<'a>>,

@@ -7,7 +7,7 @@ ghost use Rattle.scip_build.specs.Parsed.{AreFactsIn};
 ghost use Rattle.scip_build.specs.Readings.{AreContentsOf, GivesReading, IsReadingOf, MayRefuseReading};
 
 use crate::choosing::choose_each;
-use crate::fault::{BuildFault, FileFault};
+use crate::fault::FileFault;
 use crate::faulty::Faulty;
 use crate::reading::{Contents, Reading};
 use index_hooks::Chooses;
@@ -15,7 +15,7 @@ use proto_decl::{FileFacts, declare};
 use proto_lex::{LexFault, Text, lex};
 use proto_parse::{Dialect, SyntaxFault, parse_with};
 use source_tree::Tree;
-use std::alloc::Global;
+use std::alloc::{AllocError, Global};
 
 /// By what files are read: what chooses for their declarations, which are accepted, and what is done with those that
 /// can't be read.
@@ -27,23 +27,42 @@ pub(crate) struct Reader<'c, C> {
     pub(crate) faulty: Faulty,
 }
 
-/// Why the file with this number has no lexing; lack of memory is no fault of a file.
-fn unlexed(number: usize, fault: LexFault) -> BuildFault
-    ensures { result ≡ fault_of_lexing number fault }
-{
-    match fault {
-        LexFault::Memory => BuildFault::Memory,
-        fault => BuildFault::File(number, FileFault::Lex(fault)),
+/// Why a file has no contents.
+#[derive(Clone, Copy, Debug, Drop)]
+pub(crate) enum NoContents {
+    /// Memory ran out: that is no fault of the file.
+    Memory,
+    /// It can't be read.
+    Unreadable(FileFault),
+}
+
+impl From<AllocError> for NoContents {
+    ghost use Rattle.scip_build.specs.declared.file_reading.NoContents.TheVariants.{Memory};
+
+    ghost from_gives = { λ _ e. e ≡ Memory };
+
+    fn from(_refused: AllocError) -> NoContents {
+        NoContents::Memory
     }
 }
 
-/// Why the file with this number has no tree; lack of memory is no fault of a file.
-fn unparsed(number: usize, fault: SyntaxFault) -> BuildFault
-    ensures { result ≡ fault_of_parsing number fault }
+/// Why a file has no lexing.
+fn unlexed(fault: LexFault) -> NoContents
+    ensures { result ≡ fault_of_lexing fault }
 {
     match fault {
-        SyntaxFault::Memory => BuildFault::Memory,
-        fault => BuildFault::File(number, FileFault::Syntax(fault)),
+        LexFault::Memory => NoContents::Memory,
+        fault => NoContents::Unreadable(FileFault::Lex(fault)),
+    }
+}
+
+/// Why a file has no tree.
+fn unparsed(fault: SyntaxFault) -> NoContents
+    ensures { result ≡ fault_of_parsing fault }
+{
+    match fault {
+        SyntaxFault::Memory => NoContents::Memory,
+        fault => NoContents::Unreadable(FileFault::Syntax(fault)),
     }
 }
 
@@ -53,17 +72,17 @@ fn facts_of<'a>(
     number: usize,
     text: &Text<'a>,
     dialect: Dialect,
-) -> Result<FileFacts<'a>, BuildFault>
+) -> Result<FileFacts<'a>, NoContents>
     requires { IsText text.now }
-    ensures { MatchResult result (AreFactsIn dialect number text.now) (MayRefuseFile dialect number text.now) }
+    ensures { MatchResult result (AreFactsIn dialect number text.now) (MayRefuseFile dialect text.now) }
 {
     let lexed = match lex(alloc, text) {
         Ok(lexed) => lexed,
-        Err(fault) => return Err(unlexed(number, fault)),
+        Err(fault) => return Err(unlexed(fault)),
     };
     let tree = match parse_with(alloc, &lexed, dialect) {
         Ok(tree) => tree,
-        Err(fault) => return Err(unparsed(number, fault)),
+        Err(fault) => return Err(unparsed(fault)),
     };
     Ok(declare(alloc, number, &lexed, &tree)?)
 }
@@ -73,14 +92,14 @@ fn contents_of<'a, C: Chooses>(
     reader: &Reader<'_, C>,
     number: usize,
     bytes: &'a [u8],
-) -> Result<Contents<'a>, BuildFault>
+) -> Result<Contents<'a>, NoContents>
     ensures { MatchResult result
         (AreContentsOf reader.now.dialect (C.allows reader.now.chooser.now) number bytes.now)
-        (MayRefuseFile reader.now.dialect number bytes.now) }
+        (MayRefuseFile reader.now.dialect bytes.now) }
 {
     let text = match Text::new(reader.alloc, bytes) {
         Ok(text) => text,
-        Err(fault) => return Err(unlexed(number, fault)),
+        Err(fault) => return Err(unlexed(fault)),
     };
     let facts = facts_of(reader.alloc, number, &text, reader.dialect)?;
     let choices = choose_each(reader.alloc, reader.chooser, facts.declarations())?;
@@ -99,11 +118,11 @@ fn read_parts<'a, C: Chooses>(
     path: &'a str,
     bytes: &'a [u8],
     is_included: bool,
-) -> Result<Reading<'a>, BuildFault>
+) -> Result<Reading<'a>, NoContents>
     ensures { MatchResult result
         (IsReadingOf reader.now.faulty reader.now.dialect (C.allows reader.now.chooser.now) number
         (record { path = path.now; bytes = bytes.now; is_included = is_included }))
-        (MayRefuseReading reader.now.faulty reader.now.dialect number
+        (MayRefuseReading reader.now.faulty reader.now.dialect
         (record { path = path.now; bytes = bytes.now; is_included = is_included })) }
 {
     match contents_of(reader, number, bytes) {
@@ -112,7 +131,7 @@ fn read_parts<'a, C: Chooses>(
             is_included,
             contents: Ok(contents),
         }),
-        Err(BuildFault::File(of, fault)) => {
+        Err(NoContents::Unreadable(fault)) => {
             if reader.faulty.may_be_unread(is_included) {
                 Ok(Reading {
                     path,
@@ -120,10 +139,10 @@ fn read_parts<'a, C: Chooses>(
                     contents: Err(fault),
                 })
             } else {
-                Err(BuildFault::File(of, fault))
+                Err(NoContents::Unreadable(fault))
             }
         }
-        Err(_) => Err(BuildFault::Memory),
+        Err(NoContents::Memory) => Err(NoContents::Memory),
     }
 }
 
@@ -132,7 +151,7 @@ pub(crate) fn read_file<'a, C: Chooses>(
     reader: &Reader<'_, C>,
     number: usize,
     tree: &'a Tree,
-) -> Result<Reading<'a>, BuildFault>
+) -> Result<Reading<'a>, NoContents>
     requires { number < length tree.now }
     ensures { GivesReading reader.now.faulty reader.now.dialect (C.allows reader.now.chooser.now) tree.now number
         result }

@@ -8,18 +8,18 @@ ghost use Rattle.scip_build.specs.Linking.{linked_files};
 ghost use Rattle.scip_build.specs.Keeping.{kept_numbers, is_source};
 ghost use Rattle.scip_build.specs.Telling.{AreKeptFiles};
 
-use crate::fault::BuildFault;
 use crate::linking::linked_files;
+use crate::omission::Omission;
 use crate::reading::Reading;
 use crate::telling::push_omissions;
-use proto_link::{LinkFault, left_out};
+use proto_link::{FileOmission, left_out};
 use std::alloc::{AllocError, Global};
 
 /// For each of the files that were read, by its number, why it is left out; `None` of a file that is kept.
 fn omissions_of(
     alloc: Global,
     readings: &[Reading<'_>],
-) -> Result<Vec<Option<LinkFault>>, AllocError>
+) -> Result<Vec<Option<FileOmission>>, AllocError>
     requires { HaveOwnPaths (linked_files readings.now) }
     ensures { IfOk result (λ omissions. AreOmissions (linked_files readings.now) omissions.items) }
 {
@@ -28,7 +28,7 @@ fn omissions_of(
 }
 
 /// The numbers of the files that are kept, in order.
-fn kept_numbers(alloc: Global, omissions: &[Option<LinkFault>]) -> Result<Vec<usize>, AllocError>
+fn kept_numbers(alloc: Global, omissions: &[Option<FileOmission>]) -> Result<Vec<usize>, AllocError>
     ensures { IfOk result (λ numbers. numbers.items ≡ kept_numbers 0 omissions.now) }
 {
     let mut numbers = Vec::new(alloc);
@@ -44,7 +44,7 @@ fn kept_numbers(alloc: Global, omissions: &[Option<LinkFault>]) -> Result<Vec<us
 fn kept_readings<'a>(
     alloc: Global,
     all: Vec<Reading<'a>>,
-    omissions: Vec<Option<LinkFault>>,
+    omissions: Vec<Option<FileOmission>>,
 ) -> Result<Vec<Reading<'a>>, AllocError>
     requires { length omissions.items ≡ length all.items }
     ensures { IfOk result (λ readings. readings.items ≡ kept_of omissions.items all.entry.items) }
@@ -64,7 +64,7 @@ pub(crate) struct KeptFiles<'a> {
     pub(crate) readings: Vec<Reading<'a>>,
     /// The number that each has among all files.
     pub(crate) numbers: Vec<usize>,
-    pub(crate) told: Vec<BuildFault>,
+    pub(crate) told: Vec<Omission>,
 }
 
 /// Leaves out the files that can't be read, and those of which a name clashes with one of a file before.

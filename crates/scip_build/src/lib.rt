@@ -16,6 +16,7 @@ mod laws;
 mod linked_sources;
 mod linking;
 mod made;
+mod omission;
 mod parts;
 mod phase_one;
 mod phase_two;
@@ -38,6 +39,7 @@ pub use laws::{
     readings_have_own_paths,
 };
 pub use linking::{link, linked_files};
+pub use omission::Omission;
 pub use parts::{BuiltParts, Parts};
 pub use phase_one::read_files;
 pub use reading::{Contents, Reading};

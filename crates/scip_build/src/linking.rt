@@ -56,6 +56,7 @@ pub(crate) fn fault_at(readings: &[Reading<'_>], number: usize) -> FileFault
 }
 
 /// Why files that were read can't be linked, by the linker's fault.
+#[tactic(auto, using(crate::proofs::RefusalRules::of_linking))]
 fn refusal(readings: &[Reading<'_>], fault: LinkFault) -> BuildFault
     requires { MayRefuse (linked_files readings.now) fault }
     ensures { MayRefuseReadings readings.now result }
@@ -64,13 +65,14 @@ fn refusal(readings: &[Reading<'_>], fault: LinkFault) -> BuildFault
         LinkFault::Broken(number) => BuildFault::File(number, fault_at(readings, number)),
         LinkFault::Duplicate(first, second) => BuildFault::Duplicate(first, second),
         LinkFault::MissingImport(place) => BuildFault::MissingImport(place),
-        LinkFault::Unresolved(place) => BuildFault::Unresolved(place),
         LinkFault::Memory => BuildFault::Memory,
+        LinkFault::Unresolved(_) => unreachable!(),
     }
 }
 
 /// The linker of files, of which two parts are made at once. Another thread checks them, since listing names takes more
 /// memory, which the calling thread gets in larger steps; if none can be started, the calling thread does both.
+#[tactic(auto, using(crate::proofs::RefusalRules::of_linker))]
 fn linker_in_parts<'a, 'r, R: Threads>(
     rt: &R,
     alloc: Global,

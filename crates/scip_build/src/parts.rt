@@ -1,6 +1,6 @@
 //! The parts of an index.
 
-use crate::fault::BuildFault;
+use crate::omission::Omission;
 use crate::reading::Reading;
 use scip_model::Choices;
 use scip_records::{Metadata, SymbolInformation};
@@ -29,5 +29,5 @@ pub struct BuiltParts<'a, T> {
     /// a program that ends can save.
     pub readings: Vec<Reading<'a>>,
     /// What was left out, and what has no target, as `Built` has it.
-    pub told: Sequence<BuildFault>,
+    pub told: Sequence<Omission>,
 }

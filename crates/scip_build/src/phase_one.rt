@@ -1,11 +1,12 @@
 //! The first phase: the files of a tree are read, on workers.
 
-ghost use Rattle.std.specs.Prelude.{MatchResult};
+ghost use Rattle.std.specs.Prelude.{◌≡◌, MatchResult};
+ghost use Rattle.scip_build.specs.FileFaults.{fault_of_file};
 ghost use Rattle.scip_build.specs.Readings.{AreReadingsOf, MayRefuseFiles};
 
 use crate::fault::BuildFault;
 use crate::faulty::Faulty;
-use crate::file_reading::{Reader, read_file};
+use crate::file_reading::{NoContents, Reader, read_file};
 use crate::reading::Reading;
 use crate::run::Run;
 use index_hooks::Chooses;
@@ -28,15 +29,25 @@ impl<'a, 'c, C: Chooses + Sync> Job for PhaseOne<'a, 'c, C> {
 
     type Out = Reading<'a>;
 
-    type Fault = BuildFault;
+    type Fault = NoContents;
 
     ghost inputs = { λ s. length s.tree.now };
 
     ghost gives = { λ s number result. GivesReading s.reader.faulty s.reader.dialect (C.allows s.reader.chooser.now)
         s.tree.now number result };
 
-    fn run(&self, ticket: Ticket) -> Result<Reading<'a>, BuildFault> {
+    fn run(&self, ticket: Ticket) -> Result<Reading<'a>, NoContents> {
         read_file(&self.reader, ticket.number(), self.tree)
+    }
+}
+
+/// Why the files aren't read, by why the one with this number has no contents.
+fn refusal(number: usize, fault: NoContents) -> BuildFault
+    ensures { result ≡ fault_of_file number fault }
+{
+    match fault {
+        NoContents::Memory => BuildFault::Memory,
+        NoContents::Unreadable(fault) => BuildFault::File(number, fault),
     }
 }
 
@@ -51,6 +62,7 @@ impl<'a, 'c, C: Chooses + Sync> Job for PhaseOne<'a, 'c, C> {
 /// `Spawn` comes before `Memory`, and `Memory` before `File`. `Memory` is for what all files share, or
 /// for the least file that stops the run, be it an included one. `Duplicate`, `MissingImport`,
 /// `Unresolved` and the `File` of an included file never come: linking answers those.
+#[tactic(auto, using(crate::proofs::RefusalRules::of_files))]
 pub fn read_files<'a, R: Threads + Wait, C: Chooses + Sync, G: Gate>(
     run: &Run<'_, R, G>,
     tree: &'a Tree,
@@ -80,6 +92,6 @@ pub fn read_files<'a, R: Threads + Wait, C: Chooses + Sync, G: Gate>(
         Ok(readings) => Ok(readings),
         Err(PoolFault::Spawn) => Err(BuildFault::Spawn),
         Err(PoolFault::Memory) => Err(BuildFault::Memory),
-        Err(PoolFault::Job(_, fault)) => Err(fault),
+        Err(PoolFault::Job(number, fault)) => Err(refusal(number, fault)),
     }
 }

@@ -1,8 +1,8 @@
 //! The second phase: the documents of the sources are made, on workers, and what is wanted of each is kept.
 
-ghost use Rattle.std.specs.Prelude.{◌≤◌, MatchResult};
+ghost use Rattle.std.specs.Prelude.{◌≡◌, ◌≤◌, MatchResult};
 ghost use Rattle.index_pool.specs.declared.workers.TheConstants.{MAX_INPUTS};
-ghost use Rattle.scip_build.specs.Documents.{AreReady, MayRefuseDocuments};
+ghost use Rattle.scip_build.specs.Documents.{AreReady, fault_of_source, MayRefuseDocuments};
 ghost use Rattle.scip_build.specs.Forms.{AreMade};
 
 use crate::document_form::DocumentForm;
@@ -10,8 +10,9 @@ use crate::fault::BuildFault;
 use crate::linked_sources::LinkedSources;
 use crate::made::MadeDocument;
 use crate::run::Run;
-use crate::source_document::make_document;
+use crate::source_document::{NoDocument, make_document};
 use index_pool::{Gate, Job, PoolFault, Ticket, run_phase};
+use proto_link::FilePlace;
 use scip_model::one_document_a_source;
 use std::marker::Model;
 use std::sync::Wait;
@@ -46,18 +47,28 @@ impl<'a, 'b, 'l, 'f, 'r, F: DocumentForm + Sync> Job for PhaseTwo<'a, 'b, 'l, 'f
 
     type Out = MadeDocument<F::Kept>;
 
-    type Fault = BuildFault;
+    type Fault = NoDocument;
 
     ghost inputs = { λ work. work.count };
 
     ghost gives = { λ work number result.
         GivesKept F.is_kept work.readings work.files work.chosen work.settings number result };
 
-    fn run(&self, ticket: Ticket) -> Result<MadeDocument<F::Kept>, BuildFault> {
+    fn run(&self, ticket: Ticket) -> Result<MadeDocument<F::Kept>, NoDocument> {
         let made = make_document(self.sources, ticket.number())?;
         let (document, unresolved) = made.into_parts();
         let kept = self.form.keep(self.sources.alloc, document)?;
         Ok(MadeDocument { kept, unresolved })
+    }
+}
+
+/// Why the documents aren't made, by why the source with this number has none.
+fn refusal(number: usize, fault: NoDocument) -> BuildFault
+    ensures { result ≡ fault_of_source number fault }
+{
+    match fault {
+        NoDocument::Memory => BuildFault::Memory,
+        NoDocument::Unresolved(span) => BuildFault::Unresolved(FilePlace { file: number, span }),
     }
 }
 
@@ -67,6 +78,7 @@ impl<'a, 'b, 'l, 'f, 'r, F: DocumentForm + Sync> Job for PhaseTwo<'a, 'b, 'l, 'f
 /// Of the refusals, `Spawn` comes before `Memory`, and `Memory` before `Unresolved`, which is of the first source,
 /// and comes only if such uses are refused; but if the least source that has no document lacks memory, it is
 /// `Memory`.
+#[tactic(auto, using(crate::proofs::RefusalRules::of_documents))]
 pub(crate) fn make_documents<R: Threads + Wait, G: Gate, F: DocumentForm + Sync>(
     run: &Run<'_, R, G>,
     sources: &LinkedSources<'_, '_, '_, '_>,
@@ -93,6 +105,6 @@ pub(crate) fn make_documents<R: Threads + Wait, G: Gate, F: DocumentForm + Sync>
         Ok(made) => Ok(made),
         Err(PoolFault::Spawn) => Err(BuildFault::Spawn),
         Err(PoolFault::Memory) => Err(BuildFault::Memory),
-        Err(PoolFault::Job(_, fault)) => Err(fault),
+        Err(PoolFault::Job(number, fault)) => Err(refusal(number, fault)),
     }
 }

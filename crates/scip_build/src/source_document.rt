@@ -9,13 +9,31 @@ ghost use Rattle.std.specs.List.{slice_get};
 ghost use Rattle.scip_build.specs.declared.faulty.Faulty.TheVariants.{Refuse};
 ghost use Rattle.scip_build.specs.Documents.{IsRead, HasReadText, GivesDocument};
 
-use crate::fault::BuildFault;
 use crate::faulty::Faulty;
 use crate::linked_sources::LinkedSources;
 use crate::reading::Reading;
 use proto_lex::{Span, Text};
-use proto_link::FilePlace;
 use scip_model::{DocumentMaker, PlannedDocument, plan_document};
+use std::alloc::AllocError;
+
+/// Why a source has no document.
+#[derive(Clone, Copy, Debug, Drop)]
+pub(crate) enum NoDocument {
+    /// Memory ran out.
+    Memory,
+    /// Its first use that names no type, if such are refused.
+    Unresolved(Span),
+}
+
+impl From<AllocError> for NoDocument {
+    ghost use Rattle.scip_build.specs.declared.source_document.NoDocument.TheVariants.{Memory};
+
+    ghost from_gives = { λ _ e. e ≡ Memory };
+
+    fn from(_refused: AllocError) -> NoDocument {
+        NoDocument::Memory
+    }
+}
 
 /// The text of a file that was read.
 fn text_at<'a, 'r>(readings: &'a [Reading<'r>], number: usize) -> &'a Text<'r>
@@ -46,7 +64,7 @@ fn first_refused(faulty: Faulty, unresolved: &[Span]) -> Option<Span>
 pub(crate) fn make_document<'a, 'f>(
     sources: &LinkedSources<'a, '_, 'f, '_>,
     number: usize,
-) -> Result<PlannedDocument<'a, 'f>, BuildFault>
+) -> Result<PlannedDocument<'a, 'f>, NoDocument>
     requires source { IsSource sources.now.linker.now number }
     requires read { IsRead sources.now.readings.now number }
     requires texts { (text : List ℕ) → HasReadText sources.now.readings.now number text
@@ -68,10 +86,10 @@ pub(crate) fn make_document<'a, 'f>(
     };
     let made = match plan_document(&maker) {
         Ok(made) => made,
-        Err(_) => return Err(BuildFault::Memory),
+        Err(_) => return Err(NoDocument::Memory),
     };
     if let Some(span) = first_refused(sources.settings.faulty, made.unresolved()) {
-        return Err(BuildFault::Unresolved(FilePlace { file: number, span }));
+        return Err(NoDocument::Unresolved(span));
     }
     Ok(made)
 }

@@ -43,11 +43,11 @@ fn push_document(text: &mut String, document: &Document) -> Result<(), AllocErro
     Ok(())
 }
 
-/// A line for each fault that is told, and then the documents.
+/// A line for each thing that is told, and then the documents.
 fn listing_of(alloc: Global, built: &Built) -> Result<String, AllocError> {
     let mut text = String::new(alloc);
-    for fault in built.told.as_slice() {
-        writeln!(text, "{fault:?}")?;
+    for omission in built.told.as_slice() {
+        writeln!(text, "{omission:?}")?;
     }
     for document in built.index.documents.as_slice() {
         push_document(&mut text, document)?;
@@ -118,7 +118,7 @@ fn told<R: Threads + Wait, G: Gate>(
     match build(run, &site.tree, chooser, &site.settings) {
         Ok(built) => listing_of(run.alloc, &built),
         Err(BuildFault::Memory) | Err(BuildFault::Spawn) => Err(AllocError),
-        Err(fault) => format!(in run.alloc; "{fault:?}"),
+        Err(fault) => format!(in run.alloc; "{omission:?}"),
     }
 }
 

@@ -5,7 +5,7 @@ use Rattle.protoscip.specs.declared.fault.Fault.{Fault}
 use Rattle.protoscip.specs.declared.fault.Fault.TheVariants.{Memory}
 use Rattle.protoscip.specs.Dump.{dump_tree}
 use Rattle.protoscip.specs.Explanations.{IsFaultText, explain_in}
-use Rattle.protoscip.specs.Statuses.{status_of}
+use Rattle.protoscip.specs.FaultTexts.{status_of}
 use Rattle.programs.specs.Dumping.{is_write}
 use Rattle.programs.specs.Messages.{TellsOne}
 use Rattle.programs.specs.Printing.{EndsCut, is_closed}

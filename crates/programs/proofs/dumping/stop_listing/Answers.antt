@@ -1,6 +1,6 @@
 use Rattle.std.proofs.Common.{◌∙◌, ◌&&◌, refl, sym}
 use Rattle.protoscip.specs.Explanations.{IsFaultText}
-use Rattle.protoscip.specs.Statuses.{status_of}
+use Rattle.protoscip.specs.FaultTexts.{status_of}
 use Rattle.scip_snapshot.specs.Showing.{writer}
 use Rattle.programs.specs.Dumping.{is_write}
 use Rattle.programs.specs.Messages.{TellsOne}

@@ -1,12 +1,11 @@
 use Rattle.std.proofs.Common.{◌∙◌, List, length, ap, subst}
 use Rattle.std.proofs.lemmas.List.{length-map}
 use Rattle.proto_visibility.specs.Kept.{Omissions, AreOmissions}
-use Rattle.scip_build.specs.declared.fault.BuildFault.{BuildFault}
+use Rattle.scip_build.specs.declared.omission.Omission.{Omission}
 use Rattle.scip_build.specs.Files.{ReadFile}
 use Rattle.scip_build.specs.Linking.{linked_file, linked_files}
-use Rattle.scip_build.specs.Kept.{IsLeftFor}
 use Rattle.scip_build.specs.Keeping.{kept_numbers}
-use Rattle.scip_build.specs.Telling.{Adds, FromFront}
+use Rattle.scip_build.specs.Telling.{Adds, FromFront, IsLeftIf}
 use Rattle.scip_build.proofs.keeping.keep_files.Goals as goal
 
 pub omissions_of-requires : goal.omissions_of-requires
@@ -30,8 +29,8 @@ returns c =
     let all = c.args.all.items in
     let Are : List ReadFile → Type 0 = λ rs. AreOmissions (linked_files rs) omissions in
     let told = c.push_omissions.new.told.items in
-    let From : List ReadFile → Omissions → List BuildFault → Type 0 =
-    λ rs os old. Adds (FromFront (IsLeftFor rs) os (length os)) old told in
+    let From : List ReadFile → Omissions → List Omission → Type 0 =
+    λ rs os old. Adds (FromFront (IsLeftIf rs) os (length os)) old told in
     let old = c.new-told.result.items in
     let first : From c.as_slice-2.result.now c.as_slice-3.result.now old = c.in_ok-push_omissions.ensures in
     let second = subst (λ rs. From rs c.as_slice-3.result.now old) c.as_slice-2.ensures.value first in

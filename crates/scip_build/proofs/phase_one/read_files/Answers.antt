@@ -1,8 +1,8 @@
-use Rattle.std.proofs.Common.{ℕ, subst}
+use Rattle.std.proofs.Common.{ℕ, subst, sym}
 use Rattle.index_pool.specs.Phase.{AnswersEach, MayRefuse, IsLeastFault}
 use Rattle.index_pool.specs.declared.phase.fault.PoolFault.{PoolFault}
-use Rattle.scip_build.specs.declared.fault.BuildFault.{BuildFault}
-use Rattle.scip_build.specs.Readings.{GivesReading}
+use Rattle.scip_build.specs.declared.file_reading.NoContents.{NoContents}
+use Rattle.scip_build.specs.Readings.{GivesReading, MayRefuseFiles}
 use Rattle.scip_build.proofs.ReadingLemmas.{readings_of, refused_of}
 use Rattle.scip_build.proofs.phase_one.read_files.Goals as goal
 
@@ -18,10 +18,11 @@ pub returns-in-Err-Job : goal.returns-in-Err-Job
 returns-in-Err-Job g c =
     let allows = g.C.Chooses.allows c.args.chooser.now in
     let gives = GivesReading c.args.faulty c.args.dialect allows c.args.tree.now in
-    let Refused : PoolFault BuildFault → Type 0 =
+    let Refused : PoolFault NoContents → Type 0 =
     λ fault. MayRefuse gives c.file_count.result c.args.run.now.workers fault in
-    let Least : ℕ → Type 0 = λ n. IsLeastFault gives n c.in-Err-Job.field-0-0 c.in-Err-Job.fault in
+    let Least : ℕ → Type 0 = λ n. IsLeastFault gives n c.in-Err-Job.number c.in-Err-Job.fault in
     let least = subst Least c.file_count.ensures.count
     (subst Refused c.in-Err-Job.field-0-is c.in-Err-Job.ensures.refused) in
-    refused_of c.args.faulty c.args.dialect allows c.args.tree.now c.args.run.now.workers c.in-Err-Job.field-0-0
-    c.in-Err-Job.fault least
+    subst (MayRefuseFiles c.args.faulty c.args.dialect c.args.tree.now c.args.run.now.workers) (sym c.refusal.ensures)
+    (refused_of c.args.faulty c.args.dialect allows c.args.tree.now c.args.run.now.workers c.in-Err-Job.number
+    c.in-Err-Job.fault least)

@@ -1,9 +1,10 @@
 -- How a dump ends.
 use Rattle.std.proofs.Common.{ℕ, Bool, ◌&&◌, List, [], Option, Some, None, Err, subst}
+use Rattle.streams.specs.Readers.{Reader}
+use Rattle.streams.specs.Writers.{Writer}
 use Rattle.proto_parse.specs.dialect.Dialect.{Dialect}
 use Rattle.source_tree.specs.Files.{TreeFile}
 use Rattle.source_tree.specs.Reading.{kept_bytes}
-use Rattle.scip_snapshot.specs.Showing.{Writer}
 use Rattle.protoscip.specs.Dump.{IsTreeOfFault, IsTreeOfSource, dump_tree}
 use Rattle.protoscip.specs.Explanations.{IsFaultText}
 use Rattle.protoscip.specs.FaultTexts.{status_of}
@@ -26,8 +27,8 @@ memory_of_any : (explain : Option Dialect) (tree other : List TreeFile) (text : 
 memory_of_any None tree other text is = is
 memory_of_any (Some dialect) tree other text is = is
 
-module _ {R M : Type 0} (remaining : R → Option (List ℕ)) (explain : Option Dialect) (closed : Bool) (reader : R)
-    (messages : Writer M) (status : ℕ) where
+module _ {R M : Type 0} (explain : Option Dialect) (closed : Bool) (source : Reader R) (messages : Writer M)
+    (status : ℕ) where
   abbrev due : List TreeFile → Fault → Type 0
   due tree fault = TellsOne (IsFaultText explain tree fault) (status_of fault) messages status
 
@@ -35,10 +36,10 @@ module _ {R M : Type 0} (remaining : R → Option (List ℕ)) (explain : Option 
   tells tree fault = EndsCut (is_write fault && closed) (due tree fault) messages status
 
   abbrev ends : Fault → Type 0
-  ends fault = EndsDump remaining explain closed reader (Err fault) messages status
+  ends fault = EndsDump explain closed source (Err fault) messages status
 
   -- a fault is told of the source's tree,
-  of_source : (fault : Fault) (tree : List TreeFile) → IsTreeOfSource remaining reader tree → tells tree fault
+  of_source : (fault : Fault) (tree : List TreeFile) → IsTreeOfSource source tree → tells tree fault
       → ends fault
   of_source fault tree is said_so =
       let moved = subst (λ (t : List TreeFile). tells t fault) is.tree_is said_so in
@@ -58,7 +59,7 @@ module _ {R M : Type 0} (remaining : R → Option (List ℕ)) (explain : Option 
       record { some = ([], moved (dump_tree [])); told = λ bytes known. moved (dump_tree (kept_bytes bytes)) }
 
   -- or names no place
-  pub of_fault : (fault : Fault) (tree : List TreeFile) → IsTreeOfFault remaining reader tree fault → tells tree fault
+  pub of_fault : (fault : Fault) (tree : List TreeFile) → IsTreeOfFault source tree fault → tells tree fault
       → ends fault
   of_fault Read tree is said_so = of_any Read tree (read_of_any explain tree) said_so
   of_fault Memory tree is said_so = of_any Memory tree (memory_of_any explain tree) said_so

@@ -1,8 +1,8 @@
 -- What becomes of the places of folders, by what was answered of the pages made in one.
 use Rattle.std.proofs.Common.{sym, subst, ℕ, List, Option, Ok, Err}
 use Rattle.std.specs.Prelude.{Result}
+use Rattle.streams.specs.Writers.{Writer}
 use Rattle.scip_records.specs.declared.records.Index.{Index}
-use Rattle.scip_snapshot.specs.Showing.{Writer}
 use Rattle.scip_site.specs.declared.site_fault.SiteFault.{SiteFault}
 use Rattle.programs.specs.Paging.{FolderPlaces, Fills, Finishes, MakesIn, filled, refused, unmade}
 

@@ -6,10 +6,10 @@ use Rattle.std.specs.Prelude.{IfSome}
 use Rattle.std.specs.Option.{option_map}
 use Rattle.std.proofs.lemmas.Bool.{eqb-true}
 use Rattle.std.proofs.lemmas.Option.{same_Some}
+use Rattle.streams.specs.Writers.{Writer}
 use Rattle.proto_parse.specs.dialect.Dialect.{Dialect}
 use Rattle.source_tree.specs.Files.{TreeFile}
 use Rattle.scip_build.specs.declared.omission.Omission.{Omission}
-use Rattle.scip_snapshot.specs.Showing.{Writer}
 use Rattle.protoscip.specs.ToldLines.{IsTextOfAllLacks, IsToldText, IsToldTextWith, is_import, is_skipped}
 use Rattle.protoscip.specs.ToldLines.{is_skipped_source, is_use, numbers_line}
 use Rattle.protoscip.specs.declared.fault.Fault.{Fault}

@@ -1,5 +1,7 @@
 -- A run about a tree that ends with the status 0 made an index that navigates the tree.
 use Rattle.std.proofs.Common.{◌≡◌, ◌∙◌, inl, inr, sym, subst, ℕ, zero, suc, Bool, List, Option, Ok, Err}
+use Rattle.streams.specs.Readers.{Reader}
+use Rattle.streams.specs.Writers.{Writer}
 use Rattle.proto_lex.specs.declared.fault.LexFault.{LexFault}
 use Rattle.proto_lex.specs.declared.fault.LexFault.TheVariants as lexing
 use Rattle.proto_parse.specs.fault.SyntaxFault.{SyntaxFault}
@@ -10,7 +12,6 @@ use Rattle.source_files.specs.Listings.{Listing}
 use Rattle.source_tree.specs.Files.{TreeFile}
 use Rattle.source_files.specs.declared.load_fault.LoadFault.TheVariants.{Unreadable, TooMany, BadPath, SamePath}
 use Rattle.source_files.specs.declared.load_fault.LoadFault.TheVariants as load
-use Rattle.scip_snapshot.specs.Showing.{Writer}
 use Rattle.protoscip.specs.FaultTexts.{lex_status, syntax_status, status_of}
 use Rattle.protoscip.specs.declared.fault.Fault.{Fault}
 use Rattle.protoscip.specs.declared.fault.Fault.TheVariants.{Spawn, Memory, Lex, Syntax, Duplicate, MissingImport}
@@ -24,7 +25,6 @@ use Rattle.programs.specs.Placing.{Place, filled}
 use Rattle.programs.proofs.PlacingLemmas.{held_now}
 use Rattle.programs.specs.Serving.{AnswersNavigable, Served, not_begun, not_started, over_tree}
 use Rattle.programs.specs.StartFaults.{status_of as start_status}
-use Rattle.programs.specs.Streams.{Reader}
 use Rattle.programs.specs.declared.start_fault.StartFault.{StartFault}
 use Rattle.programs.specs.declared.start_fault.StartFault.TheVariants.{BadPart, BadFolder, Load, IsSource, ReportIsSource}
 use Rattle.programs.specs.declared.start_fault.StartFault.TheVariants.{ReportIsOut}
@@ -129,7 +129,7 @@ module _ (lists : List ℕ → List ℕ → Option Listing → Type 0) (gives : 
             nothing = nothing;
             written = runs.2;
             put = put;
-            held = λ known. held_now (at.contents begun) (at.contents whole) (at.holds at.after) runs.0 known
+            held = λ known. held_now (at.sink.contents begun) (at.sink.contents whole) (at.holds at.after) runs.0 known
                 runs.2.written put;
           },
         );

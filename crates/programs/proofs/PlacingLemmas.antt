@@ -29,7 +29,7 @@ held_now (Some some) (Some all) held bytes known appends put =
 module _ {P W A : Type 0} (at : Place P W) (whole : W) (f : A → Recorded)
     (runs : W → W → Result Recorded Fault → Type 0)
     (reports : Result Recorded Fault → (reported : Result (Unit {0}) Fault) → Type 0) (begun : W)
-    (nothing : IsBegun at.contents at.failures begun) where
+    (nothing : IsBegun at.sink.contents at.sink.failures begun) where
   -- what becomes of the place, if no limit is broken
   pub fills : (keeps : Recorded → Type 0) (ran : Result A Fault) (reported : Result (Unit {0}) Fault)
       (done : Result A Fault) → MatchResult ran (λ a. runs begun whole (Ok (f a))) (λ e. runs begun whole (Err e))

@@ -1,6 +1,8 @@
 -- What the program `query` answers of an index's bytes.
 use Rattle.std.proofs.Common.{◌≡◌, ◌≢◌, ◌⊎◌, ℕ, List, Option, Some, Ok, Err, inl, inr}
 use Rattle.std.specs.Prelude.{Result}
+use Rattle.streams.specs.Readers.{Reader}
+use Rattle.streams.specs.Writers.{Writer}
 use Rattle.scip_records.specs.declared.records.Index.{Index}
 use Rattle.scip_wire.specs.Refused.{NoIndex}
 use Rattle.scip_wire.specs.declared.wire_fault.WireFault.{WireFault}
@@ -8,12 +10,10 @@ use Rattle.scip_wire.specs.declared.wire_fault.WireFault.TheVariants as wire
 use Rattle.programs.specs.QueryFaults.{fault_of_wire}
 use Rattle.scip_query.specs.declared.answer_fault.AnswerFault.{AnswerFault}
 use Rattle.scip_query.specs.declared.answer_fault.AnswerFault.TheVariants as answer
-use Rattle.protoscip.specs.Sessions.{MayAnswer, AreAnswered}
+use Rattle.protoscip.specs.Sessions.{MayAnswer, AreAnswered, AreUntouched}
 use Rattle.programs.specs.declared.query_fault.QueryFault.{QueryFault}
 use Rattle.programs.specs.declared.query_fault.QueryFault.TheVariants as query
-use Rattle.programs.specs.Queries.{IsReadFrom, IsAnswered, AreUnused, Queried}
-use Rattle.programs.specs.Streams.{Reader}
-use Rattle.scip_snapshot.specs.Showing.{Writer}
+use Rattle.programs.specs.Queries.{IsReadFrom, IsAnswered, Queried}
 
 -- why commands aren't answered is why the program stops
 abbrev pub outcome_of : Result (Unit {0}) AnswerFault → Result (Unit {0}) QueryFault
@@ -41,7 +41,7 @@ refused_bytes gives bytes wire.Memory given why = tt
 
 module _ {R W : Type 0} (gives : Option (List ℕ) → Type 0) (commands : Reader R) (answers : Writer W) where
   -- there is no index
-  pub unread : (fault : QueryFault) → IsReadFrom gives (Err fault) → AreUnused commands answers
+  pub unread : (fault : QueryFault) → IsReadFrom gives (Err fault) → AreUntouched commands answers
       → Queried gives commands answers (Err fault)
   unread query.Unreadable why unused = (why, unused)
   unread (query.Wire fault) why unused = (why, unused)
@@ -51,15 +51,13 @@ module _ {R W : Type 0} (gives : Option (List ℕ) → Type 0) (commands : Reade
 
   module _ (index : Index) (is : IsReadFrom gives (Ok index)) where
     answered : (done : Result (Unit {0}) AnswerFault)
-        → AreAnswered commands.remaining commands.failures commands.reads commands.ends answers.contents
-        answers.failures index commands.before commands.after answers.before answers.after done
+        → AreAnswered commands answers index done
         → IsAnswered gives commands answers done
     answered done are = record { index = index; is = is; are = are }
 
     -- commands about it are answered, or that stops
     pub told : (done : Result (Unit {0}) AnswerFault)
-        → MayAnswer commands.remaining commands.failures commands.reads commands.ends answers.contents answers.failures
-        index commands.before commands.after answers.before answers.after done
+        → MayAnswer commands answers index done
         → Queried gives commands answers (outcome_of done)
     told (Ok done) are = answered (Ok done) are
     told (Err answer.Read) are = answered (Err answer.Read) are

@@ -2,10 +2,10 @@
 use Rattle.std.proofs.Common.{◌≡◌, ℕ, List, Option, Result, Ok, Err}
 use Rattle.std.specs.Prelude.{MatchResult}
 use Rattle.std.specs.Result.{result_map_both}
+use Rattle.streams.specs.Writers.{Writer}
 use Rattle.proto_parse.specs.dialect.Dialect.{Dialect}
 use Rattle.source_tree.specs.Files.{TreeFile}
 use Rattle.scip_build.specs.declared.omission.Omission.{Omission}
-use Rattle.scip_snapshot.specs.Showing.{Writer}
 use Rattle.protoscip.specs.declared.fault.Fault.{Fault}
 use Rattle.proto_decl.specs.Seen.{Seen}
 use Rattle.index_hooks.specs.declared.choice.Choice.{Choice}

@@ -4,9 +4,9 @@ use Rattle.std.specs.Prelude.{◌≡◌, ◌<◌, ℕ, Bool, true, false, List, 
 use Rattle.std.specs.Prelude.{codes, string_bytes}
 use Rattle.std.specs.Option.{option_map, unwrap_or}
 use Rattle.std.specs.declared.alloc.AllocError.{AllocError}
+use Rattle.streams.specs.Writers.{AreTold, IsUntouched, Writer}
 use Rattle.source_files.specs.Causes.{words_of}
 use Rattle.source_files.specs.declared.cause.Cause.{Cause}
-use Rattle.scip_snapshot.specs.Showing.{Writer, AreTold, IsUntouched}
 use Rattle.command_line.specs.declared.request.Request.{Request}
 use Rattle.command_line.specs.declared.request.Request.TheVariants.{Dump, Query, Snapshot, Pages, Index, Shell, Print}
 use Rattle.command_line.specs.declared.request.Request.TheVariants.{Refuse}

@@ -3,13 +3,13 @@
 -- `at` is the place of the index, and `report` that of its report. `none_found` says which line, if any, is said of a
 -- tree whose index lacks nothing.
 use Rattle.std.specs.Prelude.{◌≡◌, ℕ, Bool, List, Option, None, Some, Result}
+use Rattle.streams.specs.Writers.{Writer, writing}
 use Rattle.proto_decl.specs.Seen.{Seen}
 use Rattle.index_hooks.specs.declared.choice.Choice.{Choice}
 use Rattle.source_tree.specs.Files.{TreeFile}
 use Rattle.source_files.specs.Listings.{Listing}
 use Rattle.scip_model.specs.Packages.{Packages}
 use Rattle.scip_build.specs.declared.settings.Settings.{Settings}
-use Rattle.scip_snapshot.specs.Showing.{Writer}
 use Rattle.protoscip.specs.Explanations.{explain_in}
 use Rattle.protoscip.specs.Indexes.{Indexes}
 use Rattle.protoscip.specs.declared.fault.Fault.{Fault}
@@ -41,13 +41,13 @@ pub data IndexesInto {P W Q V M : Type 0} (none_found : List TreeFile → Option
       → IndexesInto none_found asked allows settings workers tree unread at report messages status
   into_part : (done : Result Recorded Fault) → AreApart at report asked tree
       → Fills at (λ recorded. Breaks asked.limits tree unread recorded.told None)
-      (λ begun written ran. Indexes at.contents at.failures allows settings tree workers begun written ran)
+      (λ begun written ran. Indexes allows settings tree workers (writing at.sink begun written) ran)
       (λ ran. Reports report asked.options.report asked.limits allows settings workers tree unread (told_by ran)) done
       → Ends SaysOfSuccess (none_found tree) (explain_in asked.options.explain settings.dialect) tree
       unread (λ recorded. recorded.told) done messages status
       → IndexesInto none_found asked allows settings workers tree unread at report messages status
   too_poor : (recorded : Recorded) (fault : LimitFault) → AreApart at report asked tree
-      → Forgoes at (λ begun written ran. Indexes at.contents at.failures allows settings tree workers begun written ran)
+      → Forgoes at (λ begun written ran. Indexes allows settings tree workers (writing at.sink begun written) ran)
       (λ ran. Reports report asked.options.report asked.limits allows settings workers tree unread (told_by ran))
       recorded
       → Breaks asked.limits tree unread recorded.told (Some fault)

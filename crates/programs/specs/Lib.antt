@@ -1,5 +1,3 @@
--- what a call does with a reader and with a writer
-pub mod Streams
 -- what is printed and said, and the exit status
 pub mod Messages
 pub mod Printing

@@ -5,11 +5,11 @@ use Rattle.std.specs.Prelude.{codes, if◌then◌else◌, nat_lt}
 use Rattle.std.specs.Fmt.{decimal}
 use Rattle.std.specs.List.{count_by}
 use Rattle.std.specs.Option.{option_or}
+use Rattle.streams.specs.Writers.{Writer}
 use Rattle.proto_parse.specs.dialect.Dialect.{Dialect}
 use Rattle.source_tree.specs.Files.{TreeFile}
 use Rattle.source_tree.specs.Trees.{IsSourceCount}
 use Rattle.scip_build.specs.declared.omission.Omission.{Omission}
-use Rattle.scip_snapshot.specs.Showing.{Writer}
 use Rattle.command_line.specs.declared.options.limits.Limits.{Limits}
 use Rattle.protoscip.specs.Lines.{plain_line}
 use Rattle.protoscip.specs.declared.fault.Fault.{Fault}

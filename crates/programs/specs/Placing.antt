@@ -2,9 +2,10 @@
 use Rattle.std.specs.Prelude.{◌≡◌, ◌⊎◌, ℕ, Bool, true, false, List, [], ◌∷◌, Option, None, Some, Result, Ok, Err}
 use Rattle.std.specs.Prelude.{string_bytes, IfSome}
 use Rattle.std.specs.Option.{option_map}
-use Rattle.streams.specs.WholeWrites.{IsWritten}
+use Rattle.streams.specs.Writers.{IsWritten, SinkOf, writing}
 use Rattle.source_tree.specs.Files.{TreeFile}
 use Rattle.source_files.specs.Places.{IsAsked, IsBegun}
+use Rattle.source_files.specs.declared.out_place.OutPlace.{Ghosts as OutPlaceOf}
 use Rattle.source_files.specs.declared.load_fault.LoadFault.TheVariants as load
 use Rattle.command_line.specs.declared.options.IndexOptions.{IndexOptions}
 use Rattle.protoscip.specs.declared.fault.Fault.{Fault}
@@ -16,28 +17,25 @@ use Rattle.programs.specs.declared.limits.LimitFault.{LimitFault}
 use Rattle.programs.specs.declared.start_fault.StartFault.{StartFault}
 use Rattle.programs.specs.declared.start_fault.StartFault.TheVariants.{IsSource, Load, ReportIsOut, ReportIsSource}
 
--- a place around a call, and what its trait says: what it holds; what asking whether the file with a path is the one
--- there may answer; what is known of a part that it refuses, and of one that it is told to give up; and of a part,
--- which is put there when it is whole, what that holds, and how many writes to it failed
+-- a place before and after a call, and what its trait says of it: what it holds; what asking whether the file with a
+-- path is the one there may answer; what is known of a part that it refuses, and of one that it is told to give up; and
+-- what the trait of a part says, which is put there when it is whole
 pub record Place (P W : Type 0) : Type 1 where
   pub holds : P → Option (List ℕ)
   pub same : P → List ℕ → Bool → Type 0
   pub refuses : P → W → Type 0
   pub gives_up : P → W → Type 0
-  pub contents : W → Option (List ℕ)
-  pub failures : W → ℕ
+  pub sink : SinkOf W
   pub before : P
   pub after : P
 
-abbrev pub place : {P W : Type 0} → (P → Option (List ℕ)) → (same : P → List ℕ → Bool → Type 0)
-    → (refuses gives_up : P → W → Type 0) → (contents : W → Option (List ℕ)) → (failures : W → ℕ) → P → P → Place P W
-place holds same refuses gives_up contents failures before after = record {
-  holds = holds;
-  same = same;
-  refuses = refuses;
-  gives_up = gives_up;
-  contents = contents;
-  failures = failures;
+abbrev pub place : {P W : Type 0} → OutPlaceOf P W → SinkOf W → (before after : P) → Place P W
+place out sink before after = record {
+  holds = out.holds;
+  same = out.same;
+  refuses = out.refuses;
+  gives_up = out.gives_up;
+  sink = sink;
   before = before;
   after = after;
 }
@@ -56,7 +54,7 @@ IsGivenUp at part = at.gives_up at.before part × IsLeft at
 
 -- a part has been put there
 abbrev pub IsFilled : {P W : Type 0} → Place P W → (part : W) → Type 0
-IsFilled at part = at.holds at.after ≡ at.contents part
+IsFilled at part = at.holds at.after ≡ at.sink.contents part
 
 -- What becomes of a place by a run that writes to a part of it; `runs` says what the run answers of the part before and
 -- after, and `reports` what becomes of its report. If there is an index that `keeps` the limits, and the report isn't
@@ -65,17 +63,17 @@ pub data Fills {P W : Type 0} (at : Place P W) (keeps : Recorded → Type 0)
     (runs : W → W → Result Recorded Fault → Type 0)
     (reports : Result Recorded Fault → (reported : Result (Unit {0}) Fault) → Type 0)
     : Result Recorded Fault → Type 0 where
-  filled : {recorded : Recorded} (begun whole : W) → IsBegun at.contents at.failures begun → keeps recorded
+  filled : {recorded : Recorded} (begun whole : W) → IsBegun at.sink.contents at.sink.failures begun → keeps recorded
       → runs begun whole (Ok recorded) → reports (Ok recorded) (Ok tt) → IsFilled at whole
       → Fills at keeps runs reports (Ok recorded)
-  refused : {recorded : Recorded} {count : ℕ} (begun whole : W) → IsBegun at.contents at.failures begun
+  refused : {recorded : Recorded} {count : ℕ} (begun whole : W) → IsBegun at.sink.contents at.sink.failures begun
       → keeps recorded → runs begun whole (Ok recorded) → reports (Ok recorded) (Ok tt) → IsRefused at whole
       → Fills at keeps runs reports (Err (Write count))
-  unreported : {recorded : Recorded} {fault : Fault} (begun whole : W) → IsBegun at.contents at.failures begun
+  unreported : {recorded : Recorded} {fault : Fault} (begun whole : W) → IsBegun at.sink.contents at.sink.failures begun
       → runs begun whole (Ok recorded) → reports (Ok recorded) (Err fault) → IsGivenUp at whole
       → Fills at keeps runs reports (Err fault)
   unmade : {fault : Fault} {reported : Result (Unit {0}) Fault} (begun left : W)
-      → IsBegun at.contents at.failures begun → runs begun left (Err fault) → reports (Err fault) reported
+      → IsBegun at.sink.contents at.sink.failures begun → runs begun left (Err fault) → reports (Err fault) reported
       → IsGivenUp at left → Fills at keeps runs reports (Err fault)
 
 -- There is an index, written whole, and its report isn't refused, but the part is given up.
@@ -84,7 +82,7 @@ pub record Forgoes {P W : Type 0} (at : Place P W) (runs : W → W → Result Re
     : Type 0 where
   pub begun : W
   pub whole : W
-  pub nothing : IsBegun at.contents at.failures begun
+  pub nothing : IsBegun at.sink.contents at.sink.failures begun
   pub ran : runs begun whole (Ok recorded)
   pub reported : reports (Ok recorded) (Ok tt)
   pub given_up : IsGivenUp at whole
@@ -105,10 +103,10 @@ Finishes at whole (Err fault) broken (Err other) = (other ≡ fault) × IsGivenU
 pub record IsPut {P W : Type 0} (at : Place P W) (bytes : List ℕ) : Type 0 where
   pub begun : W
   pub whole : W
-  pub nothing : IsBegun at.contents at.failures begun
-  pub written : IsWritten at.contents at.failures begun whole bytes
+  pub nothing : IsBegun at.sink.contents at.sink.failures begun
+  pub written : IsWritten (writing at.sink begun whole) bytes
   pub put : IsFilled at whole
-  pub held : at.contents begun ≡ Some [] → at.holds at.after ≡ Some bytes
+  pub held : at.sink.contents begun ≡ Some [] → at.holds at.after ≡ Some bytes
 
 -- the folders whose files are read: the root, and then those with included files
 abbrev pub roots_in : IndexOptions → List (List ℕ)

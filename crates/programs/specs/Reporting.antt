@@ -5,7 +5,7 @@ use Rattle.std.specs.Prelude.{◌≡◌, ℕ, Bool, true, false, List, [], Optio
 use Rattle.std.specs.Prelude.{string_bytes}
 use Rattle.std.specs.Option.{option_map}
 use Rattle.std.specs.Result.{result_map_both}
-use Rattle.streams.specs.WholeWrites.{IsCutOff, IsWritten}
+use Rattle.streams.specs.Writers.{IsCutOff, IsWritten, writing}
 use Rattle.proto_decl.specs.Seen.{Seen}
 use Rattle.index_hooks.specs.declared.choice.Choice.{Choice}
 use Rattle.source_tree.specs.Files.{TreeFile}
@@ -102,11 +102,11 @@ due_status (Err fault) broken = status_of fault
 pub data GoesTo {Q V : Type 0} (at : Place Q V) (Is : List ℕ → Type 0) (workers : ℕ)
     : Result (Unit {0}) Fault → Type 0 where
   put : {bytes : List ℕ} → Is bytes → IsPut at bytes → GoesTo at Is workers (Ok tt)
-  cut_off : {bytes : List ℕ} {count : ℕ} (begun left : V) → Is bytes → IsBegun at.contents at.failures begun
-      → IsCutOff at.contents at.failures begun left bytes count → IsGivenUp at left
+  cut_off : {bytes : List ℕ} {count : ℕ} (begun left : V) → Is bytes → IsBegun at.sink.contents at.sink.failures begun
+      → IsCutOff (writing at.sink begun left) bytes count → IsGivenUp at left
       → GoesTo at Is workers (Err (Write count))
-  refused : {bytes : List ℕ} {count : ℕ} (begun whole : V) → Is bytes → IsBegun at.contents at.failures begun
-      → IsWritten at.contents at.failures begun whole bytes → IsRefused at whole
+  refused : {bytes : List ℕ} {count : ℕ} (begun whole : V) → Is bytes → IsBegun at.sink.contents at.sink.failures begun
+      → IsWritten (writing at.sink begun whole) bytes → IsRefused at whole
       → GoesTo at Is workers (Err (Write count))
   unmade : {fault : Fault} → MayNotTell workers fault → IsLeft at → GoesTo at Is workers (Err fault)
 

@@ -2,13 +2,13 @@
 -- `lists` and `gives` are what the system of files gives, and `messages` is the stream of messages. `none_found` says
 -- which line, if any, is said of a tree whose index lacks nothing: that it has no source.
 use Rattle.std.specs.Prelude.{ℕ, List, [], ◌∷◌, Option, Result, Ok, Err}
+use Rattle.streams.specs.Writers.{Writer}
 use Rattle.proto_parse.specs.dialect.Dialect.{Dialect}
 use Rattle.source_tree.specs.Files.{TreeFile}
 use Rattle.source_tree.specs.Trees.{IsSourceCount}
 use Rattle.scip_model.specs.Packages.{Packages}
 use Rattle.scip_build.specs.declared.omission.Omission.{Omission}
 use Rattle.scip_records.specs.declared.records.Index.{Index}
-use Rattle.scip_snapshot.specs.Showing.{Writer}
 use Rattle.protoscip.specs.declared.fault.Fault.{Fault}
 use Rattle.protoscip.specs.declared.recorded.Recorded.{Recorded}
 use Rattle.protoscip.specs.Explanations.{IsFaultText}

@@ -2,10 +2,10 @@
 
 ghost use Rattle.std.specs.Prelude.{◌≡◌, map, string_bytes};
 ghost use Rattle.std.specs.Option.{option_map};
+ghost use Rattle.streams.specs.Writers.{writer};
 ghost use Rattle.protoscip.specs.Explanations.{IsFaultText};
 ghost use Rattle.protoscip.specs.FaultLines.{HasFilesOf, HaveFilesOf};
 ghost use Rattle.protoscip.specs.FaultTexts.{status_of};
-ghost use Rattle.scip_snapshot.specs.Showing.{writer};
 ghost use Rattle.programs.specs.Messages.{SaysIfAny, TellsOfSuccess, TellsOne};
 ghost use Rattle.programs.specs.TreeRuns.{Lacks};
 
@@ -31,7 +31,7 @@ pub(crate) fn tell<M: Sink>(
     requires { HaveFilesOf run.now.tree told.now }
     ensures { Lacks TellsOfSuccess (λ line. line ≡ option_map string_bytes run.now.none_found) explain run.now.tree
         (map string_bytes run.now.unread.items) told.now
-        (writer M.contents M.failures messages.old messages.new) result }
+        (writer M.Sink messages) result }
 {
     let telling = Telling {
         unread: run.unread.as_slice(),
@@ -49,7 +49,7 @@ pub(crate) fn tell<M: Sink>(
 
 /// Says a line of a success, if there is one, and gives the exit status.
 pub(crate) fn say_line<M: Sink>(line: &Option<String>, messages: &mut M) -> u8
-    ensures { SaysIfAny (option_map string_bytes line.now) (writer M.contents M.failures messages.old messages.new)
+    ensures { SaysIfAny (option_map string_bytes line.now) (writer M.Sink messages)
         result }
 {
     if let Some(line) = line {
@@ -68,7 +68,7 @@ pub(crate) fn stop<M: Sink>(
 ) -> u8
     requires { HasFilesOf tree.now fault.now }
     ensures { TellsOne (IsFaultText explain tree.now fault.now) (status_of fault.now)
-        (writer M.contents M.failures messages.old messages.new) result }
+        (writer M.Sink messages) result }
 {
     let text = fault_text(alloc, tree, fault, explain);
     report(text, fault.status(), messages)

@@ -1,7 +1,8 @@
 //! The program `index`.
 
-ghost use Rattle.std.specs.Prelude.{◌≡◌, None, Some, [], false, IfErr, IfOk, IfSome, MatchResult, map, string_bytes};
+ghost use Rattle.std.specs.Prelude.{◌≡◌, None, [], false, IfErr, IfOk, IfSome, MatchResult, map, string_bytes};
 ghost use Rattle.std.specs.Option.{option_map};
+ghost use Rattle.streams.specs.Writers.{writer};
 ghost use Rattle.protoscip.specs.FaultLines.{HasFilesOf};
 ghost use Rattle.protoscip.specs.ToldLines.{IsTextOfAllLacks};
 ghost use Rattle.source_files.specs.Places.{IsBegun};
@@ -13,7 +14,6 @@ ghost use Rattle.programs.specs.Messages.{Says, SaysIfAny, SaysOfSuccess};
 ghost use Rattle.programs.specs.NoSources.{NoneFoundBy};
 ghost use Rattle.programs.specs.Searches.{blamed_by, searched_by};
 ghost use Rattle.programs.specs.Placing.{AreApart, Finishes, IsOneFile, MayNotBegin, place};
-ghost use Rattle.scip_snapshot.specs.Showing.{writer};
 ghost use Rattle.programs.specs.StartReports.{IsOut};
 ghost use Rattle.programs.specs.TreeRuns.{Ends};
 
@@ -71,8 +71,7 @@ fn end<M: Sink>(
     requires said { IfOk done (λ kept. IsTextOfAllLacks explain run.now.tree (map string_bytes run.now.unread.items)
         kept.built.told (option_map string_bytes kept.text)) }
     ensures { Ends SaysOfSuccess (λ line. line ≡ option_map string_bytes run.now.none_found) explain run.now.tree
-        (map string_bytes run.now.unread.items) (λ kept. kept.built.told) done.entry
-        (writer M.contents M.failures messages.old messages.new) result }
+        (map string_bytes run.now.unread.items) (λ kept. kept.built.told) done.entry (writer M.Sink messages) result }
 {
     match done {
         Ok(kept) => {
@@ -87,10 +86,8 @@ fn end<M: Sink>(
 
 /// Says a text of a success, if there is one, and else a line, if there is one; and gives the exit status.
 fn say_end<M: Sink>(text: Option<String>, line: &Option<String>, messages: &mut M) -> u8
-    ensures text { IfSome text (λ text. Says (string_bytes text) 0 (writer M.contents M.failures messages.old
-        messages.new) result) }
-    ensures line { text ≡ None → SaysIfAny (option_map string_bytes line.now) (writer M.contents M.failures
-        messages.old messages.new) result }
+    ensures text { IfSome text (λ text. Says (string_bytes text) 0 (writer M.Sink messages) result) }
+    ensures line { text ≡ None → SaysIfAny (option_map string_bytes line.now) (writer M.Sink messages) result }
 {
     match text {
         Some(text) => report(Ok(text), 0, messages),
@@ -142,13 +139,11 @@ fn begin<P: OutPlace, Q: OutPlace>(
     places: &Places<P, Q>,
 ) -> Result<P::Part, StartFault>
     ensures begun { IfOk result (IsBegun P.Part.contents P.Part.failures) }
-    ensures apart { IfOk result (λ _. AreApart (place P.holds P.same P.refuses P.gives_up P.Part.contents
-        P.Part.failures places.now.file places.now.file) (place Q.holds Q.same Q.refuses Q.gives_up Q.Part.contents
-        Q.Part.failures places.now.report places.now.report)
+    ensures apart { IfOk result (λ _. AreApart (place P.OutPlace P.Part.Sink places.now.file places.now.file)
+        (place Q.OutPlace Q.Part.Sink places.now.report places.now.report)
         (asked_by request.now.options.now request.now.path.now request.now.limits) tree.now) }
-    ensures stops { IfErr result (MayNotBegin (place P.holds P.same P.refuses P.gives_up P.Part.contents
-        P.Part.failures places.now.file places.now.file) (place Q.holds Q.same Q.refuses Q.gives_up Q.Part.contents
-        Q.Part.failures places.now.report places.now.report)
+    ensures stops { IfErr result (MayNotBegin (place P.OutPlace P.Part.Sink places.now.file places.now.file)
+        (place Q.OutPlace Q.Part.Sink places.now.report places.now.report)
         (asked_by request.now.options.now request.now.path.now request.now.limits) tree.now) }
 {
     let folders = folders_read(alloc, request.options)?;
@@ -200,7 +195,7 @@ fn finish<'a, P: OutPlace>(
     part: P::Part,
     out: &mut P,
 ) -> Result<KeptIndex<'a>, Fault>
-    ensures { Finishes (place P.holds P.same P.refuses P.gives_up P.Part.contents P.Part.failures out.old out.new) part
+    ensures { Finishes (place P.OutPlace P.Part.Sink out.old out.new) part
         done.entry broken result }
 {
     let is_kept = done.is_ok() && broken.is_none();
@@ -234,9 +229,9 @@ where
         (asked_by request.now.options.now request.now.path.now request.now.limits)
         (IsChosenBy (option_map (λ f. string_bytes f.promise.0) run.now.choices.filter) (option_map (λ r. r.promise.0)
         run.now.choices.rule)) run.now.settings run.now.workers run.now.tree (map string_bytes run.now.unread.items)
-        (place P.holds P.same P.refuses P.gives_up P.Part.contents P.Part.failures places.old.file places.new.file)
-        (place Q.holds Q.same Q.refuses Q.gives_up Q.Part.contents Q.Part.failures places.old.report
-        places.new.report) (writer M.contents M.failures messages.old messages.new) result }
+        (place P.OutPlace P.Part.Sink places.old.file places.new.file)
+        (place Q.OutPlace Q.Part.Sink places.old.report
+        places.new.report) (writer M.Sink messages) result }
 {
     let explain = request.options.explain;
     let mut part = match begin(host.alloc, request, &run.tree, places) {
@@ -297,12 +292,12 @@ where
         (NoneFoundBy (F.passes host.now.files.now) host.now.is_watched request.now.options.now)
         (Q.suspects places.old.report)
         (asked_by request.now.options.now request.now.path.now request.now.limits)
-        (place P.holds P.same P.refuses P.gives_up P.Part.contents P.Part.failures places.old.file places.new.file)
-        (place Q.holds Q.same Q.refuses Q.gives_up Q.Part.contents Q.Part.failures places.old.report
-        places.new.report) (writer M.contents M.failures messages.old messages.new) result }
+        (place P.OutPlace P.Part.Sink places.old.file places.new.file)
+        (place Q.OutPlace Q.Part.Sink places.old.report
+        places.new.report) (writer M.Sink messages) result }
     ensures navigable { WritesNavigable (F.lists host.now.files.now) (F.gives host.now.files.now)
         request.now.options.now
-        (place P.holds P.same P.refuses P.gives_up P.Part.contents P.Part.failures places.old.file places.new.file)
+        (place P.OutPlace P.Part.Sink places.old.file places.new.file)
         result }
 {
     let options = request.options;
@@ -336,12 +331,12 @@ where
         (NoneFoundBy (F.passes host.now.files.now) host.now.is_watched request.now.options.now)
         (Q.suspects places.old.report)
         (asked_by request.now.options.now request.now.path.now request.now.limits)
-        (place P.holds P.same P.refuses P.gives_up P.Part.contents P.Part.failures places.old.file places.new.file)
-        (place Q.holds Q.same Q.refuses Q.gives_up Q.Part.contents Q.Part.failures places.old.report
-        places.new.report) (writer M.contents M.failures messages.old messages.new) result }
+        (place P.OutPlace P.Part.Sink places.old.file places.new.file)
+        (place Q.OutPlace Q.Part.Sink places.old.report
+        places.new.report) (writer M.Sink messages) result }
     ensures navigable { WritesNavigable (searched_by request.now.options.now (F.lists host.now.files.now))
         (F.gives host.now.files.now) request.now.options.now
-        (place P.holds P.same P.refuses P.gives_up P.Part.contents P.Part.failures places.old.file places.new.file)
+        (place P.OutPlace P.Part.Sink places.old.file places.new.file)
         result }
 {
     let files = Excluding {

@@ -1,7 +1,7 @@
 //! The limits that an index has to keep.
 
 ghost use Rattle.std.specs.Prelude.{◌≡◌, IfOk, map, string_bytes};
-ghost use Rattle.scip_snapshot.specs.Showing.{writer};
+ghost use Rattle.streams.specs.Writers.{writer};
 ghost use Rattle.programs.specs.Limits.{
   broken_by,
   limit_status,
@@ -139,7 +139,7 @@ pub(crate) fn report_limit<M: Sink>(
     explain: bool,
     messages: &mut M,
 ) -> u8
-    ensures { Tells (told explain fault) limit_status (writer M.contents M.failures messages.old messages.new) result }
+    ensures { Tells (told explain fault) limit_status (writer M.Sink messages) result }
 {
     report(fault.text(alloc, explain), SOURCES_STATUS, messages)
 }

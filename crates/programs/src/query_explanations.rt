@@ -2,7 +2,7 @@
 
 ghost use Rattle.std.specs.Prelude.{◌≡◌, [], IfOk, string_bytes};
 ghost use Rattle.std.specs.Option.{option_map};
-ghost use Rattle.scip_snapshot.specs.Showing.{writer};
+ghost use Rattle.streams.specs.Writers.{writer};
 ghost use Rattle.programs.specs.Messages.{TellsOne};
 ghost use Rattle.programs.specs.QueryExplanations.{
   IsTold,
@@ -128,7 +128,7 @@ pub(crate) fn report_query<R, F: LookAgain, M: Sink>(
     messages: &mut M,
 ) -> u8
     ensures { TellsOne (IsTold (F.blames host.now.files.now [] []) explain path.now fault.now) (status_of fault.now)
-        (writer M.contents M.failures messages.old messages.new) result }
+        (writer M.Sink messages) result }
 {
     let text = reasoned_text(host, fault, path, explain);
     report(text, fault.status(), messages)

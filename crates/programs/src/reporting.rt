@@ -65,11 +65,9 @@ pub(crate) fn see_report<Q: OutPlace>(
     tree: &Tree,
     at: &Q,
 ) -> Result<(), StartFault>
-    ensures apart { IfOk result (λ _. IfSome options.now.report.path (λ _.
-        IsRead (place Q.holds Q.same Q.refuses Q.gives_up Q.Part.contents Q.Part.failures at.now at.now) options.now
-        tree.now false)) }
-    ensures stops { IfErr result (MayNotReport (place Q.holds Q.same Q.refuses Q.gives_up Q.Part.contents
-        Q.Part.failures at.now at.now) options.now tree.now) }
+    ensures apart { IfOk result (λ _. IfSome options.now.report.path
+        (λ _. IsRead (place Q.OutPlace Q.Part.Sink at.now at.now) options.now tree.now false)) }
+    ensures stops { IfErr result (MayNotReport (place Q.OutPlace Q.Part.Sink at.now at.now) options.now tree.now) }
 {
     let Some(path) = &options.report.path else {
         return Ok(());
@@ -211,8 +209,8 @@ impl<R: Threads + Wait> Reporter<'_, R> {
 
 /// Writes bytes to a part of a place, and puts it there. `Write`: a write fails, or the place refuses the part.
 pub(crate) fn put_bytes<Q: OutPlace>(alloc: Global, at: &mut Q, bytes: &[u8]) -> Result<(), Fault>
-    ensures { (workers : ℕ) → GoesTo (place Q.holds Q.same Q.refuses Q.gives_up Q.Part.contents Q.Part.failures
-        at.old at.new) (λ all. all ≡ bytes.now) workers result }
+    ensures { (workers : ℕ) → GoesTo (place Q.OutPlace Q.Part.Sink at.old at.new) (λ all. all ≡ bytes.now) workers
+        result }
 {
     let mut part = at.begin(alloc)?;
     match write_all(&mut part, bytes) {
@@ -237,7 +235,7 @@ pub(crate) fn report_run<R: Threads + Wait, Q: OutPlace>(
 ) -> Result<(), Fault>
     requires fault { IfSome fault (HasFilesOf reporter.now.run.now.tree) }
     requires told { HaveFilesOf reporter.now.run.now.tree told.now }
-    ensures { Reports (place Q.holds Q.same Q.refuses Q.gives_up Q.Part.contents Q.Part.failures at.old at.new)
+    ensures { Reports (place Q.OutPlace Q.Part.Sink at.old at.new)
         reporter.now.options.now reporter.now.limits (IsChosenBy (option_map (λ f. string_bytes f.promise.0)
         reporter.now.run.now.choices.filter) (option_map (λ r. r.promise.0) reporter.now.run.now.choices.rule))
         reporter.now.run.now.settings reporter.now.run.now.workers reporter.now.run.now.tree

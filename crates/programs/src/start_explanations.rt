@@ -2,7 +2,7 @@
 
 ghost use Rattle.std.specs.Prelude.{◌≡◌, ◌++◌, IfOk, OnOk, string_bytes};
 ghost use Rattle.std.specs.Option.{option_map};
-ghost use Rattle.scip_snapshot.specs.Showing.{writer};
+ghost use Rattle.streams.specs.Writers.{writer};
 ghost use Rattle.programs.specs.Messages.{Tells, TellsOne};
 ghost use Rattle.programs.specs.Searches.{blamed_by};
 ghost use Rattle.programs.specs.StartExplanations.{IsTold, explanation_of, told, unread_path};
@@ -60,7 +60,7 @@ pub(crate) fn report_start<M: Sink>(
     messages: &mut M,
 ) -> u8
     ensures { Tells (told explain fault.now) (status_of fault.now)
-        (writer M.contents M.failures messages.old messages.new) result }
+        (writer M.Sink messages) result }
 {
     let text = start_text(alloc, fault, explain);
     report(text, fault.status(), messages)
@@ -119,7 +119,7 @@ pub(crate) fn report_unstarted<R, F: LookAgain, M: Sink>(
     messages: &mut M,
 ) -> u8
     ensures { TellsOne (IsTold (blamed_by options.now (F.blames host.now.files.now)) options.now.explain fault.now)
-        (status_of fault.now) (writer M.contents M.failures messages.old messages.new) result }
+        (status_of fault.now) (writer M.Sink messages) result }
 {
     let text = unstarted_text(host, options, fault);
     report(text, fault.status(), messages)

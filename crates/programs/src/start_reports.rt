@@ -75,7 +75,7 @@ pub(crate) fn put_start_report<Q: OutPlace>(
     fault: StartFault,
     at: &mut Q,
 ) -> StartFault
-    ensures { EndsUnstarted (place Q.holds Q.same Q.refuses Q.gives_up Q.Part.contents Q.Part.failures at.old at.new)
+    ensures { EndsUnstarted (place Q.OutPlace Q.Part.Sink at.old at.new)
         (Q.suspects at.old) is_out options.now fault result }
 {
     match &options.path {

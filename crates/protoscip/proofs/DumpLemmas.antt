@@ -14,6 +14,8 @@ use Rattle.index_hooks.specs.declared.choice.Choice.{Choice}
 use Rattle.source_tree.specs.Files.{TreeFile}
 use Rattle.source_tree.specs.Reading.{kept_bytes, max_kept_length}
 use Rattle.scip_build.specs.Builds.{IsBuilt, IsBuildFault}
+use Rattle.streams.specs.Readers.{Reader}
+use Rattle.streams.specs.Writers.{SinkOf, Writer, writing}
 use Rattle.proto_visibility.specs.Linked.{CanBeLinked}
 use Rattle.scip_build.specs.Documents.{IsLeastUnresolved}
 use Rattle.scip_build.specs.Files.{FileContents, ReadFile}
@@ -213,19 +215,19 @@ module _ (dialect : Dialect) (bytes : List ℕ) where
   refused_dumps due (fault.Answer count) is = is
 
   -- with the writer as it was,
-  pub refused_writer : (W : Type 0) (contents : W → Option (List ℕ)) (failures : W → ℕ) (out : W) (due : List ℕ)
-      (e : Fault) → IsRefusal dialect bytes e → LeavesWriter contents failures out out due (Err e)
-  refused_writer W contents failures out due fault.Spawn is = refl
-  refused_writer W contents failures out due fault.Memory is = refl
-  refused_writer W contents failures out due (fault.Lex number e) is = refl
-  refused_writer W contents failures out due (fault.Syntax number e) is = refl
-  refused_writer W contents failures out due (fault.Duplicate first second) is = refl
-  refused_writer W contents failures out due (fault.MissingImport place) is = refl
-  refused_writer W contents failures out due (fault.Unresolved place) is = refl
-  refused_writer W contents failures out due fault.TooLarge is = refl
-  refused_writer W contents failures out due (fault.Write count) is = absurd is
-  refused_writer W contents failures out due fault.Read is = refl
-  refused_writer W contents failures out due (fault.Answer count) is = refl
+  pub refused_writer : {W : Type 0} (sink : SinkOf W) (out : W) (due : List ℕ) (e : Fault) → IsRefusal dialect bytes e
+      → LeavesWriter (writing sink out out) due (Err e)
+  refused_writer sink out due fault.Spawn is = refl
+  refused_writer sink out due fault.Memory is = refl
+  refused_writer sink out due (fault.Lex number e) is = refl
+  refused_writer sink out due (fault.Syntax number e) is = refl
+  refused_writer sink out due (fault.Duplicate first second) is = refl
+  refused_writer sink out due (fault.MissingImport place) is = refl
+  refused_writer sink out due (fault.Unresolved place) is = refl
+  refused_writer sink out due fault.TooLarge is = refl
+  refused_writer sink out due (fault.Write count) is = absurd is
+  refused_writer sink out due fault.Read is = refl
+  refused_writer sink out due (fault.Answer count) is = refl
 
   -- and of no other file
   pub dump_files : (e : Fault) → IsRefusal dialect bytes e → HasFilesOf (dump_tree bytes) e
@@ -247,18 +249,18 @@ module _ (dialect : Dialect) (bytes : List ℕ) where
   dump_files (fault.Answer count) is = tt
 
 -- where the listing is written, or cut off
-module _ (W : Type 0) (contents : W → Option (List ℕ)) (failures : W → ℕ) (before after : W) (due : List ℕ) where
+module _ {W : Type 0} (out : Writer W) (due : List ℕ) where
   pub written_dumps : (dialect : Dialect) (bytes : List ℕ) (done : Result (Unit {0}) Fault)
-      → IsListing dialect bytes due → Writes contents failures before after due done → Dumps dialect bytes due done
+      → IsListing dialect bytes due → Writes out due done → Dumps dialect bytes due done
   written_dumps dialect bytes (Ok done) is wrote = is
   written_dumps dialect bytes (Err e) is wrote = let P : Fault → Type 0 = λ f. Dumps dialect bytes due (Err f) in
       subst P (sym wrote.1) is
 
-  pub written_writer : (done : Result (Unit {0}) Fault) → Writes contents failures before after due done
-      → LeavesWriter contents failures before after due done
+  pub written_writer : (done : Result (Unit {0}) Fault) → Writes out due done
+      → LeavesWriter out due done
   written_writer (Ok done) wrote = wrote
   written_writer (Err e) wrote =
-      let P : Fault → Type 0 = λ f. LeavesWriter contents failures before after due (Err f) in
+      let P : Fault → Type 0 = λ f. LeavesWriter out due (Err f) in
       subst P (sym wrote.1) wrote.2
 
 -- what is said of what is read, if it is
@@ -267,12 +269,11 @@ pub said_of_read : {A : Type 0} (P : A → Type 0) (read : Option A) (bytes : A)
 said_of_read P read bytes is said = subst (λ o. IfSome o P) is said
 
 -- where the source isn't read nothing is due, of any bytes
-module _ {R W : Type 0} (remaining : R → Option (List ℕ)) (contents : W → Option (List ℕ)) (failures : W → ℕ)
-    (dialect : Dialect) (reader : R) (out : W) where
-  pub unread_dumped : IsDumped remaining contents failures dialect reader out out (Err fault.Read)
+module _ {R W : Type 0} (source : Reader R) (sink : SinkOf W) (dialect : Dialect) (out : W) where
+  pub unread_dumped : IsDumped dialect source (writing sink out out) (Err fault.Read)
   unread_dumped = record { due = []; writer = refl; some = ([], tt); told = λ bytes known. tt }
 
-  pub starved_dumped : IsDumped remaining contents failures dialect reader out out (Err fault.Memory)
+  pub starved_dumped : IsDumped dialect source (writing sink out out) (Err fault.Memory)
   starved_dumped = record { due = []; writer = refl; some = ([], tt); told = λ bytes known. tt }
 
 -- the tree of a source has the same files, whatever it holds
@@ -291,8 +292,8 @@ any_dump_files fault.Read bytes others has = has
 any_dump_files (fault.Answer count) bytes others has = has
 
 -- a source that was read has the tree in which any fault has its places
-module _ {R : Type 0} (remaining : R → Option (List ℕ)) (reader : R) (tree : List TreeFile) where
-  pub tree_of_fault : (e : Fault) → IsTreeOfSource remaining reader tree → IsTreeOfFault remaining reader tree e
+module _ {R : Type 0} (source : Reader R) (tree : List TreeFile) where
+  pub tree_of_fault : (e : Fault) → IsTreeOfSource source tree → IsTreeOfFault source tree e
   tree_of_fault fault.Spawn is = is
   tree_of_fault fault.Memory is = tt
   tree_of_fault (fault.Lex number e) is = is
@@ -305,7 +306,7 @@ module _ {R : Type 0} (remaining : R → Option (List ℕ)) (reader : R) (tree :
   tree_of_fault fault.Read is = tt
   tree_of_fault (fault.Answer count) is = is
 
-  pub tree_of_done : (done : Result (Unit {0}) Fault) → IsTreeOfSource remaining reader tree
-      → IfErr done (IsTreeOfFault remaining reader tree)
+  pub tree_of_done : (done : Result (Unit {0}) Fault) → IsTreeOfSource source tree
+      → IfErr done (IsTreeOfFault source tree)
   tree_of_done (Ok done) is = tt
   tree_of_done (Err e) is = tree_of_fault e is

@@ -5,12 +5,13 @@ use Rattle.std.specs.Prelude.{Result, Option, Some, None, length, codes}
 use Rattle.std.specs.List.{flat_map, range_with_len}
 use Rattle.std.proofs.lemmas.Grind.{flat_map-append}
 use Rattle.std.proofs.lemmas.List.{map-append}
+use Rattle.streams.specs.Writers.{SinkOf, silent, writing}
+use Rattle.source_files.specs.Makers.{MakeFilesOf, making}
 use Rattle.source_files.specs.Made.{Made, MadeFile}
 use Rattle.scip_records.specs.declared.records.Index.{Index}
 use Rattle.scip_query.specs.Tables.{numbers, IsByPath}
 use Rattle.scip_snapshot.specs.declared.show_fault.ShowFault.{ShowFault}
 use Rattle.scip_snapshot.specs.declared.show_fault.ShowFault.TheVariants.{Write, Memory}
-use Rattle.scip_snapshot.specs.Showing.{maker, writer, silent}
 use Rattle.scip_snapshot.proofs.ShowLemmas.{makes_both, makes_none, stops_behind_both}
 use Rattle.source_page.specs.Site.{Sources, page_path}
 use Rattle.scip_site.specs.Tree.{first_page}
@@ -41,65 +42,69 @@ part_before holds files more others before = record {
   holds = before.holds;
 }
 
-module _ {O : Type 0} (made : O → Made) where
+module _ {O : Type 0} (filer : MakeFilesOf O) where
   -- none is made where memory runs out
   pub none_made : (next : MadeFile) (others : List MadeFile) (now : O)
-      → MakesFiles (maker made now now) (next ∷ others) (Err Memory)
+      → MakesFiles (making filer now now) (next ∷ others) (Err Memory)
   none_made next others now = record {
     next = next;
     others = others;
-    made = record { part = []; is_part = refl; holds = makes_none (made now) };
+    made = record { part = []; is_part = refl; holds = makes_none (filer.made now) };
   }
 
   none_before : (files : List MadeFile) (next : MadeFile) (others : List MadeFile) (now : O)
-      → MakesFiles (maker made now now) (files ++ next ∷ others) (Err Memory)
+      → MakesFiles (making filer now now) (files ++ next ∷ others) (Err Memory)
   none_before [] next others now = none_made next others now
   none_before (first ∷ files) next others now = none_made first (files ++ next ∷ others) now
 
   -- nor is a page that there is
   pub page_left : (folder path : List ℕ) (page : Option (List ℕ)) (now : O) → page ≢ None
-      → MakesFiles (maker made now now) (map (in_folder folder) (page_file path page)) (Err Memory)
+      → MakesFiles (making filer now now) (map (in_folder folder) (page_file path page)) (Err Memory)
   page_left folder path None now is = absurd (is refl)
   page_left folder path (Some page) now is = none_made (in_folder folder (file (page_path path) page)) [] now
 
   module _ (first now after : O) (files more : List MadeFile) where
     -- the first are made, and what becomes of the others
-    pub both : AllOf (maker made first now) files → (done : Result (Unit {0}) ShowFault)
-        → MakesFiles (maker made now after) more done → MakesFiles (maker made first after) (files ++ more) done
-    both before (Ok done) behind = makes_both (made first) (made now) (made after) files more before behind
+    pub both : AllOf (making filer first now) files → (done : Result (Unit {0}) ShowFault)
+        → MakesFiles (making filer now after) more done → MakesFiles (making filer first after) (files ++ more) done
+    both before (Ok done) behind = makes_both (filer.made first) (filer.made now) (filer.made after) files more before
+        behind
     both before (Err Write) behind = record {
       refused = behind.refused;
       others = behind.others;
-      made = part_behind (AllThenNone (maker made now after)) (AllThenNone (maker made first after)) files more
+      made = part_behind (AllThenNone (making filer now after)) (AllThenNone (making filer first after)) files more
           (behind.refused ∷ behind.others)
-          (λ part holds. stops_behind_both (made first) (made now) (made after) files part before holds) behind.made;
+          (λ part holds. stops_behind_both (filer.made first) (filer.made now) (filer.made after) files part before
+          holds) behind.made;
     }
     both before (Err Memory) behind = record {
       next = behind.next;
       others = behind.others;
-      made = part_behind (AllOf (maker made now after)) (AllOf (maker made first after)) files more
+      made = part_behind (AllOf (making filer now after)) (AllOf (making filer first after)) files more
           (behind.next ∷ behind.others)
-          (λ part holds. makes_both (made first) (made now) (made after) files part before holds) behind.made;
+          (λ part holds. makes_both (filer.made first) (filer.made now) (filer.made after) files part before holds)
+          behind.made;
     }
 
   module _ (first after : O) (files more : List MadeFile) where
     -- or already the first aren't all made
-    pub stops : (fault : ShowFault) → MakesFiles (maker made first after) files (Err fault)
-        → MakesFiles (maker made first after) (files ++ more) (Err fault)
+    pub stops : (fault : ShowFault) → MakesFiles (making filer first after) files (Err fault)
+        → MakesFiles (making filer first after) (files ++ more) (Err fault)
     stops Write before = record {
       refused = before.refused;
       others = before.others ++ more;
-      made = part_before (AllThenNone (maker made first after)) files more (before.refused ∷ before.others) before.made;
+      made = part_before (AllThenNone (making filer first after)) files more (before.refused ∷ before.others)
+          before.made;
     }
     stops Memory before = record {
       next = before.next;
       others = before.others ++ more;
-      made = part_before (AllOf (maker made first after)) files more (before.next ∷ before.others) before.made;
+      made = part_before (AllOf (making filer first after)) files more (before.next ∷ before.others) before.made;
     }
 
   -- memory runs out behind the first
   pub stops_behind : (first now : O) (files : List MadeFile) (next : MadeFile) (others : List MadeFile)
-      → AllOf (maker made first now) files → MakesFiles (maker made first now) (files ++ next ∷ others) (Err Memory)
+      → AllOf (making filer first now) files → MakesFiles (making filer first now) (files ++ next ∷ others) (Err Memory)
   stops_behind first now files next others before =
       both first now now files (next ∷ others) before (Err Memory) (none_made next others now)
 
@@ -107,12 +112,12 @@ module _ {O : Type 0} (made : O → Made) where
 abbrev pub one : (folder path bytes : List ℕ) → List MadeFile
 one folder path bytes = map (in_folder folder) (file path bytes ∷ [])
 
-pub same_text : {O : Type 0} (made : O → Made) (now after : O) (folder path bytes text : List ℕ)
+pub same_text : {O : Type 0} (filer : MakeFilesOf O) (now after : O) (folder path bytes text : List ℕ)
     (done : Result (Unit {0}) ShowFault) → bytes ≡ text
-    → MakesFiles (maker made now after) (one folder path bytes) done
-    → MakesFiles (maker made now after) (one folder path text) done
-same_text made now after folder path bytes text done same makes =
-    subst (λ (t : List ℕ). MakesFiles (maker made now after) (one folder path t) done) same makes
+    → MakesFiles (making filer now after) (one folder path bytes) done
+    → MakesFiles (making filer now after) (one folder path text) done
+same_text filer now after folder path bytes text done same makes =
+    subst (λ (t : List ℕ). MakesFiles (making filer now after) (one folder path t) done) same makes
 
 -- ---- pages of so many documents
 
@@ -174,25 +179,25 @@ module _ (f : ℕ → List MadeFile) (g : MadeFile → MadeFile) where
       ∙ ap (λ (l : List MadeFile). l ++ map g (flat_map f (behind_next n count)))
       (map-append g (flat_map f (numbers n)) (f n))
 
-  module _ {O : Type 0} (made : O → Made) (first now after : O) (n : ℕ)
-      (before : AllOf (maker made first now) (map g (flat_map f (numbers n)))) where
+  module _ {O : Type 0} (filer : MakeFilesOf O) (first now after : O) (n : ℕ)
+      (before : AllOf (making filer first now) (map g (flat_map f (numbers n)))) where
     -- the file of one more is made
-    pub more_made : (done : Result (Unit {0}) ShowFault) → MakesFiles (maker made now after) (map g (f n)) done
-        → MakesFiles (maker made first after) (map g (flat_map f (numbers (n + 1)))) done
+    pub more_made : (done : Result (Unit {0}) ShowFault) → MakesFiles (making filer now after) (map g (f n)) done
+        → MakesFiles (making filer first after) (map g (flat_map f (numbers (n + 1)))) done
     more_made done one =
-        subst (λ (files : List MadeFile). MakesFiles (maker made first after) files done) (sym (files_more n))
-        (both made first now after (map g (flat_map f (numbers n))) (map g (f n)) before done one)
+        subst (λ (files : List MadeFile). MakesFiles (making filer first after) files done) (sym (files_more n))
+        (both filer first now after (map g (flat_map f (numbers n))) (map g (f n)) before done one)
 
     -- or not
     pub not_made : (count : ℕ) → n < count → (fault : ShowFault)
-        → MakesFiles (maker made now after) (map g (f n)) (Err fault)
-        → MakesFiles (maker made first after) (map g (flat_map f (numbers count))) (Err fault)
+        → MakesFiles (making filer now after) (map g (f n)) (Err fault)
+        → MakesFiles (making filer first after) (map g (flat_map f (numbers count))) (Err fault)
     not_made count within fault one =
-        subst (λ (files : List MadeFile). MakesFiles (maker made first after) files (Err fault))
+        subst (λ (files : List MadeFile). MakesFiles (making filer first after) files (Err fault))
         (sym (files_behind n count within))
-        (stops made first after (map g (flat_map f (numbers n)) ++ map g (f n))
+        (stops filer first after (map g (flat_map f (numbers n)) ++ map g (f n))
         (map g (flat_map f (behind_next n count))) fault
-        (both made first now after (map g (flat_map f (numbers n))) (map g (f n)) before (Err fault) one))
+        (both filer first now after (map g (flat_map f (numbers n))) (map g (f n)) before (Err fault) one))
 
 -- ---- all files
 
@@ -223,49 +228,50 @@ all_are folder index sources order =
     map-append (in_folder folder) (pages index sources (numbers (length index.documents)))
     (shared (script_text index sources) (due_first index sources order))
 
-module _ {O : Type 0} (made : O → Made) (folder : List ℕ) (index : Index) (sources : Sources)
+module _ {O : Type 0} (filer : MakeFilesOf O) (folder : List ℕ) (index : Index) (sources : Sources)
     (order : List ℕ) (first : O) where
   abbrev Behind : O → Result (Unit {0}) ShowFault → Type 0
-  Behind after done = MakesFiles (maker made first after) (all_in folder index sources order) done
+  Behind after done = MakesFiles (making filer first after) (all_in folder index sources order) done
 
   with_pages : (after : O) (done : Result (Unit {0}) ShowFault)
-      → MakesFiles (maker made first after) (pages_in folder index sources
+      → MakesFiles (making filer first after) (pages_in folder index sources
       ++ shared_in folder (script_text index sources) (due_first index sources order)) done
       → Behind after done
-  with_pages after done makes = subst (λ (files : List MadeFile). MakesFiles (maker made first after) files done)
+  with_pages after done makes = subst (λ (files : List MadeFile). MakesFiles (making filer first after) files done)
       (sym (all_are folder index sources order)) makes
 
   -- none is made
   pub nothing_yet : Behind first (Err Memory)
   nothing_yet = with_pages first (Err Memory)
-      (none_before made (pages_in folder index sources) (in_folder folder (file (codes "pages.css") STYLE.now))
+      (none_before filer (pages_in folder index sources) (in_folder folder (file (codes "pages.css") STYLE.now))
       (behind_style folder (script_text index sources) (due_first index sources order)) first)
 
   -- the pages aren't all made
   pub pages_stop : (after : O) (fault : ShowFault)
-      → MakesFiles (maker made first after) (pages_in folder index sources) (Err fault) → Behind after (Err fault)
+      → MakesFiles (making filer first after) (pages_in folder index sources) (Err fault) → Behind after (Err fault)
   pages_stop after fault makes = with_pages after (Err fault)
-      (stops made first after (pages_in folder index sources)
+      (stops filer first after (pages_in folder index sources)
       (shared_in folder (script_text index sources) (due_first index sources order)) fault makes)
 
-  module _ (now : O) (before : AllOf (maker made first now) (pages_in folder index sources)) where
+  module _ (now : O) (before : AllOf (making filer first now) (pages_in folder index sources)) where
     -- they are, and then memory runs out
     pub nothing_shared : Behind now (Err Memory)
     nothing_shared = with_pages now (Err Memory)
-        (stops_behind made first now (pages_in folder index sources)
+        (stops_behind filer first now (pages_in folder index sources)
         (in_folder folder (file (codes "pages.css") STYLE.now))
         (behind_style folder (script_text index sources) (due_first index sources order)) before)
 
     -- or what they share is made
     pub all_shared : (after : O) (script page : List ℕ) → script ≡ script_text index sources
         → page ≡ due_first index sources order → (done : Result (Unit {0}) ShowFault)
-        → MakesFiles (maker made now after) (shared_in folder script page) done → Behind after done
+        → MakesFiles (making filer now after) (shared_in folder script page) done → Behind after done
     all_shared after script page is_script is_page done makes = with_pages after done
-        (both made first now after (pages_in folder index sources)
+        (both filer first now after (pages_in folder index sources)
         (shared_in folder (script_text index sources) (due_first index sources order)) before done
-        (subst (λ (p : List ℕ). MakesFiles (maker made now after) (shared_in folder (script_text index sources) p) done)
+        (subst (λ (p : List ℕ). MakesFiles (making filer now after) (shared_in folder (script_text index sources) p)
+        done)
         is_page
-        (subst (λ (s : List ℕ). MakesFiles (maker made now after) (shared_in folder s page) done) is_script makes)))
+        (subst (λ (s : List ℕ). MakesFiles (making filer now after) (shared_in folder s page) done) is_script makes)))
 
 -- ---- the whole
 
@@ -274,35 +280,35 @@ abbrev pub answered : Result (Unit {0}) ShowFault → Result (Unit {0}) SiteFaul
 answered (Ok done) = Ok done
 answered (Err fault) = Err (Show fault)
 
-module _ {O M : Type 0} (made : O → Made) (heard : M → Option (List ℕ)) (unheard : M → ℕ)
+module _ {O M : Type 0} (filer : MakeFilesOf O) (heard : SinkOf M)
     (gives : List ℕ → Option (List ℕ) → Type 0) (root folder : List ℕ) (index : Index) (start : O) where
   -- memory runs out while sources are read
   pub nothing_made : (here after : M) (fault : ShowFault)
-      → ReadsInto gives root index.documents (writer heard unheard here after) (Err fault)
-      → MakesSite gives root folder index (maker made start start) (writer heard unheard here after) (Err (Show fault))
+      → ReadsInto gives root index.documents (writing heard here after) (Err fault)
+      → MakesSite gives root folder index (making filer start start) (writing heard here after) (Err (Show fault))
   nothing_made here after Write reads = absurd reads
-  nothing_made here after Memory reads = inr record { read = reads; none_made = makes_none (made start) }
+  nothing_made here after Memory reads = inr record { read = reads; none_made = makes_none (filer.made start) }
 
   pub nothing_read : (here : M)
-      → MakesSite gives root folder index (maker made start start) (writer heard unheard here here) (Err (Show Memory))
+      → MakesSite gives root folder index (making filer start start) (writing heard here here) (Err (Show Memory))
   nothing_read here = inr record {
     read = record { reads = []; are = none; told_are = silent };
-    none_made = makes_none (made start);
+    none_made = makes_none (filer.made start);
   }
 
   module _ (here heard_all : M) (sources : Sources)
-      (read : AllAreKept gives root index.documents sources (writer heard unheard here heard_all)) where
+      (read : AllAreKept gives root index.documents sources (writing heard here heard_all)) where
     -- or no document has a page
     pub bare_so : is_bare index.documents sources ≡ true
-        → MakesSite gives root folder index (maker made start start) (writer heard unheard here heard_all)
+        → MakesSite gives root folder index (making filer start start) (writing heard here heard_all)
         (Err NothingThere)
     bare_so bare = record { sources = sources; read = read; bare = bare; none_made = refl }
 
     -- or files are made
     pub made_so : (after : O) (order : List ℕ) → is_bare index.documents sources ≡ false
         → IsByPath index.documents order → (done : Result (Unit {0}) ShowFault)
-        → MakesFiles (maker made start after) (all_in folder index sources order) done
-        → MakesSite gives root folder index (maker made start after) (writer heard unheard here heard_all)
+        → MakesFiles (making filer start after) (all_in folder index sources order) done
+        → MakesSite gives root folder index (making filer start after) (writing heard here heard_all)
         (answered done)
     made_so after order there ordered (Ok done) makes =
         record { sources = sources; read = read; there = there; order = order; ordered = ordered; made = makes }

@@ -10,13 +10,14 @@ use Rattle.std.proofs.lemmas.List.{length_push, map-append}
 use Rattle.std.proofs.lemmas.List.FromFn.{get_or-map-range_with_len}
 use Rattle.std.proofs.lemmas.Option.{unwrap_or-slice_get}
 use Rattle.std.proofs.lemmas.Str.{IsUtf8-from_is_utf8, is_utf8-from_IsUtf8}
+use Rattle.streams.specs.Writers.{AreSaid, AreTold, SinkOf, Writer, said, silent, writing}
 use Rattle.scip_records.specs.declared.records.Document.{Document}
 use Rattle.scip_query.specs.Tables.{numbers}
 use Rattle.scip_pages.specs.Columns.{unit_of}
 use Rattle.scip_snapshot.specs.declared.show_fault.ShowFault.{ShowFault}
 use Rattle.scip_snapshot.specs.declared.show_fault.ShowFault.TheVariants.{Write, Memory}
 use Rattle.scip_snapshot.specs.LeftOuts.{line_with}
-use Rattle.scip_snapshot.specs.Showing.{AreSaid, silent, AreTold, SaysLine, Writer, writer}
+use Rattle.scip_snapshot.specs.Showing.{SaysLine}
 use Rattle.scip_snapshot.proofs.ShowLemmas.{said_more}
 use Rattle.scip_site.specs.declared.no_page.NoPage.{NoPage}
 use Rattle.scip_site.specs.declared.no_page.NoPage.TheVariants.{NotText}
@@ -46,31 +47,31 @@ no_text d bytes refused = by (is_utf8 bytes) refl
     by false e = refl
 
 -- it is told, where it has no page
-pub told_so : {M : Type 0} (heard : M → Option (List ℕ)) (unheard : M → ℕ) (path : List ℕ) (outcome : Outcome)
+pub told_so : {M : Type 0} (heard : SinkOf M) (path : List ℕ) (outcome : Outcome)
     (why : NoPage) (old new : Sources) (here after : M) → outcome ≡ Err why → new ≡ old ++ None ∷ []
     → (done : Result (Unit {0}) ShowFault)
-    → SaysLine (line_with path (name_of why)) (writer heard unheard here after) done
-    → Keeps path outcome old new (writer heard unheard here after) done
-told_so heard unheard path outcome why old new here after is kept done says =
-    subst (λ (o : Outcome). Keeps path o old new (writer heard unheard here after) done) (sym is) (by done says)
+    → SaysLine (line_with path (name_of why)) (writing heard here after) done
+    → Keeps path outcome old new (writing heard here after) done
+told_so heard path outcome why old new here after is kept done says =
+    subst (λ (o : Outcome). Keeps path o old new (writing heard here after) done) (sym is) (by done says)
   where
     by : (d : Result (Unit {0}) ShowFault)
-        → SaysLine (line_with path (name_of why)) (writer heard unheard here after) d
-        → Keeps path (Err why) old new (writer heard unheard here after) d
+        → SaysLine (line_with path (name_of why)) (writing heard here after) d
+        → Keeps path (Err why) old new (writing heard here after) d
     by (Ok done) said = record { kept = kept; told_is = said }
     by (Err Write) said = absurd said
     by (Err Memory) said = said
 
 -- what is kept of it
-pub read_so : {M : Type 0} (heard : M → Option (List ℕ)) (unheard : M → ℕ) (gives : List ℕ → Option (List ℕ) → Type 0)
+pub read_so : {M : Type 0} (heard : SinkOf M) (gives : List ℕ → Option (List ℕ) → Type 0)
     (root : List ℕ) (repeated : Bool) (d : Document) (old new : Sources) (here after : M) (outcome : Outcome)
     → IsRead gives root d (is_below d) repeated outcome → (done : Result (Unit {0}) ShowFault)
-    → Keeps d.relative_path outcome old new (writer heard unheard here after) done
-    → ReadsOne gives root repeated d old new (writer heard unheard here after) done
-read_so heard unheard gives root repeated d old new here after outcome is (Ok done) kept =
+    → Keeps d.relative_path outcome old new (writing heard here after) done
+    → ReadsOne gives root repeated d old new (writing heard here after) done
+read_so heard gives root repeated d old new here after outcome is (Ok done) kept =
     record { outcome = outcome; is = is; kept = kept }
-read_so heard unheard gives root repeated d old new here after outcome is (Err Write) kept = absurd kept
-read_so heard unheard gives root repeated d old new here after outcome is (Err Memory) kept = kept
+read_so heard gives root repeated d old new here after outcome is (Err Write) kept = absurd kept
+read_so heard gives root repeated d old new here after outcome is (Err Memory) kept = kept
 
 -- ---- several documents
 
@@ -82,11 +83,11 @@ flag_is documents flags number within are =
     unwrap_or-slice_get flags number false ∙ ap (λ (l : List Bool). get_or l number false) are
     ∙ get_or-map-range_with_len (is_repeated documents) 0 (length documents) number number false within (omega arith)
 
-module _ {M : Type 0} (heard : M → Option (List ℕ)) (unheard : M → ℕ) (gives : List ℕ → Option (List ℕ) → Type 0)
+module _ {M : Type 0} (heard : SinkOf M) (gives : List ℕ → Option (List ℕ) → Type 0)
     (root : List ℕ) (documents : List Document) where
   -- before the first
   pub none_kept : (start : M) (sources : Sources) → sources ≡ []
-      → AreKept gives root documents 0 sources (writer heard unheard start start)
+      → AreKept gives root documents 0 sources (writing heard start start)
   none_kept start sources none_yet = record {
     by = record { reads = []; are = none; told_are = silent };
     many_are = refl;
@@ -94,17 +95,17 @@ module _ {M : Type 0} (heard : M → Option (List ℕ)) (unheard : M → ℕ) (g
   }
 
   module _ (start here after : M) (many : ℕ) (d : Document) (repeated : Bool) (old new : Sources)
-      (before : AreKept gives root documents many old (writer heard unheard start here)) where
+      (before : AreKept gives root documents many old (writing heard start here)) where
     -- one more is kept
     pub kept_more : slice_get documents many ≡ Some d → repeated ≡ is_repeated documents many
-        → IsReadBy gives root repeated d old new (writer heard unheard here after)
-        → AreKept gives root documents (many + 1) new (writer heard unheard start after)
+        → IsReadBy gives root repeated d old new (writing heard here after)
+        → AreKept gives root documents (many + 1) new (writing heard start after)
     kept_more stands same one =
         let reads : List Read = before.by.reads in
         let outcome : Outcome = one.outcome in
         let item : Read = record { document = d; outcome = outcome } in
-        let lines : AreSaid heard unheard (told (item ∷ [])) here after =
-        subst (λ (ls : List (List ℕ)). AreSaid heard unheard ls here after)
+        let lines : AreSaid heard (told (item ∷ [])) here after =
+        subst (λ (ls : List (List ℕ)). AreSaid heard ls here after)
         (sym (append-nil (told_by d.relative_path outcome))) one.kept.told_is in
         record {
           by = record {
@@ -113,9 +114,9 @@ module _ {M : Type 0} (heard : M → Option (List ℕ)) (unheard : M → ℕ) (g
                 (subst (λ (n : ℕ). slice_get documents n ≡ Some d) (sym before.many_are) stands)
                 (subst (λ (n : ℕ). IsOutcome gives root documents n d outcome) (sym before.many_are)
                 (subst (λ (r : Bool). IsRead gives root d (is_below d) r outcome) same one.is));
-            told_are = subst (λ (ls : List (List ℕ)). AreSaid heard unheard ls start after)
+            told_are = subst (λ (ls : List (List ℕ)). AreSaid heard ls start after)
                 (sym (flat_map-append (λ (r : Read). told_by r.document.relative_path r.outcome) reads (item ∷ [])))
-                (said_more heard unheard (told (item ∷ [])) after before.by.told_are lines);
+                (said_more heard (told (item ∷ [])) after before.by.told_are lines);
           };
           many_are = length_push reads item ∙ ap (λ (n : ℕ). n + 1) before.many_are;
           sources_are =
@@ -125,14 +126,14 @@ module _ {M : Type 0} (heard : M → Option (List ℕ)) (unheard : M → ℕ) (g
 
     -- or memory runs out
     pub keeps_no_more : (sources : Sources) (fault : ShowFault)
-        → ReadsOne gives root repeated d old new (writer heard unheard here after) (Err fault)
-        → ReadsAll gives root documents sources (writer heard unheard start after) (Err fault)
+        → ReadsOne gives root repeated d old new (writing heard here after) (Err fault)
+        → ReadsAll gives root documents sources (writing heard start after) (Err fault)
     keeps_no_more sources Write one = absurd one
     keeps_no_more sources Memory one = record {
       reads = before.by.reads;
       are = before.by.are;
       told_are =
-          subst (λ (m : M). AreTold (writer heard unheard start m) (told before.by.reads)) (sym one) before.by.told_are;
+          subst (λ (m : M). AreTold (writing heard start m) (told before.by.reads)) (sym one) before.by.told_are;
     }
 
 -- where memory ran out no vector is given

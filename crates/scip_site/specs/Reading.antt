@@ -14,7 +14,7 @@ use Rattle.scip_snapshot.specs.declared.show_fault.ShowFault.{ShowFault}
 use Rattle.scip_snapshot.specs.declared.show_fault.ShowFault.TheVariants.{Write, Memory}
 use Rattle.scip_snapshot.specs.LeftOuts.{line_with}
 use Rattle.scip_snapshot.specs.Snapshots.{path_in}
-use Rattle.scip_snapshot.specs.Showing.{Writer, AreTold, IsUntouched}
+use Rattle.streams.specs.Writers.{Writer, AreTold, IsUntouched}
 use Rattle.scip_site.specs.declared.no_page.NoPage.{NoPage}
 use Rattle.scip_site.specs.declared.no_page.NoPage.TheVariants.{BadPath, Repeated, Unreadable, NotText, NoUnit, Misfit}
 use Rattle.scip_site.specs.Repeats.{is_repeated}

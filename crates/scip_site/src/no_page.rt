@@ -2,7 +2,8 @@
 
 ghost use Rattle.std.specs.Prelude.{◌≡◌};
 ghost use Rattle.scip_snapshot.specs.LeftOuts.{line_with};
-ghost use Rattle.scip_snapshot.specs.Showing.{SaysLine, writer};
+ghost use Rattle.streams.specs.Writers.{writer};
+ghost use Rattle.scip_snapshot.specs.Showing.{SaysLine};
 ghost use Rattle.scip_site.specs.Reading.{name_of};
 
 use scip_snapshot::{ShowFault, line_with, say};
@@ -49,7 +50,7 @@ pub(crate) fn tell<M: Sink>(
     why: NoPage,
     messages: &mut M,
 ) -> Result<(), ShowFault>
-    ensures { SaysLine (line_with path.now (name_of why)) (writer M.contents M.failures messages.old messages.new)
+    ensures { SaysLine (line_with path.now (name_of why)) (writer M.Sink messages)
         result }
 {
     let line = line_with(alloc, path, why.name())?;

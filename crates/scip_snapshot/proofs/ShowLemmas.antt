@@ -4,10 +4,12 @@ use Rattle.std.proofs.Common.{subst, ◌∙◌, arith, append-nil, append_assoc,
 use Rattle.std.specs.Prelude.{Option, None, Some, Result, Ok, Err, OnOk, IfErr, codes}
 use Rattle.std.proofs.lemmas.Grind.{flat_map-append}
 use Rattle.std.proofs.lemmas.List.{take_all, take_more, take-append-le, length-append, length-take-le}
-use Rattle.streams.specs.WholeWrites.{IsWritten, IsCutOff}
+use Rattle.streams.specs.Writers.{AreSaid, AreTold, IsCutOff, IsSaid, IsWritten, SinkOf, cut_short, entire, said}
+use Rattle.streams.specs.Writers.{silent, writing}
+use Rattle.source_files.specs.Makers.{MakeFilesOf, making}
 use Rattle.streams.proofs.WholeWriteLemmas.{IsWritten-trans, IsCutOff-after}
 use Rattle.streams.specs.Streams.{one_more}
-use Rattle.streams.specs.declared.sink.CutOff.{CutOff}
+use Rattle.streams.specs.declared.whole_writes.CutOff.{CutOff}
 use Rattle.source_files.specs.Made.{Adds, Made, MadeFile, Makes, MakesAll, StopsBehind}
 use Rattle.scip_records.specs.declared.records.Index.{Index}
 use Rattle.scip_records.specs.declared.records.Document.{Document}
@@ -15,9 +17,8 @@ use Rattle.scip_snapshot.specs.declared.show_fault.ShowFault.{ShowFault}
 use Rattle.scip_snapshot.specs.declared.show_fault.ShowFault.TheVariants.{Write, Memory}
 use Rattle.scip_snapshot.specs.Snapshots.{Shown, Outcome, IsOutcome, AreShown, none, next, told_by, printed_by}
 use Rattle.scip_snapshot.specs.Snapshots.{filed_by, printed, filed, told}
-use Rattle.scip_snapshot.specs.Showing.{IsSaid, entire, cut_short, AreSaid, silent, said, AreTold, ArePrinted}
-use Rattle.scip_snapshot.specs.Showing.{AreCutOff, AreFiled, AreFiledButOne, maker}
-use Rattle.scip_snapshot.specs.Showing.{Goes, IsShownBy, SaysLine, ShowsOne, AreShownBy, Shows, writer}
+use Rattle.scip_snapshot.specs.Showing.{ArePrinted, AreCutOff, AreFiled, AreFiledButOne, Goes, IsShownBy, SaysLine}
+use Rattle.scip_snapshot.specs.Showing.{ShowsOne, AreShownBy, Shows}
 use Rattle.scip_snapshot.specs.LeftOuts.{line_of}
 use Rattle.scip_snapshot.specs.declared.left_out.LeftOut.{LeftOut}
 
@@ -46,20 +47,20 @@ module _ (gives : List ℕ → Option (List ℕ) → Type 0) (root : List ℕ) (
 
 -- ---- what is said
 
-module _ {M : Type 0} (contents : M → Option (List ℕ)) (failures : M → ℕ) (line : List ℕ) where
+module _ {M : Type 0} (sink : SinkOf M) (line : List ℕ) where
   -- a line, behind which its end is written, or isn't
-  pub ended_so : (before now after : M) (done : Result (Unit {0}) CutOff) → IsWritten contents failures before now line
-      → OnOk done (IsWritten contents failures now after (codes "\n"))
-      → IfErr done (λ (e : CutOff). IsCutOff contents failures now after (codes "\n") e.written)
-      → IsSaid contents failures line before after
+  pub ended_so : (before now after : M) (done : Result (Unit {0}) CutOff) → IsWritten (writing sink before now) line
+      → OnOk done (IsWritten (writing sink now after) (codes "\n"))
+      → IfErr done (λ (e : CutOff). IsCutOff (writing sink now after) (codes "\n") e.written)
+      → IsSaid (writing sink before after) line
   ended_so before now after (Ok done) all ok err =
-      entire (IsWritten-trans contents failures before now after line (codes "\n") all ok)
+      entire (IsWritten-trans sink before now after line (codes "\n") all ok)
   ended_so before now after (Err e) all ok err =
-      cut_short (IsCutOff-after contents failures before now after line (codes "\n") e.written all err)
+      cut_short (IsCutOff-after sink before now after line (codes "\n") e.written all err)
 
   -- or a part of it
-  pub cut_so : (before after : M) (count : ℕ) → IsCutOff contents failures before after line count
-      → IsSaid contents failures line before after
+  pub cut_so : (before after : M) (count : ℕ) → IsCutOff (writing sink before after) line count
+      → IsSaid (writing sink before after) line
   cut_so before after count cut =
       let within : count ≤ length line = omega (arith, cut.short) in
       cut_short {count = count} (record {
@@ -69,14 +70,13 @@ module _ {M : Type 0} (contents : M → Option (List ℕ)) (failures : M → ℕ
       })
 
 -- lines behind others
-pub said_more : {M : Type 0} (contents : M → Option (List ℕ))
-    (failures : M → ℕ) {lines : List (List ℕ)} {before now : M}
+pub said_more : {M : Type 0} (sink : SinkOf M) {lines : List (List ℕ)} {before now : M}
     (more : List (List ℕ)) (after : M)
-    → AreSaid contents failures lines before now → AreSaid contents failures more now after
-    → AreSaid contents failures (lines ++ more) before after
-said_more contents failures more after silent behind = behind
-said_more contents failures more after (said first others) behind =
-    said first (said_more contents failures more after others behind)
+    → AreSaid sink lines before now → AreSaid sink more now after
+    → AreSaid sink (lines ++ more) before after
+said_more sink more after silent behind = behind
+said_more sink more after (said first others) behind =
+    said first (said_more sink more after others behind)
 
 -- ---- where they go
 
@@ -93,22 +93,22 @@ last_of_one (other ∷ others) item last same =
     length_one [] last = refl
     length_one (other ∷ others) last = ap suc (length_one others last)
 
-module _ {W : Type 0} (contents : W → Option (List ℕ)) (failures : W → ℕ) (first now after : W) (shown : List Shown)
+module _ {W : Type 0} (sink : SinkOf W) (first now after : W) (shown : List Shown)
     (item : Shown) where
   printed_behind : printed (shown ++ item ∷ []) ≡ printed shown ++ printed (item ∷ [])
   printed_behind = flat_map-append (λ (s : Shown). printed_by s.path s.outcome) shown (item ∷ [])
 
   -- one more is printed
-  pub printed_more : IsWritten contents failures first now (printed shown)
-      → IsWritten contents failures now after (printed (item ∷ []))
-      → IsWritten contents failures first after (printed (shown ++ item ∷ []))
-  printed_more before one = subst (IsWritten contents failures first after) (sym printed_behind)
-      (IsWritten-trans contents failures first now after (printed shown) (printed (item ∷ [])) before one)
+  pub printed_more : IsWritten (writing sink first now) (printed shown)
+      → IsWritten (writing sink now after) (printed (item ∷ []))
+      → IsWritten (writing sink first after) (printed (shown ++ item ∷ []))
+  printed_more before one = subst (IsWritten (writing sink first after)) (sym printed_behind)
+      (IsWritten-trans sink first now after (printed shown) (printed (item ∷ [])) before one)
 
   -- or cut off
-  pub cut_off_more : ArePrinted (writer contents failures first now) shown
-      → AreCutOff (writer contents failures now after) (item ∷ [])
-      → AreCutOff (writer contents failures first after) (shown ++ item ∷ [])
+  pub cut_off_more : ArePrinted (writing sink first now) shown
+      → AreCutOff (writing sink now after) (item ∷ [])
+      → AreCutOff (writing sink first after) (shown ++ item ∷ [])
   cut_off_more before one =
       let alone = last_of_one one.others item (record { path = one.path; outcome = Ok one.text }) one.shown_are in
       let count : ℕ = length (printed shown) + one.count in record {
@@ -118,8 +118,8 @@ module _ {W : Type 0} (contents : W → Option (List ℕ)) (failures : W → ℕ
         shown_are = ap (λ (s : Shown). shown ++ s ∷ []) alone.1;
         count = count;
         past_others = omega arith;
-        cut_off = subst (λ (text : List ℕ). IsCutOff contents failures first after text count) (sym printed_behind)
-            (IsCutOff-after contents failures first now after (printed shown) (printed (item ∷ [])) one.count before
+        cut_off = subst (λ (text : List ℕ). IsCutOff (writing sink first after) text count) (sym printed_behind)
+            (IsCutOff-after sink first now after (printed shown) (printed (item ∷ [])) one.count before
             one.cut_off);
       }
 
@@ -157,64 +157,66 @@ pub makes_false : (E : Type 0) (first now : Made) (path bytes : List ℕ) (is_ma
 makes_false E first now path bytes true same makes = absurd cc
 makes_false E first now path bytes false same makes = makes
 
-module _ {O : Type 0} (made : O → Made) (folder : List ℕ) (first now after : O) (shown : List Shown) where
+module _ {O : Type 0} (files : MakeFilesOf O) (folder : List ℕ) (first now after : O) (shown : List Shown) where
   filed_behind : (item : Shown) → filed folder (shown ++ item ∷ []) ≡ filed folder shown ++ filed folder (item ∷ [])
   filed_behind item = flat_map-append (λ (s : Shown). filed_by folder s.path s.outcome) shown (item ∷ [])
 
   -- one more goes to a file
-  pub filed_more : (item : Shown) → AreFiled (maker made first now) folder shown
-      → AreFiled (maker made now after) folder (item ∷ [])
-      → AreFiled (maker made first after) folder (shown ++ item ∷ [])
-  filed_more item before one = subst (MakesAll (made first) (made after)) (sym (filed_behind item))
-      (makes_both (made first) (made now) (made after) (filed folder shown) (filed folder (item ∷ [])) before one)
+  pub filed_more : (item : Shown) → AreFiled (making files first now) folder shown
+      → AreFiled (making files now after) folder (item ∷ [])
+      → AreFiled (making files first after) folder (shown ++ item ∷ [])
+  filed_more item before one = subst (MakesAll (files.made first) (files.made after)) (sym (filed_behind item))
+      (makes_both (files.made first) (files.made now) (files.made after) (filed folder shown)
+      (filed folder (item ∷ [])) before one)
 
   -- or none does
-  pub filed_still : AreFiled (maker made first now) folder shown → AreFiled (maker made now after) folder []
-      → AreFiled (maker made first after) folder shown
-  filed_still before one = subst (MakesAll (made first) (made after)) (append-nil (filed folder shown))
-      (makes_both (made first) (made now) (made after) (filed folder shown) [] before one)
+  pub filed_still : AreFiled (making files first now) folder shown → AreFiled (making files now after) folder []
+      → AreFiled (making files first after) folder shown
+  filed_still before one = subst (MakesAll (files.made first) (files.made after)) (append-nil (filed folder shown))
+      (makes_both (files.made first) (files.made now) (files.made after) (filed folder shown) [] before one)
 
-pub filed_but_one : {O : Type 0} (made : O → Made) (folder : List ℕ) (first now after : O)
+pub filed_but_one : {O : Type 0} (files : MakeFilesOf O) (folder : List ℕ) (first now after : O)
     (shown : List Shown) (item : Shown)
-    → AreFiled (maker made first now) folder shown → AreFiledButOne (maker made now after) folder (item ∷ [])
-    → AreFiledButOne (maker made first after) folder (shown ++ item ∷ [])
-filed_but_one made folder first now after shown item before one =
+    → AreFiled (making files first now) folder shown → AreFiledButOne (making files now after) folder (item ∷ [])
+    → AreFiledButOne (making files first after) folder (shown ++ item ∷ [])
+filed_but_one files folder first now after shown item before one =
     let alone = last_of_one one.others item (record { path = one.path; outcome = Ok one.text }) one.shown_are in
     record {
       others = shown;
       path = one.path;
       text = one.text;
       shown_are = ap (λ (s : Shown). shown ++ s ∷ []) alone.1;
-      stops = subst (StopsBehind (made first) (made after)) (append-nil (filed folder shown))
-          (stops_behind_both (made first) (made now) (made after) (filed folder shown) [] before
-          (subst (λ (others : List Shown). StopsBehind (made now) (made after) (filed folder others)) alone.0
+      stops = subst (StopsBehind (files.made first) (files.made after)) (append-nil (filed folder shown))
+          (stops_behind_both (files.made first) (files.made now) (files.made after) (filed folder shown) [] before
+          (subst (λ (others : List Shown). StopsBehind (files.made now) (files.made after) (filed folder others))
+          alone.0
           one.stops));
     }
 
 -- ---- the next of the documents of an index
 
 -- those before it are shown
-abbrev pub Stands : {M : Type 0} → (heard : M → Option (List ℕ)) → (unheard : M → ℕ)
+abbrev pub Stands : {M : Type 0} → (heard : SinkOf M)
     → (List ℕ → Option (List ℕ) → Type 0) → (root : List ℕ) → Index → (start here : M) → (List Shown → Type 0) → ℕ
     → Type 0
-Stands heard unheard gives root index start here goes many =
-    AreShownBy gives root index (take many index.documents) goes (writer heard unheard start here)
+Stands heard gives root index start here goes many =
+    AreShownBy gives root index (take many index.documents) goes (writing heard start here)
 
 -- before the first
-pub none_yet : {M : Type 0} (heard : M → Option (List ℕ)) (unheard : M → ℕ)
+pub none_yet : {M : Type 0} (heard : SinkOf M)
     (gives : List ℕ → Option (List ℕ) → Type 0) (root : List ℕ) (index : Index) (start : M) (goes : List Shown → Type 0)
-    → goes [] → Stands heard unheard gives root index start start goes 0
-none_yet heard unheard gives root index start goes gone =
+    → goes [] → Stands heard gives root index start start goes 0
+none_yet heard gives root index start goes gone =
     record { shown = []; are = none; gone = gone; told_are = silent }
 
-module _ {M : Type 0} (heard : M → Option (List ℕ)) (unheard : M → ℕ) (gives : List ℕ → Option (List ℕ) → Type 0)
+module _ {M : Type 0} (heard : SinkOf M) (gives : List ℕ → Option (List ℕ) → Type 0)
     (root : List ℕ) (index : Index) (start here end : M) (many : ℕ) (none_there : Document) (path : List ℕ)
     (within : many < length index.documents) (is : path ≡ (get_or index.documents many none_there).relative_path)
-    (goes : List Shown → Type 0) (before : Stands heard unheard gives root index start here goes many) where
+    (goes : List Shown → Type 0) (before : Stands heard gives root index start here goes many) where
   become : (one_goes more_go : List Shown → Type 0)
       → ((item : Shown) → one_goes (item ∷ []) → more_go (before.shown ++ item ∷ []))
-      → IsShownBy gives root index many path one_goes (writer heard unheard here end)
-      → Stands heard unheard gives root index start end more_go (many + 1)
+      → IsShownBy gives root index many path one_goes (writing heard here end)
+      → Stands heard gives root index start end more_go (many + 1)
   become one_goes more_go behind one =
       let document : Document = get_or index.documents many none_there in
       let outcome : Outcome = one.outcome in
@@ -224,10 +226,10 @@ module _ {M : Type 0} (heard : M → Option (List ℕ)) (unheard : M → ℕ) (g
       let due : IsOutcome gives root index (0 + length (take many index.documents)) document.relative_path outcome =
       subst (λ (n : ℕ). IsOutcome gives root index n document.relative_path outcome) (sym size)
       (subst (λ (p : List ℕ). IsOutcome gives root index many p outcome) is one.is) in
-      let lines : AreSaid heard unheard (told (item ∷ [])) here end =
-      subst (λ (ls : List (List ℕ)). AreSaid heard unheard ls here end)
+      let lines : AreSaid heard (told (item ∷ [])) here end =
+      subst (λ (ls : List (List ℕ)). AreSaid heard ls here end)
       (sym (append-nil (told_by document.relative_path outcome)))
-      (subst (λ (p : List ℕ). AreSaid heard unheard (told_by p outcome) here end) is one.told_is) in
+      (subst (λ (p : List ℕ). AreSaid heard (told_by p outcome) here end) is one.told_is) in
       record {
         shown = before.shown ++ item ∷ [];
         are = subst (λ (ds : List Document). AreShown gives root index 0 ds (before.shown ++ item ∷ []))
@@ -235,9 +237,9 @@ module _ {M : Type 0} (heard : M → Option (List ℕ)) (unheard : M → ℕ) (g
             (shown_more gives root index document outcome before.are due);
         gone = behind item
             (subst (λ (p : List ℕ). one_goes (record { path = p; outcome = outcome } ∷ [])) is one.gone);
-        told_are = subst (λ (ls : List (List ℕ)). AreSaid heard unheard ls start end)
+        told_are = subst (λ (ls : List (List ℕ)). AreSaid heard ls start end)
             (sym (flat_map-append (λ (s : Shown). told_by s.path s.outcome) before.shown (item ∷ [])))
-            (said_more heard unheard (told (item ∷ [])) end before.told_are lines);
+            (said_more heard (told (item ∷ [])) end before.told_are lines);
       }
 
   module _ (whole cut one_whole one_cut : List Shown → Type 0) (one_untouched : Type 0)
@@ -245,46 +247,46 @@ module _ {M : Type 0} (heard : M → Option (List ℕ)) (unheard : M → ℕ) (g
       (cut_more : (item : Shown) → one_cut (item ∷ []) → cut (before.shown ++ item ∷ []))
       (whole_still : one_untouched → whole before.shown) where
     -- it is shown too
-    pub goes_on : IsShownBy gives root index many path one_whole (writer heard unheard here end)
-        → Stands heard unheard gives root index start end whole (many + 1)
+    pub goes_on : IsShownBy gives root index many path one_whole (writing heard here end)
+        → Stands heard gives root index start end whole (many + 1)
     goes_on one = become one_whole whole whole_more one
 
     -- or memory ran out
-    stays : one_untouched → end ≡ here → Stands heard unheard gives root index start end whole many
+    stays : one_untouched → end ≡ here → Stands heard gives root index start end whole many
     stays untouched same = record {
       shown = before.shown;
       are = before.are;
       gone = whole_still untouched;
       told_are =
-          subst (λ (m : M). AreTold (writer heard unheard start m) (told before.shown)) (sym same) before.told_are;
+          subst (λ (m : M). AreTold (writing heard start m) (told before.shown)) (sym same) before.told_are;
     }
 
     -- so why it isn't shown is why the documents aren't
     pub stops : (fault : ShowFault)
-        → ShowsOne gives root index many path one_whole one_cut one_untouched (writer heard unheard here end)
+        → ShowsOne gives root index many path one_whole one_cut one_untouched (writing heard here end)
         (Err fault)
-        → Shows gives root index whole cut (writer heard unheard start end) (Err fault)
+        → Shows gives root index whole cut (writing heard start end) (Err fault)
     stops Write one = (many + 1, become one_cut cut cut_more one)
     stops Memory one = (many, within, stays one.0 one.1)
 
 -- all of them are shown
-pub all_are : {M : Type 0} (heard : M → Option (List ℕ)) (unheard : M → ℕ) (gives : List ℕ → Option (List ℕ) → Type 0)
+pub all_are : {M : Type 0} (heard : SinkOf M) (gives : List ℕ → Option (List ℕ) → Type 0)
     (root : List ℕ) (index : Index) (start end : M) (many : ℕ) → length index.documents ≤ many
-    → (goes : List Shown → Type 0) → Stands heard unheard gives root index start end goes many
-    → AreShownBy gives root index index.documents goes (writer heard unheard start end)
-all_are heard unheard gives root index start end many past goes shown =
-    subst (λ (ds : List Document). AreShownBy gives root index ds goes (writer heard unheard start end))
+    → (goes : List Shown → Type 0) → Stands heard gives root index start end goes many
+    → AreShownBy gives root index index.documents goes (writing heard start end)
+all_are heard gives root index start end many past goes shown =
+    subst (λ (ds : List Document). AreShownBy gives root index ds goes (writing heard start end))
     (take_all many index.documents past) shown
 
 -- ---- one document
 
-module _ {M : Type 0} (heard : M → Option (List ℕ)) (unheard : M → ℕ) (gives : List ℕ → Option (List ℕ) → Type 0)
+module _ {M : Type 0} (heard : SinkOf M) (gives : List ℕ → Option (List ℕ) → Type 0)
     (root : List ℕ) (index : Index) (number : ℕ) (path : List ℕ) (whole cut : List Shown → Type 0) (untouched : Type 0)
     (here : M) where
   -- its snapshot goes somewhere, and nothing is said
   pub shown_so : (text : List ℕ) → IsOutcome gives root index number path (Ok text)
       → (done : Result (Unit {0}) ShowFault) → Goes whole cut untouched path text done
-      → ShowsOne gives root index number path whole cut untouched (writer heard unheard here here) done
+      → ShowsOne gives root index number path whole cut untouched (writing heard here here) done
   shown_so text is (Ok done) gone = record { outcome = Ok text; is = is; gone = gone; told_is = silent }
   shown_so text is (Err Write) gone = record { outcome = Ok text; is = is; gone = gone; told_is = silent }
   shown_so text is (Err Memory) gone = (gone, refl)
@@ -293,8 +295,8 @@ module _ {M : Type 0} (heard : M → Option (List ℕ)) (unheard : M → ℕ) (g
   pub left_out_so : (left : LeftOut) → IsOutcome gives root index number path (Err left)
       → whole (record { path = path; outcome = Err left } ∷ []) → untouched → (after : M)
       → (done : Result (Unit {0}) ShowFault)
-      → SaysLine (line_of path left) (writer heard unheard here after) done
-      → ShowsOne gives root index number path whole cut untouched (writer heard unheard here after) done
+      → SaysLine (line_of path left) (writing heard here after) done
+      → ShowsOne gives root index number path whole cut untouched (writing heard here after) done
   left_out_so left is gone unused after (Ok done) says =
       record { outcome = Err left; is = is; gone = gone; told_is = says }
   left_out_so left is gone unused after (Err Write) says = absurd says
@@ -302,5 +304,5 @@ module _ {M : Type 0} (heard : M → Option (List ℕ)) (unheard : M → ℕ) (g
 
   -- or memory ran out before
   pub refused_so : untouched
-      → ShowsOne gives root index number path whole cut untouched (writer heard unheard here here) (Err Memory)
+      → ShowsOne gives root index number path whole cut untouched (writing heard here here) (Err Memory)
   refused_so unused = (unused, refl)

@@ -1,7 +1,9 @@
 //! Snapshots that go to files of their own.
 
 ghost use Rattle.std.specs.Prelude.{[]};
-ghost use Rattle.scip_snapshot.specs.Showing.{AreFiled, AreFiledButOne, Goes, ShowsOne, Shows, maker, writer};
+ghost use Rattle.streams.specs.Writers.{writer};
+ghost use Rattle.source_files.specs.Makers.{maker};
+ghost use Rattle.scip_snapshot.specs.Showing.{AreFiled, AreFiledButOne, Goes, ShowsOne, Shows};
 
 use crate::left_out::tell;
 use crate::outcome::{Asked, outcome_of, path_in};
@@ -27,8 +29,8 @@ fn file_text<O: MakeFiles>(
     text: &[u8],
     made: &mut O,
 ) -> Result<(), ShowFault>
-    ensures { Goes (AreFiled (maker O.made made.old made.new) folder.now)
-        (AreFiledButOne (maker O.made made.old made.new) folder.now) (AreFiled (maker O.made made.old made.new)
+    ensures { Goes (AreFiled (maker O.MakeFiles made) folder.now)
+        (AreFiledButOne (maker O.MakeFiles made) folder.now) (AreFiled (maker O.MakeFiles made)
         folder.now []) path.now text.now result }
 {
     let file = path_in(alloc, folder, path)?;
@@ -49,9 +51,9 @@ fn file_one<F: ReadFiles, O: MakeFiles, M: Sink>(
     messages: &mut M,
 ) -> Result<(), ShowFault>
     ensures { ShowsOne (F.gives files.now) asked.now.root.now asked.now.queries.now asked.now.number asked.now.path.now
-        (AreFiled (maker O.made made.old made.new) folder.now) (AreFiledButOne (maker O.made made.old made.new)
-        folder.now) (AreFiled (maker O.made made.old made.new) folder.now [])
-        (writer M.contents M.failures messages.old messages.new) result }
+        (AreFiled (maker O.MakeFiles made) folder.now) (AreFiledButOne (maker O.MakeFiles made)
+        folder.now) (AreFiled (maker O.MakeFiles made) folder.now [])
+        (writer M.Sink messages) result }
 {
     match outcome_of(alloc, files, asked)? {
         Ok(text) => file_text(alloc, folder, asked.path, text.as_slice(), made),
@@ -74,8 +76,8 @@ pub fn file_all<F: ReadFiles, O: MakeFiles, M: Sink>(
     messages: &mut M,
 ) -> Result<(), ShowFault>
     ensures { Shows (F.gives files.now) folders.now.root.now queries.now
-        (AreFiled (maker O.made made.old made.new) folders.now.to.now) (AreFiledButOne (maker O.made made.old made.new)
-        folders.now.to.now) (writer M.contents M.failures messages.old messages.new) result }
+        (AreFiled (maker O.MakeFiles made) folders.now.to.now) (AreFiledButOne (maker O.MakeFiles made)
+        folders.now.to.now) (writer M.Sink messages) result }
 {
     for (number, document) in queries.documents().iter().enumerate() {
         let asked = Asked {

@@ -2,7 +2,8 @@
 
 ghost use Rattle.std.specs.Prelude.{◌≡◌, IfOk, string_bytes};
 ghost use Rattle.scip_snapshot.specs.LeftOuts.{line_of, line_with, name_of};
-ghost use Rattle.scip_snapshot.specs.Showing.{IsSaid, SaysLine, writer};
+ghost use Rattle.streams.specs.Writers.{IsSaid, writer};
+ghost use Rattle.scip_snapshot.specs.Showing.{SaysLine};
 ghost use Rattle.scip_snapshot.specs.declared.left_out.LeftOut.TheVariants.{NoSnapshot};
 
 use crate::show_fault::ShowFault;
@@ -70,7 +71,7 @@ impl LeftOut {
 
 /// Writes a line and its end. Behind a write that fails the rest of both is lost.
 pub fn say<M: Sink>(messages: &mut M, line: &str)
-    ensures { IsSaid M.contents M.failures line.now messages.old messages.new }
+    ensures { IsSaid (writer M.Sink messages) line.now }
 {
     match write_all(messages, line.as_bytes()) {
         Ok(()) => {
@@ -87,7 +88,7 @@ pub(crate) fn tell<M: Sink>(
     left: LeftOut,
     messages: &mut M,
 ) -> Result<(), ShowFault>
-    ensures { SaysLine (line_of path.now left) (writer M.contents M.failures messages.old messages.new) result }
+    ensures { SaysLine (line_of path.now left) (writer M.Sink messages) result }
 {
     let line = left.line(alloc, path)?;
     say(messages, line.as_str());

@@ -2,7 +2,8 @@
 
 ghost use Rattle.std.specs.Prelude.{◌≡◌, ◌++◌, codes, map, IfOk};
 ghost use Rattle.scip_pages.specs.Snapshot.{flat_byte};
-ghost use Rattle.scip_snapshot.specs.Showing.{ArePrinted, AreCutOff, Goes, ShowsOne, Shows, writer};
+ghost use Rattle.streams.specs.Writers.{writer};
+ghost use Rattle.scip_snapshot.specs.Showing.{ArePrinted, AreCutOff, Goes, ShowsOne, Shows};
 
 use crate::left_out::tell;
 use crate::outcome::{Asked, outcome_of};
@@ -26,8 +27,8 @@ fn below_its_path(alloc: Global, path: &str, text: &[u8]) -> Result<Vec<u8>, All
 
 /// Prints the snapshot of a document.
 fn print_text<W: Sink>(alloc: Global, path: &str, text: &[u8], out: &mut W) -> Result<(), ShowFault>
-    ensures { Goes (ArePrinted (writer W.contents W.failures out.old out.new))
-        (AreCutOff (writer W.contents W.failures out.old out.new)) (out.new ≡ out.old) path.now text.now result }
+    ensures { Goes (ArePrinted (writer W.Sink out))
+        (AreCutOff (writer W.Sink out)) (out.new ≡ out.old) path.now text.now result }
 {
     let all = below_its_path(alloc, path, text)?;
     match write_all(out, all.as_slice()) {
@@ -45,8 +46,8 @@ fn print_one<F: ReadFiles, W: Sink, M: Sink>(
     messages: &mut M,
 ) -> Result<(), ShowFault>
     ensures { ShowsOne (F.gives files.now) asked.now.root.now asked.now.queries.now asked.now.number asked.now.path.now
-        (ArePrinted (writer W.contents W.failures out.old out.new)) (AreCutOff (writer W.contents W.failures out.old
-        out.new)) (out.new ≡ out.old) (writer M.contents M.failures messages.old messages.new) result }
+        (ArePrinted (writer W.Sink out)) (AreCutOff (writer W.Sink out)) (out.new ≡ out.old) (writer M.Sink messages)
+        result }
 {
     match outcome_of(alloc, files, asked)? {
         Ok(text) => print_text(alloc, asked.path, text.as_slice(), out),
@@ -67,9 +68,8 @@ pub fn print_all<F: ReadFiles, W: Sink, M: Sink>(
     out: &mut W,
     messages: &mut M,
 ) -> Result<(), ShowFault>
-    ensures { Shows (F.gives files.now) root.now queries.now (ArePrinted (writer W.contents W.failures out.old out.new))
-        (AreCutOff (writer W.contents W.failures out.old out.new)) (writer M.contents M.failures messages.old
-        messages.new) result }
+    ensures { Shows (F.gives files.now) root.now queries.now (ArePrinted (writer W.Sink out))
+        (AreCutOff (writer W.Sink out)) (writer M.Sink messages) result }
 {
     for (number, document) in queries.documents().iter().enumerate() {
         let asked = Asked {

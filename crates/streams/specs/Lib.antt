@@ -1,5 +1,5 @@
--- Sinks and feeds: one call, whole texts, and those of the standard library.
+-- Sinks and feeds: one call and its counts, what is written and read by many, and those of the standard library.
 pub mod Streams
-pub mod WholeWrites
-pub mod WholeReads
+pub mod Writers
+pub mod Readers
 pub mod StdStreams

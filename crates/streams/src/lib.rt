@@ -5,8 +5,10 @@ mod failed;
 mod feed;
 mod sink;
 mod std_streams;
+mod whole_writes;
 
 pub use failed::Failed;
 pub use feed::{Feed, MAX_READS};
-pub use sink::{CutOff, Sink, write_all};
+pub use sink::Sink;
 pub use std_streams::Std;
+pub use whole_writes::{CutOff, write_all};

@@ -12,10 +12,8 @@ returns-in_err-see_two-clause-stops g c =
     let request = c.args.request.now in
     let places = c.args.places.now in
     let tree = c.args.tree.now in
-    let at = place g.P.OutPlace.holds g.P.OutPlace.same g.P.OutPlace.refuses g.P.OutPlace.gives_up
-    g.P.Part.Sink.contents g.P.Part.Sink.failures places.file places.file in
-    let report = place g.Q.OutPlace.holds g.Q.OutPlace.same g.Q.OutPlace.refuses g.Q.OutPlace.gives_up
-    g.Q.Part.Sink.contents g.Q.Part.Sink.failures places.report places.report in
+    let at = place g.P.OutPlace g.P.Part.Sink places.file places.file in
+    let report = place g.Q.OutPlace g.Q.Part.Sink places.report places.report in
     let Spares : List (List ℕ) → Type 0 = λ roots. IsAsked (at.same at.before) roots tree false in
     let p = err_from_is_err_and c.from_residual-in_err-see_two.result c.from_residual-in_err-see_two.ensures.1 in
     rw (p.1, p.2) (out_stops at report (asked_by request.options.now request.path.now request.limits) tree
@@ -29,10 +27,8 @@ returns-in_err-see_report-clause-stops g c =
     let request = c.args.request.now in
     let places = c.args.places.now in
     let tree = c.args.tree.now in
-    let at = place g.P.OutPlace.holds g.P.OutPlace.same g.P.OutPlace.refuses g.P.OutPlace.gives_up
-    g.P.Part.Sink.contents g.P.Part.Sink.failures places.file places.file in
-    let report = place g.Q.OutPlace.holds g.Q.OutPlace.same g.Q.OutPlace.refuses g.Q.OutPlace.gives_up
-    g.Q.Part.Sink.contents g.Q.Part.Sink.failures places.report places.report in
+    let at = place g.P.OutPlace g.P.Part.Sink places.file places.file in
+    let report = place g.Q.OutPlace g.Q.Part.Sink places.report places.report in
     let Spares : List (List ℕ) → Type 0 = λ roots. IsAsked (at.same at.before) roots tree false in
     let p = err_from_is_err_and c.from_residual-in_err-see_report.result c.from_residual-in_err-see_report.ensures.1 in
     rw (p.1, p.2) (report_stops at report (asked_by request.options.now request.path.now request.limits) tree

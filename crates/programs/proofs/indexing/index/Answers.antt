@@ -1,9 +1,9 @@
 use Rattle.std.proofs.Common.{◌≡◌, map, refl, ℕ, List, Option}
 use Rattle.std.specs.Option.{option_map}
 use Rattle.std.specs.String.{string_bytes}
+use Rattle.streams.specs.Writers.{writing}
 use Rattle.index_hooks.specs.declared.choice.DocChoice.{DocChoice}
 use Rattle.scip_build.specs.declared.settings.Settings.{Settings}
-use Rattle.scip_snapshot.specs.Showing.{writer}
 use Rattle.programs.specs.Asked.{asked_by}
 use Rattle.programs.specs.Choices.{IsChosenBy}
 use Rattle.programs.specs.Indexing.{IndexesInto, not_started, over_tree}
@@ -27,11 +27,9 @@ returns-clause-indexed g c =
     let asked = asked_by c.args.request.now.options.now c.args.request.now.path.now c.args.request.now.limits in
     let options = asked.options in
     let unread = map string_bytes run.unread.items in
-    let at = place g.P.OutPlace.holds g.P.OutPlace.same g.P.OutPlace.refuses g.P.OutPlace.gives_up
-    g.P.Part.Sink.contents g.P.Part.Sink.failures c.args.places.now.file c.index_over-status.new.places.file in
-    let report = place g.Q.OutPlace.holds g.Q.OutPlace.same g.Q.OutPlace.refuses g.Q.OutPlace.gives_up
-    g.Q.Part.Sink.contents g.Q.Part.Sink.failures c.args.places.now.report c.index_over-status.new.places.report in
-    let messages = writer g.M.Sink.contents g.M.Sink.failures c.args.messages.now c.index_over-status.new.messages in
+    let at = place g.P.OutPlace g.P.Part.Sink c.args.places.now.file c.index_over-status.new.places.file in
+    let report = place g.Q.OutPlace g.Q.Part.Sink c.args.places.now.report c.index_over-status.new.places.report in
+    let messages = writing g.M.Sink c.args.messages.now c.index_over-status.new.messages in
     let Into : Option (List ℕ) → Option DocChoice → Settings → ℕ → Type 0 = λ only doc settings workers.
     IndexesInto (λ _ line. line ≡ option_map string_bytes run.none_found) asked (IsChosenBy only doc) settings workers
     run.tree unread at report messages c.index_over-status.result in
@@ -52,11 +50,9 @@ returns-in-Err-clause-navigable g c =
     (blamed_by asked.options (g.F.LookAgain.blames c.args.host.now.files.now))
     (NoneFoundBy (g.F.LookAgain.passes c.args.host.now.files.now) c.args.host.now.is_watched asked.options)
     (g.Q.OutPlace.suspects c.args.places.now.report) asked.path asked.limits
-    (place g.P.OutPlace.holds g.P.OutPlace.same g.P.OutPlace.refuses g.P.OutPlace.gives_up g.P.Part.Sink.contents
-    g.P.Part.Sink.failures c.args.places.now.file c.args.places.now.file)
-    (place g.Q.OutPlace.holds g.Q.OutPlace.same g.Q.OutPlace.refuses g.Q.OutPlace.gives_up g.Q.Part.Sink.contents
-    g.Q.Part.Sink.failures c.args.places.now.report c.put_start_report-said.new.at)
-    (writer g.M.Sink.contents g.M.Sink.failures c.args.messages.now c.report_unstarted.new.messages) c.report_unstarted.result
+    (place g.P.OutPlace g.P.Part.Sink c.args.places.now.file c.args.places.now.file)
+    (place g.Q.OutPlace g.Q.Part.Sink c.args.places.now.report c.put_start_report-said.new.at)
+    (writing g.M.Sink c.args.messages.now c.report_unstarted.new.messages) c.report_unstarted.result
     (returns-in-Err-clause-indexed g c)
 
 pub returns-clause-navigable : goal.returns-clause-navigable
@@ -67,9 +63,7 @@ returns-clause-navigable g c =
     (blamed_by asked.options (g.F.LookAgain.blames c.args.host.now.files.now))
     (NoneFoundBy (g.F.LookAgain.passes c.args.host.now.files.now) c.args.host.now.is_watched asked.options)
     (g.Q.OutPlace.suspects c.args.places.now.report) asked.path asked.limits
-    (place g.P.OutPlace.holds g.P.OutPlace.same g.P.OutPlace.refuses g.P.OutPlace.gives_up g.P.Part.Sink.contents
-    g.P.Part.Sink.failures c.args.places.now.file c.index_over-status.new.places.file)
-    (place g.Q.OutPlace.holds g.Q.OutPlace.same g.Q.OutPlace.refuses g.Q.OutPlace.gives_up g.Q.Part.Sink.contents
-    g.Q.Part.Sink.failures c.args.places.now.report c.index_over-status.new.places.report)
-    (writer g.M.Sink.contents g.M.Sink.failures c.args.messages.now c.index_over-status.new.messages)
+    (place g.P.OutPlace g.P.Part.Sink c.args.places.now.file c.index_over-status.new.places.file)
+    (place g.Q.OutPlace g.Q.Part.Sink c.args.places.now.report c.index_over-status.new.places.report)
+    (writing g.M.Sink c.args.messages.now c.index_over-status.new.messages)
     c.index_over-status.result (returns-clause-indexed g c)

@@ -2,8 +2,8 @@ use Rattle.std.proofs.Common.{◌≡◌, map, refl, subst, sym, ℕ, Option, Non
 use Rattle.std.specs.Prelude.{IfErr, MatchResult}
 use Rattle.std.specs.Option.{option_map}
 use Rattle.std.specs.String.{string_bytes}
+use Rattle.streams.specs.Writers.{writing}
 use Rattle.proto_parse.specs.dialect.Dialect.{Dialect}
-use Rattle.scip_snapshot.specs.Showing.{writer}
 use Rattle.protoscip.specs.Explanations.{explain_in}
 use Rattle.protoscip.specs.FaultLines.{HasFilesOf}
 use Rattle.protoscip.specs.Indexes.{Indexes, recorded_of}
@@ -33,13 +33,10 @@ pub returns-in-Some : goal.returns-in-Some
 returns-in-Some g c =
     let run = c.args.run.now in
     let asked = asked_by c.args.request.now.options.now c.args.request.now.path.now c.args.request.now.limits in
-    let contents = g.P.Part.Sink.contents in
-    let failures = g.P.Part.Sink.failures in
-    let there = place g.P.OutPlace.holds g.P.OutPlace.same g.P.OutPlace.refuses g.P.OutPlace.gives_up contents failures
-    c.args.places.now.file c.finish-done.new.out in
-    let report = place g.Q.OutPlace.holds g.Q.OutPlace.same g.Q.OutPlace.refuses g.Q.OutPlace.gives_up
-    g.Q.Part.Sink.contents g.Q.Part.Sink.failures c.args.places.now.report c.report_run-reported.new.at in
-    let messages = writer g.M.Sink.contents g.M.Sink.failures c.args.messages.now c.end-status.new.messages in
+    let sink = g.P.Part.Sink in
+    let there = place g.P.OutPlace sink c.args.places.now.file c.finish-done.new.out in
+    let report = place g.Q.OutPlace g.Q.Part.Sink c.args.places.now.report c.report_run-reported.new.at in
+    let messages = writing g.M.Sink c.args.messages.now c.end-status.new.messages in
     let unread = map string_bytes run.unread.items in
     let allows = IsChosenBy (option_map (λ f. string_bytes f.promise.0) run.choices.filter)
     (option_map (λ r. r.promise.0) run.choices.rule) in
@@ -48,12 +45,12 @@ returns-in-Some g c =
     let reported = c.report_run-reported.result in
     let whole = c.index_and_tell-ran.new.out in
     let runs : _ → _ → Result Recorded Fault → Type 0 = λ begun written ended.
-    Indexes contents failures allows run.settings run.tree run.workers begun written ended in
+    Indexes allows run.settings run.tree run.workers (writing sink begun written) ended in
     let told : Result Recorded Fault → Result (Unit {0}) Fault → Type 0 = λ ended.
     Reports report asked.options.report asked.limits allows run.settings run.workers run.tree unread (told_by ended) in
     let By : ℕ → Type 0 = λ workers. MatchResult ran
-    (λ kept. Indexes contents failures allows run.settings run.tree workers c.in-Ok.part whole (Ok (recorded kept)))
-    (λ fault. Indexes contents failures allows run.settings run.tree workers c.in-Ok.part whole (Err fault)) in
+    (λ kept. Indexes allows run.settings run.tree workers (writing sink c.in-Ok.part whole) (Ok (recorded kept)))
+    (λ fault. Indexes allows run.settings run.tree workers (writing sink c.in-Ok.part whole) (Err fault)) in
     let made = forgoes there whole recorded runs told c.in-Ok.part c.in-Ok.ensures.begun
     (λ r broken. Breaks asked.limits run.tree unread r.told broken) c.in-Some.fault ran reported c.finish-done.result
     (subst By c.over-work.ensures c.index_and_tell-ran.ensures.indexed)
@@ -84,13 +81,10 @@ pub returns-in-None : goal.returns-in-None
 returns-in-None g c =
     let run = c.args.run.now in
     let asked = asked_by c.args.request.now.options.now c.args.request.now.path.now c.args.request.now.limits in
-    let contents = g.P.Part.Sink.contents in
-    let failures = g.P.Part.Sink.failures in
-    let there = place g.P.OutPlace.holds g.P.OutPlace.same g.P.OutPlace.refuses g.P.OutPlace.gives_up contents failures
-    c.args.places.now.file c.finish-done.new.out in
-    let report = place g.Q.OutPlace.holds g.Q.OutPlace.same g.Q.OutPlace.refuses g.Q.OutPlace.gives_up
-    g.Q.Part.Sink.contents g.Q.Part.Sink.failures c.args.places.now.report c.report_run-reported.new.at in
-    let messages = writer g.M.Sink.contents g.M.Sink.failures c.args.messages.now c.end-status.new.messages in
+    let sink = g.P.Part.Sink in
+    let there = place g.P.OutPlace sink c.args.places.now.file c.finish-done.new.out in
+    let report = place g.Q.OutPlace g.Q.Part.Sink c.args.places.now.report c.report_run-reported.new.at in
+    let messages = writing g.M.Sink c.args.messages.now c.end-status.new.messages in
     let unread = map string_bytes run.unread.items in
     let allows = IsChosenBy (option_map (λ f. string_bytes f.promise.0) run.choices.filter)
     (option_map (λ r. r.promise.0) run.choices.rule) in
@@ -99,12 +93,12 @@ returns-in-None g c =
     let reported = c.report_run-reported.result in
     let whole = c.index_and_tell-ran.new.out in
     let runs : _ → _ → Result Recorded Fault → Type 0 = λ begun written ended.
-    Indexes contents failures allows run.settings run.tree run.workers begun written ended in
+    Indexes allows run.settings run.tree run.workers (writing sink begun written) ended in
     let told : Result Recorded Fault → Result (Unit {0}) Fault → Type 0 = λ ended.
     Reports report asked.options.report asked.limits allows run.settings run.workers run.tree unread (told_by ended) in
     let By : ℕ → Type 0 = λ workers. MatchResult ran
-    (λ kept. Indexes contents failures allows run.settings run.tree workers c.in-Ok.part whole (Ok (recorded kept)))
-    (λ fault. Indexes contents failures allows run.settings run.tree workers c.in-Ok.part whole (Err fault)) in
+    (λ kept. Indexes allows run.settings run.tree workers (writing sink c.in-Ok.part whole) (Ok (recorded kept)))
+    (λ fault. Indexes allows run.settings run.tree workers (writing sink c.in-Ok.part whole) (Err fault)) in
     let done = c.finish-done.result in
     let Ended : Option Dialect → Type 0 = λ dialect.
     Ends SaysOfSuccess (λ line. line ≡ option_map string_bytes run.none_found) dialect run.tree unread (λ r. r.told)
@@ -128,10 +122,8 @@ returns-in-None g c =
 pub end-status-requires-clause-files : goal.end-status-requires-clause-files
 end-status-requires-clause-files g c =
     let run = c.args.run.now in
-    let there = place g.P.OutPlace.holds g.P.OutPlace.same g.P.OutPlace.refuses g.P.OutPlace.gives_up
-    g.P.Part.Sink.contents g.P.Part.Sink.failures c.args.places.now.file c.finish-done.new.out in
-    let report = place g.Q.OutPlace.holds g.Q.OutPlace.same g.Q.OutPlace.refuses g.Q.OutPlace.gives_up
-    g.Q.Part.Sink.contents g.Q.Part.Sink.failures c.args.places.now.report c.report_run-reported.new.at in
+    let there = place g.P.OutPlace g.P.Part.Sink c.args.places.now.file c.finish-done.new.out in
+    let report = place g.Q.OutPlace g.Q.Part.Sink c.args.places.now.report c.report_run-reported.new.at in
     let unread = map string_bytes run.unread.items in
     let allows = IsChosenBy (option_map (λ f. string_bytes f.promise.0) run.choices.filter)
     (option_map (λ r. r.promise.0) run.choices.rule) in

@@ -1,21 +1,22 @@
 use Rattle.std.proofs.Common.{◌≡◌, ◌∙◌, ◌<◌, ◌≤◌, ℕ, ap, subst, List, [], get_or, length, arith}
 use Rattle.std.proofs.lemmas.Result.{err_from_is_err_and}
+use Rattle.source_files.specs.Makers.{making}
 use Rattle.scip_records.specs.declared.records.Document.{Document}
-use Rattle.scip_snapshot.specs.Showing.{AreFiled, AreFiledButOne, maker}
+use Rattle.scip_snapshot.specs.Showing.{AreFiled, AreFiledButOne}
 use Rattle.scip_snapshot.proofs.ShowLemmas.{makes_none, filed_more, filed_still, filed_but_one}
 use Rattle.scip_snapshot.proofs.ShowLemmas.{none_yet, goes_on, stops, all_are}
 use Rattle.scip_snapshot.proofs.filing.file_all.Goals as goal
 
 pub loop-number-init : goal.loop-number-init
 loop-number-init g c =
-    none_yet g.M.Sink.contents g.M.Sink.failures (g.F.ReadFiles.gives c.args.files.now) c.args.folders.now.root.now
+    none_yet g.M.Sink (g.F.ReadFiles.gives c.args.files.now) c.args.folders.now.root.now
     c.args.queries.now c.args.messages.now
-    (AreFiled (maker g.O.MakeFiles.made c.args.made.now c.args.made.now) c.args.folders.now.to.now)
+    (AreFiled (making g.O.MakeFiles c.args.made.now c.args.made.now) c.args.folders.now.to.now)
     (makes_none (g.O.MakeFiles.made c.args.made.now))
 
 pub loop-number-preserved : goal.loop-number-preserved
 loop-number-preserved g c =
-    let made = g.O.MakeFiles.made in
+    let files = g.O.MakeFiles in
     let folder = c.args.folders.now.to.now in
     let first = c.args.made.now in
     let now = c.loop-number.made in
@@ -27,22 +28,22 @@ loop-number-preserved g c =
     subst (λ (ds : List Document). c.as_str.result.now ≡ (get_or ds n document).relative_path)
     c.documents-document-items.ensures
     (c.as_str.ensures ∙ ap (λ (d : Document). d.relative_path) c.document-item.is) in
-    goes_on g.M.Sink.contents g.M.Sink.failures (g.F.ReadFiles.gives c.args.files.now) c.args.folders.now.root.now
+    goes_on g.M.Sink (g.F.ReadFiles.gives c.args.files.now) c.args.folders.now.root.now
     c.args.queries.now c.args.messages.now c.loop-number.messages c.file_one.new.messages n document c.as_str.result.now
     (subst (λ (ds : List Document). n < length ds) c.documents-document-items.ensures c.loop-number-test.true) path
-    (AreFiled (maker made first now) folder) before
-    (AreFiled (maker made first after) folder) (AreFiledButOne (maker made first after) folder)
-    (AreFiled (maker made now after) folder) (AreFiledButOne (maker made now after) folder)
-    (AreFiled (maker made now after) folder [])
-    (λ item one. filed_more made folder first now after before.shown item before.gone one)
-    (λ item one. filed_but_one made folder first now after before.shown item before.gone one)
-    (λ none. filed_still made folder first now after before.shown before.gone none)
+    (AreFiled (making files first now) folder) before
+    (AreFiled (making files first after) folder) (AreFiledButOne (making files first after) folder)
+    (AreFiled (making files now after) folder) (AreFiledButOne (making files now after) folder)
+    (AreFiled (making files now after) folder [])
+    (λ item one. filed_more files folder first now after before.shown item before.gone one)
+    (λ item one. filed_but_one files folder first now after before.shown item before.gone one)
+    (λ none. filed_still files folder first now after before.shown before.gone none)
     c.in_ok-file_one.ensures
 
 pub returns-in_err-file_one : goal.returns-in_err-file_one
 returns-in_err-file_one g c =
     let p = err_from_is_err_and c.from_residual.result c.from_residual.ensures.1 in
-    let made = g.O.MakeFiles.made in
+    let files = g.O.MakeFiles in
     let folder = c.args.folders.now.to.now in
     let first = c.args.made.now in
     let now = c.loop-number.made in
@@ -54,25 +55,25 @@ returns-in_err-file_one g c =
     subst (λ (ds : List Document). c.as_str.result.now ≡ (get_or ds n document).relative_path)
     c.documents-document-items.ensures
     (c.as_str.ensures ∙ ap (λ (d : Document). d.relative_path) c.document-item.is) in
-    rw (p.1, p.2) (stops g.M.Sink.contents g.M.Sink.failures (g.F.ReadFiles.gives c.args.files.now)
+    rw (p.1, p.2) (stops g.M.Sink (g.F.ReadFiles.gives c.args.files.now)
     c.args.folders.now.root.now
     c.args.queries.now c.args.messages.now c.loop-number.messages c.file_one.new.messages n document c.as_str.result.now
     (subst (λ (ds : List Document). n < length ds) c.documents-document-items.ensures c.loop-number-test.true) path
-    (AreFiled (maker made first now) folder) before
-    (AreFiled (maker made first after) folder) (AreFiledButOne (maker made first after) folder)
-    (AreFiled (maker made now after) folder) (AreFiledButOne (maker made now after) folder)
-    (AreFiled (maker made now after) folder [])
-    (λ item one. filed_more made folder first now after before.shown item before.gone one)
-    (λ item one. filed_but_one made folder first now after before.shown item before.gone one)
-    (λ none. filed_still made folder first now after before.shown before.gone none)
+    (AreFiled (making files first now) folder) before
+    (AreFiled (making files first after) folder) (AreFiledButOne (making files first after) folder)
+    (AreFiled (making files now after) folder) (AreFiledButOne (making files now after) folder)
+    (AreFiled (making files now after) folder [])
+    (λ item one. filed_more files folder first now after before.shown item before.gone one)
+    (λ item one. filed_but_one files folder first now after before.shown item before.gone one)
+    (λ none. filed_still files folder first now after before.shown before.gone none)
     c.in_err-file_one.field-0.0 c.in_err-file_one.ensures)
 
 pub returns : goal.returns
 returns g c =
     let past : length c.documents-document-items.result.now ≤ c.loop-number.number =
     omega (arith, c.loop-number-test.false) in
-    all_are g.M.Sink.contents g.M.Sink.failures (g.F.ReadFiles.gives c.args.files.now) c.args.folders.now.root.now
+    all_are g.M.Sink (g.F.ReadFiles.gives c.args.files.now) c.args.folders.now.root.now
     c.args.queries.now c.args.messages.now c.loop-number.messages c.loop-number.number
     (subst (λ (ds : List Document). length ds ≤ c.loop-number.number) c.documents-document-items.ensures past)
-    (AreFiled (maker g.O.MakeFiles.made c.args.made.now c.loop-number.made) c.args.folders.now.to.now)
+    (AreFiled (making g.O.MakeFiles c.args.made.now c.loop-number.made) c.args.folders.now.to.now)
     c.loop-number.invariant

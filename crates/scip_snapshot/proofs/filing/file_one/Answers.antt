@@ -1,7 +1,8 @@
 use Rattle.std.proofs.Common.{refl, subst, ℕ, List, []}
 use Rattle.std.proofs.lemmas.Result.{err_from_is_err_and}
+use Rattle.source_files.specs.Makers.{making}
 use Rattle.scip_snapshot.specs.Snapshots.{IsOutcome, outcome_view}
-use Rattle.scip_snapshot.specs.Showing.{AreFiled, AreFiledButOne, Goes, maker}
+use Rattle.scip_snapshot.specs.Showing.{AreFiled, AreFiledButOne, Goes}
 use Rattle.scip_snapshot.proofs.ShowLemmas.{makes_none, shown_so, left_out_so}
 use Rattle.scip_snapshot.proofs.filing.file_one.Goals as goal
 
@@ -9,9 +10,9 @@ pub returns-in-Ok : goal.returns-in-Ok
 returns-in-Ok g c =
     let asked = c.args.asked.now in
     let gives = g.F.ReadFiles.gives c.args.files.now in
-    let files = maker g.O.MakeFiles.made c.args.made.now c.file_text.new.made in
+    let files = making g.O.MakeFiles c.args.made.now c.file_text.new.made in
     let folder = c.args.folder.now in
-    shown_so g.M.Sink.contents g.M.Sink.failures gives asked.root.now asked.queries.now asked.number asked.path.now
+    shown_so g.M.Sink gives asked.root.now asked.queries.now asked.number asked.path.now
     (AreFiled files folder) (AreFiledButOne files folder)
     (AreFiled files folder []) c.args.messages.now c.in-Ok.text.items
     (subst (λ o. IsOutcome gives asked.root.now asked.queries.now asked.number asked.path.now (outcome_view o))
@@ -25,9 +26,9 @@ pub returns-in-Err : goal.returns-in-Err
 returns-in-Err g c =
     let asked = c.args.asked.now in
     let gives = g.F.ReadFiles.gives c.args.files.now in
-    let files = maker g.O.MakeFiles.made c.args.made.now c.args.made.now in
+    let files = making g.O.MakeFiles c.args.made.now c.args.made.now in
     let folder = c.args.folder.now in
-    left_out_so g.M.Sink.contents g.M.Sink.failures gives asked.root.now asked.queries.now asked.number asked.path.now
+    left_out_so g.M.Sink gives asked.root.now asked.queries.now asked.number asked.path.now
     (AreFiled files folder) (AreFiledButOne files folder) (AreFiled files folder []) c.args.messages.now c.in-Err.left
     (subst (λ o. IsOutcome gives asked.root.now asked.queries.now asked.number asked.path.now (outcome_view o))
     c.in-Err.is c.in_ok-text.ensures)

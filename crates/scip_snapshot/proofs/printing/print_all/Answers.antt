@@ -1,24 +1,23 @@
 use Rattle.std.proofs.Common.{◌≡◌, ◌∙◌, ◌<◌, ◌≤◌, ℕ, ap, sym, subst, List, get_or, length, arith}
 use Rattle.std.proofs.lemmas.Result.{err_from_is_err_and}
+use Rattle.streams.specs.Writers.{IsWritten, writing}
 use Rattle.streams.proofs.WholeWriteLemmas.{IsWritten-nil}
-use Rattle.streams.specs.WholeWrites.{IsWritten}
 use Rattle.scip_records.specs.declared.records.Document.{Document}
 use Rattle.scip_snapshot.specs.Snapshots.{printed}
-use Rattle.scip_snapshot.specs.Showing.{writer, ArePrinted, AreCutOff}
+use Rattle.scip_snapshot.specs.Showing.{ArePrinted, AreCutOff}
 use Rattle.scip_snapshot.proofs.ShowLemmas.{printed_more, cut_off_more, none_yet, goes_on, stops, all_are}
 use Rattle.scip_snapshot.proofs.printing.print_all.Goals as goal
 
 pub loop-number-init : goal.loop-number-init
 loop-number-init g c =
-    none_yet g.M.Sink.contents g.M.Sink.failures (g.F.ReadFiles.gives c.args.files.now) c.args.root.now
+    none_yet g.M.Sink (g.F.ReadFiles.gives c.args.files.now) c.args.root.now
     c.args.queries.now c.args.messages.now
-    (ArePrinted (writer g.W.Sink.contents g.W.Sink.failures c.args.out.now c.args.out.now))
-    (IsWritten-nil g.W.Sink.contents g.W.Sink.failures c.args.out.now)
+    (ArePrinted (writing g.W.Sink c.args.out.now c.args.out.now))
+    (IsWritten-nil g.W.Sink c.args.out.now)
 
 pub loop-number-preserved : goal.loop-number-preserved
 loop-number-preserved g c =
-    let contents = g.W.Sink.contents in
-    let failures = g.W.Sink.failures in
+    let sink = g.W.Sink in
     let first = c.args.out.now in
     let now = c.loop-number.out in
     let after = c.print_one.new.out in
@@ -29,24 +28,23 @@ loop-number-preserved g c =
     subst (λ (ds : List Document). c.as_str.result.now ≡ (get_or ds n document).relative_path)
     c.documents-document-items.ensures
     (c.as_str.ensures ∙ ap (λ (d : Document). d.relative_path) c.document-item.is) in
-    goes_on g.M.Sink.contents g.M.Sink.failures (g.F.ReadFiles.gives c.args.files.now) c.args.root.now
+    goes_on g.M.Sink (g.F.ReadFiles.gives c.args.files.now) c.args.root.now
     c.args.queries.now c.args.messages.now c.loop-number.messages c.print_one.new.messages n document
     c.as_str.result.now
     (subst (λ (ds : List Document). n < length ds) c.documents-document-items.ensures c.loop-number-test.true) path
-    (ArePrinted (writer contents failures first now)) before
-    (ArePrinted (writer contents failures first after)) (AreCutOff (writer contents failures first after))
-    (ArePrinted (writer contents failures now after)) (AreCutOff (writer contents failures now after))
+    (ArePrinted (writing sink first now)) before
+    (ArePrinted (writing sink first after)) (AreCutOff (writing sink first after))
+    (ArePrinted (writing sink now after)) (AreCutOff (writing sink now after))
     (after ≡ now)
-    (λ item one. printed_more contents failures first now after before.shown item before.gone one)
-    (λ item one. cut_off_more contents failures first now after before.shown item before.gone one)
-    (λ same. subst (λ o. IsWritten contents failures first o (printed before.shown)) (sym same) before.gone)
+    (λ item one. printed_more sink first now after before.shown item before.gone one)
+    (λ item one. cut_off_more sink first now after before.shown item before.gone one)
+    (λ same. subst (λ o. IsWritten (writing sink first o) (printed before.shown)) (sym same) before.gone)
     c.in_ok-print_one.ensures
 
 pub returns-in_err-print_one : goal.returns-in_err-print_one
 returns-in_err-print_one g c =
     let p = err_from_is_err_and c.from_residual.result c.from_residual.ensures.1 in
-    let contents = g.W.Sink.contents in
-    let failures = g.W.Sink.failures in
+    let sink = g.W.Sink in
     let first = c.args.out.now in
     let now = c.loop-number.out in
     let after = c.print_one.new.out in
@@ -57,25 +55,25 @@ returns-in_err-print_one g c =
     subst (λ (ds : List Document). c.as_str.result.now ≡ (get_or ds n document).relative_path)
     c.documents-document-items.ensures
     (c.as_str.ensures ∙ ap (λ (d : Document). d.relative_path) c.document-item.is) in
-    rw (p.1, p.2) (stops g.M.Sink.contents g.M.Sink.failures (g.F.ReadFiles.gives c.args.files.now)
+    rw (p.1, p.2) (stops g.M.Sink (g.F.ReadFiles.gives c.args.files.now)
     c.args.root.now
     c.args.queries.now c.args.messages.now c.loop-number.messages c.print_one.new.messages n document
     c.as_str.result.now
     (subst (λ (ds : List Document). n < length ds) c.documents-document-items.ensures c.loop-number-test.true) path
-    (ArePrinted (writer contents failures first now)) before
-    (ArePrinted (writer contents failures first after)) (AreCutOff (writer contents failures first after))
-    (ArePrinted (writer contents failures now after)) (AreCutOff (writer contents failures now after))
+    (ArePrinted (writing sink first now)) before
+    (ArePrinted (writing sink first after)) (AreCutOff (writing sink first after))
+    (ArePrinted (writing sink now after)) (AreCutOff (writing sink now after))
     (after ≡ now)
-    (λ item one. printed_more contents failures first now after before.shown item before.gone one)
-    (λ item one. cut_off_more contents failures first now after before.shown item before.gone one)
-    (λ same. subst (λ o. IsWritten contents failures first o (printed before.shown)) (sym same) before.gone)
+    (λ item one. printed_more sink first now after before.shown item before.gone one)
+    (λ item one. cut_off_more sink first now after before.shown item before.gone one)
+    (λ same. subst (λ o. IsWritten (writing sink first o) (printed before.shown)) (sym same) before.gone)
     c.in_err-print_one.field-0.0 c.in_err-print_one.ensures)
 
 pub returns : goal.returns
 returns g c =
     let past : length c.documents-document-items.result.now ≤ c.loop-number.number =
     omega (arith, c.loop-number-test.false) in
-    all_are g.M.Sink.contents g.M.Sink.failures (g.F.ReadFiles.gives c.args.files.now) c.args.root.now
+    all_are g.M.Sink (g.F.ReadFiles.gives c.args.files.now) c.args.root.now
     c.args.queries.now c.args.messages.now c.loop-number.messages c.loop-number.number
     (subst (λ (ds : List Document). length ds ≤ c.loop-number.number) c.documents-document-items.ensures past)
-    (ArePrinted (writer g.W.Sink.contents g.W.Sink.failures c.args.out.now c.loop-number.out)) c.loop-number.invariant
+    (ArePrinted (writing g.W.Sink c.args.out.now c.loop-number.out)) c.loop-number.invariant

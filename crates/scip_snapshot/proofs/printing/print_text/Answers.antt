@@ -1,10 +1,10 @@
 use Rattle.std.proofs.Common.{◌∙◌, sym, refl, subst, [], append-nil, arith}
-use Rattle.streams.specs.WholeWrites.{IsWritten, IsCutOff}
+use Rattle.streams.specs.Writers.{IsCutOff, IsWritten, writing}
 use Rattle.scip_snapshot.proofs.printing.print_text.Goals as goal
 
 pub returns-in-Ok : goal.returns-in-Ok
 returns-in-Ok g c =
-    subst (IsWritten g.W.Sink.contents g.W.Sink.failures c.args.out.now c.write_all.new.sink)
+    subst (IsWritten (writing g.W.Sink c.args.out.now c.write_all.new.sink))
     (c.as_slice.ensures.value ∙ c.in_ok-all.ensures ∙ sym (append-nil _)) c.in-Ok.ensures.ok
 
 pub returns : goal.returns
@@ -17,6 +17,6 @@ returns g c =
       count = count;
       past_others = omega arith;
       cut_off = subst
-          (λ text. IsCutOff g.W.Sink.contents g.W.Sink.failures c.args.out.now c.write_all.new.sink text count)
+          (λ text. IsCutOff (writing g.W.Sink c.args.out.now c.write_all.new.sink) text count)
           (c.as_slice.ensures.value ∙ c.in_ok-all.ensures ∙ sym (append-nil _)) c.in-Err.ensures.err;
     }

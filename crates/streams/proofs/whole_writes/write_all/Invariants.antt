@@ -1,6 +1,6 @@
 use Rattle.std.proofs.Common.{◌≡◌, ◌≤◌, length, take, drop, ◌-◌}
-use Rattle.streams.specs.WholeWrites.{IsWritten}
-use Rattle.streams.proofs.sink.write_all.Given as goal
+use Rattle.streams.specs.Writers.{writing, IsWritten}
+use Rattle.streams.proofs.whole_writes.write_all.Given as goal
 
 -- what is left is a suffix of the bytes, and all before it went out with no failure
 abbrev pub invariant-writes : goal.invariant-writes
@@ -9,7 +9,7 @@ invariant-writes g l =
     record {
       fits : length l.rest ≤ length l.bytes;
       suffix : l.rest ≡ drop sent l.bytes;
-      sent : IsWritten g.W.Sink.contents g.W.Sink.failures l.initial.sink l.sink (take sent l.bytes);
+      sent : IsWritten (writing g.W.Sink l.initial.sink l.sink) (take sent l.bytes);
     }
 
 abbrev pub decreases-writes : goal.decreases-writes

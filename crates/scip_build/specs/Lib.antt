@@ -26,6 +26,8 @@ pub mod Made
 pub mod Making
 -- an index in a form
 pub mod Forms
+-- the same of linked sources as one
+pub mod Works
 -- the laws
 pub mod Laws
 pub mod BuildLaws

@@ -7,12 +7,13 @@ ghost use Rattle.proto_visibility.specs.Linked.{HaveClearNames};
 ghost use Rattle.scip_model.specs.Indexes.{metadata_of};
 ghost use Rattle.scip_build.specs.declared.faulty.Faulty.TheVariants.{Refuse, Skip};
 ghost use Rattle.scip_build.specs.Linking.{linked_files};
-ghost use Rattle.scip_build.specs.Documents.{AreReady, MayRefuseDocuments};
+ghost use Rattle.scip_build.specs.Documents.{MayRefuseDocuments};
 ghost use Rattle.scip_build.specs.Ready.{AreOfTree};
 ghost use Rattle.scip_build.specs.Making.{MayRefuseMaking, MayRefuseSkipping};
-ghost use Rattle.scip_build.specs.Forms.{index_of, IsMadeInForm, IsMadeOf, IsLinkedAndMade, IsBuiltOfInForm};
+ghost use Rattle.scip_build.specs.Forms.{index_of, IsMadeOf, IsLinkedAndMade, IsBuiltOfInForm};
 ghost use Rattle.scip_build.specs.Forms.{IsBuiltInForm};
 ghost use Rattle.scip_build.specs.Builds.{IsBuilt, IsBuildFault};
+ghost use Rattle.scip_build.specs.Works.{IsReady, MayRefuseAny, IsMadeFrom};
 
 use crate::built::Built;
 use crate::chosen::chosen_lists;
@@ -69,12 +70,10 @@ fn make_parts<R: Threads + Wait, G: Gate, F: DocumentForm + Sync>(
     form: &F,
 ) -> Result<(Parts<F::Kept>, Sequence<FilePlace>), BuildFault>
     requires few { sources.now.count ≤ MAX_INPUTS }
-    requires ready { AreReady
-        sources.now.readings.now sources.now.linker.now sources.now.choices.now sources.now.count }
+    requires ready { IsReady sources.now }
     ensures { MatchResult result
-        (λ made. IsMadeInForm F.is_kept sources.now.readings.now sources.now.linker.now sources.now.choices.now
-        sources.now.settings.now made.0 made.1)
-        (MayRefuseDocuments sources.now.settings.now.faulty sources.now.linker.now run.now.workers) }
+        (λ made. IsMadeFrom sources.now F.is_kept made.0 made.1)
+        (MayRefuseAny sources.now run.now.workers) }
 {
     let settings = sources.settings;
     let made = make_documents(run, sources, form)?;

@@ -2,8 +2,8 @@
 
 ghost use Rattle.std.specs.Prelude.{◌≡◌, ◌≤◌, MatchResult};
 ghost use Rattle.index_pool.specs.declared.workers.TheConstants.{MAX_INPUTS};
-ghost use Rattle.scip_build.specs.Documents.{AreReady, fault_of_source, MayRefuseDocuments};
-ghost use Rattle.scip_build.specs.Forms.{AreMade};
+ghost use Rattle.scip_build.specs.Documents.{fault_of_source};
+ghost use Rattle.scip_build.specs.Works.{IsReady, MayRefuseAny, AreMadeFrom};
 
 use crate::document_form::DocumentForm;
 use crate::fault::BuildFault;
@@ -26,20 +26,14 @@ struct PhaseTwo<'a, 'b, 'l, 'f, 'r, F: DocumentForm + Sync> {
 }
 
 impl<'a, 'b, 'l, 'f, 'r, F: DocumentForm + Sync> Model for PhaseTwo<'a, 'b, 'l, 'f, 'r, F> {
-    ghost use Rattle.scip_build.specs.Documents.{AreReady, SourceWork};
+    ghost use Rattle.scip_build.specs.Documents.{SourceWork};
+    ghost use Rattle.scip_build.specs.Works.{IsReady, work_of};
 
     ghost Value = { SourceWork };
 
-    ghost view = { λ job. record {
-      readings = job.sources.now.readings.now;
-      files = job.sources.now.linker.now;
-      chosen = job.sources.now.choices.now;
-      settings = job.sources.now.settings.now;
-      count = job.sources.now.count;
-    } };
+    ghost view = { λ job. work_of job.sources.now };
 
-    ghost invariant = { λ job. AreReady
-        job.sources.now.readings.now job.sources.now.linker.now job.sources.now.choices.now job.sources.now.count };
+    ghost invariant = { λ job. IsReady job.sources.now };
 }
 
 impl<'a, 'b, 'l, 'f, 'r, F: DocumentForm + Sync> Job for PhaseTwo<'a, 'b, 'l, 'f, 'r, F> {
@@ -85,12 +79,10 @@ pub(crate) fn make_documents<R: Threads + Wait, G: Gate, F: DocumentForm + Sync>
     form: &F,
 ) -> Result<Vec<MadeDocument<F::Kept>>, BuildFault>
     requires few { sources.now.count ≤ MAX_INPUTS }
-    requires ready { AreReady
-        sources.now.readings.now sources.now.linker.now sources.now.choices.now sources.now.count }
+    requires ready { IsReady sources.now }
     ensures { MatchResult result
-        (λ made. AreMade F.is_kept sources.now.readings.now sources.now.linker.now sources.now.choices.now
-        sources.now.settings.now made.items)
-        (MayRefuseDocuments sources.now.settings.now.faulty sources.now.linker.now run.now.workers) }
+        (λ made. AreMadeFrom sources.now F.is_kept made.items)
+        (MayRefuseAny sources.now run.now.workers) }
 {
     one_document_a_source();
     let job = PhaseTwo { sources, form };

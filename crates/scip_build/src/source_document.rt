@@ -1,13 +1,11 @@
 //! The document of a source that was read.
 
-ghost use Rattle.proto_visibility.specs.Files.{IsSource};
-ghost use Rattle.scip_model.specs.Chosen.{HaveChoices};
-ghost use Rattle.scip_model.specs.Conditions.{HaveGoodPaths};
-ghost use Rattle.scip_model.specs.Texts.{HasText};
-ghost use Rattle.std.specs.Prelude.{ℕ, List, [], ◌≡◌, Some, MatchOption};
+ghost use Rattle.std.specs.Prelude.{[], ◌≡◌, Some, MatchOption};
 ghost use Rattle.std.specs.List.{slice_get};
 ghost use Rattle.scip_build.specs.declared.faulty.Faulty.TheVariants.{Refuse};
-ghost use Rattle.scip_build.specs.Documents.{IsRead, HasReadText, GivesDocument};
+ghost use Rattle.scip_build.specs.Documents.{IsRead, HasReadText};
+ghost use Rattle.scip_build.specs.Works.{HasSource, HasReadSource, HasTextRead, GivesDocumentOf, HasGoodPaths};
+ghost use Rattle.scip_build.specs.Works.{HasChosen};
 
 use crate::faulty::Faulty;
 use crate::linked_sources::LinkedSources;
@@ -65,14 +63,12 @@ pub(crate) fn make_document<'a, 'f>(
     sources: &LinkedSources<'a, '_, 'f, '_>,
     number: usize,
 ) -> Result<PlannedDocument<'a, 'f>, NoDocument>
-    requires source { IsSource sources.now.linker.now number }
-    requires read { IsRead sources.now.readings.now number }
-    requires texts { (text : List ℕ) → HasReadText sources.now.readings.now number text
-        → HasText sources.now.linker.now number text }
-    requires good { HaveGoodPaths sources.now.linker.now }
-    requires choices { HaveChoices sources.now.linker.now sources.now.choices.now }
-    ensures { GivesDocument sources.now.readings.now sources.now.linker.now sources.now.choices.now
-        sources.now.settings.now number result }
+    requires source { HasSource sources.now number }
+    requires read { HasReadSource sources.now number }
+    requires texts { HasTextRead sources.now number }
+    requires good { HasGoodPaths sources.now }
+    requires choices { HasChosen sources.now }
+    ensures { GivesDocumentOf sources.now number result }
 {
     let text = text_at(sources.readings, number);
     let maker = DocumentMaker {

@@ -23,6 +23,8 @@ pub mod Uses
 pub mod Gaps
 -- documents, external entries, and the index of a tree
 pub mod Indexes
+-- the same of what a document is made from
+pub mod Makers
 -- documents put together, and what is said about why they are not
 pub mod Pieces
 pub mod MergeFaults

@@ -5,18 +5,25 @@ ghost use Rattle.std.specs.Prelude.{if◌then◌else◌};
 ghost use Rattle.std.specs.List.{range_with_len};
 ghost use Rattle.proto_decl.specs.Names.{dotted, package_of};
 ghost use Rattle.proto_decl.specs.Ancestors.{component_names};
-ghost use Rattle.proto_visibility.specs.Files.{HasFacts, HasPathAt, IsSource};
 ghost use Rattle.scip_records.specs.declared.records.SymbolInformation.{SymbolInformation};
 ghost use Rattle.scip_symbol.specs.Package.{Package};
-ghost use Rattle.scip_model.specs.Packages.{package_of_file};
-ghost use Rattle.scip_model.specs.Chosen.{HasChoice, HaveChoices};
-ghost use Rattle.scip_model.specs.Conditions.{HaveGoodPaths};
-ghost use Rattle.scip_model.specs.Entries.{declaration_entry, HasEntry};
-ghost use Rattle.scip_model.specs.Tables.EntryLists.{kept_entries, choices_for};
+ghost use Rattle.scip_model.specs.Entries.{declaration_entry};
+ghost use Rattle.scip_model.specs.Tables.EntryLists.{kept_entries};
 ghost use Rattle.scip_model.specs.Tables.OwnTexts.{entry_with};
 ghost use Rattle.scip_model.specs.Tables.EntryNumbers.{package_names, AreNumbered};
-ghost use Rattle.scip_model.specs.Tables.Plans.{Grown, own_texts, entry_of};
+ghost use Rattle.scip_model.specs.Tables.Plans.{Grown, entry_of};
 ghost use Rattle.scip_model.specs.Indexes.{info_cmp, IsAscendingListOf};
+ghost use Rattle.scip_model.specs.Makers.{
+  HasChosen,
+  HasChosenFor,
+  HasGoodPaths,
+  HasSourceFacts,
+  HasSourcePath,
+  IsItsEntry,
+  IsOfSource,
+  choices_of,
+  source_texts,
+};
 
 use crate::document_maker::DocumentMaker;
 use crate::documentation::documentation_of;
@@ -148,11 +155,11 @@ fn push_declarations(
     facts: &FileFacts,
 ) -> Result<(), AllocError>
     requires { (index : ℕ) → index < length facts.now.declarations
-        → HasChoice maker.now.choices.now maker.now.source index }
+        → HasChosenFor maker.now index }
     ensures { OnOk result ((id : Package) (entry : ℕ → SymbolInformation)
-        → AreNumbered id facts.now (choices_for maker.now.choices.now maker.now.source) entry
+        → AreNumbered id facts.now (choices_of maker.now) entry
         → map entry numbers.new.items ≡ map entry numbers.old.items
-        ++ kept_entries id facts.now facts.now.declarations (choices_for maker.now.choices.now maker.now.source)) }
+        ++ kept_entries id facts.now facts.now.declarations (choices_of maker.now)) }
 {
     for index in 0..facts.declarations().len() {
         let choice = maker.choices.of(maker.source, index);
@@ -176,17 +183,16 @@ pub(crate) fn entry_numbers(
     texts: &SymbolTable,
     facts: &FileFacts,
 ) -> Result<Vec<u32>, AllocError>
-    requires source { IsSource maker.now.linker.now maker.now.source }
-    requires path { HasPathAt maker.now.linker.now path.now maker.now.source }
-    requires known { HasFacts maker.now.linker.now maker.now.source facts.now }
-    requires paths { HaveGoodPaths maker.now.linker.now }
-    requires choices { HaveChoices maker.now.linker.now maker.now.choices.now }
-    requires texts { Grown (own_texts (package_of_file maker.now.linker.now maker.now.package.now maker.now.source)
-        maker.now.package.now.run path.now facts.now) texts.now }
+    requires source { IsOfSource maker.now }
+    requires path { HasSourcePath maker.now path.now }
+    requires known { HasSourceFacts maker.now facts.now }
+    requires paths { HasGoodPaths maker.now }
+    requires choices { HasChosen maker.now }
+    requires texts { Grown (source_texts maker.now path.now facts.now) texts.now }
     ensures { IfOk result (λ numbers. IsAscendingListOf info_cmp
-        (HasEntry maker.now.linker.now maker.now.choices.now maker.now.package.now maker.now.source)
+        (IsItsEntry maker.now)
         (map (entry_of texts.now path.now (package_names facts.now.package_name) facts.now
-        (choices_for maker.now.choices.now maker.now.source)) numbers.items)) }
+        (choices_of maker.now)) numbers.items)) }
 {
     symbols_stand_apart(maker.linker, maker.package);
     let mut numbers = first_numbers(maker.alloc, facts)?;

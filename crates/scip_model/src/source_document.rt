@@ -2,18 +2,25 @@
 
 ghost use Rattle.std.specs.Prelude.{◌≡◌, [], IfOk, IfErr, OnOk, map};
 ghost use Rattle.std.specs.List.{slice_get};
-ghost use Rattle.proto_visibility.specs.Files.{HasFacts, HasPathAt, IsSource};
 ghost use Rattle.proto_visibility.specs.declared.fault.LinkFault.TheVariants.{Memory};
-ghost use Rattle.scip_model.specs.Gaps.{AreGaps};
-ghost use Rattle.scip_model.specs.Chosen.{HaveChoices};
-ghost use Rattle.scip_model.specs.Conditions.{HaveGoodPaths};
-ghost use Rattle.scip_model.specs.Uses.{UsesResolve};
-ghost use Rattle.scip_model.specs.Texts.{AreOfText, HasText, MayRefuseDocument};
-ghost use Rattle.scip_model.specs.Occurs.{Occurs};
-ghost use Rattle.scip_model.specs.Indexes.{IsAscendingListOf, IsDocumentOf};
+ghost use Rattle.scip_model.specs.Indexes.{IsAscendingListOf};
 ghost use Rattle.scip_model.specs.OccurrenceOrder.{occurrence_cmp};
-ghost use Rattle.scip_model.specs.Packages.{package_of_file};
-ghost use Rattle.scip_model.specs.Tables.Plans.{own_texts, Grown, occurrence_of};
+ghost use Rattle.scip_model.specs.Tables.Plans.{Grown, occurrence_of};
+ghost use Rattle.scip_model.specs.Makers.{
+  AreItsGaps,
+  HasChosen,
+  HasGoodPaths,
+  HasResolvedUses,
+  HasSourceFacts,
+  HasSourcePath,
+  HasSourceText,
+  HasTextFor,
+  IsItsDocument,
+  IsOfSource,
+  MayRefuseIts,
+  OccursIn,
+  source_texts,
+};
 
 use crate::document_maker::DocumentMaker;
 use crate::document_plan::{DocumentPlan, PlannedDocument};
@@ -43,20 +50,18 @@ fn occurrences(
     gaps: &mut Vec<Span>,
     texts: &mut SymbolTable,
 ) -> Result<Vec<PlannedOccurrence>, LinkFault>
-    requires source { IsSource maker.now.linker.now maker.now.source }
-    requires path { HasPathAt maker.now.linker.now path.now maker.now.source }
-    requires known { HasFacts maker.now.linker.now maker.now.source facts.now }
+    requires source { IsOfSource maker.now }
+    requires path { HasSourcePath maker.now path.now }
+    requires known { HasSourceFacts maker.now facts.now }
     requires empty { gaps.old.items ≡ [] }
-    requires text { AreOfText maker.now.text.now facts.now }
-    requires paths { HaveGoodPaths maker.now.linker.now }
-    requires choices { HaveChoices maker.now.linker.now maker.now.choices.now }
-    requires texts { Grown (own_texts (package_of_file maker.now.linker.now maker.now.package.now maker.now.source)
-        maker.now.package.now.run path.now facts.now) texts.old }
+    requires text { HasTextFor maker.now facts.now }
+    requires paths { HasGoodPaths maker.now }
+    requires choices { HasChosen maker.now }
+    requires texts { Grown (source_texts maker.now path.now facts.now) texts.old }
     ensures grown { OnOk result (Grown texts.old texts.new) }
-    ensures planned { IfOk result (λ list. IsAscendingListOf occurrence_cmp (Occurs
-        maker.now.linker.now maker.now.choices.now maker.now.package.now maker.now.encoding maker.now.source
-        maker.now.text.now) (map (occurrence_of texts.new) list.items)) }
-    ensures gaps { OnOk result (AreGaps maker.now.linker.now maker.now.source gaps.new.items) }
+    ensures planned { IfOk result (λ list. IsAscendingListOf occurrence_cmp (OccursIn maker.now)
+        (map (occurrence_of texts.new) list.items)) }
+    ensures gaps { OnOk result (AreItsGaps maker.now gaps.new.items) }
     ensures refused { IfErr result (λ fault. fault ≡ Memory) }
 {
     facts_occur_in_order(maker.linker);
@@ -89,14 +94,12 @@ pub struct SourceDocument {
 pub fn plan_document<'a, 'f>(
     maker: &DocumentMaker<'a, '_, 'f, '_>,
 ) -> Result<PlannedDocument<'a, 'f>, LinkFault>
-    requires source { IsSource maker.now.linker.now maker.now.source }
-    requires text { HasText maker.now.linker.now maker.now.source maker.now.text.now }
-    requires paths { HaveGoodPaths maker.now.linker.now }
-    requires choices { HaveChoices maker.now.linker.now maker.now.choices.now }
-    ensures document { IfOk result (λ made. IsDocumentOf
-        maker.now.linker.now maker.now.choices.now maker.now.package.now maker.now.encoding maker.now.source
-        maker.now.text.now made.document) }
-    ensures gaps { IfOk result (λ made. AreGaps maker.now.linker.now maker.now.source made.unresolved) }
+    requires source { IsOfSource maker.now }
+    requires text { HasSourceText maker.now }
+    requires paths { HasGoodPaths maker.now }
+    requires choices { HasChosen maker.now }
+    ensures document { IfOk result (λ made. IsItsDocument maker.now made.document) }
+    ensures gaps { IfOk result (λ made. AreItsGaps maker.now made.unresolved) }
     ensures refused { IfErr result (λ fault. fault ≡ Memory) }
 {
     maker.linker.linked();
@@ -132,14 +135,12 @@ pub fn plan_document<'a, 'f>(
 /// occur; its place is told beside the document. `Memory` is the only fault. What is asked of the maker's parts is
 /// what [`document`](crate::document) asks.
 pub fn document_and_gaps(maker: &DocumentMaker<'_, '_, '_, '_>) -> Result<SourceDocument, LinkFault>
-    requires source { IsSource maker.now.linker.now maker.now.source }
-    requires text { HasText maker.now.linker.now maker.now.source maker.now.text.now }
-    requires paths { HaveGoodPaths maker.now.linker.now }
-    requires choices { HaveChoices maker.now.linker.now maker.now.choices.now }
-    ensures document { IfOk result (λ made. IsDocumentOf
-        maker.now.linker.now maker.now.choices.now maker.now.package.now maker.now.encoding maker.now.source
-        maker.now.text.now made.document) }
-    ensures gaps { IfOk result (λ made. AreGaps maker.now.linker.now maker.now.source made.unresolved) }
+    requires source { IsOfSource maker.now }
+    requires text { HasSourceText maker.now }
+    requires paths { HasGoodPaths maker.now }
+    requires choices { HasChosen maker.now }
+    ensures document { IfOk result (λ made. IsItsDocument maker.now made.document) }
+    ensures gaps { IfOk result (λ made. AreItsGaps maker.now made.unresolved) }
     ensures refused { IfErr result (λ fault. fault ≡ Memory) }
 {
     let planned = plan_document(maker)?;
@@ -162,15 +163,13 @@ fn first_of(spans: &[Span]) -> Option<Span>
 /// or not: there is a document only where all do. `Memory` comes before it. What is asked of the maker's parts is what
 /// [`document`](crate::document) asks.
 pub fn make_document(maker: &DocumentMaker<'_, '_, '_, '_>) -> Result<Document, LinkFault>
-    requires source { IsSource maker.now.linker.now maker.now.source }
-    requires text { HasText maker.now.linker.now maker.now.source maker.now.text.now }
-    requires paths { HaveGoodPaths maker.now.linker.now }
-    requires choices { HaveChoices maker.now.linker.now maker.now.choices.now }
-    ensures document { IfOk result (IsDocumentOf
-        maker.now.linker.now maker.now.choices.now maker.now.package.now maker.now.encoding maker.now.source
-        maker.now.text.now) }
-    ensures resolved { IfOk result (λ _. UsesResolve maker.now.linker.now maker.now.source) }
-    ensures refused { IfErr result (MayRefuseDocument maker.now.linker.now maker.now.source) }
+    requires source { IsOfSource maker.now }
+    requires text { HasSourceText maker.now }
+    requires paths { HasGoodPaths maker.now }
+    requires choices { HasChosen maker.now }
+    ensures document { IfOk result (IsItsDocument maker.now) }
+    ensures resolved { IfOk result (λ _. HasResolvedUses maker.now) }
+    ensures refused { IfErr result (MayRefuseIts maker.now) }
 {
     let SourceDocument {
         document,

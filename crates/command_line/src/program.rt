@@ -21,9 +21,9 @@ use crate::names::{DUMP, INDEX, INDEX_FILE, OUT, PAGES, QUERY, ROOT, SHELL, SNAP
 use crate::options::{
     WordLists, accept, add_tree_options, custom_options, explain, own_options, to,
 };
+use basics::tool::{NAME, VERSION};
 use clap::{Arg, Command};
 use std::alloc::{AllocError, Global};
-use tool::{NAME, VERSION};
 
 const INDEX_EXAMPLE: &str =
     "Example: index the sources below api, with those below vendor for their imports:

@@ -3,7 +3,7 @@
 ghost use Rattle.std.specs.Prelude.{Bool};
 
 use crate::choice::DocChoice;
-use crate::turns::Ticket;
+use crate::turns::Turn;
 use proto_decl::DeclView;
 
 /// A callback that says of each declaration whether it is kept, with a promise about its answers.
@@ -13,8 +13,8 @@ pub trait FilterHook {
     // The answers that its promise allows.
     ghost may: { Self → Seen → Bool → Type 0 };
 
-    /// Asks it, and uses up the ticket. It may answer differently on each call.
-    fn ask(&self, ticket: Ticket, view: &DeclView<'_>) -> bool
+    /// Asks it, and uses up the turn. It may answer differently on each call.
+    fn ask(&self, turn: Turn, view: &DeclView<'_>) -> bool
         ensures { may self.now view.now result };
 }
 
@@ -26,8 +26,8 @@ pub trait DocHook {
     // The answers that its promise allows.
     ghost may: { Self → Seen → DocChoice → Type 0 };
 
-    /// Asks it, and uses up the ticket. It may answer differently on each call.
-    fn ask(&self, ticket: Ticket, view: &DeclView<'_>) -> DocChoice
+    /// Asks it, and uses up the turn. It may answer differently on each call.
+    fn ask(&self, turn: Turn, view: &DeclView<'_>) -> DocChoice
         ensures { may self.now view.now result };
 }
 

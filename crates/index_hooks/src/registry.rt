@@ -8,9 +8,9 @@ ghost use Rattle.index_hooks.specs.Turns.{IsTurnOf, taken, place_of};
 use crate::choice::{Choice, DocChoice};
 use crate::fault::HookFault;
 use crate::hook::{BoxedFilter, BoxedRule, DocHook, FilterHook};
-use crate::turns::{Chooses, Ticket, Turns};
+use crate::turns::{Chooses, Turn, Turns};
+use basics::Sequence;
 use proto_decl::DeclView;
-use sequences::Sequence;
 use std::alloc::Global;
 
 /// The most filters, and the most documentation rules, of a registry.
@@ -102,13 +102,13 @@ impl Registry {
 fn ask_filter(
     filters: &[BoxedFilter],
     filter: &BoxedFilter,
-    ticket: Ticket,
+    turn: Turn,
     view: &DeclView<'_>,
 ) -> bool
-    requires { IsTurnOf 0 filters.now filter.now (place_of ticket) }
+    requires { IsTurnOf 0 filters.now filter.now (place_of turn) }
     ensures { (FilterHook-box filter.now).may filter.now.value view.now result }
 {
-    filter.ask(ticket, view)
+    filter.ask(turn, view)
 }
 
 /// Asks the rule whose turn it is, where the turns of the rules begin at `first`.
@@ -116,13 +116,13 @@ fn ask_rule(
     first: usize,
     rules: &[BoxedRule],
     rule: &BoxedRule,
-    ticket: Ticket,
+    turn: Turn,
     view: &DeclView<'_>,
 ) -> DocChoice
-    requires { IsTurnOf first rules.now rule.now (place_of ticket) }
+    requires { IsTurnOf first rules.now rule.now (place_of turn) }
     ensures { (DocHook-box rule.now).may rule.now.value view.now result }
 {
-    rule.ask(ticket, view)
+    rule.ask(turn, view)
 }
 
 /// Whether all filters answer `true`. The first `false` ends the asking.

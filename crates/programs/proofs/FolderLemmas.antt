@@ -10,6 +10,7 @@ use Rattle.std.proofs.lemmas.List.{append-nil, append_assoc, take-append-drop, m
 use Rattle.std.proofs.lemmas.List.Elements.{All-nil, All-cons, All-head, All-tail, All-push}
 use Rattle.std.proofs.lemmas.List.Folds.{list_any-append}
 use Rattle.std.proofs.lemmas.Slice.Eq.{bytes_eq-Decides}
+use Rattle.basics.proofs.ListLemmas.{zip_append as zip-append}
 use Rattle.scip_symbol.specs.Package.{Package, IsPackage}
 use Rattle.scip_model.specs.Packages.{Root, Packages, ArePackages, with_path, package_among, package_of_path}
 use Rattle.command_line.specs.declared.options.IndexOptions.{IndexOptions}
@@ -65,13 +66,6 @@ one_path_more id before x old new is same more = record {
 }
 
 -- ---- folders one after another
-
-zip-append : {A B : Type 0} (R : A → B → Type 0) (xs us : List A) (ys vs : List B) → AllZip R xs ys → AllZip R us vs
-    → AllZip R (xs ++ us) (ys ++ vs)
-zip-append R [] us [] vs all more = more
-zip-append R [] us (y ∷ ys) vs all more = absurd all
-zip-append R (x ∷ xs) us [] vs all more = absurd all
-zip-append R (x ∷ xs) us (y ∷ ys) vs all more = (all.0, zip-append R xs us ys vs all.1 more)
 
 -- one folder
 pub one_root : (wanted root : Root) (before after : Packages) → IsRootOf wanted root → after.run ≡ before.run

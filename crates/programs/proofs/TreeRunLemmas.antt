@@ -16,7 +16,7 @@ use Rattle.programs.specs.Indexing.{IndexesInto, not_begun, into_part, too_poor}
 use Rattle.programs.specs.Messages.{SaysOfSuccess}
 use Rattle.programs.specs.Placing.{Place}
 use Rattle.programs.specs.TreeRuns.{Ends}
-use Rattle.programs.proofs.LackLemmas.{ends_of, lacks_of}
+use Rattle.programs.proofs.TreeRunOmissionLemmas.{ends_of, omissions_said}
 
 -- the part of what is handed out, or the fault
 abbrev pub part_of : {A B E : Type 0} → (A → B) → Result A E → Result B E
@@ -56,7 +56,7 @@ into_of none_found asked allows settings workers tree unread at report messages 
     (too_poor recorded fault apart forgoes breaks ends) =
     too_poor recorded fault apart forgoes breaks (
       ends.0,
-      lacks_of SaysOfSuccess (none_found tree) (explain_in asked.options.explain settings.dialect) tree
+      omissions_said SaysOfSuccess (none_found tree) (explain_in asked.options.explain settings.dialect) tree
           (record messages { after = ends.0 }) 0 line found unread recorded.told ends.1,
       ends.2,
     )

@@ -19,7 +19,7 @@ use Rattle.programs.specs.declared.limits.TheConstants.{NO_LIMITS}
 use Rattle.programs.specs.declared.limits.LimitFault.{LimitFault}
 use Rattle.programs.specs.declared.limits.LimitFault.TheVariants.{TooManySkipped, TooFewSources}
 use Rattle.programs.specs.Messages.{SaysOfSuccess, Tells}
-use Rattle.programs.specs.TreeRuns.{Lacks}
+use Rattle.programs.specs.TreeRuns.{SaysOmissions}
 
 -- ---- which limit is broken
 
@@ -83,5 +83,5 @@ abbrev pub EndsShort : {M : Type 0} → (none_found : Option (List ℕ) → Type
     → (dialect : Option Dialect) → List TreeFile → (unread : List (List ℕ)) → List Omission → LimitFault → Writer M
     → (status : ℕ) → Type 0
 EndsShort {M} none_found explain dialect tree unread lacks fault messages status =
-    (said : M) × Lacks SaysOfSuccess none_found dialect tree unread lacks (record messages { after = said }) 0
+    (said : M) × SaysOmissions SaysOfSuccess none_found dialect tree unread lacks (record messages { after = said }) 0
     × Tells (told explain fault) limit_status (record messages { before = said }) status

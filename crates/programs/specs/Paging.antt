@@ -9,7 +9,7 @@ use Rattle.streams.specs.Writers.{IsUntouched, Writer, writing}
 use Rattle.scip_records.specs.declared.records.Index.{Index}
 use Rattle.source_files.specs.FolderPlaces.{IsEmpty}
 use Rattle.source_files.specs.Made.{Made, MadeFile}
-use Rattle.scip_snapshot.specs.declared.show_fault.ShowFault.TheVariants.{Write, Memory}
+use Rattle.scip_site.specs.declared.show_fault.ShowFault.TheVariants.{Write, Memory}
 use Rattle.scip_site.specs.Making.{MakesSite}
 use Rattle.scip_site.specs.declared.site_fault.SiteFault.{SiteFault}
 use Rattle.scip_site.specs.declared.site_fault.SiteFault.TheVariants.{Show}

@@ -6,9 +6,9 @@ use Rattle.std.specs.Option.{option_map}
 use Rattle.streams.specs.Writers.{Writer, writing}
 use Rattle.source_files.specs.Makers.{Maker}
 use Rattle.scip_records.specs.declared.records.Index.{Index}
-use Rattle.scip_snapshot.specs.Showing.{ArePrinted, AreCutOff, AreFiled, AreFiledButOne, Shows}
-use Rattle.scip_snapshot.specs.declared.show_fault.ShowFault.{ShowFault}
-use Rattle.scip_snapshot.specs.declared.show_fault.ShowFault.TheVariants.{Write}
+use Rattle.scip_site.specs.Showing.{ArePrinted, AreCutOff, AreFiled, AreFiledButOne, Shows}
+use Rattle.scip_site.specs.declared.show_fault.ShowFault.{ShowFault}
+use Rattle.scip_site.specs.declared.show_fault.ShowFault.TheVariants.{Write}
 use Rattle.source_files.specs.declared.cause.Cause.{Cause}
 use Rattle.command_line.specs.declared.options.SnapshotOptions.{SnapshotOptions}
 use Rattle.programs.specs.declared.query_fault.QueryFault.{QueryFault}

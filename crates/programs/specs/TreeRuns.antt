@@ -32,14 +32,14 @@ SaysAll says explain tree unread told messages status =
 
 -- the end of a run that made an index which lacks this, of a tree without what couldn't be read. If nothing is lacking,
 -- the line of none found is said, if there is one; else all that is
-abbrev pub Lacks : {M : Type 0} → (says : (List ℕ → Type 0) → Writer M → (status : ℕ) → Type 0)
+abbrev pub SaysOmissions : {M : Type 0} → (says : (List ℕ → Type 0) → Writer M → (status : ℕ) → Type 0)
     → (none_found : Option (List ℕ) → Type 0) → (explain : Option Dialect) → List TreeFile
     → (unread : List (List ℕ)) → List Omission → Writer M → (status : ℕ) → Type 0
-Lacks says none_found explain tree [] [] messages status =
+SaysOmissions says none_found explain tree [] [] messages status =
     (line : Option (List ℕ)) × none_found line × SaysIfAny line messages status
-Lacks says none_found explain tree [] (first ∷ others) messages status =
+SaysOmissions says none_found explain tree [] (first ∷ others) messages status =
     SaysAll says explain tree [] (first ∷ others) messages status
-Lacks says none_found explain tree (path ∷ unread) told messages status =
+SaysOmissions says none_found explain tree (path ∷ unread) told messages status =
     SaysAll says explain tree (path ∷ unread) told messages status
 
 -- the end of a run over a tree: after a success, what is told of it is said; after a fault, the line of the fault
@@ -48,7 +48,7 @@ abbrev pub Ends : {M A : Type 0} → (says : (List ℕ → Type 0) → Writer M 
     → (none_found : Option (List ℕ) → Type 0) → (explain : Option Dialect) → List TreeFile
     → (unread : List (List ℕ)) → (A → List Omission) → Result A Fault → Writer M → (status : ℕ) → Type 0
 Ends says none_found explain tree unread told_of (Ok done) messages status =
-    Lacks says none_found explain tree unread (told_of done) messages status
+    SaysOmissions says none_found explain tree unread (told_of done) messages status
 Ends says none_found explain tree unread told_of (Err fault) messages status =
     TellsOne (IsFaultText explain tree fault) (status_of fault) messages status
 

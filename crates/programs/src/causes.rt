@@ -8,7 +8,7 @@ ghost use Rattle.programs.specs.Causes.{ExplainsFailure, behind, cause_lines, is
 use crate::places::Places;
 use crate::running::report_path;
 use command_line::Request;
-use scip_snapshot::say;
+use scip_site::say;
 use source_files::{Blamed, Cause, Caused};
 use std::alloc::AllocError;
 use streams::{Sink, write_all};

@@ -7,14 +7,14 @@ ghost use Rattle.protoscip.specs.Explanations.{IsFaultText};
 ghost use Rattle.protoscip.specs.FaultLines.{HasFilesOf, HaveFilesOf};
 ghost use Rattle.protoscip.specs.FaultTexts.{status_of};
 ghost use Rattle.programs.specs.Messages.{SaysIfAny, TellsOfSuccess, TellsOne};
-ghost use Rattle.programs.specs.TreeRuns.{Lacks};
+ghost use Rattle.programs.specs.TreeRuns.{SaysOmissions};
 
 use crate::messages::report;
 use crate::starting::TreeRun;
 use proto_parse::Dialect;
-use protoscip::{Fault, Telling, fault_text, lacks_nothing, told_text_with};
+use protoscip::{Fault, Telling, fault_text, omits_nothing, told_text_with};
 use scip_build::Omission;
-use scip_snapshot::say;
+use scip_site::say;
 use source_tree::Tree;
 use std::alloc::Global;
 use streams::Sink;
@@ -29,7 +29,8 @@ pub(crate) fn tell<M: Sink>(
     messages: &mut M,
 ) -> u8
     requires { HaveFilesOf run.now.tree told.now }
-    ensures { Lacks TellsOfSuccess (λ line. line ≡ option_map string_bytes run.now.none_found) explain run.now.tree
+    ensures { SaysOmissions TellsOfSuccess (λ line. line ≡ option_map string_bytes run.now.none_found)
+        explain run.now.tree
         (map string_bytes run.now.unread.items) told.now
         (writer M.Sink messages) result }
 {
@@ -37,7 +38,7 @@ pub(crate) fn tell<M: Sink>(
         unread: run.unread.as_slice(),
         explain,
     };
-    if lacks_nothing(telling.unread, told) {
+    if omits_nothing(telling.unread, told) {
         return say_line(&run.none_found, messages);
     }
     report(

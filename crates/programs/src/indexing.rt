@@ -4,7 +4,7 @@ ghost use Rattle.std.specs.Prelude.{◌≡◌, None, [], false, IfErr, IfOk, IfS
 ghost use Rattle.std.specs.Option.{option_map};
 ghost use Rattle.streams.specs.Writers.{writer};
 ghost use Rattle.protoscip.specs.FaultLines.{HasFilesOf};
-ghost use Rattle.protoscip.specs.ToldLines.{IsTextOfAllLacks};
+ghost use Rattle.protoscip.specs.ToldLines.{IsTextOfAllOmissions};
 ghost use Rattle.source_files.specs.Places.{IsBegun};
 ghost use Rattle.programs.specs.Asked.{asked_by};
 ghost use Rattle.programs.specs.Choices.{IsChosenBy};
@@ -68,7 +68,7 @@ fn end<M: Sink>(
     messages: &mut M,
 ) -> u8
     requires files { IfErr done (HasFilesOf run.now.tree) }
-    requires said { IfOk done (λ kept. IsTextOfAllLacks explain run.now.tree (map string_bytes run.now.unread.items)
+    requires said { IfOk done (λ kept. IsTextOfAllOmissions explain run.now.tree (map string_bytes run.now.unread.items)
         kept.built.told (option_map string_bytes kept.text)) }
     ensures { Ends SaysOfSuccess (λ line. line ≡ option_map string_bytes run.now.none_found) explain run.now.tree
         (map string_bytes run.now.unread.items) (λ kept. kept.built.told) done.entry (writer M.Sink messages) result }

@@ -5,7 +5,7 @@ ghost use Rattle.streams.specs.Writers.{writer};
 ghost use Rattle.programs.specs.Messages.{Says, memory_line, memory_status};
 
 use protoscip::MEMORY_STATUS;
-use scip_snapshot::say;
+use scip_site::say;
 use std::alloc::AllocError;
 use streams::Sink;
 

@@ -26,6 +26,7 @@ use crate::folders::folders_read;
 use crate::limits::{LimitFault, broken_by};
 use crate::start_fault::StartFault;
 use crate::starting::TreeRun;
+use basics::Sequence;
 use command_line::{IndexOptions, Limits, ReportOptions};
 use fault_reports::{ReportFormat, report_bytes};
 use index_pool::NoGate;
@@ -33,7 +34,6 @@ use protoscip::{
     Fault, SOURCES_STATUS, all_findings, counts_of, counts_with, refused_findings, told_of_tree,
 };
 use scip_build::Omission;
-use sequences::Sequence;
 use source_files::{OutPlace, is_read_from};
 use source_tree::Tree;
 use std::alloc::{AllocError, Global};

@@ -4,7 +4,7 @@ ghost use Rattle.std.specs.Prelude.{◌≡◌, IfOk, string_bytes};
 ghost use Rattle.programs.specs.ShowFaults.{explanation_of, status_of, told};
 
 use protoscip::{MEMORY_STATUS, STREAM_STATUS, plain_line};
-use scip_snapshot::ShowFault;
+use scip_site::ShowFault;
 use std::alloc::{AllocError, Global};
 
 /// A sentence after a line end; nothing for lack of memory.

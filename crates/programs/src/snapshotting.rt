@@ -16,7 +16,7 @@ use crate::querying::index_of_file;
 use crate::show_faults::{show_status, show_text};
 use command_line::SnapshotOptions;
 use scip_query::{AnswerFault, Queries};
-use scip_snapshot::{Folders, ShowFault, file_all, print_all};
+use scip_site::{Folders, ShowFault, file_all, print_all};
 use source_files::{Caused, LookAgain, MakeFiles, ReadFiles};
 use std::alloc::Global;
 use streams::Sink;

@@ -8,7 +8,7 @@ ghost use Rattle.programs.specs.StartReports.{EndsUnstarted, finding_of, is_trie
 use crate::reporting::put_bytes;
 use crate::start_fault::StartFault;
 use command_line::ReportOptions;
-use excerpts::LineCounter;
+use diagnostics::LineCounter;
 use fault_reports::{Finding, FindingKind, Place, ReportFormat, report_bytes};
 use protoscip::{Fault, counts_of};
 use source_files::{LoadFault, OutPlace};

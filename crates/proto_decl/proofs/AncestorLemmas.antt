@@ -5,6 +5,7 @@ use Rattle.std.specs.List.{AllByRecursion, AllZip, flat_map}
 use Rattle.std.proofs.lemmas.List.{append-nil}
 use Rattle.std.proofs.lemmas.List.Elements.{All-from_recursion, recursion_from_All, All-contains, Contains-append_left}
 use Rattle.std.proofs.lemmas.List.Elements.{Contains-append_right, Contains-push}
+use Rattle.basics.proofs.ListLemmas.{in_front, behind_it, each_weaker as each-weaker}
 use Rattle.proto_lex.specs.Lexed.{Lexed, part_of}
 use Rattle.proto_lex.specs.declared.span.Span.{Span}
 use Rattle.proto_parse.specs.tree.Heading.{Heading}
@@ -20,7 +21,8 @@ use Rattle.proto_parse.specs.tree.File.{File}
 use Rattle.proto_parse.specs.Tree.{Body}
 use Rattle.proto_parse.specs.Tree.Body.{NoMore, LeafThen, BlockThen}
 use Rattle.proto_decl.specs.Names.{qualified, dotted, components_at, small_letters}
-use Rattle.proto_decl.specs.Outlines.{name_of, step_named, step_to, outline_at, inside, beside, within, scope_heading}
+use Rattle.proto_decl.specs.Outlines.{heading_name, step_named, step_to, outline_at, inside, beside, within}
+use Rattle.proto_decl.specs.Outlines.{scope_heading}
 use Rattle.proto_decl.specs.Outlines.{in_head, package_spans, file_surrounding, outlines_of}
 use Rattle.proto_decl.specs.Walked.{in_enum, in_leaf, in_body, in_item}
 use Rattle.proto_decl.proofs.WalkedLemmas.{outlines_are}
@@ -39,12 +41,6 @@ use Rattle.proto_decl.specs.Ancestors.{scoped, names_of, component_names, AreNam
 
 -- ---- lists
 
-pub in_front : {A : Type 0} (x : A) (xs : List A) → Contains (x ∷ xs) x
-in_front x xs = Contains-append_left (x ∷ []) xs x (Contains-push [] x)
-
-pub behind_it : {A : Type 0} (y : A) (xs : List A) (x : A) → Contains xs x → Contains (y ∷ xs) x
-behind_it y xs x h = Contains-append_right (y ∷ []) xs x h
-
 module _ {A : Type 0} (P : A → Type 0) where
   each-append : (xs ys : List A) → AllByRecursion P xs → AllByRecursion P ys → AllByRecursion P (xs ++ ys)
   each-append [] ys h k = k
@@ -57,11 +53,6 @@ module _ {A : Type 0} (P : A → Type 0) where
   each-behind : (xs ys : List A) → AllByRecursion P (xs ++ ys) → AllByRecursion P ys
   each-behind [] ys h = h
   each-behind (x ∷ xs) ys h = each-behind xs ys h.1
-
-each-weaker : {A : Type 0} (P Q : A → Type 0) → ((x : A) → P x → Q x) → (xs : List A) → AllByRecursion P xs
-    → AllByRecursion Q xs
-each-weaker P Q w [] h = tt
-each-weaker P Q w (x ∷ xs) h = (w x h.0, each-weaker P Q w xs h.1)
 
 -- ---- names that aren't empty, joined by dots
 
@@ -213,7 +204,7 @@ module _ (text : List ℕ) where
       → AreIn s (in_head text s h ++ inner)
   head-in s (head.Message heading) inner i = alone s kind.Message heading inner i
   head-in s (head.Group group) inner i =
-      node (step_named kind.Field (small_letters (name_of text group.heading))) refl refl none
+      node (step_named kind.Field (small_letters (heading_name text group.heading))) refl refl none
       (alone s kind.Message group.heading inner i)
   head-in s (head.Oneof heading) inner i = one s kind.Oneof heading none i
   head-in s (head.Extend type) inner i = i

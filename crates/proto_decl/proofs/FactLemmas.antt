@@ -12,17 +12,9 @@ use Rattle.proto_decl.specs.Declares.{IsDeclaration}
 use Rattle.proto_decl.specs.Facts.{Facts, AreFactsOf, name_spans, component_spans, PackageInOrder}
 use Rattle.proto_decl.specs.declared.declaration.Declaration.{Declaration}
 use Rattle.proto_decl.specs.declared.declaration.Outline.{Outline}
-use Rattle.proto_decl.proofs.PickLemmas.{heading_names, spans_of_components}
+use Rattle.proto_decl.proofs.OutlinePickLemmas.{heading_names, spans_of_components}
 use Rattle.proto_decl.proofs.WalkedLemmas.{outlines-append}
-use Rattle.proto_decl.proofs.OrderLemmas.{package_in_order}
-
--- one more of each
-pub AllZip-push : {A B : Type 0} (R : A → B → Type 0) (xs : List A) (ys : List B) (x : A) (y : B) → AllZip R xs ys
-    → R x y → AllZip R (xs ++ x ∷ []) (ys ++ y ∷ [])
-AllZip-push R [] [] x y all r = (r, tt)
-AllZip-push R [] (b ∷ ys) x y all r = absurd all
-AllZip-push R (a ∷ xs) [] x y all r = absurd all
-AllZip-push R (a ∷ xs) (b ∷ ys) x y all r = (all.0, AllZip-push R xs ys x y all.1 r)
+use Rattle.proto_decl.proofs.OutlineOrderLemmas.{package_in_order}
 
 -- declarations stand at the names of their outlines
 pub same_names : (lexed : Lexed) (outlines : List Outline) (declarations : List Declaration)

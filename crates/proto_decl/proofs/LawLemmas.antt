@@ -12,8 +12,8 @@ use Rattle.proto_decl.specs.Declares.{IsDeclaration}
 use Rattle.proto_decl.specs.Facts.{Facts, AreFactsOf}
 use Rattle.proto_decl.specs.declared.declaration.Declaration.{Declaration}
 use Rattle.proto_decl.specs.declared.declaration.Outline.{Outline}
-use Rattle.proto_decl.proofs.LeadingLemmas.{CommentsInOrder, one_longest}
-use Rattle.proto_decl.proofs.TrailingLemmas.{one_trailing}
+use Rattle.proto_decl.proofs.CommentLeadingLemmas.{CommentsInOrder, one_longest}
+use Rattle.proto_decl.proofs.CommentTrailingLemmas.{one_trailing}
 
 module _ (lexed : Lexed) (ordered : CommentsInOrder lexed.comments) where
   pub one_leading_text : (first : Span) {text other : List ℕ} → IsLeadingText lexed first text

@@ -6,8 +6,9 @@ use Rattle.std.specs.List.{count_by}
 use Rattle.std.proofs.lemmas.Bool.{false≢true}
 use Rattle.std.proofs.lemmas.List.{take-take, drop-take}
 use Rattle.std.proofs.lemmas.List.Sums.{sum_by-take-drop}
+use Rattle.proto_lex.proofs.PositionLineStartLemmas.{more_lines as lines_rise}
 use Rattle.proto_lex.specs.Position.{is_line_end, line_of}
-use Rattle.proto_decl.proofs.LineLemmas.{lines_rise, less-test}
+use Rattle.proto_decl.proofs.LineLemmas.{less-test}
 
 -- the lines of two offsets differ by the line ends between them
 pub lines_between : (text : List ℕ) (from upto : ℕ) → from ≤ upto

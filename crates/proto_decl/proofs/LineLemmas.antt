@@ -12,12 +12,6 @@ use Rattle.proto_lex.specs.declared.span.Span.{Span}
 use Rattle.proto_lex.specs.Lexed.{AreInOrder}
 use Rattle.proto_lex.specs.Position.{is_line_end, line_of}
 
--- an offset further on is on no lesser line
-pub lines_rise : (text : List ℕ) (i j : ℕ) → i ≤ j → line_of text i ≤ line_of text j
-lines_rise text i j h =
-    subst (λ (xs : List ℕ). count_by is_line_end xs ≤ line_of text j) (take-take i j text h)
-    (sum_by-take-le (λ c. cond {A = ℕ} (is_line_end c) 1 0) (take j text) i)
-
 -- what tests on numbers say
 pub less-test : (a b : ℕ) → IsTrue (ltb a b) ↔ (a < b)
 less-test a b = ((λ e. ltb-true a b e), λ h. grind (arith, nat_tests))

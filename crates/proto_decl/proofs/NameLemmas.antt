@@ -18,7 +18,7 @@ use Rattle.proto_parse.specs.Parts.Part.{MethodPart}
 use Rattle.proto_parse.proofs.PartLemmas.{flat-all, placed-all}
 use Rattle.proto_decl.specs.Names.{qualified, small_letters}
 use Rattle.proto_decl.specs.Spans.{OfHeading, OfHead, OfPart}
-use Rattle.proto_decl.specs.Outlines.{name_of, step_named, step_to, outline_at, group_field, in_head, inside_part}
+use Rattle.proto_decl.specs.Outlines.{heading_name, step_named, step_to, outline_at, group_field, in_head, inside_part}
 use Rattle.proto_decl.specs.Outlines.{declared_by, file_surrounding, outlines_in, outlines_of}
 use Rattle.proto_decl.specs.Declares.{IsDeclaration, simple_name}
 use Rattle.proto_decl.specs.Laws.{AreOfGroup, IsSpelled, IsNamedAt}
@@ -82,7 +82,7 @@ module _ (text : List ℕ) (K : Outline → Type 0) where
   head_named surrounding (head.Group group) known spans =
       let field = group_field text surrounding group in
       let self = outline_at text surrounding kind.Message group.heading in
-      let small = small_letters (name_of text group.heading) in
+      let small = small_letters (heading_name text group.heading) in
       All-cons (IsNamed text K) field (self ∷ [])
       (record {
         place = spans.1;

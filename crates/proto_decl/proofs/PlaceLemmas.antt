@@ -24,12 +24,12 @@ use Rattle.proto_decl.specs.Facts.{Facts, AreFactsOf, component_spans, use_spans
 use Rattle.proto_decl.specs.Places.{named_spans}
 use Rattle.proto_decl.specs.declared.imported.Imported.{Imported}
 use Rattle.proto_decl.proofs.SpanLemmas.{imports_hold}
-use Rattle.proto_decl.proofs.MarkLemmas.{OfNames, past_mark, of_lexemes, of_names}
-use Rattle.proto_decl.proofs.PickLemmas.{Picked, retyped, heading_names, spans_of_components, names-append}
-use Rattle.proto_decl.proofs.PickLemmas.{components-append, items_picked, package_picked}
-use Rattle.proto_decl.proofs.PickLemmas.Picked.{none, skip, a_name, a_component}
+use Rattle.proto_decl.proofs.SpanMarkLemmas.{OfNames, past_mark, of_lexemes, of_names}
+use Rattle.proto_decl.proofs.OutlinePickLemmas.{Picked, retyped, heading_names, spans_of_components, names-append}
+use Rattle.proto_decl.proofs.OutlinePickLemmas.{components-append, items_picked, package_picked}
+use Rattle.proto_decl.proofs.OutlinePickLemmas.Picked.{none, skip, a_name, a_component}
 use Rattle.proto_decl.proofs.WalkedLemmas.{outlines-append, uses-append}
-use Rattle.proto_decl.proofs.OrderLemmas.{beside}
+use Rattle.proto_decl.proofs.OutlineOrderLemmas.{beside}
 use Rattle.proto_decl.proofs.FactLemmas.{same_names}
 
 either : {A B C : Type 0} → (A → C) → (B → C) → A ⊎ B → C

@@ -10,7 +10,7 @@ use Rattle.std.proofs.lemmas.Str.Pattern.{rfind_char}
 use Rattle.proto_parse.proofs.RefusedLemmas.{heads, tails}
 use Rattle.proto_decl.specs.Names.{qualified, HasNoDot, IsAround}
 use Rattle.proto_decl.specs.Names.IsAround.{before_dot, root}
-use Rattle.proto_decl.proofs.BoolLemmas.{never, first_no}
+use Rattle.basics.proofs.BoolLemmas.{never, first_no}
 
 pub around-qualified : (scope name : List ℕ) → 0 < length name → HasNoDot name → IsAround (qualified scope name) scope
 around-qualified [] [] some e = absurd (omega (arith, some))

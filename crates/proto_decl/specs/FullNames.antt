@@ -4,16 +4,16 @@ use Rattle.std.specs.Prelude.{ℕ, ◌+◌, ◌*◌, ◌%◌, ◌^◌, List, [],
 use Rattle.std.specs.List.{fold}
 use Rattle.proto_lex.specs.Ascii as ascii
 
-abbrev pub mix : (mixed byte : ℕ) → ℕ
-mix mixed byte = (mixed * 1099511628211 % 2 ^ 64 + byte) % 2 ^ 64
+abbrev pub hash64_byte : (hash64 byte : ℕ) → ℕ
+hash64_byte hash64 byte = (hash64 * 1099511628211 % 2 ^ 64 + byte) % 2 ^ 64
 
-abbrev pub mixed_on : (mixed : ℕ) → List ℕ → ℕ
-mixed_on mixed bytes = fold mix mixed bytes
+abbrev pub hash64_on : (hash64 : ℕ) → List ℕ → ℕ
+hash64_on hash64 bytes = fold hash64_byte hash64 bytes
 
-abbrev pub mixed : List ℕ → ℕ
-mixed name = mixed_on 0 name
+abbrev pub hash64 : List ℕ → ℕ
+hash64 name = hash64_on 0 name
 
 -- that of a scope's full name with what comes before a name in the scope
-abbrev pub mixed_front : (scope : List ℕ) → ℕ
-mixed_front [] = 0
-mixed_front (byte ∷ scope) = mix (mixed (byte ∷ scope)) ascii.dot
+abbrev pub hash64_front : (scope : List ℕ) → ℕ
+hash64_front [] = 0
+hash64_front (byte ∷ scope) = hash64_byte (hash64 (byte ∷ scope)) ascii.dot

@@ -23,14 +23,14 @@ use Rattle.proto_decl.specs.declared.declaration.DeclarationStep.{DeclarationSte
 use Rattle.proto_decl.specs.declared.declaration.Outline.{Outline}
 use Rattle.proto_decl.specs.declared.surrounding.Surrounding.{Surrounding}
 
-abbrev pub name_of : (text : List ℕ) → Heading → List ℕ
-name_of text heading = part_of text heading.name
+abbrev pub heading_name : (text : List ℕ) → Heading → List ℕ
+heading_name text heading = part_of text heading.name
 
 abbrev pub step_named : DeclarationKind → (name : List ℕ) → DeclarationStep
 step_named kind name = record { kind = kind; name = name }
 
 abbrev pub step_to : (text : List ℕ) → DeclarationKind → Heading → DeclarationStep
-step_to text kind heading = step_named kind (name_of text heading)
+step_to text kind heading = step_named kind (heading_name text heading)
 
 -- A declaration with this simple name, which is at this heading.
 abbrev pub outline_named : Surrounding → DeclarationKind → (name : List ℕ) → Heading → Outline
@@ -43,12 +43,12 @@ outline_named surrounding kind name heading = record {
 
 -- A declaration that is named as it stands.
 abbrev pub outline_at : (text : List ℕ) → Surrounding → DeclarationKind → Heading → Outline
-outline_at text surrounding kind heading = outline_named surrounding kind (name_of text heading) heading
+outline_at text surrounding kind heading = outline_named surrounding kind (heading_name text heading) heading
 
 -- What surrounds what is in a message or in a service: both are scopes.
 abbrev pub inside : (text : List ℕ) → Surrounding → DeclarationKind → Heading → Surrounding
 inside text surrounding kind heading = record {
-  scope = qualified surrounding.scope (name_of text heading);
+  scope = qualified surrounding.scope (heading_name text heading);
   path = surrounding.path ++ step_to text kind heading ∷ [];
 }
 
@@ -65,7 +65,7 @@ field_heading group =
 
 abbrev pub group_field : (text : List ℕ) → Surrounding → Group → Outline
 group_field text surrounding group =
-    outline_named surrounding Field (small_letters (name_of text group.heading)) (field_heading group)
+    outline_named surrounding Field (small_letters (heading_name text group.heading)) (field_heading group)
 
 -- What a block declares, without what is in it. A group also declares a message. An extend declares nothing.
 abbrev pub in_head : (text : List ℕ) → Surrounding → Head → List Outline

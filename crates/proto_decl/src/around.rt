@@ -1,33 +1,33 @@
 //! What the declarations directly in one file, message, service or enum share.
 
 ghost use Rattle.std.specs.Prelude.{◌≡◌};
-ghost use Rattle.proto_decl.specs.FullNames.{mixed_front};
+ghost use Rattle.proto_decl.specs.FullNames.{hash64_front};
 
 use crate::declaration::DeclarationStep;
-use crate::mixing::mixed_front;
-use sequences::{OwnedText, Sequence};
+use crate::hashing::hash64_front;
+use basics::{OwnedText, Sequence};
 use std::marker::Model;
 
-/// The full name of a scope, what it is mixed to in front of a name in it, and the path to what declarations are in.
+/// The full name of a scope, its hash in front of a name in it, and the path to what declarations are in.
 ///
 /// Contracts see the list of the full name's bytes, and the path.
 #[derive(Debug, Drop)]
 pub(crate) struct Around<'t> {
     scope: OwnedText,
-    mixed: u64,
+    hash64: u64,
     path: Sequence<DeclarationStep<'t>>,
 }
 
 impl<'t> Model for Around<'t> {
     ghost use Rattle.std.specs.Prelude.{◌≡◌};
     ghost use Rattle.proto_decl.specs.Values.{Surrounding};
-    ghost use Rattle.proto_decl.specs.FullNames.{mixed_front};
+    ghost use Rattle.proto_decl.specs.FullNames.{hash64_front};
 
     ghost Value = { Surrounding };
 
     ghost view = { λ inside. record { scope = inside.scope; path = inside.path } };
 
-    ghost invariant = { λ inside. inside.mixed ≡ mixed_front inside.scope };
+    ghost invariant = { λ inside. inside.hash64 ≡ hash64_front inside.scope };
 }
 
 impl<'t> Around<'t> {
@@ -35,8 +35,12 @@ impl<'t> Around<'t> {
     pub(crate) fn new(scope: OwnedText, path: Sequence<DeclarationStep<'t>>) -> Around<'t>
         ensures { result ≡ record { scope = scope; path = path.entry } }
     {
-        let mixed = mixed_front(scope.as_str());
-        Around { scope, mixed, path }
+        let hash64 = hash64_front(scope.as_str());
+        Around {
+            scope,
+            hash64,
+            path,
+        }
     }
 
     /// The full name.
@@ -46,11 +50,11 @@ impl<'t> Around<'t> {
         self.scope.as_str()
     }
 
-    /// What the full name is mixed to in front of a name.
-    pub(crate) fn mixed(&self) -> u64
-        ensures { result ≡ mixed_front self.now.scope }
+    /// The hash of the full name in front of a name.
+    pub(crate) fn hash64(&self) -> u64
+        ensures { result ≡ hash64_front self.now.scope }
     {
-        self.mixed
+        self.hash64
     }
 
     /// The path.

@@ -30,9 +30,8 @@ ghost use Rattle.proto_decl.specs.Layout.{AreBegun, IsFreeFrom};
 use crate::comment_text::text_of;
 use crate::layout::{Begun, comments_above, comments_begun, free_from, is_none_between};
 use crate::lines::{is_adjoining, is_on_later_line};
-use lent_texts::{KeptText, LentText};
+use basics::{KeptText, OwnedText, TextRef};
 use proto_lex::{Comment, Span, Tokens};
-use sequences::OwnedText;
 use std::alloc::{AllocError, Global};
 
 /// Whether the comment at this span, which ends above a token, can lead what begins at `next`: it stands alone, and at
@@ -128,8 +127,8 @@ fn texts_of<'t>(
     ensures { IfOk result (λ text. text ≡ join_with_byte ascii.line_feed (map (spec.text_of lexed.now) comments.now)) }
 {
     match comments {
-        [] => Ok(KeptText::lent("")),
-        [comment] => Ok(KeptText::lent(text_of(lexed, *comment))),
+        [] => Ok(KeptText::borrowed("")),
+        [comment] => Ok(KeptText::borrowed(text_of(lexed, *comment))),
         [first, others @ ..] => {
             let joined = joined_texts(alloc, lexed, *first, others)?;
             KeptText::owned(alloc, joined)
@@ -153,7 +152,7 @@ pub(crate) fn leading_text<'t>(
             lexed,
             leading_comments(lexed, begun, from, first.start as usize),
         ),
-        None => Ok(KeptText::lent("")),
+        None => Ok(KeptText::borrowed("")),
     }
 }
 
@@ -189,11 +188,11 @@ fn trailing_comment(lexed: &Tokens<'_, '_>, near: usize, closing: Span) -> Optio
 }
 
 /// The trailing text of a declaration with this closing token, looked for from the comment with the index `near` on.
-pub(crate) fn trailing_text<'t>(lexed: &Tokens<'_, 't>, near: usize, closing: Span) -> LentText<'t>
+pub(crate) fn trailing_text<'t>(lexed: &Tokens<'_, 't>, near: usize, closing: Span) -> TextRef<'t>
     ensures { spec.IsTrailingText lexed.now closing result }
 {
     match trailing_comment(lexed, near, closing) {
-        Some(comment) => LentText::new(text_of(lexed, comment)),
-        None => LentText::new(""),
+        Some(comment) => TextRef::new(text_of(lexed, comment)),
+        None => TextRef::new(""),
     }
 }

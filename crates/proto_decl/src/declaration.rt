@@ -9,7 +9,7 @@ use crate::kind::DeclarationKind;
 use crate::named_declaration::NamedDeclaration;
 use crate::path::DeclarationPath;
 use crate::surrounding::Surrounding;
-use lent_texts::{KeptText, LentText};
+use basics::{KeptText, TextRef};
 use proto_lex::Span;
 use proto_parse::Heading;
 use std::alloc::{AllocError, Global};
@@ -33,7 +33,7 @@ pub struct Declaration<'t> {
     last: DeclarationStep<'t>,
     name: Span,
     leading: KeptText<'t>,
-    trailing: LentText<'t>,
+    trailing: TextRef<'t>,
 }
 
 impl<'t> Model for Declaration<'t> {
@@ -59,7 +59,7 @@ impl<'t> Declaration<'t> {
     pub(crate) fn new(
         outline: Outline<'t>,
         leading: KeptText<'t>,
-        trailing: LentText<'t>,
+        trailing: TextRef<'t>,
     ) -> Declaration<'t>
         ensures { result ≡ record {
           kind = outline.entry.kind;

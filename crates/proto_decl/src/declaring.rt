@@ -24,9 +24,9 @@ use crate::surrounding::Surrounding;
 use crate::type_use::Use;
 use crate::type_uses::components_at;
 use crate::walk::walk_last;
+use basics::{OwnedText, Sequence};
 use proto_lex::Tokens;
 use proto_parse::{File, FileItem, spans_of_tokens};
-use sequences::{OwnedText, Sequence};
 use std::alloc::{AllocError, Global};
 
 /// What a file declares so far, and how many tokens and comments begin before the last declaration's first token.
@@ -40,6 +40,7 @@ struct Declared<'t> {
 fn are_lexed(lexed: &Tokens<'_, '_>)
     ensures { IsLexed lexed.now.text lexed.now.tokens lexed.now.comments }
 {
+    // From here on it is known that these are the tokens and comments of the text.
     lexed.tokens();
     lexed.comments();
 }

@@ -24,10 +24,10 @@ ghost use Rattle.proto_lex.specs.Ascii as ascii;
 ghost use Rattle.proto_decl.specs.Names.{qualified};
 ghost use Rattle.proto_decl.specs.FullNames as spec;
 
-use crate::mixing::mixed_on;
+use crate::hashing::hash64_on;
 use crate::names::qualified;
 use crate::surrounding::Surrounding;
-use sequences::OwnedText;
+use basics::OwnedText;
 use std::alloc::{AllocError, Global};
 use std::hash::{Hash, Hasher};
 use std::marker::Model;
@@ -39,20 +39,20 @@ use std::marker::Model;
 #[derive(Debug, Drop)]
 pub struct FullName<'a> {
     scope: &'a str,
-    mixed: u64,
+    hash64: u64,
     name: &'a str,
 }
 
 impl<'a> Model for FullName<'a> {
     ghost use Rattle.std.specs.Prelude.{◌≡◌, List, ℕ};
     ghost use Rattle.proto_decl.specs.Names.{qualified};
-    ghost use Rattle.proto_decl.specs.FullNames.{mixed_front};
+    ghost use Rattle.proto_decl.specs.FullNames.{hash64_front};
 
     ghost Value = { List ℕ };
 
     ghost view = { λ full. qualified full.scope.now full.name.now };
 
-    ghost invariant = { λ full. full.mixed ≡ mixed_front full.scope.now };
+    ghost invariant = { λ full. full.hash64 ≡ hash64_front full.scope.now };
 }
 
 impl<'a> FullName<'a> {
@@ -62,7 +62,7 @@ impl<'a> FullName<'a> {
     {
         FullName {
             scope: surrounding.scope(),
-            mixed: surrounding.mixed(),
+            hash64: surrounding.hash64(),
             name,
         }
     }
@@ -73,7 +73,7 @@ impl<'a> FullName<'a> {
     {
         FullName {
             scope: "",
-            mixed: 0,
+            hash64: 0,
             name,
         }
     }
@@ -84,7 +84,7 @@ impl<'a> FullName<'a> {
     {
         FullName {
             scope: self.scope,
-            mixed: self.mixed,
+            hash64: self.hash64,
             name: self.name,
         }
     }
@@ -105,10 +105,10 @@ impl<'a> FullName<'a> {
 
     /// The number that it is hashed by. It depends on the full name alone, however that is parted; other names may have
     /// it too. Takes no memory.
-    pub fn mixed(&self) -> u64
-        ensures { result ≡ spec.mixed self.now }
+    pub fn hash64(&self) -> u64
+        ensures { result ≡ spec.hash64 self.now }
     {
-        mixed_on(self.mixed, self.name)
+        hash64_on(self.hash64, self.name)
     }
 }
 
@@ -127,12 +127,12 @@ impl<'a> Eq for FullName<'a> {
 }
 
 impl<'a> Hash for FullName<'a> {
-    ghost hash_input = { λ name. fed.u64 (spec.mixed name) };
+    ghost hash_input = { λ name. fed.u64 (spec.hash64 name) };
 
-    ghost respects_eq = { λ a b same. ap (λ name. fed.u64 (spec.mixed name)) ((bytes_decides a b).0 same) };
+    ghost respects_eq = { λ a b same. ap (λ name. fed.u64 (spec.hash64 name)) ((bytes_decides a b).0 same) };
 
     fn hash<H: Hasher>(&self, state: &mut H) {
-        state.write_u64(self.mixed());
+        state.write_u64(self.hash64());
     }
 }
 

@@ -1,6 +1,6 @@
 //! Imports.
 
-use lent_texts::KeptText;
+use basics::KeptText;
 use proto_lex::Span;
 use proto_parse::ImportKind;
 

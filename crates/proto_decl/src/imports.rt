@@ -7,10 +7,9 @@ ghost use Rattle.proto_decl.specs.Imports as spec;
 
 use crate::imported::Imported;
 use crate::names::spelling_at;
-use lent_texts::KeptText;
+use basics::{KeptText, OwnedText, Sequence};
 use proto_lex::Span;
 use proto_parse::Import;
-use sequences::{OwnedText, Sequence};
 use std::alloc::{AllocError, Global};
 
 /// Where the last of the spans ends.
@@ -71,7 +70,7 @@ fn path_of<'t>(alloc: Global, text: &'t str, literals: &[Span]) -> Result<KeptTe
     ensures { IfOk result (λ path. path ≡ spec.joined_literals text.now literals.now) }
 {
     match literals {
-        [literal] => Ok(KeptText::lent(between_quotes(text, *literal))),
+        [literal] => Ok(KeptText::borrowed(between_quotes(text, *literal))),
         _ => KeptText::owned(alloc, joined_literals(alloc, text, literals)?),
     }
 }

@@ -1,33 +1,46 @@
 //! What the syntax tree of a source declares and uses, and the comments that document it.
 #![tactic(auto)]
 
-mod ancestors;
-mod around;
-mod comment_text;
-mod comments;
-mod declaration;
+// From tokens and their tree to a file's facts.
 mod declaring;
 mod facts;
-mod full_name;
-mod imported;
-mod imports;
+mod walk;
+
+// What a file declares.
+mod declaration;
 mod kind;
-mod laws;
-mod layout;
-mod lines;
-mod mixing;
 mod named_declaration;
-mod names;
 mod outlines;
-mod package;
 mod path;
+mod view;
+
+// What its names are: simple, full, and of scopes.
+mod full_name;
+mod hashing;
+mod names;
+mod package;
 mod scope_name;
 mod scopes;
+
+// Where declarations are.
+mod around;
 mod surrounding;
+
+// What it imports, and which types it uses.
+mod imported;
+mod imports;
 mod type_use;
 mod type_uses;
-mod view;
-mod walk;
+
+// Which comments document a declaration.
+mod comment_text;
+mod comments;
+mod layout;
+mod lines;
+
+// The laws.
+mod ancestors;
+mod laws;
 
 pub use ancestors::{declarations_stand_in_declarations, names_are_identifiers};
 pub use declaration::{Declaration, DeclarationStep};

@@ -5,7 +5,7 @@ ghost use Rattle.proto_decl.specs.Declares.{simple_name};
 
 use crate::declaration::Declaration;
 use crate::view::DeclView;
-use sequences::OwnedText;
+use basics::OwnedText;
 use std::marker::Model;
 
 /// A declaration with the text of its full name, which it hasn't by itself.

@@ -13,7 +13,7 @@ use crate::declaration::{DeclarationStep, Outline};
 use crate::kind::DeclarationKind;
 use crate::names::{small_letters, spelling_at};
 use crate::surrounding::{Surrounding, beside};
-use lent_texts::KeptText;
+use basics::KeptText;
 use proto_parse::{Enum, Group, Head, Heading, Leaf, Method};
 use std::alloc::{AllocError, Global};
 
@@ -40,7 +40,7 @@ pub(crate) fn outline_at<'t>(
     requires { OfHeading (IsPart text.now) heading }
     ensures { IfOk result (λ outline. outline ≡ spec.outline_at text.now surrounding.now kind heading) }
 {
-    let name = KeptText::lent(spelling_at(text, heading.name));
+    let name = KeptText::borrowed(spelling_at(text, heading.name));
     outline_named(surrounding, kind, name, heading)
 }
 

@@ -2,16 +2,15 @@
 
 ghost use Rattle.std.specs.Prelude.{◌≡◌, ◌++◌, ◌∷◌, [], IfOk};
 ghost use Rattle.proto_lex.specs.Lexed.{IsPart};
-ghost use Rattle.proto_decl.specs.FullNames.{mixed_front};
+ghost use Rattle.proto_decl.specs.FullNames.{hash64_front};
 ghost use Rattle.proto_decl.specs.Outlines.{scope_heading, step_to, inside, beside};
 
 use crate::around::Around;
 use crate::declaration::DeclarationStep;
 use crate::kind::DeclarationKind;
 use crate::names::{qualified, spelling_at};
-use lent_texts::KeptText;
+use basics::{KeptText, OwnedText, Sequence};
 use proto_parse::{Head, Heading};
-use sequences::{OwnedText, Sequence};
 use std::alloc::{AllocError, Global};
 use std::marker::Model;
 use std::sync::Arc;
@@ -63,11 +62,11 @@ impl<'t> Surrounding<'t> {
         self.around.scope()
     }
 
-    /// What the full name of the scope is mixed to in front of a name.
-    pub(crate) fn mixed(&self) -> u64
-        ensures { result ≡ mixed_front self.now.scope }
+    /// The hash of the full name of the scope in front of a name.
+    pub(crate) fn hash64(&self) -> u64
+        ensures { result ≡ hash64_front self.now.scope }
     {
-        self.around.mixed()
+        self.around.hash64()
     }
 
     /// The path to what the declaration is in, outermost first.
@@ -123,7 +122,7 @@ fn step_to<'t>(text: &'t str, kind: DeclarationKind, heading: Heading) -> Declar
 {
     DeclarationStep {
         kind,
-        name: KeptText::lent(spelling_at(text, heading.name)),
+        name: KeptText::borrowed(spelling_at(text, heading.name)),
     }
 }
 

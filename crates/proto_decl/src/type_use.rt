@@ -1,14 +1,13 @@
 //! Names in a package statement and uses of types.
 
 use crate::scope_name::ScopeName;
-use lent_texts::LentText;
+use basics::{Sequence, TextRef};
 use proto_lex::Span;
-use sequences::Sequence;
 
 /// A component of a dotted name, and where it stands.
 #[derive(Debug, Drop)]
 pub struct Component<'t> {
-    pub name: LentText<'t>,
+    pub name: TextRef<'t>,
     pub span: Span,
 }
 

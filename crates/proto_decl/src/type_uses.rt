@@ -13,10 +13,9 @@ use crate::names::spelling_at;
 use crate::scope_name::ScopeName;
 use crate::surrounding::Surrounding;
 use crate::type_use::{Component, Use};
-use lent_texts::LentText;
+use basics::{Sequence, TextRef};
 use proto_lex::Span;
 use proto_parse::{FieldType, Head, Leaf, Method, TypeName};
-use sequences::Sequence;
 use std::alloc::{AllocError, Global};
 
 /// The components that stand at these spans.
@@ -31,7 +30,7 @@ pub(crate) fn components_at<'t>(
     let mut components = Vec::with_capacity(alloc, spans.len())?;
     for span in spans {
         components.push(Component {
-            name: LentText::new(spelling_at(text, *span)),
+            name: TextRef::new(spelling_at(text, *span)),
             span: *span,
         })?;
     }

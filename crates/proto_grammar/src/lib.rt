@@ -5,15 +5,22 @@
 //! gives the fault that it meets.
 #![tactic(auto)]
 
-mod dialect;
+// The tree, and why there is none.
 mod fault;
-mod fields;
+mod tree;
+
+// The parser's place among the tokens.
 mod kept;
+mod parser;
+
+// What is inside statements.
+mod fields;
 mod names;
 mod options;
-mod parser;
 mod reserved;
-mod tree;
+
+// Which sources are accepted, and the grammar of one file.
+mod dialect;
 
 pub use dialect::{CustomOptions, Dialect, Syntax};
 pub use fault::SyntaxFault;

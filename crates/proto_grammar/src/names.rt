@@ -11,8 +11,8 @@ use crate::fault::SyntaxFault;
 use crate::kept::keep;
 use crate::parser::Parser;
 use crate::tree::{FieldType, TypeName};
+use basics::Sequence;
 use proto_lex::{Span, TokenKind};
-use sequences::Sequence;
 use std::alloc::Global;
 
 impl<'t> Parser<'t> {

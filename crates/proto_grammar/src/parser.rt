@@ -206,7 +206,7 @@ impl<'t> Parser<'t> {
     }
 
     /// Moves past the next token, if there is one.
-    #[tactic(auto, using(crate::proofs::Places::others_drop))]
+    #[tactic(auto, using(crate::proofs::TerminalPlaceLemmas::others_drop))]
     pub fn advance(&mut self)
         ensures { self.new ≡ behind self.old }
     {

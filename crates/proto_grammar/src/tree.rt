@@ -2,8 +2,8 @@
 //!
 //! Options, reserved statements, `extensions`, numbers and lone `;` are checked, and aren't in the tree.
 
+use basics::Sequence;
 use proto_lex::Span;
-use sequences::Sequence;
 use std::marker::Model;
 
 /// The tree of a file (proto3 specification, "Proto file").

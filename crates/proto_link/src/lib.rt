@@ -3,12 +3,17 @@
 //! Which files see which, what clashes and who has which name is the crate `proto_visibility`'s.
 #![tactic(auto)]
 
-mod laws;
+// Files that are linked.
 mod linker;
+
+// Which name a use has, and what it names.
 mod lookup;
 mod parts;
 mod resolve;
 mod target;
+
+// The laws.
+mod laws;
 
 pub use laws::{
     one_broken_file, one_declaration_a_name, one_name_a_use, one_omission_list, one_refusal,

@@ -58,7 +58,7 @@ fn joined_behind(
 }
 
 /// The full name of the type that a use of a file names.
-pub(crate) fn name_of(
+pub(crate) fn full_name_of_use(
     alloc: Global,
     namespace: &Namespace,
     file: usize,

@@ -80,9 +80,9 @@ fn counted_of(alloc: Global, files: &[LinkFile]) -> Made<Vec<usize>> {
 }
 
 /// The first file that counts and has no facts.
-fn first_unread(files: &[LinkFile], counted: &[usize]) -> Option<usize> {
+fn first_unread(files: &[LinkFile], reachable: &[usize]) -> Option<usize> {
     for (number, file) in files.iter().enumerate() {
-        if file.facts.is_none() && counted.contains(&number) {
+        if file.facts.is_none() && reachable.contains(&number) {
             return Some(number);
         }
     }
@@ -120,9 +120,13 @@ fn add_absent(
 }
 
 /// Adds the imports that have to be there and name no file, of the files that count.
-fn add_all_absent(files: &[LinkFile], counted: &[usize], absent: &mut Vec<FilePlace>) -> Made<()> {
+fn add_all_absent(
+    files: &[LinkFile],
+    reachable: &[usize],
+    absent: &mut Vec<FilePlace>,
+) -> Made<()> {
     for (number, file) in files.iter().enumerate() {
-        if counted.contains(&number) {
+        if reachable.contains(&number) {
             add_absent(files, number, file, absent)?;
         }
     }
@@ -131,9 +135,9 @@ fn add_all_absent(files: &[LinkFile], counted: &[usize], absent: &mut Vec<FilePl
 
 /// The imports that have to be there and name no file, of all files that count, in order.
 pub(crate) fn absent_of(alloc: Global, files: &[LinkFile]) -> Made<Vec<FilePlace>> {
-    let counted = counted_of(alloc, files)?;
+    let reachable = counted_of(alloc, files)?;
     let mut absent = Vec::new(alloc);
-    add_all_absent(files, counted.as_slice(), &mut absent)?;
+    add_all_absent(files, reachable.as_slice(), &mut absent)?;
     Ok(absent)
 }
 
@@ -152,12 +156,12 @@ fn clash_of(
 fn fault_of_counted(
     alloc: Global,
     files: &[LinkFile],
-    counted: &[usize],
+    reachable: &[usize],
 ) -> Made<Option<LinkFault>> {
-    if let Some(file) = first_unread(files, counted) {
+    if let Some(file) = first_unread(files, reachable) {
         return Ok(Some(LinkFault::Broken(file)));
     }
-    if let Some((first, second)) = clash_of(alloc, files, counted)? {
+    if let Some((first, second)) = clash_of(alloc, files, reachable)? {
         return Ok(Some(LinkFault::Duplicate(first, second)));
     }
     let absent = absent_of(alloc, files)?;
@@ -190,12 +194,12 @@ fn omission_of(
 fn add_omissions(
     alloc: Global,
     files: &[LinkFile],
-    counted: &[usize],
+    reachable: &[usize],
     kept: &mut Vec<usize>,
     omissions: &mut Vec<Option<FileOmission>>,
 ) -> Made<()> {
     for (number, file) in files.iter().enumerate() {
-        let omission = if counted.contains(&number) {
+        let omission = if reachable.contains(&number) {
             omission_of(alloc, files, kept, number, file)?
         } else {
             None
@@ -207,15 +211,21 @@ fn add_omissions(
 
 /// For each file why it is left out, if it is.
 pub(crate) fn omissions_of(alloc: Global, files: &[LinkFile]) -> Made<Vec<Option<FileOmission>>> {
-    let counted = counted_of(alloc, files)?;
+    let reachable = counted_of(alloc, files)?;
     let mut kept = Vec::new(alloc);
     let mut omissions = Vec::new(alloc);
-    add_omissions(alloc, files, counted.as_slice(), &mut kept, &mut omissions)?;
+    add_omissions(
+        alloc,
+        files,
+        reachable.as_slice(),
+        &mut kept,
+        &mut omissions,
+    )?;
     Ok(omissions)
 }
 
 /// Why files can't be linked, if they can't.
 pub(crate) fn fault_of(alloc: Global, files: &[LinkFile]) -> Made<Option<LinkFault>> {
-    let counted = counted_of(alloc, files)?;
-    fault_of_counted(alloc, files, counted.as_slice())
+    let reachable = counted_of(alloc, files)?;
+    fault_of_counted(alloc, files, reachable.as_slice())
 }

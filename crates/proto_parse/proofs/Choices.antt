@@ -29,8 +29,8 @@ use Rattle.proto_grammar.specs.Grammar.Fields.IsMapField.{map_field}
 use Rattle.proto_grammar.specs.Grammar.Reserved.{IsReserved, IsExtensions}
 use Rattle.proto_grammar.specs.Grammar.Reserved.IsReserved.{reserved}
 use Rattle.proto_grammar.specs.Grammar.Reserved.IsExtensions.{extensions}
-use Rattle.proto_grammar.proofs.Steps.{both_false}
-use Rattle.proto_grammar.proofs.TokenLemmas.{same_kind, one_next, one_others}
+use Rattle.proto_grammar.proofs.RepetitionStepLemmas.{both_false}
+use Rattle.proto_grammar.proofs.TerminalTokenLemmas.{same_kind, one_next, one_others}
 use Rattle.proto_parse.specs.Choice.{statement_words, begins_map, begins_other}
 use Rattle.proto_parse.specs.Reading.Choice.{file_statement_of, message_statement_of}
 use Rattle.proto_parse.specs.Grammar.Files.{IsImport, IsPackage}

@@ -28,8 +28,8 @@ use Rattle.proto_parse.specs.Refused.NamesNoVersion.{no_statement, edition, othe
 use Rattle.proto_parse.specs.Refused.WouldGoOn.{custom_option, aggregate, extend, two_packages, import_escape, too_deep}
 use Rattle.proto_parse.specs.Refused.WouldGoOn.{group_too_deep}
 use Rattle.proto_parse.specs.Refused.IsRefused.{not_proto3, would_go_on, wrong, missing}
-use Rattle.proto_grammar.proofs.TokenLemmas.{one_next, other_kind, other_word, next_other_word, word_kind}
-use Rattle.proto_parse.proofs.Joined.{joined_exact}
+use Rattle.proto_grammar.proofs.TerminalTokenLemmas.{one_next, other_kind, other_word, next_other_word, word_kind}
+use Rattle.proto_parse.proofs.SyntaxJoinedLemmas.{joined_exact}
 
 -- ---- what goes on
 

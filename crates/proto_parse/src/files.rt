@@ -14,11 +14,11 @@ use crate::messages::{MAX_MESSAGE_DEPTH, extend_statement, message};
 use crate::services::service;
 use crate::statement::FileStatement;
 use crate::syntax::syntax;
+use basics::Sequence;
 use proto_grammar::{
     Dialect, File, FileItem, Import, ImportKind, Parser, Syntax, SyntaxFault, keep,
 };
 use proto_lex::{Span, TokenKind};
-use sequences::Sequence;
 use std::alloc::Global;
 
 /// The word `weak` or `public` of an import, if one is next.

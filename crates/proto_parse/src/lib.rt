@@ -1,16 +1,23 @@
 //! The syntax tree of a source: which tokens have one, and which.
 #![tactic(auto)]
 
+// From the tokens of a text to its tree.
+mod parsing;
+
+// Statements of a file.
 mod enums;
 mod files;
-mod fitting;
-mod laws;
 mod messages;
-mod parsing;
 mod passed;
 mod services;
-mod statement;
 mod syntax;
+
+// What they share.
+mod fitting;
+mod statement;
+
+// The laws.
+mod laws;
 
 pub use laws::{
     derives_or_has_a_fault, names_have_components, no_fault_where_it_derives, one_syntax_fault,

@@ -9,9 +9,9 @@ ghost use Rattle.proto_parse.specs.Reading.Services.{service_items_at, service_a
 
 use crate::enums::heading;
 use crate::fitting::fitted;
+use basics::Sequence;
 use proto_grammar::{CustomOptions, Heading, Method, Parser, Service, SyntaxFault, TypeName, keep};
 use proto_lex::{Span, TokenKind};
-use sequences::Sequence;
 use std::alloc::Global;
 
 /// The marker `stream`, if it is next.

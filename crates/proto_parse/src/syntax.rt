@@ -42,7 +42,7 @@ fn content<'t>(parser: &mut Parser<'t>) -> &'t [u8]
 }
 
 /// Which version the literals that are next spell when joined.
-#[tactic(auto, using(crate::proofs::Joined::nothing_joined, crate::proofs::Joined::past_done))]
+#[tactic(auto, using(crate::proofs::SyntaxJoinedLemmas::nothing_joined, crate::proofs::SyntaxJoinedLemmas::past_done))]
 fn version(parser: &mut Parser<'_>) -> Version
     ensures version { result ≡ version_of (joined_of parser.old.left) }
     ensures rest { parser.new ≡ past_literals parser.old }

@@ -1,26 +1,26 @@
--- The items of all files that count, in order of place.
+-- The items of all reachable files, in order of place.
 use Rattle.std.proofs.Common.{◌≡◌, ◌↔◌, inl, inr, ℕ, ◌+◌, ◌-◌, ◌<◌, ◌≤◌, zero, List, [], ◌∷◌, ◌++◌, length, get_or, map}
 use Rattle.std.proofs.Common.{Some, refl, ap, sym, ◌∙◌, subst, arith}
 use Rattle.std.specs.List.{Contains, slice_get}
 use Rattle.std.specs.List.Sorted.{IsStrictlyIncreasing}
 use Rattle.std.proofs.lemmas.Bool.{cases_lt}
-use Rattle.std.proofs.lemmas.Option.{slice_get-get_or, slice_get_within, get_or_from_slice_get}
+use Rattle.std.proofs.lemmas.Option.{slice_get-get_or, slice_get_within, get_or_from_slice_get, same_Some}
 use Rattle.std.proofs.lemmas.List.{length-append, length_push, get_or_push, get_or_default, get_or-append_right}
 use Rattle.std.proofs.lemmas.List.Elements.{Contains-append_left, Contains-append_right, Contains-append_cases}
 use Rattle.std.proofs.lemmas.List.Elements.{Contains-get_or}
 use Rattle.std.proofs.lemmas.Map.Keys.{sorted_from_strictly_increasing, below_from_sorted}
+use Rattle.basics.proofs.ListLemmas.{only}
 use Rattle.proto_decl.specs.Facts.{Facts}
 use Rattle.proto_decl.specs.declared.declaration.Declaration.{Declaration}
 use Rattle.proto_visibility.specs.Files.{File, HasFacts}
-use Rattle.proto_visibility.specs.Sees.{Counts}
+use Rattle.proto_visibility.specs.Sees.{IsReachable}
 use Rattle.proto_visibility.specs.Items.{Item, IsItem, Before}
 use Rattle.proto_visibility.specs.Items.IsItem.{declared, packaged}
 use Rattle.proto_visibility.specs.Tables.NameTables.{AreInPlace}
 use Rattle.proto_visibility.specs.Tables.FileItems.{ArePrefixes, declared_item, IsItemOf, IsItemIn, package_name_of}
 use Rattle.proto_visibility.proofs.SeeingLemmas.{slice_get_prefix}
-use Rattle.proto_visibility.proofs.ImportTableLemmas.{only}
 use Rattle.proto_visibility.proofs.ItemLemmas.{file_of_item}
-use Rattle.proto_visibility.proofs.FirstLemmas.{contained}
+use Rattle.basics.proofs.FirstLemmas.{contained}
 
 -- ---- prefixes
 
@@ -28,9 +28,6 @@ use Rattle.proto_visibility.proofs.FirstLemmas.{contained}
 abbrev pub ArePrefixesUpTo : List File → List (List (List ℕ)) → Type 0
 ArePrefixesUpTo files prefixes = (number : ℕ) (file : File) (its : List (List ℕ)) → slice_get files number ≡ Some file
     → slice_get prefixes number ≡ Some its → ArePrefixes (package_name_of file) its
-
-one_File : (a b : File) → Some a ≡ Some b → a ≡ b
-one_File a b e = cc
 
 one_List : (a b : List (List ℕ)) → Some a ≡ Some b → a ≡ b
 one_List a b e = cc
@@ -40,7 +37,7 @@ slice_get_last xs x k is =
     slice_get-get_or (xs ++ x ∷ []) k x (omega (arith, length_push xs x)) ∙ ap Some (get_or_push xs x x k (sym is))
 
 pub prefixes_more : (files : List File) (prefixes : List (List (List ℕ))) (count : ℕ) (file : File)
-    (its : List (List ℕ)) → length prefixes ≡ count → slice_get files count ≡ Some file
+    (its : List (List ℕ)) → length prefixes ≡ count → slice_get files are reachable ≡ Some file
     → ArePrefixes (package_name_of file) its
     → ArePrefixesUpTo files prefixes → ArePrefixesUpTo files (prefixes ++ its ∷ [])
 prefixes_more files prefixes count file its size stands here each number one ones at there =
@@ -49,7 +46,7 @@ prefixes_more files prefixes count file its size stands here each number one one
       | inr last ↦ (
           let within = slice_get_within (prefixes ++ its ∷ []) number ones there in
           let is : number ≡ count = omega (arith, length_push prefixes its) in
-          let same : one ≡ file = one_File one file (sym at ∙ (ap (slice_get files) is ∙ stands)) in
+          let same : one ≡ file = same_Some one file (sym at ∙ (ap (slice_get files) is ∙ stands)) in
           let its_is : ones ≡ its =
           one_List ones its (sym there ∙ slice_get_last prefixes its number (is ∙ sym size)) in
           subst (λ f. ArePrefixes (package_name_of f) ones) (sym same)
@@ -114,7 +111,7 @@ module _ (files : List File) (row : List ℕ) where
       | inr last ↦ (
           let here : at.0 ≡ count = omega (arith, at.2) in
           let same : get_or row at.0 0 ≡ number = ap (λ n. get_or row n 0) here ∙ sym is in
-          let one : at.1 ≡ file = one_File at.1 file (sym at.3 ∙ (ap (slice_get files) same ∙ stands)) in
+          let one : at.1 ≡ file = same_Some at.1 file (sym at.3 ∙ (ap (slice_get files) same ∙ stands)) in
           Contains-append_right items more item
           ((its item).1 (subst (λ n. IsItemIn n file item) same
           (subst (λ f. IsItemIn (get_or row at.0 0) f item) one at.4))))
@@ -133,17 +130,17 @@ module _ (files : List File) (row : List ℕ) where
       let below = below_from_sorted row at.0 count 0 (sorted_from_strictly_increasing row rises) at.2 within in
       inl (omega arith))
 
-  module _ (counted : (number : ℕ) → Contains row number ↔ Counts files number) where
-    declared_from : (number : ℕ) (facts : Facts) (item : Item) → Counts files number → HasFacts files number facts
+  module _ (reachable : (number : ℕ) → Contains row number ↔ IsReachable files number) where
+    declared_from : (number : ℕ) (facts : Facts) (item : Item) → IsReachable files number → HasFacts files number facts
         → (declarations : List Declaration)
         → ((d : Declaration) → Contains declarations d → Contains facts.declarations d)
         → Contains (map (declared_item number) declarations) item → IsItem files item
-    declared_from number facts item counts has [] all there = absurd (omega (arith, there.1))
-    declared_from number facts item counts has (d ∷ ds) all there =
+    declared_from number facts item is_reachable has [] all there = absurd (omega (arith, there.1))
+    declared_from number facts item is_reachable has (d ∷ ds) all there =
         elim (Contains-append_cases (declared_item number d ∷ []) (map (declared_item number) ds) item there) [
           | inl one ↦ subst (IsItem files) (only (declared_item number d) item one)
-              (declared counts has (all d (Contains-append_left (d ∷ []) ds d (zero, omega arith, refl))))
-          | inr other ↦ declared_from number facts item counts has ds
+              (declared is_reachable has (all d (Contains-append_left (d ∷ []) ds d (zero, omega arith, refl))))
+          | inr other ↦ declared_from number facts item is_reachable has ds
               (λ e h. all e (Contains-append_right (d ∷ []) ds e h)) other
         ]
 
@@ -158,26 +155,26 @@ module _ (files : List File) (row : List ℕ) where
           (declared_item number d) (declared_to number d es other)
     ]
 
-    from_file : (number : ℕ) (facts : Facts) (item : Item) → Counts files number → HasFacts files number facts
+    from_file : (number : ℕ) (facts : Facts) (item : Item) → IsReachable files number → HasFacts files number facts
         → IsItemOf number facts item → IsItem files item
-    from_file number facts item counts has (inl there) =
-        declared_from number facts item counts has facts.declarations (λ d h. h) there
-    from_file number facts item counts has (inr its) =
-        subst (IsItem files) (sym its.4) (packaged its.0 counts has its.3)
+    from_file number facts item is_reachable has (inl there) =
+        declared_from number facts item is_reachable has facts.declarations (λ d h. h) there
+    from_file number facts item is_reachable has (inr its) =
+        subst (IsItem files) (sym its.4) (packaged its.0 is_reachable has its.3)
 
-    row_place : (number : ℕ) → Counts files number → (k : ℕ) × (k < length row) × (get_or row k 0 ≡ number)
-    row_place number counts = let there = (counted number).1 counts in
+    row_place : (number : ℕ) → IsReachable files number → (k : ℕ) × (k < length row) × (get_or row k 0 ≡ number)
+    row_place number is_reachable = let there = (reachable number).1 is_reachable in
         (there.0, there.1, get_or_default row there.0 0 number there.1 ∙ there.2)
 
     to_file : (item : Item) → IsItem files item
-        → (number : ℕ) × (facts : Facts) × Counts files number × HasFacts files number facts
+        → (number : ℕ) × (facts : Facts) × IsReachable files number × HasFacts files number facts
         × IsItemOf number facts item
-    to_file item (declared {number = number} {facts = facts} {declaration = d} counts has listed) =
-        (number, facts, counts, has, inl (declared_to number d facts.declarations listed))
-    to_file item (packaged {number = number} {facts = facts} {component = component} index counts has stands) = (
+    to_file item (declared {number = number} {facts = facts} {declaration = d} is_reachable has listed) =
+        (number, facts, is_reachable, has, inl (declared_to number d facts.declarations listed))
+    to_file item (packaged {number = number} {facts = facts} {component = component} index is_reachable has stands) = (
       number,
       facts,
-      counts,
+      is_reachable,
       has,
       inr (index, component, slice_get_within facts.package_name index component stands, stands, refl),
     )
@@ -187,8 +184,8 @@ module _ (files : List File) (row : List ℕ) where
     items_all count items all upto so_far item = (
       λ there.
           let at = (so_far item).0 there in
-          let counts = (counted (get_or row at.0 0)).0 (Contains-get_or row at.0 0 (omega (arith, at.2))) in
-          from_file (get_or row at.0 0) at.4.0 item counts
+          let is_reachable = (reachable (get_or row at.0 0)).0 (Contains-get_or row at.0 0 (omega (arith, at.2))) in
+          from_file (get_or row at.0 0) at.4.0 item is_reachable
           (record { file = at.1; numbered = at.3; known = at.4.1 }) at.4.2,
       λ is.
           let f = to_file item is in
@@ -202,13 +199,10 @@ module _ (files : List File) (row : List ℕ) where
           ),
     )
 
-one_Facts : (a b : Facts) → Some a ≡ Some b → a ≡ b
-one_Facts a b e = cc
-
 pub in_file : (number : ℕ) (file : File) (facts : Facts) (items : List Item) → file.facts ≡ Some facts
     → ((item : Item) → Contains items item ↔ IsItemOf number facts item) → (item : Item) → Contains items item
     ↔ IsItemIn number file item
 in_file number file facts items known its item = (
   λ there. (facts, known, (its item).0 there),
-  λ is. (its item).1 (subst (λ f. IsItemOf number f item) (one_Facts is.0 facts (sym is.1 ∙ known)) is.2),
+  λ is. (its item).1 (subst (λ f. IsItemOf number f item) (same_Some is.0 facts (sym is.1 ∙ known)) is.2),
 )

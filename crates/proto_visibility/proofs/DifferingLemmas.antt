@@ -5,24 +5,24 @@ use Rattle.std.proofs.Common.{[], ◌∷◌, ◌++◌, length, get_or, take, map
 use Rattle.std.specs.List.{Contains, slice_get, list_any}
 use Rattle.std.specs.HashSet.{HashSet, Updates}
 use Rattle.std.proofs.lemmas.Bool.{cases_lt, cases_Bool, false≢true, cond-true, cond-false}
-use Rattle.std.proofs.lemmas.Option.{slice_get_within}
+use Rattle.std.proofs.lemmas.Option.{slice_get_within, same_Some}
 use Rattle.std.proofs.lemmas.List.{append_assoc, append-nil, take_more, map-append, get_or_default}
 use Rattle.std.proofs.lemmas.List.Elements.{Contains-push_cases, Contains-append_left}
 use Rattle.std.proofs.lemmas.List.Elements.{Contains-append_right, Contains-append_cases}
-use Rattle.proto_decl.specs.FullNames.{mixed}
+use Rattle.basics.proofs.ListLemmas.{item_at, only}
+use Rattle.proto_decl.specs.FullNames.{hash64}
 use Rattle.proto_decl.specs.declared.declaration.Declaration.{Declaration}
 use Rattle.proto_visibility.specs.Files.{File}
-use Rattle.proto_visibility.specs.Sees.{Counts}
+use Rattle.proto_visibility.specs.Sees.{IsReachable}
 use Rattle.proto_visibility.specs.Items.{Before, Item, IsItem}
 use Rattle.proto_visibility.specs.Items.IsItem.{declared, packaged}
 use Rattle.proto_visibility.specs.Clashes.{NoClash}
 use Rattle.proto_visibility.specs.Tables.FileItems.{AreAllPrefixes, ArePrefixes, declared_item, package_name_in}
 use Rattle.proto_visibility.specs.Tables.GivenNames.{HasPrefixAt}
 use Rattle.proto_visibility.specs.Tables.Numbers.{AreApart, declarations_in, declarations_of, has_number}
-use Rattle.proto_visibility.proofs.ImportTableLemmas.{only}
 use Rattle.proto_visibility.proofs.AllItemsLemmas.{declared_to}
 use Rattle.proto_visibility.proofs.ClashLemmas.{never_both}
-use Rattle.proto_visibility.proofs.FirstLemmas.{contained, item_at}
+use Rattle.basics.proofs.FirstLemmas.{contained}
 
 -- ---- one more item
 
@@ -33,17 +33,17 @@ never_itself a b item a_is b_is before =
     never_both item.place item.place itself itself
 
 module _ {S : Type 0} (items : List Item) (item : Item) (old new : HashSet ℕ S)
-    (fresh : has_number old item.full_name ≡ false) (after : Updates nat_eq old new (mixed item.full_name) true)
+    (fresh : has_number old item.full_name ≡ false) (after : Updates nat_eq old new (hash64 item.full_name) true)
     (so_far : AreApart items old) where
   differ : (x : Item) → Contains items x → x.full_name ≡ item.full_name → ⊥
   differ x there same = false≢true (sym fresh ∙ (ap (has_number old) (sym same) ∙ so_far.numbered x there))
 
   grown : (name : List ℕ) → has_number old name ≡ true → has_number new name ≡ true
-  grown name there = elim (cases_Bool (nat_eq (mixed item.full_name) (mixed name))) [
-    | inl same ↦ after.0 (mixed name)
-        ∙ cond-true (nat_eq (mixed item.full_name) (mixed name)) true (has_number old name) same
-    | inr apart ↦ after.0 (mixed name)
-        ∙ (cond-false (nat_eq (mixed item.full_name) (mixed name)) true (has_number old name) apart ∙ there)
+  grown name there = elim (cases_Bool (nat_eq (hash64 item.full_name) (hash64 name))) [
+    | inl same ↦ after.0 (hash64 name)
+        ∙ cond-true (nat_eq (hash64 item.full_name) (hash64 name)) true (has_number old name) same
+    | inr apart ↦ after.0 (hash64 name)
+        ∙ (cond-false (nat_eq (hash64 item.full_name) (hash64 name)) true (has_number old name) apart ∙ there)
   ]
 
   pub apart_more : AreApart (items ++ item ∷ []) new
@@ -85,7 +85,7 @@ none_of_file items numbers apart = subst (λ xs. AreApart xs numbers) (sym (appe
 pub apart_with : {S : Type 0} (number : ℕ) (declarations : List Declaration) (index : ℕ) (declaration : Declaration)
     (items : List Item) (old new : HashSet ℕ S) → index < length declarations
     → declaration ≡ get_or declarations index declaration → has_number old declaration.full_name ≡ false
-    → Updates nat_eq old new (mixed declaration.full_name) true
+    → Updates nat_eq old new (hash64 declaration.full_name) true
     → AreApart (items ++ map (declared_item number) (take index declarations)) old
     → AreApart (items ++ map (declared_item number) (take (index + 1) declarations)) new
 apart_with number declarations index declaration items old new within at fresh after so_far =
@@ -111,12 +111,9 @@ HaveDeclared files row count items = (k : ℕ) (file : File) (item : Item) → k
 abbrev pub AreApartUpTo : {S : Type 0} → List File → (row : List ℕ) → (count : ℕ) → HashSet ℕ S → Type 0
 AreApartUpTo files row count numbers = (items : List Item) × AreApart items numbers × HaveDeclared files row count items
 
-pub none_up_to : {S : Type 0} (files : List File) (counted : List ℕ) (numbers : HashSet ℕ S)
-    → AreApartUpTo files counted 0 numbers
-none_up_to files counted numbers = ([], none_apart numbers, λ k file item less at there. absurd (omega (arith, less)))
-
-one_File : (a b : File) → Some a ≡ Some b → a ≡ b
-one_File a b e = cc
+pub none_up_to : {S : Type 0} (files : List File) (reachable : List ℕ) (numbers : HashSet ℕ S)
+    → AreApartUpTo files reachable 0 numbers
+none_up_to files reachable numbers = ([], none_apart numbers, λ k file item less at there. absurd (omega (arith, less)))
 
 pub more_up_to : {S : Type 0} (files : List File) (row : List ℕ) (count number : ℕ) (file : File)
     (old new : HashSet ℕ S) → number ≡ get_or row count 0 → slice_get files number ≡ Some file
@@ -132,7 +129,7 @@ more_up_to files row count number file old new is stands added so_far = (
     | inr last ↦ (
         let here : k ≡ count = omega arith in
         let same : get_or row k 0 ≡ number = ap (λ n. get_or row n 0) here ∙ sym is in
-        let equal : one ≡ file = one_File one file (sym at ∙ (ap (slice_get files) same ∙ stands)) in
+        let equal : one ≡ file = same_Some one file (sym at ∙ (ap (slice_get files) same ∙ stands)) in
         Contains-append_right so_far.0 (map (declared_item number) (declarations_of file)) item
         (subst (λ n. Contains (map (declared_item n) (declarations_of file)) item) same
         (subst (λ f. Contains (map (declared_item (get_or row k 0)) (declarations_of f)) item) equal there)))
@@ -154,7 +151,7 @@ none_passes test (y ∷ ys) none x there = elim (cases_Bool (test y)) [
 ]
 
 module _ {S : Type 0} (files : List File) (prefixes : List (List (List ℕ))) (row : List ℕ) (numbers : HashSet ℕ S)
-    (counted : (number : ℕ) → Contains row number ↔ Counts files number) (all : AreAllPrefixes files prefixes)
+    (reachable : (number : ℕ) → Contains row number ↔ IsReachable files number) (all : AreAllPrefixes files prefixes)
     (count : ℕ) (enough : length row ≤ count) (apart : AreApartUpTo files row count numbers)
     (none : list_any (λ names. list_any (λ name. has_number numbers name) names) prefixes ≡ false) where
   not_numbered : (number : ℕ) (name : List ℕ) → HasPrefixAt prefixes number name → has_number numbers name ≡ false
@@ -170,10 +167,10 @@ module _ {S : Type 0} (files : List File) (prefixes : List (List (List ℕ))) (r
       ⊎ ((item.is_declaration ≡ false) × ((number : ℕ) × HasPrefixAt prefixes number item.full_name))
 
   told : (item : Item) → IsItem files item → IsTold item
-  told item (declared {number = number} {facts = facts} {declaration = d} counts has listed) =
-      let at = (counted number).1 counts in
+  told item (declared {number = number} {facts = facts} {declaration = d} is_reachable has listed) =
+      let at = (reachable number).1 is_reachable in
       let same : get_or row at.0 0 ≡ number = get_or_default row at.0 0 number at.1 ∙ at.2 in
-      let there = declared_to files row counted number d facts.declarations listed in
+      let there = declared_to files row reachable number d facts.declarations listed in
       let in_file = subst (λ o. Contains (map (declared_item number) (declarations_in o)) (declared_item number d))
       (sym has.known) there in
       inl (
@@ -183,7 +180,7 @@ module _ {S : Type 0} (files : List File) (prefixes : List (List (List ℕ))) (r
             (subst (λ n. Contains (map (declared_item n) (declarations_of has.file)) (declared_item number d))
             (sym same) in_file),
       )
-  told item (packaged {number = number} {facts = facts} {component = component} index counts has stands) =
+  told item (packaged {number = number} {facts = facts} {component = component} index is_reachable has stands) =
       let within = slice_get_within files number has.file has.numbered in
       let its = item_at prefixes number (omega (arith, within, all.one_each)) in
       let are = subst (λ cs. ArePrefixes cs its.0) (ap package_name_in has.known)

@@ -16,8 +16,8 @@ use Rattle.proto_visibility.specs.FileNames.{IsPrefix}
 use Rattle.proto_visibility.specs.Tables.GivenNames.{owned_at, AreNames, AreNamesOf}
 use Rattle.proto_visibility.specs.Entities.{IsEntityOf}
 use Rattle.proto_visibility.specs.Entities.IsEntityOf.{packaged, declared}
-use Rattle.proto_visibility.proofs.FirstLemmas.{found_at, position-none}
-use Rattle.proto_visibility.proofs.FactLemmas.{one_list_of_facts}
+use Rattle.basics.proofs.FirstLemmas.{found_at, position-none}
+use Rattle.proto_visibility.proofs.FileFactLemmas.{one_list_of_facts}
 
 -- the declaration has the name
 abbrev pub has_name : List ℕ → Declaration → Bool

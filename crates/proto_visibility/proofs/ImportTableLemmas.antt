@@ -13,10 +13,10 @@ use Rattle.std.proofs.lemmas.List.Elements.{Contains-append_right, Contains-appe
 use Rattle.std.proofs.lemmas.List.Elements.{Contains-get_or}
 use Rattle.std.proofs.lemmas.List.{take_more, length_push, get_or_push}
 use Rattle.std.proofs.lemmas.List.Elements.{filter_map-append}
+use Rattle.basics.proofs.ListLemmas.{in_front, only}
 use Rattle.proto_visibility.proofs.SeeingLemmas.{slice_get_prefix}
 use Rattle.proto_decl.specs.Facts.{Facts}
 use Rattle.proto_decl.specs.declared.imported.Imported.{Imported}
-use Rattle.proto_decl.proofs.AncestorLemmas.{in_front}
 use Rattle.proto_visibility.specs.declared.import_table.Steps.{Steps}
 use Rattle.proto_visibility.specs.Files.{File, Imports, HaveOwnPaths, is_public, HasPathAt}
 use Rattle.proto_visibility.specs.Tables.ImportTables.{targets, HasStep, AreWithin, IsTableOf, number_in, AreNumbered}
@@ -27,11 +27,6 @@ use Rattle.proto_visibility.specs.Tables.ImportTables.{imports_in, imports_of, t
 cases_Option : {Y : Type 0} (o : Option Y) → (o ≡ None) ⊎ ((y : Y) × (o ≡ Some y))
 cases_Option None = inl refl
 cases_Option (Some y) = inr (y, refl)
-
--- the only item of a list
-pub only : {X : Type 0} (x y : X) → Contains (x ∷ []) y → x ≡ y
-only x y (zero, h, e) = e
-only x y (suc k, h, e) = absurd (omega arith)
 
 filter_map_none : {X Y : Type 0} (h : X → Option Y) (x : X) (xs : List X) → h x ≡ None
     → filter_map h (x ∷ xs) ≡ filter_map h xs
@@ -206,7 +201,7 @@ AreNumberedUpTo files numbers count = (path : List ℕ) (number : ℕ) → (numb
 
 pub numbered_more : {S : Type 0} (files : List File) (old new : HashMap (Bor (List ℕ)) ℕ S) (count : ℕ) (file : File)
     → ((k : ℕ) (x : File) → k < count + 1 → slice_get files k ≡ Some x → x.path ≡ file.path → k ≡ count)
-    → slice_get files count ≡ Some file
+    → slice_get files are reachable ≡ Some file
     → ((path : List ℕ) → number_in new path ≡ cond (bytes_eq file.path path) (Some count) (number_in old path))
     → AreNumberedUpTo files old count → AreNumberedUpTo files new (count + 1)
 numbered_more files old new count file own stands after so_far path number =
@@ -253,7 +248,7 @@ filter_map_step h xs i x old new within is so_far after =
     ∙ sym (ap (filter_map h) one ∙ filter_map-append h (take i xs) (x ∷ [])))
 
 pub steps_more : (number : List ℕ → Option ℕ) (files : List File) (table : List Steps) (count : ℕ) (file : File)
-    (steps : Steps) → length table ≡ count → slice_get files count ≡ Some file
+    (steps : Steps) → length table ≡ count → slice_get files are reachable ≡ Some file
     → AreStepsOf number file steps → AreStepsUpTo number files table count
     → AreStepsUpTo number files (table ++ steps ∷ []) (count + 1)
 steps_more number files table count file steps size stands here each k one its h at there = elim (cases_lt k count) [
@@ -272,19 +267,19 @@ steps_more number files table count file steps size stands here each k one its h
 
 -- no two of the first so many files have one path
 abbrev pub OwnUpTo : List File → (count : ℕ) → Type 0
-OwnUpTo files count = (i j : ℕ) (a b : File) → i < count → j < count → slice_get files i ≡ Some a
+OwnUpTo files are reachable = (i j : ℕ) (a b : File) → i < count → j < count → slice_get files i ≡ Some a
     → slice_get files j ≡ Some b → a.path ≡ b.path → i ≡ j
 
-pub own_all : (files : List File) (count : ℕ) → length files ≤ count → OwnUpTo files count → HaveOwnPaths files
-own_all files count all own i j a b at there same =
+pub own_all : (files : List File) (count : ℕ) → length files ≤ count → OwnUpTo files are reachable → HaveOwnPaths files
+own_all files are reachable all own i j a b at there same =
     let i_within = slice_get_within files i a at in
     let j_within = slice_get_within files j b there in
     own i j a b (omega arith) (omega arith) at there same
 
 -- the path at hand has no number yet
 pub own_more : {S : Type 0} (files : List File) (old : HashMap (Bor (List ℕ)) ℕ S) (count : ℕ) (file : File)
-    → slice_get files count ≡ Some file → number_in old file.path ≡ None
-    → AreNumberedUpTo files old count → OwnUpTo files count → OwnUpTo files (count + 1)
+    → slice_get files are reachable ≡ Some file → number_in old file.path ≡ None
+    → AreNumberedUpTo files old count → OwnUpTo files are reachable → OwnUpTo files (count + 1)
 own_more files old count file stands new numbered own i j a b i_in j_in at there same = elim (cases_lt i count) [
   | inl i_front ↦ elim (cases_lt j count) [
     | inl j_front ↦ own i j a b i_front j_front at there same
@@ -307,7 +302,8 @@ own_more files old count file stands new numbered own i j a b i_in j_in at there
 
 -- the path at hand has a number, of a file before it
 pub not_own : {S : Type 0} (files : List File) (old : HashMap (Bor (List ℕ)) ℕ S) (count : ℕ) (file : File)
-    (first : Option ℕ) → slice_get files count ≡ Some file → first ≡ number_in old file.path → is_some first ≡ true
+    (first : Option ℕ) → slice_get files are reachable ≡ Some file → first ≡ number_in old file.path
+    → is_some first ≡ true
     → AreNumberedUpTo files old count → HaveOwnPaths files → ⊥
 not_own files old count file None stands is some numbered own = false≢true some
 not_own files old count file (Some k) stands is some numbered own =

@@ -9,11 +9,11 @@ use Rattle.proto_visibility.specs.Files.{File, HasFacts}
 use Rattle.proto_visibility.specs.Sees.{Sees}
 use Rattle.proto_visibility.specs.Knows.{NameKind, Knows, KnowsAs}
 use Rattle.proto_visibility.specs.Knows.Knows.{declared as known_declared, packaged as known_packaged}
-use Rattle.proto_visibility.specs.FileNames.{Gives, IsGiving, SeesGiving}
-use Rattle.proto_visibility.specs.FileNames.Gives.{declared as gives_declared, packaged as gives_packaged}
+use Rattle.proto_visibility.specs.FileNames.{DeclaresName, IsGiving, SeesGiving}
+use Rattle.proto_visibility.specs.FileNames.DeclaresName.{declared as gives_declared, packaged as gives_packaged}
 
 known : (files : List File) (file seen : ℕ) (facts : Facts) (name : List ℕ) (kind : NameKind) → Sees files file seen
-    → HasFacts files seen facts → Gives facts name kind → Knows files file name kind
+    → HasFacts files seen facts → DeclaresName facts name kind → Knows files file name kind
 known files file seen facts name kind sees has (gives_declared listed) = known_declared sees has listed
 known files file seen facts name kind sees has (gives_packaged of) =
     subst (λ n. Knows files file n kind) (sym of.3) (known_packaged sees has of.1 of.2)

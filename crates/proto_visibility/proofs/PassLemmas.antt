@@ -13,18 +13,18 @@ use Rattle.proto_visibility.specs.declared.place.FilePlace.{FilePlace}
 use Rattle.proto_visibility.specs.declared.omissions.FileOmission.{FileOmission}
 use Rattle.proto_visibility.specs.declared.omissions.FileOmission.TheVariants.{Broken, Duplicate}
 use Rattle.proto_visibility.specs.Files.{File}
-use Rattle.proto_visibility.specs.Sees.{Counts}
+use Rattle.proto_visibility.specs.Sees.{IsReachable}
 use Rattle.proto_visibility.specs.Items.{Before, Item, IsItem}
 use Rattle.proto_visibility.specs.Clashes.{ClashBy}
 use Rattle.proto_visibility.specs.Absences.{IsUnread}
-use Rattle.proto_visibility.specs.Kept.{Omissions, IsKept, IsMet, IsOmission, AreOmissions}
+use Rattle.proto_visibility.specs.Kept.{Omissions, IsKeptFile, IsMet, IsOmission, AreOmissions}
 use Rattle.proto_visibility.specs.Tables.NameTables.{AreInPlace, clash_with, index_in}
 use Rattle.proto_visibility.specs.Tables.Passes.{AreUnreadOf, IsOutByClash, IsClashOmission, AreClashesOmitted, IsOpen}
 use Rattle.proto_visibility.specs.Tables.Passes.{IsOpenAt, IsTold, ArePassed}
 use Rattle.proto_visibility.specs.Tables.Passes.IsOutByClash.{by_clash}
 use Rattle.proto_visibility.proofs.ClashLemmas.{in_order, one_index, clash_at, no_clash_at}
 use Rattle.proto_visibility.proofs.ClashLemmas.{clash_by, no_clash_by}
-use Rattle.proto_visibility.proofs.FirstLemmas.{contained_at, contained}
+use Rattle.basics.proofs.FirstLemmas.{contained_at, contained}
 
 -- ---- a list of which one entry is set
 
@@ -49,7 +49,7 @@ set_elsewhere (x ∷ xs) (suc n) (suc m) y apart = set_elsewhere xs n m y (λ sa
 same_item : (items : List Item) (k : ℕ) (a b : Item) → slice_get items k ≡ Some a → slice_get items k ≡ Some b → a ≡ b
 same_item items k a b at there = same_Some a b (sym at ∙ there)
 
-pub same_kept : (a b : Omissions) (n m : ℕ) → a ≡ b → n ≡ m → IsKept a n → IsKept b m
+pub same_kept : (a b : Omissions) (n m : ℕ) → a ≡ b → n ≡ m → IsKeptFile a n → IsKeptFile b m
 same_kept a b n m list number kept =
     ap (slice_get b) (sym number) ∙ (ap (λ (l : Omissions). slice_get l n) (sym list) ∙ kept)
 
@@ -86,7 +86,7 @@ module _ (items : List Item) (placed : AreInPlace items) where
   module _ {S : Type 0} (start : Omissions) (count : ℕ) (omissions : Omissions) (names : HashMap (List ℕ) ℕ S)
       (item : Item)
       (at : slice_get items count ≡ Some item) (so_far : ArePassed items start count omissions names) where
-    told_more : (number : ℕ) (fault : FileOmission) → IsKept start number
+    told_more : (number : ℕ) (fault : FileOmission) → IsKeptFile start number
         → slice_get omissions number ≡ Some (Some fault)
         → IsTold items (count + 1) omissions number fault
     told_more number fault kept out = let told = so_far.told number fault kept out in
@@ -248,13 +248,13 @@ module _ (items : List Item) (placed : AreInPlace items) where
         elsewhere : (n : ℕ) → (n ≡ item.place.file → ⊥) → slice_get new n ≡ slice_get omissions n
         elsewhere n apart = set_elsewhere omissions item.place.file n (Some fault) apart
 
-        not_kept : (n : ℕ) → n ≡ item.place.file → IsKept new n → ⊥
+        not_kept : (n : ℕ) → n ≡ item.place.file → IsKeptFile new n → ⊥
         not_kept n same kept = not_both fault (sym kept ∙ (ap (slice_get new) same ∙ out_there))
 
-        kept_before : (n : ℕ) → IsKept new n → IsKept omissions n
+        kept_before : (n : ℕ) → IsKeptFile new n → IsKeptFile omissions n
         kept_before n kept = sym (elsewhere n (λ same. not_kept n same kept)) ∙ kept
 
-        kept_after : (n : ℕ) → (n ≡ item.place.file → ⊥) → IsKept omissions n → IsKept new n
+        kept_after : (n : ℕ) → (n ≡ item.place.file → ⊥) → IsKeptFile omissions n → IsKeptFile new n
         kept_after n apart kept = elsewhere n apart ∙ kept
 
         -- what a file up to this one meets, it still meets
@@ -280,8 +280,11 @@ module _ (items : List Item) (placed : AreInPlace items) where
         )
 
         met_open : (x : Item) → IsMet (Contains items) new item.place.file x → IsOpen omissions x
-        met_open x is = elim is.meets
-            [ inl own ↦ subst (IsKept omissions) (sym own) open_item | inr before ↦ kept_before x.place.file before.1 ]
+        met_open x is = elim is.meets [
+          | inl own ↦ subst (IsKeptFile omissions) (sym own) open_item
+          | inr before ↦ kept_before
+              x.place.file before.1
+        ]
 
         met_now : (x : Item) (j : ℕ) → slice_get items j ≡ Some x → x.place.file ≤ item.place.file → IsOpen omissions x
             → IsMet (Contains items) new item.place.file x
@@ -439,7 +442,7 @@ module _ (items : List Item) (placed : AreInPlace items) where
     told = λ number omission kept out. by number omission kept out;
   }
     where
-      by : (number : ℕ) (omission : Option FileOmission) → IsKept start number
+      by : (number : ℕ) (omission : Option FileOmission) → IsKeptFile start number
           → slice_get omissions number ≡ Some omission
           → IsClashOmission (Contains items) omissions number omission
       by number (Some fault) kept out = (so_far.told number fault kept out).5
@@ -452,7 +455,7 @@ module _ (items : List Item) (placed : AreInPlace items) where
           (opened b e.second_is) e.one_name) ∙ e.declares)
         where
           opened : (x : Item) → IsMet (Contains items) omissions number x → IsOpen omissions x
-          opened x is = elim is.meets [ inl own ↦ subst (IsKept omissions) (sym own) out | inr before ↦ before.1 ]
+          opened x is = elim is.meets [ inl own ↦ subst (IsKeptFile omissions) (sym own) out | inr before ↦ before.1 ]
 
 -- before any item
 pub none_passed : {S : Type 0} (items : List Item) (start : Omissions) (names : HashMap (List ℕ) ℕ S)
@@ -530,16 +533,17 @@ push_get (z ∷ zs) x y (suc k) e =
     elim (push_get zs x y k e) [ inl prefix ↦ inl prefix | inr last ↦ inr (ap suc last.0, last.1) ]
 
 pub unread_more : (files : List File) (count : ℕ) (omissions : Omissions) (omission : Option FileOmission)
-    → MatchOption omission (IsUnread files count → ⊥) (λ fault. (fault ≡ Broken) × IsUnread files count)
-    → AreUnreadOf files count omissions → AreUnreadOf files (count + 1) (omissions ++ omission ∷ [])
-unread_more files count omissions omission is so_far = record {
+    → MatchOption omission (IsUnread files are reachable → ⊥) (λ fault. (fault ≡ Broken) × IsUnread files are reachable)
+    → AreUnreadOf files are reachable omissions → AreUnreadOf files (count + 1) (omissions ++ omission ∷ [])
+unread_more files are reachable omissions omission is so_far = record {
   one_each = length_push omissions omission ∙ ap (λ n. n + 1) so_far.one_each;
   each = λ number o out. elim (push_get omissions omission o number out) [
     | inl prefix ↦ so_far.each number o prefix
     | inr last ↦ (
         let here : count ≡ number = sym (last.0 ∙ so_far.one_each) in
         subst (λ n. MatchOption o (IsUnread files n → ⊥) (λ fault. (fault ≡ Broken) × IsUnread files n)) here
-        (subst (λ p. MatchOption p (IsUnread files count → ⊥) (λ fault. (fault ≡ Broken) × IsUnread files count))
+        (subst (λ p. MatchOption p (IsUnread files are reachable → ⊥)
+        (λ fault. (fault ≡ Broken) × IsUnread files are reachable))
         last.1 is))
   ];
 }
@@ -549,13 +553,13 @@ unread_more files count omissions omission is so_far = record {
     length_push (y ∷ ys) x = omega (arith, length_push ys x)
 
 pub unread_by : (files : List File) (number : ℕ) (file : File) (row : List ℕ)
-    → ((other : ℕ) → Contains row other ↔ Counts files other) → slice_get files number ≡ Some file
+    → ((other : ℕ) → Contains row other ↔ IsReachable files other) → slice_get files number ≡ Some file
     → (omission : Option FileOmission)
     → MatchOption omission (file.facts ≡ None → Contains row number → ⊥)
     (λ fault. (fault ≡ Broken) × (file.facts ≡ None) × Contains row number)
     → MatchOption omission (IsUnread files number → ⊥) (λ fault. (fault ≡ Broken) × IsUnread files number)
-unread_by files number file row counted at None none = λ unread.
+unread_by files number file row reachable at None none = λ unread.
     let same : unread.file ≡ file = same_Some unread.file file (sym unread.numbered ∙ at) in
-    none (ap (λ (f : File). f.facts) (sym same) ∙ unread.unread) ((counted number).1 unread.counts)
-unread_by files number file row counted at (Some its) is =
-    (is.0, record { file = file; counts = (counted number).0 is.2; numbered = at; unread = is.1 })
+    none (ap (λ (f : File). f.facts) (sym same) ∙ unread.unread) ((reachable number).1 unread.is_reachable)
+unread_by files number file row reachable at (Some its) is =
+    (is.0, record { file = file; is_reachable = (reachable number).0 is.2; numbered = at; unread = is.1 })

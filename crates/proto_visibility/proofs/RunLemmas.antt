@@ -6,7 +6,7 @@ use Rattle.std.specs.List.{Contains, slice_get, range_with_len}
 use Rattle.std.specs.List.Sorted.{IsNonDecreasing, IsPartitionPoint}
 use Rattle.std.proofs.lemmas.Bool.{cases_lt, ltb-true, ltb-false, leb-true}
 use Rattle.std.proofs.lemmas.Bool.Decides.{nat_tests}
-use Rattle.std.proofs.lemmas.Option.{slice_get_within, get_or_from_slice_get, slice_get-get_or}
+use Rattle.std.proofs.lemmas.Option.{slice_get_within, get_or_from_slice_get, slice_get-get_or, same_Some}
 use Rattle.std.proofs.lemmas.List.{append_assoc, get_or_default, take_all}
 use Rattle.std.proofs.lemmas.List.FromFn.{length-range_with_len, get_or-range_with_len}
 use Rattle.std.proofs.lemmas.List.Elements.{All-nil, All-push, All-weaker, Contains-append_left, Contains-append_right}
@@ -41,9 +41,6 @@ run_if : (run : Run) (number : ℕ) → IsIn run number
 run_if run number is =
     range_if run.first (run.last + 1 - run.first) number is.0 (omega (arith, is.0, is.1))
 
-one_Run : (a b : Run) → Some a ≡ Some b → a ≡ b
-one_Run a b e = cc
-
 pub in_runs_from : (runs : List Run) (number : ℕ) → Contains (numbers_in runs) number
     → (k : ℕ) × (run : Run) × (slice_get runs k ≡ Some run) × IsIn run number
 in_runs_from [] number there = absurd (omega (arith, there.1))
@@ -58,7 +55,7 @@ pub in_runs_if : (runs : List Run) (k : ℕ) (run : Run) (number : ℕ) → slic
     → Contains (numbers_in runs) number
 in_runs_if [] k run number stands is = absurd cc
 in_runs_if (first ∷ runs) zero run number stands is =
-    let same : first ≡ run = one_Run first run stands in
+    let same : first ≡ run = same_Some first run stands in
     Contains-append_left (range_with_len first.first (first.last + 1 - first.first)) (numbers_in runs) number
     (run_if first number (subst (λ (r : Run). IsIn r number) (sym same) is))
 in_runs_if (first ∷ runs) (suc k) run number stands is =

@@ -1,4 +1,4 @@
--- The first clash of names: all files that count are one namespace (the profile's).
+-- The first clash of names: all reachable files are one namespace (the profile's).
 use Rattle.std.specs.Prelude.{◌≡◌, true, ◌||◌, List}
 use Rattle.proto_visibility.specs.declared.place.FilePlace.{FilePlace}
 use Rattle.proto_visibility.specs.Files.{File}

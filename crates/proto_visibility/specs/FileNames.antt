@@ -22,27 +22,27 @@ IsPrefix components name =
     (count : ℕ) × (0 < count) × (count ≤ length components) × (name ≡ package_of components count)
 
 -- a declaration or a package of the file
-pub data Gives (facts : Facts) : List ℕ → NameKind → Type 0 where
+pub data DeclaresName (facts : Facts) : List ℕ → NameKind → Type 0 where
   declared : {declaration : Declaration} → Contains facts.declarations declaration
-      → Gives facts declaration.full_name (OfDeclaration declaration.kind)
-  packaged : {name : List ℕ} → IsPrefix facts.package_name name → Gives facts name OfPackage
+      → DeclaresName facts declaration.full_name (OfDeclaration declaration.kind)
+  packaged : {name : List ℕ} → IsPrefix facts.package_name name → DeclaresName facts name OfPackage
 
 -- the file has such a one with this name, of a kind that is admitted
-pub record GivesAs (admits : NameKind → Bool) (name : List ℕ) (facts : Facts) : Type 0 where
+pub record DeclaresNameAs (admits : NameKind → Bool) (name : List ℕ) (facts : Facts) : Type 0 where
   pub kind : NameKind
-  pub gives : Gives facts name kind
+  pub gives : DeclaresName facts name kind
   pub admitted : admits kind ≡ true
 
-pub record FileGives (admits : NameKind → Bool) (name : List ℕ) (file : File) : Type 0 where
+pub record FileDeclaresName (admits : NameKind → Bool) (name : List ℕ) (file : File) : Type 0 where
   pub facts : Facts
   pub known : file.facts ≡ Some facts
-  pub gives : GivesAs admits name facts
+  pub gives : DeclaresNameAs admits name facts
 
 -- the file with this number does
 pub record IsGiving (files : List File) (admits : NameKind → Bool) (name : List ℕ) (number : ℕ) : Type 0 where
   pub file : File
   pub numbered : slice_get files number ≡ Some file
-  pub gives : FileGives admits name file
+  pub gives : FileDeclaresName admits name file
 
 -- a file that is seen does
 pub record SeesGiving (files : List File) (file : ℕ) (admits : NameKind → Bool) (name : List ℕ)

@@ -14,16 +14,16 @@ abbrev pub Omissions : Type 0
 Omissions = List (Option FileOmission)
 
 -- the file with this number is kept
-abbrev pub IsKept : Omissions → (number : ℕ) → Type 0
-IsKept omissions number = slice_get omissions number ≡ Some None
+abbrev pub IsKeptFile : Omissions → (number : ℕ) → Type 0
+IsKeptFile omissions number = slice_get omissions number ≡ Some None
 
 -- An item that the file with this number meets: one of its own, or of a file before it that is kept.
 pub record IsMet (IsItem : Item → Type 0) (omissions : Omissions) (number : ℕ) (item : Item) : Type 0 where
   pub is_item : IsItem item
-  pub meets : (item.place.file ≡ number) ⊎ ((item.place.file < number) × IsKept omissions item.place.file)
+  pub meets : (item.place.file ≡ number) ⊎ ((item.place.file < number) × IsKeptFile omissions item.place.file)
 
 -- Whether a file is left out, and why. Files are taken one by one, in order of their numbers. Left out is one that
--- counts and has no facts, and one of which an item clashes with another of its own, or with one of a file kept
+-- is reachable and has no facts, and one of which an item clashes with another of its own, or with one of a file kept
 -- before it: for the first such clash. Files that don't count give no items, so they are kept.
 abbrev pub IsOmission : List File → Omissions → (number : ℕ) → Option FileOmission → Type 0
 IsOmission files omissions number None = (IsUnread files number → ⊥) × NoClashBy (IsMet (IsItem files) omissions number)
@@ -58,9 +58,9 @@ AreAllKept omissions = All (λ omission. omission ≡ None) omissions
 -- The laws. What is kept of files is one list.
 abbrev pub OneKept : Type 0
 OneKept = (files : List File) (omissions others : Omissions) → AreOmissions files omissions → AreOmissions files others
-    → (number : ℕ) → IsKept omissions number ↔ IsKept others number
+    → (number : ℕ) → IsKeptFile omissions number ↔ IsKeptFile others number
 
--- Nothing is left out if and only if the files that count have facts and no names clash.
+-- Nothing is left out if and only if the reachable files have facts and no names clash.
 abbrev pub NothingIsLeftOutOfGoodFiles : Type 0
 NothingIsLeftOutOfGoodFiles = (files : List File) (omissions : Omissions) → AreOmissions files omissions
     → AreAllKept omissions ↔ HaveClearNames files

@@ -1,6 +1,6 @@
 -- the files that are linked, and what they import
 pub mod Files
--- which file sees which, and which files count
+-- which file sees which, and which files are reachable
 pub mod Sees
 -- the first clash of names, and the first import of a file that isn't there
 pub mod Items

@@ -12,7 +12,7 @@ use Rattle.proto_visibility.specs.Tables.ImportTables.{AreRowsBy, AreNumbered}
 use Rattle.proto_visibility.specs.declared.names.Names.{Names}
 use Rattle.proto_visibility.specs.Tables.GivenNames.{AreNames}
 
--- What names are looked up in: the files that count have facts, and no names clash.
+-- What names are looked up in: the reachable files have facts, and no names clash.
 pub record HaveClearNames (files : List File) : Type 0 where
   pub read : absences.NoneBroken files
   pub clear : NoClash files

@@ -1,8 +1,8 @@
-//! The items of all files that count.
+//! The items of all reachable files.
 
 ghost use Rattle.std.specs.Prelude.{ℕ, ◌↔◌, IfOk, Contains};
 ghost use Rattle.proto_visibility.specs.Items.{Item, IsItem};
-ghost use Rattle.proto_visibility.specs.Sees.{Counts};
+ghost use Rattle.proto_visibility.specs.Sees.{IsReachable};
 ghost use Rattle.proto_visibility.specs.Tables.FileItems.{ArePrefixes, AreAllPrefixes, IsItemIn, package_name_of};
 ghost use Rattle.proto_visibility.specs.Tables.NameTables.{AreInPlace};
 
@@ -11,7 +11,7 @@ use crate::differing::room_for;
 use crate::file_row::FileRow;
 use crate::items::{file_items, package_prefixes};
 use crate::link_file::LinkFile;
-use sequences::{OwnedText, Sequence};
+use basics::{OwnedText, Sequence};
 use std::alloc::{AllocError, Global};
 
 /// For each file, and each component of its package's name, the name up to it.
@@ -41,20 +41,20 @@ fn prefixes_of_file(alloc: Global, file: &LinkFile) -> Result<Sequence<OwnedText
     }
 }
 
-/// The items of the files that count, in order of place.
+/// The items of the reachable files, in order of place.
 pub(crate) fn all_items<'a>(
     alloc: Global,
     files: &'a [LinkFile<'a, '_>],
     prefixes: &'a [Sequence<OwnedText>],
-    counted: &FileRow,
+    reachable: &FileRow,
 ) -> Result<Vec<Item<'a>>, AllocError>
     requires prefixes { AreAllPrefixes files.now prefixes.now }
-    requires counted { (number : ℕ) → Contains counted.now number ↔ Counts files.now number }
+    requires reachable { (number : ℕ) → Contains reachable.now number ↔ IsReachable files.now number }
     ensures order { IfOk result (λ items. AreInPlace items.items) }
     ensures items { IfOk result (λ items. (item : Item) → Contains items.items item ↔ IsItem files.now item) }
 {
     let mut items = Vec::with_capacity(alloc, room_with_packages(files, prefixes))?;
-    for number in counted.as_slice() {
+    for number in reachable.as_slice() {
         let file = &files[*number];
         let mut more = items_of_file(alloc, *number, file, prefixes[*number].as_slice())?;
         items.append(&mut more)?;
@@ -62,7 +62,7 @@ pub(crate) fn all_items<'a>(
     Ok(items)
 }
 
-/// No fewer than the items of the files that count.
+/// No fewer than the items of the reachable files.
 fn room_with_packages(files: &[LinkFile], prefixes: &[Sequence<OwnedText>]) -> usize {
     let mut room = room_for(files);
     for names in prefixes {

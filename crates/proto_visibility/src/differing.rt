@@ -2,7 +2,7 @@
 
 ghost use Rattle.std.specs.Prelude.{ℕ, ◌≡◌, ◌↔◌, ◌++◌, IsTrue, IfOk, Contains, List, map};
 ghost use Rattle.std.specs.List.{list_any};
-ghost use Rattle.proto_visibility.specs.Sees.{Counts};
+ghost use Rattle.proto_visibility.specs.Sees.{IsReachable};
 ghost use Rattle.proto_visibility.specs.Items.{Item};
 ghost use Rattle.proto_visibility.specs.Clashes.{NoClash};
 ghost use Rattle.proto_visibility.specs.Tables.FileItems.{AreAllPrefixes, declared_item};
@@ -10,8 +10,8 @@ ghost use Rattle.proto_visibility.specs.Tables.Numbers.{AreApart, declarations_o
 
 use crate::file_row::FileRow;
 use crate::link_file::LinkFile;
+use basics::{OwnedText, Sequence};
 use proto_decl::{Declaration, FullName};
-use sequences::{OwnedText, Sequence};
 use std::alloc::{AllocError, Global};
 use std::collections::HashSet;
 
@@ -23,14 +23,14 @@ pub(crate) fn numbers_differ(
     alloc: Global,
     files: &[LinkFile],
     prefixes: &[Sequence<OwnedText>],
-    counted: &FileRow,
+    reachable: &FileRow,
 ) -> Result<bool, AllocError>
     requires prefixes { AreAllPrefixes files.now prefixes.now }
-    requires counted { (number : ℕ) → Contains counted.now number ↔ Counts files.now number }
+    requires reachable { (number : ℕ) → Contains reachable.now number ↔ IsReachable files.now number }
     ensures { IfOk result (λ differ. IsTrue differ → NoClash files.now) }
 {
     let mut numbers = HashSet::with_capacity(alloc, room_for(files))?;
-    for number in counted.as_slice() {
+    for number in reachable.as_slice() {
         let differ = add_file(&mut numbers, &files[*number])?;
         if !differ {
             return Ok(false);
@@ -40,7 +40,7 @@ pub(crate) fn numbers_differ(
     Ok(!shared)
 }
 
-/// No fewer than the declarations of the files that count: how much room a list or a set of them is made with.
+/// No fewer than the declarations of the reachable files: how much room a list or a set of them is made with.
 pub(crate) fn room_for(files: &[LinkFile]) -> usize {
     let mut room: usize = 0;
     for file in files {
@@ -77,7 +77,7 @@ fn add_declarations(
         → AreApart (items ++ map (declared_item number) declarations.now) numbers.new) }
 {
     for declaration in declarations {
-        let new = numbers.insert(declaration.full_name().mixed())?;
+        let new = numbers.insert(declaration.full_name().hash64())?;
         if !new {
             return Ok(false);
         }
@@ -105,5 +105,5 @@ fn has_one(numbers: &HashSet<u64>, names: &[OwnedText]) -> bool
 fn has_number(numbers: &HashSet<u64>, name: &str) -> bool
     ensures { result ≡ has_number numbers.now name.now }
 {
-    numbers.contains(&FullName::whole(name).mixed())
+    numbers.contains(&FullName::whole(name).hash64())
 }

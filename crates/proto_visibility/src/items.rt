@@ -9,8 +9,8 @@ ghost use Rattle.proto_visibility.specs.Tables.NameTables.{AreInPlace};
 
 use crate::clash::Item;
 use crate::place::FilePlace;
+use basics::OwnedText;
 use proto_decl::{Component, Declaration, FileFacts, FullName, facts_in_order};
-use sequences::OwnedText;
 use std::alloc::{AllocError, Global};
 
 /// For each component of a package's name the name up to it.
@@ -57,6 +57,7 @@ pub(crate) fn file_items<'a>(
     ensures items { IfOk result (λ items. (item : Item) → Contains items.items item ↔ IsItemOf number facts.now item) }
 {
     facts_in_order();
+    // From here on it is known that the facts are those of some file.
     facts.origin();
     let mut items = declared_items(alloc, number, facts.declarations(), prefixes.len())?;
     add_package(&mut items, number, facts.package_name(), prefixes)?;

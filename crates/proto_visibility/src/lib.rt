@@ -1,32 +1,45 @@
 //! Which files see which, what clashes among their names, and who has which name.
 #![tactic(auto)]
 
+// Files to be linked, and places in them.
+mod link_file;
+mod origins;
+mod place;
+
+// What they import, and which files each one sees.
 mod absent;
-mod all_items;
-mod checked;
-mod clash;
-mod counting;
-mod differing;
-mod entities;
-mod fault;
+mod import_table;
+mod reachable;
+mod search;
+mod seeing;
+
+// Sets of files, in an order that keeps them small.
 mod file_order;
 mod file_row;
-mod import_table;
+mod runs;
+mod seen_row;
+
+// Their names, and which clash.
+mod all_items;
+mod clash;
+mod differing;
 mod items;
-mod laws;
-mod link_file;
+
+// Who gives a name, and as what.
+mod entities;
 mod listed_names;
 mod name_owners;
 mod names;
+mod role;
+
+// Which files can be linked, and which are left out.
+mod checked;
+mod fault;
 mod namespace;
 mod omissions;
-mod origins;
-mod place;
-mod role;
-mod runs;
-mod search;
-mod seeing;
-mod seen_row;
+
+// The laws.
+mod laws;
 
 pub use checked::CheckedFiles;
 pub use entities::Entity;

@@ -7,7 +7,7 @@ ghost use Rattle.proto_visibility.specs.Tables.GivenNames.{AreNames};
 use crate::all_items::all_prefixes;
 use crate::link_file::LinkFile;
 use crate::names::Names;
-use sequences::{OwnedText, Sequence};
+use basics::{OwnedText, Sequence};
 use std::alloc::{AllocError, Global};
 use std::marker::Model;
 

@@ -16,9 +16,9 @@ ghost use Rattle.proto_visibility.specs.Tables.GivenNames.{
 
 use crate::link_file::LinkFile;
 use crate::role::Role;
+use basics::{OwnedText, Sequence};
 use indexmap::IndexMap;
 use proto_decl::{Declaration, DeclarationKind, FullName};
-use sequences::{OwnedText, Sequence};
 use std::alloc::{AllocError, Global};
 
 /// A declaration of a file, by the file's number and its index there, and its kind.

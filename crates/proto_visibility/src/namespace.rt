@@ -14,7 +14,6 @@ ghost use Rattle.proto_visibility.specs.FileNames.{admits, SeesGiving};
 use crate::absent::{all_absent, is_numbered};
 use crate::all_items::all_prefixes;
 use crate::checked::CheckedFiles;
-use crate::counting::counted_files;
 use crate::entities::{Entity, entity_in};
 use crate::fault::LinkFault;
 use crate::import_table::{numbers_of, steps_of};
@@ -24,6 +23,7 @@ use crate::name_owners::giving_in;
 use crate::names::Names;
 use crate::origins::have_origins;
 use crate::place::FilePlace;
+use crate::reachable::reachable_files;
 use crate::role::Role;
 use crate::seeing::{SeenFiles, seen_files};
 use proto_decl::FileFacts;
@@ -61,7 +61,7 @@ impl<'a, 't> Namespace<'a, 't> {
     ///
     /// An included file has an effect only where some source sees it. A weak import counts as a
     /// plain one.
-    #[tactic(auto, using(crate::proofs::RefusalRules::refusals))]
+    #[tactic(auto, using(crate::proofs::LinkedRefusalRules::refusals))]
     pub fn new(alloc: Global, files: &'a [LinkFile<'a, 't>]) -> Result<Namespace<'a, 't>, LinkFault>
         requires { HaveOwnPaths files.now }
         ensures linked { IfOk result (λ namespace. namespace ≡ files.now) }
@@ -129,8 +129,8 @@ impl<'a, 't> Namespace<'a, 't> {
         ensures { IfOk result (λ places. AreMissing self.now places.items) }
     {
         let table = steps_of(alloc, self.files, &self.numbers)?;
-        let counted = counted_files(alloc, self.files, table.as_slice())?;
-        all_absent(alloc, self.files, &self.numbers, &counted)
+        let reachable = reachable_files(alloc, self.files, table.as_slice())?;
+        all_absent(alloc, self.files, &self.numbers, &reachable)
     }
 
     /// Whether a file sees another: itself, what it imports, and what public imports lead to from
@@ -152,7 +152,7 @@ impl<'a, 't> Namespace<'a, 't> {
         giving_in(&self.names, &self.seen.row(file), name, role)
     }
 
-    /// The files that count have facts, no names clash, and the facts of each file are those of some
+    /// The reachable files have facts, no names clash, and the facts of each file are those of some
     /// text: what the laws ask for. Takes no memory.
     pub fn linked(&self)
         ensures clear { HaveClearNames self.now }

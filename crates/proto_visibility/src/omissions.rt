@@ -18,18 +18,18 @@ ghost use Rattle.std.specs.Prelude.{
 };
 ghost use Rattle.proto_visibility.specs.declared.omissions.FileOmission.TheVariants.{Broken, Duplicate};
 ghost use Rattle.proto_visibility.specs.Files.{HaveOwnPaths};
-ghost use Rattle.proto_visibility.specs.Sees.{Counts};
-ghost use Rattle.proto_visibility.specs.Kept.{Omissions, IsKept, AreOmissions};
+ghost use Rattle.proto_visibility.specs.Sees.{IsReachable};
+ghost use Rattle.proto_visibility.specs.Kept.{Omissions, IsKeptFile, AreOmissions};
 ghost use Rattle.proto_visibility.specs.Tables.NameTables.{AreInPlace, clash_with, index_in};
 ghost use Rattle.proto_visibility.specs.Tables.Passes.{AreUnreadOf, AreClashesOmitted, ArePassed, IsOpenAt};
 
 use crate::all_items::{all_items, all_prefixes};
 use crate::clash::{Item, clash_with};
-use crate::counting::counted_files;
 use crate::file_row::FileRow;
 use crate::import_table::{numbers_of, steps_of};
 use crate::link_file::LinkFile;
 use crate::place::FilePlace;
+use crate::reachable::reachable_files;
 use proto_decl::FullName;
 use std::alloc::{AllocError, Global};
 use std::collections::HashMap;
@@ -45,17 +45,17 @@ pub enum FileOmission {
 }
 
 /// For each file, by its number, why it is left out of a tree with faults; `None` for a file that is kept. No two of
-/// the files have one path. Only files that count are left out: sources, and what some source sees.
+/// the files have one path. Only reachable files are left out: sources, and what some source sees.
 pub fn left_out(alloc: Global, files: &[LinkFile]) -> Result<Vec<Option<FileOmission>>, AllocError>
     requires { HaveOwnPaths files.now }
     ensures { IfOk result (λ omissions. AreOmissions files.now omissions.items) }
 {
     let numbers = numbers_of(alloc, files)?;
     let table = steps_of(alloc, files, &numbers)?;
-    let counted = counted_files(alloc, files, table.as_slice())?;
+    let reachable = reachable_files(alloc, files, table.as_slice())?;
     let prefixes = all_prefixes(alloc, files)?;
-    let items = all_items(alloc, files, prefixes.as_slice(), &counted)?;
-    let mut omissions = unread_files(alloc, files, &counted)?;
+    let items = all_items(alloc, files, prefixes.as_slice(), &reachable)?;
+    let mut omissions = unread_files(alloc, files, &reachable)?;
     omit_clashes(alloc, &mut omissions, items.as_slice())?;
     Ok(omissions)
 }
@@ -64,25 +64,25 @@ pub fn left_out(alloc: Global, files: &[LinkFile]) -> Result<Vec<Option<FileOmis
 fn unread_files(
     alloc: Global,
     files: &[LinkFile],
-    counted: &FileRow,
+    reachable: &FileRow,
 ) -> Result<Vec<Option<FileOmission>>, AllocError>
-    requires { (number : ℕ) → Contains counted.now number ↔ Counts files.now number }
+    requires { (number : ℕ) → Contains reachable.now number ↔ IsReachable files.now number }
     ensures { IfOk result (λ omissions. AreUnreadOf files.now (length files.now) omissions.items) }
 {
     let mut omissions = Vec::with_capacity(alloc, files.len())?;
     for (number, file) in files.iter().enumerate() {
-        omissions.push_reserved(unread_at(number, file, counted));
+        omissions.push_reserved(unread_at(number, file, reachable));
     }
     Ok(omissions)
 }
 
 /// The same for one file.
-fn unread_at(number: usize, file: &LinkFile, counted: &FileRow) -> Option<FileOmission>
+fn unread_at(number: usize, file: &LinkFile, reachable: &FileRow) -> Option<FileOmission>
     ensures { MatchOption result
-        (file.now.facts ≡ None → Contains counted.now number → ⊥)
-        (λ omission. (omission ≡ Broken) × (file.now.facts ≡ None) × Contains counted.now number) }
+        (file.now.facts ≡ None → Contains reachable.now number → ⊥)
+        (λ omission. (omission ≡ Broken) × (file.now.facts ≡ None) × Contains reachable.now number) }
 {
-    if file.is_unread() && counted.has(number) {
+    if file.is_unread() && reachable.has(number) {
         Some(FileOmission::Broken)
     } else {
         None
@@ -137,7 +137,7 @@ fn pass_item<'a>(
 
 /// Whether the file with this number is kept so far.
 fn is_kept(omissions: &[Option<FileOmission>], number: usize) -> bool
-    ensures { IsTrue result ↔ IsKept omissions.now number }
+    ensures { IsTrue result ↔ IsKeptFile omissions.now number }
 {
     match omissions.get(number).copied() {
         Some(omission) => omission.is_none(),

@@ -20,6 +20,7 @@ fn has_origin(file: &LinkFile)
     ensures { (facts : Facts) → file.now.facts ≡ Some facts → AreOfSomeFile facts }
 {
     if let Some(facts) = file.facts {
+        // From here on it is known that the facts are those of some file.
         facts.origin();
     }
 }

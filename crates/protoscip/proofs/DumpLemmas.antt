@@ -19,10 +19,10 @@ use Rattle.streams.specs.Writers.{SinkOf, Writer, writing}
 use Rattle.proto_visibility.specs.Linked.{CanBeLinked}
 use Rattle.scip_build.specs.Documents.{IsLeastUnresolved}
 use Rattle.scip_build.specs.Files.{FileContents, ReadFile}
-use Rattle.scip_build.specs.Linking.{linked_files, MayRefuseReadings}
+use Rattle.scip_build.specs.Linking.{linked_files, MayRefuseParsed}
 use Rattle.scip_build.specs.Parsed.{IsUnparsed, IsUnreadable}
 use Rattle.scip_build.specs.declared.faulty.Faulty.TheVariants.{Refuse}
-use Rattle.scip_build.specs.Readings.{HasContents, AreReadingsOf, IsFirstFaulty}
+use Rattle.scip_build.specs.ParsedFiles.{HasContents, AreParsedFiles, IsFirstFaulty}
 use Rattle.scip_build.specs.declared.built.Built.{Built}
 use Rattle.scip_build.specs.declared.settings.Settings.{Settings}
 use Rattle.scip_build.specs.declared.fault.BuildFault.{BuildFault}
@@ -40,7 +40,7 @@ use Rattle.protoscip.specs.Dump.{source_path, dump_tree, dump_settings, default_
 use Rattle.protoscip.specs.Dump.{LeavesWriter, IsDumped, IsListingOf, IsTreeOfFault, IsTreeOfSource}
 use Rattle.protoscip.specs.declared.fault.Fault.{Fault}
 use Rattle.protoscip.specs.declared.fault.Fault.TheVariants as fault
-use Rattle.protoscip.proofs.FileLemmas.{files_of_build}
+use Rattle.protoscip.proofs.HeadlineFileLemmas.{files_of_build}
 
 refused_of_build : (allows : Seen → Choice → Type 0) (settings : Settings) (tree : List TreeFile) (workers : ℕ)
     (e : BuildFault) → IsBuildFault allows settings.faulty settings.dialect tree workers e
@@ -119,10 +119,11 @@ module _ (dialect : Dialect) (bytes : List ℕ) where
   short_contents (Ok contents) has = has.1.facts_in.lexing.text.short
   short_contents (Err e) has = absurd (let same : false ≡ true = has.0 in cc)
 
-  pub short_source : (readings : List ReadFile)
-      → AreReadingsOf Refuse dialect default_choices (dump_tree bytes) readings → length bytes ≤ max_text_length
+  pub short_source : (parsed : List ReadFile)
+      → AreParsedFiles Refuse dialect default_choices (dump_tree bytes) parsed → length bytes ≤ max_text_length
   short_source [] are = absurd (let none = are.one_each in omega (arith, none))
-  short_source (reading ∷ others) are = short_contents reading.contents (are.each zero alone reading refl refl).contents
+  short_source (parsed_file ∷ others) are = short_contents parsed_file.contents
+      (are.each zero alone parsed_file refl refl).contents
 
 module _ (dialect : Dialect) (bytes : List ℕ) where
   no_text_of_all : (e : LexFault) → IsNoText (kept_bytes bytes) e → IsNoText bytes e
@@ -154,22 +155,22 @@ module _ (dialect : Dialect) (bytes : List ℕ) where
       }
   faulty_of_all (suc number) e is = absurd (none-some is.file is.numbered)
 
-  of_readings : (P : List TreeFile → List ReadFile → Type 0)
-      → (readings : List ReadFile)
-      × AreReadingsOf Refuse dialect default_choices (dump_tree (kept_bytes bytes)) readings
-      × P (dump_tree (kept_bytes bytes)) readings
-      → (readings : List ReadFile) × AreReadingsOf Refuse dialect default_choices (dump_tree bytes) readings
-      × P (dump_tree bytes) readings
-  of_readings P of =
-      whole (λ b. (readings : List ReadFile) × AreReadingsOf Refuse dialect default_choices (dump_tree b) readings
-      × P (dump_tree b) readings) bytes (short_source dialect (kept_bytes bytes) of.0 of.1) of
+  of_parsed : (P : List TreeFile → List ReadFile → Type 0)
+      → (parsed : List ReadFile)
+      × AreParsedFiles Refuse dialect default_choices (dump_tree (kept_bytes bytes)) parsed
+      × P (dump_tree (kept_bytes bytes)) parsed
+      → (parsed : List ReadFile) × AreParsedFiles Refuse dialect default_choices (dump_tree bytes) parsed
+      × P (dump_tree bytes) parsed
+  of_parsed P of =
+      whole (λ b. (parsed : List ReadFile) × AreParsedFiles Refuse dialect default_choices (dump_tree b) parsed
+      × P (dump_tree b) parsed) bytes (short_source dialect (kept_bytes bytes) of.0 of.1) of
 
   fault_of_all : (number : ℕ) (e : FileFault)
       → IsBuildFault default_choices Refuse dialect (dump_tree (kept_bytes bytes)) 1 (build.File number e)
       → IsBuildFault default_choices Refuse dialect (dump_tree bytes) 1 (build.File number e)
   fault_of_all number e (refuse, inl first) = (refuse, inl (faulty_of_all number e first))
   fault_of_all number e (refuse, inr of) =
-      (refuse, inr (of_readings (λ _ readings. MayRefuseReadings readings (build.File number e)) of))
+      (refuse, inr (of_parsed (λ _ parsed. MayRefuseParsed parsed (build.File number e)) of))
 
   -- what holds of the bytes that are kept holds of all
   pub refusal_of_all : (e : Fault) → IsRefusal dialect (kept_bytes bytes) e → IsRefusal dialect bytes e
@@ -178,13 +179,13 @@ module _ (dialect : Dialect) (bytes : List ℕ) where
   refusal_of_all (fault.Lex number e) is = fault_of_all number (file.Lex e) is
   refusal_of_all (fault.Syntax number e) is = fault_of_all number (file.Syntax e) is
   refusal_of_all (fault.Duplicate first second) is =
-      (is.0, of_readings (λ _ readings. MayRefuseReadings readings (build.Duplicate first second)) is.1)
+      (is.0, of_parsed (λ _ parsed. MayRefuseParsed parsed (build.Duplicate first second)) is.1)
   refusal_of_all (fault.MissingImport place) is =
-      (is.0, of_readings (λ _ readings. MayRefuseReadings readings (build.MissingImport place)) is.1)
+      (is.0, of_parsed (λ _ parsed. MayRefuseParsed parsed (build.MissingImport place)) is.1)
   refusal_of_all (fault.Unresolved place) is = (
     is.0,
-    of_readings
-        (λ _ readings. CanBeLinked (linked_files readings) × IsLeastUnresolved (linked_files readings) place) is.1,
+    of_parsed
+        (λ _ parsed. CanBeLinked (linked_files parsed) × IsLeastUnresolved (linked_files parsed) place) is.1,
   )
   refusal_of_all fault.TooLarge is =
       whole (λ b. IsRefusal dialect b fault.TooLarge) bytes

@@ -10,7 +10,7 @@ use Rattle.proto_decl.specs.Facts.{Facts}
 use Rattle.proto_decl.specs.declared.type_use.Use.{Use}
 use Rattle.proto_visibility.specs.Files.{File, HasFacts, IsSource, HaveOrigins}
 use Rattle.proto_visibility.specs.Kept.{Omissions, kept_of, number_among_all}
-use Rattle.proto_visibility.proofs.FirstLemmas.{contained}
+use Rattle.basics.proofs.FirstLemmas.{contained}
 use Rattle.index_hooks.specs.declared.choice.Choice.{Choice}
 use Rattle.source_tree.specs.Files.{TreeFile}
 use Rattle.scip_symbol.specs.Package.{Package}
@@ -24,7 +24,7 @@ use Rattle.scip_model.specs.Occurs.{Occurs}
 use Rattle.scip_model.specs.Occurs as rule
 use Rattle.scip_records.specs.declared.records.Document.{Document}
 use Rattle.scip_records.specs.declared.records.Occurrence.{Occurrence}
-use Rattle.scip_query.specs.OccurrenceAt.{Subject, subject_at, subject_in, subject_of}
+use Rattle.scip_query.specs.OccurrenceAt.{Subject, subject_at, subject_found, subject_of}
 use Rattle.scip_query.specs.References.{is_local, is_of, is_definition, references_of, definitions_of, references_at}
 use Rattle.scip_query.specs.References.{definitions_at}
 use Rattle.scip_query.specs.Sites.{Site, Numbered}
@@ -40,10 +40,10 @@ use Rattle.protoscip.specs.Headline.{IsEntityOf, package_of_entity, entity_of, d
 use Rattle.protoscip.specs.Headline.{IsSiteOf, IsDefinitionOf}
 use Rattle.protoscip.specs.Headline.{IsAt, Answers, AnswersNames, Headline, linked}
 use Rattle.protoscip.specs.NameLaws.{LawsOfNames}
-use Rattle.protoscip.proofs.EntityLemmas.{entity_is, symbol_is, one_entity, one_symbol, own_entity}
-use Rattle.protoscip.proofs.LinkedLemmas.{at_all_linked, have_origins, good_paths}
-use Rattle.protoscip.proofs.UseLemmas.{component_names}
-use Rattle.protoscip.proofs.SiteLemmas.{IsAsked, asked, of_symbol, defining, just}
+use Rattle.protoscip.proofs.HeadlineEntityLemmas.{entity_is, symbol_is, one_entity, one_symbol, own_entity}
+use Rattle.protoscip.proofs.HeadlineLinkedLemmas.{at_all_linked, have_origins, good_paths}
+use Rattle.protoscip.proofs.UseLawLemmas.{component_names}
+use Rattle.protoscip.proofs.HeadlineSiteLemmas.{IsAsked, asked, of_symbol, defining, just}
 
 -- no symbol of an entity is local
 not_local : (id : Package) (entity : Entity) → is_local (text_of id entity) ≡ false
@@ -112,7 +112,7 @@ module _ {allows : Seen → Choice → Type 0} {settings : Settings} {tree : Lis
 
   source_of : (document : Document)
       (has : HasDocument (linked built)
-      (texts_of built.of_files.readings) result.choices settings.package settings.encoding document)
+      (texts_of built.of_files.parsed) result.choices settings.package settings.encoding document)
       → IsSource (linked built) has.source
   source_of document has = record { file = has.is.file; numbered = has.is.numbered; source = has.is.is_source }
 
@@ -233,7 +233,7 @@ module _ {allows : Seen → Choice → Type 0} {settings : Settings} {tree : Lis
     subject_of_entity entity at = (
       record { asked = at.named; symbol = at.occurrence.symbol },
       ap (λ (named : Option Numbered). subject_of named (record { line = line; column = column })) at.document_is
-          ∙ ap (subject_in at.named) at.stands,
+          ∙ ap (subject_found at.named) at.stands,
     )
 
     -- an answer by what is found for the subject
@@ -310,7 +310,7 @@ module _ {allows : Seen → Choice → Type 0} {settings : Settings} {tree : Lis
 pub headline : (allows : Seen → Choice → Type 0) → LawsOfNames → Headline allows
 headline allows laws settings tree is_tree are_packages recorded bytes indexed =
     let built = indexed.built in
-    let readings = built.of_files.readings in
+    let parsed = built.of_files.parsed in
     let kept = built.of_files.kept in
     let Origins : List ReadFile → Type 0 = λ rs. HaveOrigins (linked_files rs) in
     let Good : List ReadFile → Type 0 = λ rs. HaveGoodPaths (linked_files rs) in

@@ -5,9 +5,9 @@ use Rattle.std.specs.Prelude.{nat_eq, codes, if◌then◌else◌}
 use Rattle.std.specs.List.{list_any, slice_get}
 use Rattle.std.specs.Str.{bytes_eq}
 use Rattle.std.specs.Option.{option_map, unwrap_or}
-use Rattle.excerpts.specs.Excerpts.{excerpt, quoted}
-use Rattle.excerpts.specs.Literals.{joined}
-use Rattle.excerpts.specs.Places.{place_text, token_len}
+use Rattle.diagnostics.specs.Excerpts.{excerpt, quoted}
+use Rattle.diagnostics.specs.Literals.{joined}
+use Rattle.diagnostics.specs.Places.{place_text, token_len}
 use Rattle.proto_lex.specs.FaultNames.{lex_offset}
 use Rattle.proto_parse.specs.FaultNames.{syntax_offset}
 use Rattle.proto_parse.specs.fault.SyntaxFault.{SyntaxFault}
@@ -15,7 +15,7 @@ use Rattle.proto_parse.specs.fault.SyntaxFault.TheVariants as parsing
 use Rattle.proto_parse.specs.dialect.Dialect.{Dialect}
 use Rattle.proto_visibility.specs.declared.place.FilePlace.{FilePlace}
 use Rattle.source_tree.specs.Files.{TreeFile}
-use Rattle.syntax_hints.specs.Hints.{IsHinted}
+use Rattle.diagnostics.specs.Hints.{IsHinted}
 use Rattle.protoscip.specs.FaultLines.{line_of, path_of}
 use Rattle.protoscip.specs.FaultTexts.{lex_sentence, sentence_of, syntax_sentence}
 use Rattle.protoscip.specs.Required.{has_required}

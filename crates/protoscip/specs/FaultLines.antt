@@ -27,19 +27,19 @@ duplicate_line path at later_path later_at =
     ++ codes ": Duplicate of " ++ path ++ codes "@" ++ decimal at
 
 -- the line of a fault, over this tree, with words before the path of the file at fault: `skipped` if the file is left
--- out for it, and `untargeted` if it only has an import or a use without a target
-abbrev pub line_with : (skipped untargeted : List ℕ) → List TreeFile → Fault → List ℕ
-line_with skipped untargeted tree (Lex number fault) =
+-- out for it, and `unresolved` if it only has an import or a use without a target
+abbrev pub line_with : (skipped unresolved : List ℕ) → List TreeFile → Fault → List ℕ
+line_with skipped unresolved tree (Lex number fault) =
     placed_line (skipped ++ path_of tree number) (lex_offset fault) (name_of (Lex number fault))
-line_with skipped untargeted tree (Syntax number fault) =
+line_with skipped unresolved tree (Syntax number fault) =
     placed_line (skipped ++ path_of tree number) (syntax_offset fault) (name_of (Syntax number fault))
-line_with skipped untargeted tree (Duplicate first second) =
+line_with skipped unresolved tree (Duplicate first second) =
     duplicate_line (path_of tree first.file) first.span.start (skipped ++ path_of tree second.file) second.span.start
-line_with skipped untargeted tree (MissingImport place) =
-    line_at (untargeted ++ path_of tree place.file) place.span.start (name_of (MissingImport place))
-line_with skipped untargeted tree (Unresolved place) =
-    line_at (untargeted ++ path_of tree place.file) place.span.start (name_of (Unresolved place))
-line_with skipped untargeted tree fault = plain_line (name_of fault)
+line_with skipped unresolved tree (MissingImport place) =
+    line_at (unresolved ++ path_of tree place.file) place.span.start (name_of (MissingImport place))
+line_with skipped unresolved tree (Unresolved place) =
+    line_at (unresolved ++ path_of tree place.file) place.span.start (name_of (Unresolved place))
+line_with skipped unresolved tree fault = plain_line (name_of fault)
 
 -- that of a run's fault: without words
 abbrev pub line_of : List TreeFile → Fault → List ℕ

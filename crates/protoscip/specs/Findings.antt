@@ -66,8 +66,8 @@ finding_of kind tree fault = record {
 abbrev pub kind_of : Omission → FindingKind
 kind_of (omitted.File number fault) = kind.Skipped
 kind_of (omitted.Duplicate first second) = kind.Skipped
-kind_of (omitted.MissingImport place) = kind.NoTarget
-kind_of (omitted.Unresolved place) = kind.NoTarget
+kind_of (omitted.MissingImport place) = kind.Unresolved
+kind_of (omitted.Unresolved place) = kind.Unresolved
 
 abbrev pub told_finding : List TreeFile → Omission → Found
 told_finding tree omission = finding_of (kind_of omission) tree (fault_of_omission omission)

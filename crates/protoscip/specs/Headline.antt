@@ -12,7 +12,7 @@ use Rattle.proto_decl.specs.declared.type_use.Component.{Component}
 use Rattle.proto_decl.specs.declared.type_use.Use.{Use}
 use Rattle.proto_visibility.specs.declared.entities.Entity.{Entity as Part}
 use Rattle.proto_visibility.specs.Files.{File, HasFacts, IsSource}
-use Rattle.proto_visibility.specs.Sees.{Counts}
+use Rattle.proto_visibility.specs.Sees.{IsReachable}
 use Rattle.index_hooks.specs.declared.choice.Choice.{Choice}
 use Rattle.source_tree.specs.Files.{TreeFile}
 use Rattle.source_tree.specs.Trees.{IsTree}
@@ -45,12 +45,12 @@ use Rattle.protoscip.specs.Indexes.{built_of, IsIndexed}
 
 -- The entities of linked files: each file that counts, its package with those above it, and what it declares.
 pub data IsEntityOf (files : List File) : Entity → Type 0 where
-  of_file : {number : ℕ} {file : File} → Counts files number → slice_get files number ≡ Some file
+  of_file : {number : ℕ} {file : File} → IsReachable files number → slice_get files number ≡ Some file
       → IsEntityOf files (OfFile file.path)
-  of_package : {number count : ℕ} {facts : Facts} → Counts files number → HasFacts files number facts → 0 < count
+  of_package : {number count : ℕ} {facts : Facts} → IsReachable files number → HasFacts files number facts → 0 < count
       → count ≤ length facts.package_name
       → IsEntityOf files (package_at facts count)
-  of_declaration : {number index : ℕ} {facts : Facts} {declared : Declaration} → Counts files number
+  of_declaration : {number index : ℕ} {facts : Facts} {declared : Declaration} → IsReachable files number
       → HasDeclaration files number index facts declared
       → IsEntityOf files (declaration_at facts declared)
 
@@ -96,13 +96,13 @@ module _ {allows : Seen → Choice → Type 0} {settings : Settings} {tree : Lis
     (built : IsBuilt allows settings tree result) where
   -- the files that it is of, linked
   abbrev pub linked : List File
-  linked = linked_files built.of_files.readings
+  linked = linked_files built.of_files.parsed
 
   -- An occurrence of a document is one of an entity: the document is that of a source, and a rule by which it occurs
   -- there names this entity.
   pub record IsOf (entity : Entity) (document : Document) (occurrence : Occurrence) : Type 0 where
     pub of_source : HasDocument linked
-        (texts_of built.of_files.readings) result.choices settings.package settings.encoding document
+        (texts_of built.of_files.parsed) result.choices settings.package settings.encoding document
     pub occurs : Occurs linked result.choices settings.package settings.encoding
         of_source.source
         of_source.text occurrence
@@ -157,7 +157,7 @@ module _ {allows : Seen → Choice → Type 0} {settings : Settings} {tree : Lis
         ≡ text_of (package_of_entity linked settings.package its) other)
         ↔ (entity ≡ other)
     pub own : (number index other its : ℕ) (facts more : Facts) (a b : Declaration)
-        → Counts linked number → Counts linked other
+        → IsReachable linked number → IsReachable linked other
         → HasDeclaration linked number index facts a
         → HasDeclaration linked other its more b
         → declaration_at facts a ≡ declaration_at more b → (number ≡ other) × (index ≡ its)

@@ -82,9 +82,9 @@ IsToldText explain tree sources told text =
     (lines : List ℕ) × AreLines explain tree told lines × (text ≡ lines ++ counts_line sources told)
 
 -- what is reported of an index that lacks this: nothing if it lacks nothing, else all of it
-abbrev pub IsTextOfLacks : (explain : Option Dialect) → List TreeFile → List Omission → Option (List ℕ) → Type 0
-IsTextOfLacks explain tree [] text = text ≡ None
-IsTextOfLacks explain tree (first ∷ others) text =
+abbrev pub IsTextOfOmissions : (explain : Option Dialect) → List TreeFile → List Omission → Option (List ℕ) → Type 0
+IsTextOfOmissions explain tree [] text = text ≡ None
+IsTextOfOmissions explain tree (first ∷ others) text =
     (sources : ℕ) × IsSourceCount tree sources
     × ((told : List ℕ) × IsToldText explain tree sources (first ∷ others) told × (text ≡ Some told))
 
@@ -108,9 +108,9 @@ IsToldTextWith explain tree sources unread told text =
     × (text ≡ unread_lines explain unread ++ (lines ++ counts_line_with sources unread told))
 
 -- what is reported of an index that lacks this: nothing if nothing is lacking, else all of it
-abbrev pub IsTextOfAllLacks : (explain : Option Dialect) → List TreeFile → (unread : List (List ℕ))
+abbrev pub IsTextOfAllOmissions : (explain : Option Dialect) → List TreeFile → (unread : List (List ℕ))
     → List Omission → Option (List ℕ) → Type 0
-IsTextOfAllLacks explain tree [] told text = IsTextOfLacks explain tree told text
-IsTextOfAllLacks explain tree (first ∷ others) told text =
+IsTextOfAllOmissions explain tree [] told text = IsTextOfOmissions explain tree told text
+IsTextOfAllOmissions explain tree (first ∷ others) told text =
     (sources : ℕ) × IsSourceCount tree sources
     × ((said : List ℕ) × IsToldTextWith explain tree sources (first ∷ others) told said × (text ≡ Some said))

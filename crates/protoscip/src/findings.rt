@@ -155,7 +155,7 @@ fn kind_of(omission: &Omission) -> FindingKind
 {
     match omission {
         Omission::File(..) | Omission::Duplicate(..) => FindingKind::Skipped,
-        Omission::MissingImport(_) | Omission::Unresolved(_) => FindingKind::NoTarget,
+        Omission::MissingImport(_) | Omission::Unresolved(_) => FindingKind::Unresolved,
     }
 }
 

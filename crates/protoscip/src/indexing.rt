@@ -9,7 +9,7 @@ ghost use Rattle.protoscip.specs.Explanations.{explain_in};
 ghost use Rattle.protoscip.specs.FaultLines.{HasFilesOf, HaveFilesOf};
 ghost use Rattle.protoscip.specs.Headline.{IsNavigable};
 ghost use Rattle.protoscip.specs.Indexes.{Indexes, recorded_of};
-ghost use Rattle.protoscip.specs.ToldLines.{IsTextOfAllLacks, IsTextOfLacks};
+ghost use Rattle.protoscip.specs.ToldLines.{IsTextOfAllOmissions, IsTextOfOmissions};
 ghost use Rattle.protoscip.specs.Writing.{IsRecordOf, WritesIndex};
 
 use crate::as_bytes::AsBytes;
@@ -17,7 +17,7 @@ use crate::explaining::explain_in;
 use crate::fault::Fault;
 use crate::laws::headline_of_tree;
 use crate::recorded::Recorded;
-use crate::telling::{Telling, text_of_lacks};
+use crate::telling::{Telling, text_of_omissions};
 use index_hooks::Chooses;
 use index_pool::Gate;
 use scip_build::{BuiltParts, Parts, Run, Settings, build_in_form};
@@ -79,12 +79,12 @@ pub fn index_and_tell<'a, R: Threads + Wait, C: Chooses + Sync, G: Gate, W: Sink
         (recorded_of kept.built.choices kept.built.told)) }
     ensures files { IfErr result (HasFilesOf tree.now) }
     ensures told { IfOk result (λ kept. HaveFilesOf tree.now kept.built.told) }
-    ensures said { IfOk result (λ kept. IsTextOfAllLacks telling.now.explain tree.now (map string_bytes
+    ensures said { IfOk result (λ kept. IsTextOfAllOmissions telling.now.explain tree.now (map string_bytes
         telling.now.unread.now) kept.built.told (option_map string_bytes kept.text)) }
 {
     headline_of_tree(chooser, tree, settings);
     let built = build_in_form(run, tree, chooser, settings, &AsBytes)?;
-    let text = text_of_lacks(run.alloc, tree, built.told.as_slice(), telling)?;
+    let text = text_of_omissions(run.alloc, tree, built.told.as_slice(), telling)?;
     write_spelled(&built.parts, out)?;
     Ok(KeptIndex { built, text })
 }
@@ -109,7 +109,7 @@ pub fn index_and_keep<'a, R: Threads + Wait, C: Chooses + Sync, G: Gate, W: Sink
         (recorded_of kept.built.choices kept.built.told)) }
     ensures files { IfErr result (HasFilesOf tree.now) }
     ensures told { IfOk result (λ kept. HaveFilesOf tree.now kept.built.told) }
-    ensures said { IfOk result (λ kept. IsTextOfLacks (explain_in explain settings.now.dialect) tree.now
+    ensures said { IfOk result (λ kept. IsTextOfOmissions (explain_in explain settings.now.dialect) tree.now
         kept.built.told (option_map string_bytes kept.text)) }
 {
     let telling = Telling {

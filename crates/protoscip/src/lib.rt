@@ -57,19 +57,19 @@ pub use sessions::session;
 pub use statuses::{MEMORY_STATUS, SOURCES_STATUS, STREAM_STATUS};
 pub use telling::{
     Telling, count_imports, count_left_out, count_skipped, count_skipped_sources, count_uses,
-    lacks_nothing, told_text, told_text_with,
+    omits_nothing, told_text, told_text_with,
 };
 pub use told_lines::told_line;
 pub use told_trees::told_of_tree;
 
 // What is made below, for whoever embeds the indexer. (To read an index, `scip_wire` and `scip_query` are needed, too.)
 // Sources and settings,
+pub use basics::{OwnedText, Sequence};
 pub use proto_lex::Encoding;
 pub use proto_parse::{CustomOptions, Dialect};
 pub use scip_build::{Built, Faulty, Run, Settings, build};
 pub use scip_model::{Choices, FilePackages, RootPackage};
 pub use scip_symbol::{BadPart, PackageId};
-pub use sequences::{OwnedText, Sequence};
 pub use source_tree::{Source, Tree, TreeFault, is_good_path};
 
 // reports,
@@ -79,7 +79,7 @@ pub use fault_reports::{Counts, Finding, FindingKind, Place, ReportFormat, repor
 pub use index_hooks::{
     AnyAnswer, BoxedFilter, BoxedRule, Choice, Chooses, DocAlways, DocCallback, DocChoice, DocHook,
     DocOneOf, DocPromise, DocRule, Filter, FilterCallback, FilterHook, FilterPromise, HookFault,
-    KindIn, Kinds, NamePrefix, Registry, Ticket, WithComment,
+    KindIn, Kinds, NamePrefix, Registry, Turn, WithComment,
 };
 pub use proto_decl::{DeclView, DeclarationKind};
 

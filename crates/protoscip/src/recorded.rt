@@ -1,8 +1,8 @@
 //! What is known of an index beside its bytes.
 
+use basics::Sequence;
 use scip_build::Omission;
 use scip_model::Choices;
-use sequences::Sequence;
 
 /// What the index of a tree was made by, and what has no part in it.
 #[derive(Debug, Drop)]

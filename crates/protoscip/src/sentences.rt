@@ -1,7 +1,7 @@
 //! A sentence about a fault, by what the tree holds.
 
 ghost use Rattle.std.specs.Prelude.{◌≡◌};
-ghost use Rattle.excerpts.specs.Literals.{joined};
+ghost use Rattle.diagnostics.specs.Literals.{joined};
 ghost use Rattle.protoscip.specs.Explanations.{
   has_path,
   import_sentence,
@@ -16,7 +16,7 @@ use crate::explaining::{head, tail};
 use crate::fault::Fault;
 use crate::fault_text::syntax_sentence;
 use crate::required::has_required;
-use excerpts::{is_joined, token_len};
+use diagnostics::{is_joined, token_len};
 use proto_link::FilePlace;
 use proto_parse::SyntaxFault;
 use source_tree::Tree;

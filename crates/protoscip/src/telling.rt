@@ -12,7 +12,7 @@ ghost use Rattle.protoscip.specs.ToldLines.{
   is_skipped,
   is_skipped_source,
   is_use,
-  IsTextOfAllLacks,
+  IsTextOfAllOmissions,
   IsToldText,
   IsToldTextWith,
   left_out,
@@ -225,24 +225,24 @@ pub fn told_text(
 }
 
 /// Whether an index lacks nothing, and all could be read.
-pub fn lacks_nothing(unread: &[String], told: &[Omission]) -> bool
+pub fn omits_nothing(unread: &[String], told: &[Omission]) -> bool
     ensures { result ≡ (length unread.now == 0 && length told.now == 0) }
 {
     unread.is_empty() && told.is_empty()
 }
 
 /// The report of an index that lacks something; for one that lacks nothing there is nothing to report.
-pub(crate) fn text_of_lacks(
+pub(crate) fn text_of_omissions(
     alloc: Global,
     tree: &Tree,
     told: &[Omission],
     telling: &Telling<'_>,
 ) -> Result<Option<String>, AllocError>
     requires { HaveFilesOf tree.now told.now }
-    ensures { IfOk result (λ text. IsTextOfAllLacks telling.now.explain tree.now (map string_bytes
+    ensures { IfOk result (λ text. IsTextOfAllOmissions telling.now.explain tree.now (map string_bytes
         telling.now.unread.now) told.now (option_map string_bytes text)) }
 {
-    if lacks_nothing(telling.unread, told) {
+    if omits_nothing(telling.unread, told) {
         return Ok(None);
     }
     Ok(Some(told_text_with(alloc, tree, told, telling)?))

@@ -6,12 +6,12 @@ ghost use Rattle.protoscip.specs.ToldTrees.{IsToldOf, MayNotTell, skipping};
 
 use crate::dumping::dump_settings;
 use crate::fault::Fault;
+use basics::Sequence;
 use index_hooks::Chooses;
 use index_pool::Gate;
 use proto_parse::Dialect;
 use scip_build::{DocumentForm, Faulty, Omission, Run, Settings, build_in_form};
 use scip_model::DocumentPlan;
-use sequences::Sequence;
 use source_tree::Tree;
 use std::alloc::{AllocError, Global};
 use std::sync::Wait;

@@ -4,6 +4,7 @@ ghost use Rattle.std.specs.Prelude.{IfOk};
 ghost use Rattle.protoscip.specs.FaultLines.{HasFilesOf, HaveFilesOf};
 
 use crate::calls::{Desk, Given, WANT, see, writer};
+use basics::Sequence;
 use index_hooks::Registry;
 use proto_lex::Encoding;
 use protoscip::{
@@ -11,7 +12,6 @@ use protoscip::{
     report_bytes, told_findings, told_of_tree,
 };
 use scip_build::{Faulty, Omission};
-use sequences::Sequence;
 use source_tree::Tree;
 use std::alloc::{AllocError, Global};
 use std::process::Abort;

@@ -34,8 +34,8 @@ pub kept_tree : (all : List ReadFile) (omissions : Omissions) → AreOfTree all
     → HaveOwnPaths (linked_files (kept_of omissions all)) → AreOfTree (kept_of omissions all)
 kept_tree all omissions tree own = record {
   few = let few = tree.few in let within = kept_within omissions all in omega (arith, few, within);
-  each = λ number reading at.
-      tree.each (number_among_all omissions number) reading (at_all omissions all number reading at);
+  each = λ number parsed_file at.
+      tree.each (number_among_all omissions number) parsed_file (at_all omissions all number parsed_file at);
   own = own;
   rising = λ lesser number a b less at and.
       tree.rising (number_among_all omissions lesser) (number_among_all omissions number) a b

@@ -149,9 +149,9 @@ names_the_same files omissions number type_use target is nothing =
     }
 
 pub kept_resolves_alike : KeptResolvesAlike
-kept_resolves_alike all readings told kept number type_use target is nothing =
+kept_resolves_alike all parsed told kept number type_use target is nothing =
     let files : List File = linked_files all in
-    let same : linked_files readings ≡ kept_of kept.omissions files =
+    let same : linked_files parsed ≡ kept_of kept.omissions files =
     ap linked_files kept.kept ∙ map_kept linked_file kept.omissions all in
     let Nothing : List File → Type 0 =
     λ fs. NamesNothingLeftOut files fs kept.omissions number type_use target is in

@@ -22,7 +22,7 @@ use Rattle.scip_build.specs.declared.fault.FileFault.{FileFault}
 use Rattle.scip_build.specs.declared.fault.FileFault.TheVariants.{Lex, Syntax}
 use Rattle.scip_build.specs.Parsed.{HasLexing, AreFactsIn, IsUnlexed, IsUnparsed}
 use Rattle.source_tree.specs.Files.{TreeFile}
-use Rattle.scip_build.specs.Readings.{IsFirstFaulty}
+use Rattle.scip_build.specs.ParsedFiles.{IsFirstFaulty}
 use Rattle.scip_build.specs.Laws.{OneListOfFacts, NoFactsWhereUnreadable, LexedWhereUnparsed, OneFileFault}
 use Rattle.scip_build.specs.Laws.{OneFirstFaulty}
 

@@ -8,8 +8,8 @@ use Rattle.proto_parse.specs.fault.SyntaxFault.TheVariants as parsing
 use Rattle.scip_build.specs.declared.fault.FileFault.TheVariants.{Lex, Syntax}
 use Rattle.scip_build.specs.declared.fault.BuildFault.{BuildFault}
 use Rattle.scip_build.specs.declared.fault.BuildFault.TheVariants as build
-use Rattle.scip_build.specs.declared.file_reading.NoContents.{NoContents}
-use Rattle.scip_build.specs.declared.file_reading.NoContents.TheVariants.{Memory, Unreadable}
+use Rattle.scip_build.specs.declared.file_parsing.NoContents.{NoContents}
+use Rattle.scip_build.specs.declared.file_parsing.NoContents.TheVariants.{Memory, Unreadable}
 use Rattle.scip_build.specs.Parsed.{IsUnreadable}
 
 abbrev pub fault_of_lexing : LexFault → NoContents

@@ -62,21 +62,21 @@ abbrev pub told_cmp : Omission → Omission → Ordering
 told_cmp = on told_key key_cmp
 
 -- Of all that was read this is kept, and this is told of the rest, each once, in order of file and place.
-pub record AreKept (all readings : List ReadFile) (told : List Omission) : Type 0 where
+pub record AreKept (all parsed : List ReadFile) (told : List Omission) : Type 0 where
   pub omissions : Omissions
   pub left_out : AreOmissions (linked_files all) omissions
-  pub kept : readings ≡ kept_of omissions all
-  pub decided : AllAreDecided (linked_files readings)
+  pub kept : parsed ≡ kept_of omissions all
+  pub decided : AllAreDecided (linked_files parsed)
   pub told_is : IsAscendingListOf told_cmp (IsTold all omissions) told
 
 -- nothing is told: all are kept, they can be linked, and each use of each source names a type
-pub record IsWithoutFault (all readings : List ReadFile) (told : List Omission) : Type 0 where
+pub record IsWithoutFault (all parsed : List ReadFile) (told : List Omission) : Type 0 where
   pub none : told ≡ []
-  pub all_kept : readings ≡ all
+  pub all_kept : parsed ≡ all
   pub linked : CanBeLinked (linked_files all)
   pub resolved : AllResolve (linked_files all)
 
 -- Nothing is told if and only if a tree wouldn't be refused.
 abbrev pub NothingIsToldOfAGoodTree : Type 0
-NothingIsToldOfAGoodTree = (all readings : List ReadFile) (told : List Omission) → AreKept all readings told
+NothingIsToldOfAGoodTree = (all parsed : List ReadFile) (told : List Omission) → AreKept all parsed told
     → (told ≡ []) ↔ (CanBeLinked (linked_files all) × AllResolve (linked_files all))

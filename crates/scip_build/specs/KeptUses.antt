@@ -54,8 +54,8 @@ pub record NamesTheSame (kept : List File) (omissions : Omissions) (number : ℕ
 
 -- A use of a kept file that names nothing of a file that is left out names what it named before.
 abbrev pub KeptResolvesAlike : Type 0
-KeptResolvesAlike = (all readings : List ReadFile) (told : List Omission) (kept : AreKept all readings told)
+KeptResolvesAlike = (all parsed : List ReadFile) (told : List Omission) (kept : AreKept all parsed told)
     → (number : ℕ) (type_use : Use) (target : Target)
     → (is : IsTarget (linked_files all) (number_among_all kept.omissions number) type_use target)
-    → NamesNothingLeftOut (linked_files all) (linked_files readings) kept.omissions number type_use target is
-    → NamesTheSame (linked_files readings) kept.omissions number type_use target
+    → NamesNothingLeftOut (linked_files all) (linked_files parsed) kept.omissions number type_use target is
+    → NamesTheSame (linked_files parsed) kept.omissions number type_use target

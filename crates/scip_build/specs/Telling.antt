@@ -63,9 +63,9 @@ all_told left numbers imports uses =
     (left ++ map (told_import numbers) imports) ++ map (told_use numbers) uses
 
 -- the files that are kept, their numbers among all, and what is told of the others
-pub record AreKeptFiles (all readings : List ReadFile) (numbers : List ℕ) (left : List Omission) : Type 0 where
+pub record AreKeptFiles (all parsed : List ReadFile) (numbers : List ℕ) (left : List Omission) : Type 0 where
   pub omissions : Omissions
   pub left_out : AreOmissions (linked_files all) omissions
-  pub kept : readings ≡ kept_of omissions all
+  pub kept : parsed ≡ kept_of omissions all
   pub numbers_are : numbers ≡ kept_numbers 0 omissions
   pub left_are : Adds (FromFront (IsLeftIf all) omissions (length omissions)) [] left

@@ -20,7 +20,7 @@ use Rattle.scip_build.specs.declared.source_document.NoDocument.{NoDocument}
 module _ (sources : LinkedSources) where
   abbrev pub work_of : SourceWork
   work_of = record {
-    readings = sources.readings.now;
+    parsed = sources.parsed.now;
     files = sources.linker.now;
     chosen = sources.choices.now;
     settings = sources.settings.now;
@@ -33,14 +33,14 @@ module _ (sources : LinkedSources) where
   HasSource = IsSource sources.linker.now
 
   abbrev pub HasReadSource : (number : ℕ) → Type 0
-  HasReadSource = IsRead sources.readings.now
+  HasReadSource = IsRead sources.parsed.now
 
   abbrev pub HasTextRead : (number : ℕ) → Type 0
   HasTextRead number =
-      (text : List ℕ) → HasReadText sources.readings.now number text → HasText sources.linker.now number text
+      (text : List ℕ) → HasReadText sources.parsed.now number text → HasText sources.linker.now number text
 
   abbrev pub GivesDocumentOf : (number : ℕ) → Result SourceDocument NoDocument → Type 0
-  GivesDocumentOf = GivesDocument sources.readings.now sources.linker.now sources.choices.now sources.settings.now
+  GivesDocumentOf = GivesDocument sources.parsed.now sources.linker.now sources.choices.now sources.settings.now
 
   -- ---- all of them
 
@@ -51,7 +51,7 @@ module _ (sources : LinkedSources) where
   HasChosen = HaveChoices sources.linker.now sources.choices.now
 
   abbrev pub IsReady : Type 0
-  IsReady = AreReady sources.readings.now sources.linker.now sources.choices.now sources.count
+  IsReady = AreReady sources.parsed.now sources.linker.now sources.choices.now sources.count
 
   abbrev pub MayRefuseAny : (workers : ℕ) → BuildFault → Type 0
   MayRefuseAny = MayRefuseDocuments sources.settings.now.faulty sources.linker.now
@@ -59,8 +59,8 @@ module _ (sources : LinkedSources) where
   module _ {Out : Type 0} (Is : Document → Out → Type 0) where
     abbrev pub AreMadeFrom : List (MadeDocument Out) → Type 0
     AreMadeFrom =
-        AreMade Is sources.readings.now sources.linker.now sources.choices.now sources.settings.now
+        AreMade Is sources.parsed.now sources.linker.now sources.choices.now sources.settings.now
 
     abbrev pub IsMadeFrom : Parts Out → List FilePlace → Type 0
     IsMadeFrom =
-        IsMadeInForm Is sources.readings.now sources.linker.now sources.choices.now sources.settings.now
+        IsMadeInForm Is sources.parsed.now sources.linker.now sources.choices.now sources.settings.now

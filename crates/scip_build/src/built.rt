@@ -1,9 +1,9 @@
 //! What is built from a tree.
 
 use crate::omission::Omission;
+use basics::Sequence;
 use scip_model::Choices;
 use scip_records::Index;
-use sequences::Sequence;
 
 /// The index of a tree, and what was chosen for each declaration of its files.
 #[derive(Debug, Drop)]

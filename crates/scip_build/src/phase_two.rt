@@ -46,7 +46,7 @@ impl<'a, 'b, 'l, 'f, 'r, F: DocumentForm + Sync> Job for PhaseTwo<'a, 'b, 'l, 'f
     ghost inputs = { λ work. work.count };
 
     ghost gives = { λ work number result.
-        GivesKept F.is_kept work.readings work.files work.chosen work.settings number result };
+        GivesKept F.is_kept work.parsed work.files work.chosen work.settings number result };
 
     fn run(&self, ticket: Ticket) -> Result<MadeDocument<F::Kept>, NoDocument> {
         let made = make_document(self.sources, ticket.number())?;
@@ -72,7 +72,7 @@ fn refusal(number: usize, fault: NoDocument) -> BuildFault
 /// Of the refusals, `Spawn` comes before `Memory`, and `Memory` before `Unresolved`, which is of the first source,
 /// and comes only if such uses are refused; but if the least source that has no document lacks memory, it is
 /// `Memory`.
-#[tactic(auto, using(crate::proofs::RefusalRules::of_documents))]
+#[tactic(auto, using(crate::proofs::LinkingRefusalRules::of_documents))]
 pub(crate) fn make_documents<R: Threads + Wait, G: Gate, F: DocumentForm + Sync>(
     run: &Run<'_, R, G>,
     sources: &LinkedSources<'_, '_, '_, '_>,

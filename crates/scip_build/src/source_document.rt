@@ -9,7 +9,7 @@ ghost use Rattle.scip_build.specs.Works.{HasChosen};
 
 use crate::faulty::Faulty;
 use crate::linked_sources::LinkedSources;
-use crate::reading::Reading;
+use crate::parsed_file::ParsedFile;
 use proto_lex::{Span, Text};
 use scip_model::{DocumentMaker, PlannedDocument, plan_document};
 use std::alloc::AllocError;
@@ -34,12 +34,12 @@ impl From<AllocError> for NoDocument {
 }
 
 /// The text of a file that was read.
-fn text_at<'a, 'r>(readings: &'a [Reading<'r>], number: usize) -> &'a Text<'r>
-    requires { IsRead readings.now number }
-    ensures { HasReadText readings.now number result.now }
+fn text_at<'a, 'r>(parsed: &'a [ParsedFile<'r>], number: usize) -> &'a Text<'r>
+    requires { IsRead parsed.now number }
+    ensures { HasReadText parsed.now number result.now }
 {
-    let reading = &readings[number];
-    match &reading.contents {
+    let parsed_file = &parsed[number];
+    match &parsed_file.contents {
         Ok(contents) => &contents.text,
         Err(_) => unreachable!(),
     }
@@ -70,7 +70,7 @@ pub(crate) fn make_document<'a, 'f>(
     requires choices { HasChosen sources.now }
     ensures { GivesDocumentOf sources.now number result }
 {
-    let text = text_at(sources.readings, number);
+    let text = text_at(sources.parsed, number);
     let maker = DocumentMaker {
         alloc: sources.alloc,
         linker: sources.linker,

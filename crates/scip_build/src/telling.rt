@@ -10,18 +10,18 @@ ghost use Rattle.scip_build.specs.Telling.{AreInOrder, all_told};
 
 use crate::linking::fault_at;
 use crate::omission::Omission;
-use crate::reading::Reading;
+use crate::parsed_file::ParsedFile;
 use proto_link::{FileOmission, FilePlace};
 use std::alloc::AllocError;
 use std::cmp::Ordering;
 
 /// Why the file with this number is left out, as it is told.
-fn left_for(readings: &[Reading<'_>], number: usize, omission: FileOmission) -> Omission
-    requires { IsSomeOmission (linked_files readings.now) number (Some omission) }
-    ensures { IsLeftFor readings.now number omission result }
+fn left_for(parsed: &[ParsedFile<'_>], number: usize, omission: FileOmission) -> Omission
+    requires { IsSomeOmission (linked_files parsed.now) number (Some omission) }
+    ensures { IsLeftFor parsed.now number omission result }
 {
     match omission {
-        FileOmission::Broken => Omission::File(number, fault_at(readings, number)),
+        FileOmission::Broken => Omission::File(number, fault_at(parsed, number)),
         FileOmission::Duplicate(first, second) => Omission::Duplicate(first, second),
     }
 }
@@ -29,15 +29,15 @@ fn left_for(readings: &[Reading<'_>], number: usize, omission: FileOmission) -> 
 /// Adds why a file is left out, if it is.
 fn push_omission(
     told: &mut Vec<Omission>,
-    readings: &[Reading<'_>],
+    parsed: &[ParsedFile<'_>],
     number: usize,
     omission: &Option<FileOmission>,
 ) -> Result<(), AllocError>
-    requires { IsSomeOmission (linked_files readings.now) number omission.now }
-    ensures { OnOk result (Adds (IsLeftIf readings.now number omission.now) told.old.items told.new.items) }
+    requires { IsSomeOmission (linked_files parsed.now) number omission.now }
+    ensures { OnOk result (Adds (IsLeftIf parsed.now number omission.now) told.old.items told.new.items) }
 {
     if let Some(omission) = omission {
-        told.push(left_for(readings, number, *omission))?;
+        told.push(left_for(parsed, number, *omission))?;
     }
     Ok(())
 }
@@ -45,16 +45,16 @@ fn push_omission(
 /// Adds why each file that is left out is.
 pub(crate) fn push_omissions(
     told: &mut Vec<Omission>,
-    readings: &[Reading<'_>],
+    parsed: &[ParsedFile<'_>],
     omissions: &[Option<FileOmission>],
 ) -> Result<(), AllocError>
-    requires { AreOmissions (linked_files readings.now) omissions.now }
+    requires { AreOmissions (linked_files parsed.now) omissions.now }
     ensures { OnOk result (Adds
-        (FromFront (IsLeftIf readings.now) omissions.now (length omissions.now)) told.old.items told.new.items) }
+        (FromFront (IsLeftIf parsed.now) omissions.now (length omissions.now)) told.old.items told.new.items) }
 {
     for number in 0..omissions.len() {
         let omission = &omissions[number];
-        push_omission(told, readings, number, omission)?;
+        push_omission(told, parsed, number, omission)?;
     }
     Ok(())
 }

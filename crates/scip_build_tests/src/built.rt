@@ -1,6 +1,7 @@
 //! What is built from trees, and why nothing is.
 
 use crate::asking::Asking;
+use basics::OwnedText;
 use index_hooks::Registry;
 use index_pool::{Gate, Workers};
 use proto_lex::Encoding;
@@ -9,7 +10,6 @@ use scip_build::{BuildFault, Built, Faulty, Run, Settings, build};
 use scip_model::FilePackages;
 use scip_records::{Document, Occurrence};
 use scip_symbol::PackageId;
-use sequences::OwnedText;
 use source_tree::Tree;
 use std::alloc::{AllocError, Global};
 use std::process::Abort;

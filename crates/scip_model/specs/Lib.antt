@@ -20,7 +20,7 @@ pub mod Conditions
 pub mod Texts
 pub mod Uses
 -- what has no target
-pub mod Gaps
+pub mod UnresolvedUses
 -- documents, external entries, and the index of a tree
 pub mod Indexes
 -- the same of what a document is made from

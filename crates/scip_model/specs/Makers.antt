@@ -23,7 +23,7 @@ use Rattle.index_hooks.specs.declared.choice.Choice.{Choice}
 use Rattle.scip_model.specs.Chosen.{HasChoice, HaveChoices}
 use Rattle.scip_model.specs.Conditions.{HaveGoodPaths}
 use Rattle.scip_model.specs.Entries.{HasEntry}
-use Rattle.scip_model.specs.Gaps.{AreGaps, IsFound}
+use Rattle.scip_model.specs.UnresolvedUses.{AreUnresolvedUses, IsFound}
 use Rattle.scip_model.specs.Indexes.{IsDocumentOf}
 use Rattle.scip_model.specs.Named.{HasDeclaration, text_of}
 use Rattle.scip_model.specs.Occurs.{Occurs}
@@ -153,7 +153,7 @@ module _ (maker : DocumentMaker) where
       IsDocumentOf maker.linker.now maker.choices.now maker.package.now maker.encoding maker.source maker.text.now
 
   abbrev pub AreItsGaps : List Span → Type 0
-  AreItsGaps = AreGaps maker.linker.now maker.source
+  AreItsGaps = AreUnresolvedUses maker.linker.now maker.source
 
   abbrev pub HasResolvedUses : Type 0
   HasResolvedUses = UsesResolve maker.linker.now maker.source

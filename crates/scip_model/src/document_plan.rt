@@ -4,10 +4,10 @@ ghost use Rattle.std.specs.Prelude.{◌≡◌};
 
 use crate::planned::PlannedOccurrence;
 use crate::symbol_table::SymbolTable;
+use basics::{OwnedText, Sequence};
 use index_hooks::Choice;
 use proto_decl::FileFacts;
 use proto_lex::{Encoding, Span};
-use sequences::{OwnedText, Sequence};
 use std::marker::Model;
 
 /// The document of a source, which has each symbol's text once: occurrences and entries have its number, and what

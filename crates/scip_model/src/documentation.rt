@@ -5,19 +5,19 @@ ghost use Rattle.scip_model.specs.Documentation.{documentation_of};
 
 use index_hooks::DocChoice;
 use proto_decl::Declaration;
-use scip_records::LentTexts;
+use scip_records::TextsRef;
 
 /// Those chosen of a declaration's texts, without empty ones.
-pub(crate) fn documentation_of<'a>(choice: DocChoice, declaration: &'a Declaration) -> LentTexts<'a>
+pub(crate) fn documentation_of<'a>(choice: DocChoice, declaration: &'a Declaration) -> TextsRef<'a>
     ensures { result ≡ documentation_of choice declaration.now }
 {
     let leading = declaration.leading();
     let trailing = declaration.trailing();
     match choice {
-        DocChoice::Pass => LentTexts::of_list(&[]),
-        DocChoice::Nothing => LentTexts::of_list(&[]),
-        DocChoice::Leading => LentTexts::of_two(leading, ""),
-        DocChoice::Trailing => LentTexts::of_two(trailing, ""),
-        DocChoice::Both => LentTexts::of_two(leading, trailing),
+        DocChoice::Pass => TextsRef::of_list(&[]),
+        DocChoice::Nothing => TextsRef::of_list(&[]),
+        DocChoice::Leading => TextsRef::of_two(leading, ""),
+        DocChoice::Trailing => TextsRef::of_two(trailing, ""),
+        DocChoice::Both => TextsRef::of_two(leading, trailing),
     }
 }

@@ -31,11 +31,11 @@ use crate::entry_order::{compare_texts, put_near};
 use crate::known_facts::symbols_stand_apart;
 use crate::symbol_table::{SymbolTable, declaration_number, number_at};
 use crate::symbol_texts::declaration_text;
+use basics::OwnedText;
 use index_hooks::Choice;
 use proto_decl::{Component, Declaration, FileFacts};
-use scip_records::{LentInformation, LentSymbol, SymbolInformation};
+use scip_records::{InformationRef, SymbolInformation, SymbolRef};
 use scip_symbol::PackageId;
-use sequences::OwnedText;
 use std::alloc::{AllocError, Global};
 use std::cmp::Ordering;
 
@@ -94,14 +94,14 @@ pub(crate) fn package_names(
 }
 
 /// The entry of a declaration whose symbol has this text.
-pub(crate) fn lent_entry<'a>(
-    symbol: LentSymbol<'a>,
+pub(crate) fn ref_entry<'a>(
+    symbol: SymbolRef<'a>,
     declaration: &'a Declaration,
     choice: Choice,
-) -> LentInformation<'a>
+) -> InformationRef<'a>
     ensures { result ≡ entry_with symbol.entry declaration.now choice }
 {
-    LentInformation {
+    InformationRef {
         symbol,
         documentation: documentation_of(choice.doc, declaration),
         display_name: declaration.simple_name(),
@@ -120,7 +120,7 @@ pub(crate) fn declaration_entry(
     ensures { IfOk result (λ entry. entry ≡ declaration_entry id.now facts.now declaration.now choice) }
 {
     let symbol = declaration_text(alloc, id, facts, declaration)?;
-    let entry = lent_entry(LentSymbol::whole(symbol.as_str()), declaration, choice);
+    let entry = ref_entry(SymbolRef::whole(symbol.as_str()), declaration, choice);
     entry.to_record(alloc)
 }
 

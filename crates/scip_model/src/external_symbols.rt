@@ -17,11 +17,11 @@ use crate::entries::{compare_symbols, declaration_entry};
 use crate::known_facts::symbols_stand_apart;
 use crate::packages::{FilePackages, package_of_file};
 use crate::targets::{parts_of, target_of};
+use basics::Sequence;
 use proto_decl::{FileFacts, Use};
 use proto_link::{Entity, Linker, one_target_a_use};
 use scip_records::SymbolInformation;
 use scip_symbol::PackageId;
-use sequences::Sequence;
 use std::alloc::{AllocError, Global};
 
 /// Adds a declaration, if its file is included and it is kept.
@@ -94,6 +94,7 @@ fn push_use(
     requires choices { HaveChoices linker.now choices.now }
     ensures { OnOk result (Adds (IsOfUse linker.now choices.now source type_use.now) named.old.items named.new.items) }
 {
+    // From here on it is known that no names of the files clash, and that their facts are those of texts.
     linker.linked();
     one_target_a_use();
     let found = target_of(alloc, linker, source, type_use)?;
@@ -133,6 +134,7 @@ fn push_source(
     requires choices { HaveChoices linker.now choices.now }
     ensures { OnOk result (Adds (IsOfSource linker.now choices.now source) named.old.items named.new.items) }
 {
+    // From here on it is known that no names of the files clash, and that their facts are those of texts.
     linker.linked();
     if linker.is_included(source) {
         return Ok(());

@@ -1,32 +1,45 @@
 //! The documents of sources, what they say of included files, and the index that they make.
 #![tactic(auto)]
 
+// What documents are made from.
 mod choices;
 mod document_maker;
-mod document_plan;
-mod documentation;
-mod entries;
-mod entry_order;
-mod external_symbols;
-mod joined_texts;
 mod known_facts;
-mod laws;
-mod merge_fault;
-mod merging;
-mod occurrence_order;
-mod occurrences;
-mod one_package;
-mod own_symbols;
 mod packages;
-mod pieces;
+
+// The document of a source: its plan, and its parts.
+mod document_plan;
 mod plan_parts;
 mod planned;
 mod source_document;
+
+// Its occurrences.
+mod merging;
+mod occurrence_order;
+mod occurrences;
+mod targets;
+mod use_occurrences;
+
+// Its entries.
+mod documentation;
+mod entries;
+mod entry_order;
+
+// The texts of symbols, each kept once.
+mod joined_texts;
+mod own_symbols;
 mod symbol_order;
 mod symbol_table;
 mod symbol_texts;
-mod targets;
-mod use_occurrences;
+
+// Entries of what is outside, and a whole index.
+mod external_symbols;
+mod merge_fault;
+mod one_package;
+mod pieces;
+
+// The laws.
+mod laws;
 
 pub use choices::Choices;
 pub use document_maker::DocumentMaker;
@@ -41,8 +54,7 @@ pub use one_package::{document, externals};
 pub use packages::{FilePackages, RootPackage};
 pub use pieces::merge;
 pub use scip_records::{Document, Index, Metadata, Occurrence, Range, SymbolInformation, ToolInfo};
-pub use source_document::{SourceDocument, document_and_gaps, make_document, plan_document};
+pub use source_document::{SourceDocument, document_and_unresolved, make_document, plan_document};
 pub use streams::{Failed, Feed, Sink, Std};
-
 /// What is known of a symbol.
 pub type Info = SymbolInformation;

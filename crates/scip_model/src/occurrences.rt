@@ -42,6 +42,7 @@ fn range_over(text: &Text<'_>, encoding: Encoding, span: Span) -> Range
     requires { IsPart text.now span }
     ensures { result ≡ range_over encoding text.now span }
 {
+    // From here on it is known that the bytes are those of a text.
     text.as_str();
     positions_fit();
     let start = text.position(span.start as usize, encoding);

@@ -9,8 +9,8 @@ ghost use Rattle.scip_model.specs.Tables.Plans.{text_at};
 
 use crate::joined_texts::JoinedTexts;
 use crate::symbol_order::is_joined;
-use scip_records::LentSymbol;
-use sequences::OwnedText;
+use basics::OwnedText;
+use scip_records::SymbolRef;
 use std::cmp::Ordering;
 use std::marker::Model;
 
@@ -86,12 +86,12 @@ impl OwnSymbols {
     }
 
     /// The text with a number.
-    pub(crate) fn get(&self, number: usize) -> Option<LentSymbol<'_>>
+    pub(crate) fn get(&self, number: usize) -> Option<SymbolRef<'_>>
         ensures { MatchOption result (slice_get self.now number ≡ None)
             (λ text. slice_get self.now number ≡ Some text) }
     {
         match rest_at(self.first.as_slice(), &self.rests, number) {
-            Some(rest) => Some(LentSymbol {
+            Some(rest) => Some(SymbolRef {
                 front: self.front.as_str(),
                 rest,
             }),
@@ -111,11 +111,11 @@ impl OwnSymbols {
 }
 
 /// One of the texts that are kept whole.
-fn first_at(texts: &[OwnedText], number: usize) -> Option<LentSymbol<'_>>
+fn first_at(texts: &[OwnedText], number: usize) -> Option<SymbolRef<'_>>
     ensures { MatchOption result (slice_get texts.now number ≡ None) (λ text. slice_get texts.now number ≡ Some text) }
 {
     match texts.get(number) {
-        Some(text) => Some(LentSymbol::whole(text.as_str())),
+        Some(text) => Some(SymbolRef::whole(text.as_str())),
         None => None,
     }
 }

@@ -9,8 +9,8 @@ ghost use Rattle.scip_model.specs.Pieces.{IsRising, AreMerged, MayRefuseMerge, t
 ghost use Rattle.scip_model.specs.Tables.TakenPaths.{AreClear, IsMarked, IsNotMarked, AreMarked};
 
 use crate::merge_fault::{MergeFault, Unmerged};
+use basics::Sequence;
 use scip_records::{Document, Index, Metadata, SymbolInformation};
-use sequences::Sequence;
 use std::alloc::{AllocError, Global};
 use std::cmp::Ordering;
 
@@ -97,7 +97,7 @@ fn put_in_order(alloc: Global, paths: &[&str], pieces: &mut Vec<Document>) -> Re
 }
 
 /// The texts of paths.
-fn lent(alloc: Global, paths: &[String]) -> Result<Vec<&str>, AllocError>
+fn borrowed(alloc: Global, paths: &[String]) -> Result<Vec<&str>, AllocError>
     ensures { IfOk result (λ list. texts list.items ≡ map string_bytes paths.now) }
 {
     let mut list = Vec::new(alloc);
@@ -118,8 +118,8 @@ fn put_in_order_of(
     ensures kept { OnErr result (pieces.new.items ≡ pieces.old.items) }
     ensures refused { IfErr result (MayRefuseMerge (map string_bytes paths.now) pieces.old.items) }
 {
-    let lent = lent(alloc, paths)?;
-    put_in_order(alloc, lent.as_slice(), pieces)
+    let borrowed = borrowed(alloc, paths)?;
+    put_in_order(alloc, borrowed.as_slice(), pieces)
 }
 
 /// Puts pieces together: an index with a document for each path, in the order of the paths. Each path has to be after

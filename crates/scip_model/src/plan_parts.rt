@@ -6,13 +6,13 @@ ghost use Rattle.scip_model.specs.Indexes.{encoding_number};
 ghost use Rattle.scip_model.specs.Tables.Plans.{text_at, shown_as, entry_of};
 
 use crate::document_plan::DocumentPlan;
-use crate::entries::lent_entry;
+use crate::entries::ref_entry;
 use crate::symbol_table::SymbolTable;
+use basics::OwnedText;
 use index_hooks::Choice;
 use proto_decl::FileFacts;
 use proto_lex::Encoding;
-use scip_records::{DocumentParts, LentInformation, LentOccurrence, LentSymbol, LentTexts};
-use sequences::OwnedText;
+use scip_records::{DocumentParts, InformationRef, OccurrenceRef, SymbolRef, TextsRef};
 use std::alloc::Global;
 
 /// What shows an entry that is no declaration's, by its number: 0 is the file's, shown by its path, and behind it come
@@ -30,12 +30,12 @@ fn name_at<'a>(path: &'a str, names: &'a [OwnedText], number: usize) -> &'a str
 }
 
 /// An entry without documentation.
-fn undocumented<'a>(symbol: LentSymbol<'a>, display_name: &'a str) -> LentInformation<'a>
+fn undocumented<'a>(symbol: SymbolRef<'a>, display_name: &'a str) -> InformationRef<'a>
     ensures { result ≡ record { symbol = symbol.entry; documentation = []; display_name = display_name.now } }
 {
-    LentInformation {
+    InformationRef {
         symbol,
-        documentation: LentTexts::of_list(&[]),
+        documentation: TextsRef::of_list(&[]),
         display_name,
     }
 }
@@ -43,18 +43,18 @@ fn undocumented<'a>(symbol: LentSymbol<'a>, display_name: &'a str) -> LentInform
 /// The entry of the declaration with an index, whose symbol has this text. Where there is none, an entry without
 /// documentation.
 fn documented<'a>(
-    symbol: LentSymbol<'a>,
+    symbol: SymbolRef<'a>,
     facts: &'a FileFacts<'_>,
     choices: &'a [Choice],
     index: usize,
-) -> LentInformation<'a>
+) -> InformationRef<'a>
     ensures { result ≡ shown_as symbol.entry (slice_get facts.now.declarations index) (slice_get choices.now index) }
 {
     let Some(declaration) = facts.declarations().get(index) else {
         return undocumented(symbol, "");
     };
     match choices.get(index) {
-        Some(choice) => lent_entry(symbol, declaration, *choice),
+        Some(choice) => ref_entry(symbol, declaration, *choice),
         None => undocumented(symbol, ""),
     }
 }
@@ -67,7 +67,7 @@ fn entry_of<'a>(
     facts: &'a FileFacts<'_>,
     choices: &'a [Choice],
     number: u32,
-) -> LentInformation<'a>
+) -> InformationRef<'a>
     ensures { result ≡ entry_of texts.now path.now names.now facts.now choices.now number }
 {
     let symbol = texts.at(number);
@@ -101,9 +101,9 @@ impl<'a, 't> DocumentParts for DocumentPlan<'a, 't> {
         self.occurrences.len()
     }
 
-    fn occurrence(&self, number: usize) -> LentOccurrence<'_> {
+    fn occurrence(&self, number: usize) -> OccurrenceRef<'_> {
         let planned = self.occurrences[number];
-        LentOccurrence {
+        OccurrenceRef {
             range: planned.range,
             symbol: self.texts.at(planned.symbol),
             symbol_roles: planned.symbol_roles,
@@ -114,7 +114,7 @@ impl<'a, 't> DocumentParts for DocumentPlan<'a, 't> {
         self.entries.len()
     }
 
-    fn entry(&self, number: usize) -> LentInformation<'_> {
+    fn entry(&self, number: usize) -> InformationRef<'_> {
         let names = self.packages.as_slice();
         entry_of(
             &self.texts,

@@ -35,25 +35,25 @@ use crate::planned::PlannedOccurrence;
 use crate::symbol_table::SymbolTable;
 use crate::symbol_texts::own_texts;
 use crate::use_occurrences::use_occurrences;
+use basics::Sequence;
 use proto_decl::FileFacts;
 use proto_lex::Span;
 use proto_link::{FilePlace, LinkFault};
 use scip_records::{Document, records_of};
-use sequences::Sequence;
 
-/// What occurs in the source, which has this path. The places of its uses that name no type are added to `gaps`, in
-/// order. `Memory` is the only fault.
+/// What occurs in the source, which has this path. The places of its uses that name no type are added to
+/// `unresolved_uses`, in order. `Memory` is the only fault.
 fn occurrences(
     maker: &DocumentMaker<'_, '_, '_, '_>,
     path: &str,
     facts: &FileFacts,
-    gaps: &mut Vec<Span>,
+    unresolved_uses: &mut Vec<Span>,
     texts: &mut SymbolTable,
 ) -> Result<Vec<PlannedOccurrence>, LinkFault>
     requires source { IsOfSource maker.now }
     requires path { HasSourcePath maker.now path.now }
     requires known { HasSourceFacts maker.now facts.now }
-    requires empty { gaps.old.items ≡ [] }
+    requires empty { unresolved_uses.old.items ≡ [] }
     requires text { HasTextFor maker.now facts.now }
     requires paths { HasGoodPaths maker.now }
     requires choices { HasChosen maker.now }
@@ -61,14 +61,14 @@ fn occurrences(
     ensures grown { OnOk result (Grown texts.old texts.new) }
     ensures planned { IfOk result (λ list. IsAscendingListOf occurrence_cmp (OccursIn maker.now)
         (map (occurrence_of texts.new) list.items)) }
-    ensures gaps { OnOk result (AreItsGaps maker.now gaps.new.items) }
+    ensures unresolved_uses { OnOk result (AreItsGaps maker.now unresolved_uses.new.items) }
     ensures refused { IfErr result (λ fault. fault ≡ Memory) }
 {
     facts_occur_in_order(maker.linker);
     let alloc = maker.alloc;
     let own = own_occurrences(alloc)?;
     let imports = import_occurrences(maker, facts.imports(), texts)?;
-    let uses = use_occurrences(maker, facts.uses(), gaps, texts)?;
+    let uses = use_occurrences(maker, facts.uses(), unresolved_uses, texts)?;
     let packages = package_occurrences(maker, facts)?;
     let names = declaration_occurrences(maker, facts)?;
     let with_imports = merged(alloc, texts, own, imports)?;
@@ -99,9 +99,10 @@ pub fn plan_document<'a, 'f>(
     requires paths { HasGoodPaths maker.now }
     requires choices { HasChosen maker.now }
     ensures document { IfOk result (λ made. IsItsDocument maker.now made.document) }
-    ensures gaps { IfOk result (λ made. AreItsGaps maker.now made.unresolved) }
+    ensures unresolved_uses { IfOk result (λ made. AreItsGaps maker.now made.unresolved) }
     ensures refused { IfErr result (λ fault. fault ≡ Memory) }
 {
+    // From here on it is known that no names of the files clash, and that their facts are those of texts.
     maker.linker.linked();
     let alloc = maker.alloc;
     let facts = maker.linker.facts_of(maker.source).unwrap();
@@ -134,13 +135,15 @@ pub fn plan_document<'a, 'f>(
 /// declaration: what occurs in it and its symbol entries, in order. A use that names no type doesn't
 /// occur; its place is told beside the document. `Memory` is the only fault. What is asked of the maker's parts is
 /// what [`document`](crate::document) asks.
-pub fn document_and_gaps(maker: &DocumentMaker<'_, '_, '_, '_>) -> Result<SourceDocument, LinkFault>
+pub fn document_and_unresolved(
+    maker: &DocumentMaker<'_, '_, '_, '_>,
+) -> Result<SourceDocument, LinkFault>
     requires source { IsOfSource maker.now }
     requires text { HasSourceText maker.now }
     requires paths { HasGoodPaths maker.now }
     requires choices { HasChosen maker.now }
     ensures document { IfOk result (λ made. IsItsDocument maker.now made.document) }
-    ensures gaps { IfOk result (λ made. AreItsGaps maker.now made.unresolved) }
+    ensures unresolved_uses { IfOk result (λ made. AreItsGaps maker.now made.unresolved) }
     ensures refused { IfErr result (λ fault. fault ≡ Memory) }
 {
     let planned = plan_document(maker)?;
@@ -174,7 +177,7 @@ pub fn make_document(maker: &DocumentMaker<'_, '_, '_, '_>) -> Result<Document, 
     let SourceDocument {
         document,
         unresolved,
-    } = document_and_gaps(maker)?;
+    } = document_and_unresolved(maker)?;
     match first_of(unresolved.as_slice()) {
         None => Ok(document),
         Some(span) => Err(LinkFault::Unresolved(FilePlace {

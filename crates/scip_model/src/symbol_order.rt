@@ -4,7 +4,7 @@ ghost use Rattle.std.specs.Prelude.{◌≡◌, ℕ, ◌≢◌, List, ◌++◌, �
 ghost use Rattle.std.specs.Ordering.{nat_cmp};
 ghost use Rattle.std.specs.Cmp.Lexicographic.{slice_cmp};
 
-use scip_records::LentSymbol;
+use scip_records::SymbolRef;
 use std::cmp::Ordering;
 
 /// A text in two parts, compared with one in one part.
@@ -40,7 +40,7 @@ fn compare_parts(front: &str, rest: &str, other_front: &str, other_rest: &str) -
 }
 
 /// Symbols by their texts.
-pub(crate) fn compare_symbols(a: &LentSymbol<'_>, b: &LentSymbol<'_>) -> Ordering
+pub(crate) fn compare_symbols(a: &SymbolRef<'_>, b: &SymbolRef<'_>) -> Ordering
     ensures { result ≡ slice_cmp nat_cmp a.now b.now }
 {
     compare_parts(a.front, a.rest, b.front, b.rest)

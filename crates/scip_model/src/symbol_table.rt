@@ -11,7 +11,7 @@ use crate::own_symbols::OwnSymbols;
 use crate::symbol_order::compare_symbols;
 use indexmap::IndexSet;
 use proto_decl::FileFacts;
-use scip_records::LentSymbol;
+use scip_records::SymbolRef;
 use std::alloc::{AllocError, Global};
 use std::cmp::Ordering;
 use std::marker::Model;
@@ -115,7 +115,7 @@ impl SymbolTable {
     }
 
     /// The text with a number. Where none has it, the empty one.
-    pub(crate) fn at(&self, number: u32) -> LentSymbol<'_>
+    pub(crate) fn at(&self, number: u32) -> SymbolRef<'_>
         ensures { result ≡ text_at self.now number }
     {
         let index = number as usize;
@@ -137,11 +137,11 @@ impl SymbolTable {
 }
 
 /// One of the texts of what is named elsewhere, by its place there. Where none has it, the empty one.
-fn other_symbol(others: &IndexSet<String>, index: usize) -> LentSymbol<'_>
+fn other_symbol(others: &IndexSet<String>, index: usize) -> SymbolRef<'_>
     ensures { result ≡ text_at (map string_bytes others.now.keys) index }
 {
     match others.get_index(index) {
-        Some(text) => LentSymbol::whole(text.as_str()),
-        None => LentSymbol::whole(""),
+        Some(text) => SymbolRef::whole(text.as_str()),
+        None => SymbolRef::whole(""),
     }
 }

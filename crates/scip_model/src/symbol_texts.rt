@@ -13,9 +13,9 @@ ghost use Rattle.scip_model.specs.Tables.Plans.{package_texts_up_to, own_texts};
 
 use crate::joined_texts::JoinedTexts;
 use crate::own_symbols::OwnSymbols;
+use basics::OwnedText;
 use proto_decl::{Declaration, FileFacts};
 use scip_symbol::{PackageId, print_below, print_declaration, print_file, print_package};
-use sequences::OwnedText;
 use std::alloc::{AllocError, Global};
 
 /// Of the file with a path.

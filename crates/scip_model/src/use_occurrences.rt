@@ -14,7 +14,7 @@ ghost use Rattle.proto_visibility.specs.declared.entities.Entity.TheVariants.{De
 ghost use Rattle.scip_symbol.specs.Entities.{OfPackage, IsEntity};
 ghost use Rattle.proto_visibility.specs.declared.fault.LinkFault.TheVariants.{Memory};
 ghost use Rattle.scip_model.specs.Named.{text_of};
-ghost use Rattle.scip_model.specs.Tables.Listing.{each_from, is_shown, unless_found, gap_at};
+ghost use Rattle.scip_model.specs.Tables.Listing.{each_from, is_shown, unless_found, unresolved_use_at};
 ghost use Rattle.scip_model.specs.Tables.Plans.{Grown, IsNumberIn, ArePlanned, AreAdded};
 ghost use Rattle.scip_model.specs.Tables.Plans.{declaration_number};
 ghost use Rattle.scip_model.specs.Makers.{
@@ -44,12 +44,12 @@ use crate::packages::package_of_file;
 use crate::planned::PlannedOccurrence;
 use crate::symbol_table::{SymbolTable, declaration_number};
 use crate::symbol_texts::declaration_text;
-use crate::targets::{add_gap, target_of};
+use crate::targets::{add_unresolved, target_of};
+use basics::OwnedText;
 use proto_decl::{Component, Declaration, FileFacts, Use};
 use proto_lex::Span;
 use proto_link::{Entity, LinkFault, Target};
 use scip_symbol::{PackageId, print_package_named};
-use sequences::OwnedText;
 use std::alloc::{AllocError, Global};
 
 /// The role of what is neither a definition nor an import.
@@ -306,7 +306,7 @@ fn add_found(
 /// `Memory` is the only fault.
 fn add_use(
     list: &mut Vec<PlannedOccurrence>,
-    gaps: &mut Vec<Span>,
+    unresolved_uses: &mut Vec<Span>,
     maker: &DocumentMaker<'_, '_, '_, '_>,
     type_use: &Use,
     texts: &mut SymbolTable,
@@ -323,21 +323,21 @@ fn add_use(
         × Finds maker.now type_use.now found
         × AreAdded texts.new list.old.items list.new.items
         (at_its_target maker.now found type_use.now)
-        × (gaps.new.items ≡ gaps.old.items ++ unless_found found type_use.now.span)) }
+        × (unresolved_uses.new.items ≡ unresolved_uses.old.items ++ unless_found found type_use.now.span)) }
     ensures refused { IfErr result (λ fault. fault ≡ Memory) }
 {
     let found = target_of(maker.alloc, maker.linker, maker.source, type_use)?;
-    add_gap(gaps, &found, type_use.span)?;
+    add_unresolved(unresolved_uses, &found, type_use.span)?;
     add_found(list, maker, &found, type_use, texts)?;
     Ok(())
 }
 
 /// Each component of a use that names a package, or a declaration that is kept. The places of uses that name no type
-/// are added to `gaps`, in order. `Memory` is the only fault.
+/// are added to `unresolved_uses`, in order. `Memory` is the only fault.
 pub(crate) fn use_occurrences(
     maker: &DocumentMaker<'_, '_, '_, '_>,
     uses: &[Use],
-    gaps: &mut Vec<Span>,
+    unresolved_uses: &mut Vec<Span>,
     texts: &mut SymbolTable,
 ) -> Result<Vec<PlannedOccurrence>, LinkFault>
     requires source { IsOfFile maker.now }
@@ -353,12 +353,12 @@ pub(crate) fn use_occurrences(
         × AllZip (Finds maker.now) uses.now found
         × ArePlanned texts.new list.items (each_from
         (at_its_use maker.now found) 0 uses.now)
-        × (gaps.new.items ≡ gaps.old.items ++ each_from (gap_at found) 0 uses.now)) }
+        × (unresolved_uses.new.items ≡ unresolved_uses.old.items ++ each_from (unresolved_use_at found) 0 uses.now)) }
     ensures refused { IfErr result (λ fault. fault ≡ Memory) }
 {
     let mut list = Vec::with_capacity(maker.alloc, uses.len())?;
     for type_use in uses {
-        add_use(&mut list, gaps, maker, type_use, texts)?;
+        add_use(&mut list, unresolved_uses, maker, type_use, texts)?;
     }
     Ok(list)
 }

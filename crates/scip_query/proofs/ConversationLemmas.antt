@@ -12,7 +12,7 @@ use Rattle.streams.specs.Readers.{Reader, IsReadThrough, IsUnfailed}
 use Rattle.streams.specs.Writers.{SinkOf, writing, IsWritten, IsCutOff}
 use Rattle.scip_records.specs.declared.records.Index.{Index}
 use Rattle.streams.proofs.WholeWriteLemmas.{IsWritten-nil, IsWritten-trans, IsCutOff-after}
-use Rattle.scip_query.specs.Commands.{lines_of}
+use Rattle.scip_query.specs.Commands.{command_lines}
 use Rattle.scip_query.specs.AnswerText.{answer_to, answer_text}
 use Rattle.scip_query.specs.Conversing.{is_line_end, ended_lines, Replies, IsDue, LeavesFeed, AreAnswersTo}
 use Rattle.scip_query.specs.Tables.ConversingSteps.{kept_line, kept_with, Stands, IsCutShort, IsHalted, Goes}
@@ -20,7 +20,8 @@ use Rattle.scip_query.specs.Tables.ConversingSteps.{AnswersNext, Concludes}
 use Rattle.scip_query.specs.declared.answer_fault.AnswerFault.{AnswerFault}
 use Rattle.scip_query.specs.declared.answer_fault.AnswerFault.TheVariants.{Read, Write, Memory}
 use Rattle.scip_query.specs.declared.conversation.Conversation.{Conversation}
-use Rattle.scip_query.proofs.LineLemmas.{line_ended, last_line, line_there, kept_with-is, kept_answer, kept_nothing}
+use Rattle.scip_query.proofs.CommandLineLemmas.{line_ended, last_line, line_there, kept_with-is, kept_answer}
+use Rattle.scip_query.proofs.CommandLineLemmas.{kept_nothing}
 
 count_after : (bytes : List ℕ) (b : ℕ)
     → count_by is_line_end (bytes ++ b ∷ []) ≡ count_by is_line_end bytes + cond (b == 10) 1 0
@@ -122,8 +123,8 @@ module _ {W : Type 0} (sink : SinkOf W) where
       ended = s.ended;
       begun = s.begun ++ b ∷ [];
       lines = λ behind.
-          ap lines_of (further read b behind) ∙ s.lines (b ∷ behind)
-          ∙ ap (λ l. s.ended ++ lines_of l) (sym (further s.begun b behind));
+          ap command_lines (further read b behind) ∙ s.lines (b ∷ behind)
+          ∙ ap (λ l. s.ended ++ command_lines l) (sym (further s.begun b behind));
       ends = count_after read b ∙ ap (λ t. count_by is_line_end read + cond t 1 0) inside ∙ omega (arith, s.ends);
       unended = count_after s.begun b ∙ ap (λ t. count_by is_line_end s.begun + cond t 1 0) inside
           ∙ omega (arith, s.unended);
@@ -138,17 +139,21 @@ module _ {W : Type 0} (sink : SinkOf W) where
     byte_refused read b talk now s = record {
       ended = s.ended;
       lines = λ behind.
-          let line = line_there s.begun b behind in
-          (line.0, line.1, ap lines_of (further read b behind) ∙ s.lines (b ∷ behind) ∙ ap (λ l. s.ended ++ l) line.2);
+          let line = line_there s.begun b behind in (
+            line.0,
+            line.1,
+            ap command_lines (further read b behind) ∙ s.lines (b ∷ behind)
+                ∙ ap (λ l. s.ended ++ l) line.2,
+          );
       answered = s.answered;
     }
 
     -- the lines where a `\n` ends the one that is begun
     one_line_more : (read : List ℕ) (talk : Conversation) (now : W)
         (s : Stands sink index first read talk now) (behind : List ℕ)
-        → lines_of ((read ++ 10 ∷ []) ++ behind) ≡ s.ended ++ s.begun ∷ lines_of behind
+        → command_lines ((read ++ 10 ∷ []) ++ behind) ≡ s.ended ++ s.begun ∷ command_lines behind
     one_line_more read talk now s behind =
-        ap lines_of (further read 10 behind) ∙ s.lines (10 ∷ behind)
+        ap command_lines (further read 10 behind) ∙ s.lines (10 ∷ behind)
         ∙ ap (λ l. s.ended ++ l) (line_ended s.begun behind s.unended)
 
     pub line_goes : (read : List ℕ) (talk next : Conversation) (before after : W)
@@ -160,7 +165,7 @@ module _ {W : Type 0} (sink : SinkOf W) where
       ended = s.ended ++ s.begun ∷ [];
       begun = [];
       lines = λ behind. one_line_more read talk before s behind
-          ∙ sym (append_assoc s.ended (s.begun ∷ []) (lines_of behind));
+          ∙ sym (append_assoc s.ended (s.begun ∷ []) (command_lines behind));
       ends = count_after read 10 ∙ omega (arith, s.ends, length-append s.ended (s.begun ∷ []));
       unended = refl;
       kept = p.1;
@@ -174,15 +179,15 @@ module _ {W : Type 0} (sink : SinkOf W) where
       ended = s.ended ++ s.begun ∷ [];
       sent = length (flat_map (answer_to index) s.ended) + p.0;
       lines = λ behind. (
-        lines_of behind,
-        one_line_more read talk before s behind ∙ sym (append_assoc s.ended (s.begun ∷ []) (lines_of behind)),
+        command_lines behind,
+        one_line_more read talk before s behind ∙ sym (append_assoc s.ended (s.begun ∷ []) (command_lines behind)),
       );
       cut_off = line_cut_off read talk before after p.0 s p.1;
       counted = p.2 ∙ counted (length (flat_map (answer_to index) s.ended)) p.0 talk.written s.written;
     }
     line_goes read talk next before after (Err Memory) s p = record {
       ended = s.ended;
-      lines = λ behind. (s.begun, lines_of behind, one_line_more read talk before s behind);
+      lines = λ behind. (s.begun, command_lines behind, one_line_more read talk before s behind);
       answered = rw p s.answered;
     }
 
@@ -196,7 +201,7 @@ module _ {W : Type 0} (sink : SinkOf W) where
       sent = p.sent;
       lines = λ behind.
           let found = p.lines (more ++ behind) in
-          (found.0, ap lines_of (append_assoc read more behind) ∙ found.1);
+          (found.0, ap command_lines (append_assoc read more behind) ∙ found.1);
       cut_off = p.cut_off;
       counted = p.counted;
     }
@@ -204,32 +209,33 @@ module _ {W : Type 0} (sink : SinkOf W) where
       ended = p.ended;
       lines = λ behind.
           let found = p.lines (more ++ behind) in
-          (found.0, found.1, ap lines_of (append_assoc read more behind) ∙ found.2);
+          (found.0, found.1, ap command_lines (append_assoc read more behind) ∙ found.2);
       answered = p.answered;
     }
 
     -- ---- the end of the bytes
 
     lines_read : (read : List ℕ) (talk : Conversation) (now : W)
-        (s : Stands sink index first read talk now) → lines_of read ≡ s.ended ++ lines_of s.begun
+        (s : Stands sink index first read talk now) → command_lines read ≡ s.ended ++ command_lines s.begun
     lines_read read talk now s =
-        ap lines_of (sym (append-nil read)) ∙ s.lines [] ∙ ap (λ l. s.ended ++ lines_of l) (append-nil s.begun)
+        ap command_lines (sym (append-nil read)) ∙ s.lines [] ∙ ap (λ l. s.ended ++ command_lines l)
+        (append-nil s.begun)
 
     pub nothing_begun : (read : List ℕ) (talk : Conversation) (now : W)
         → Stands sink index first read talk now → talk.line.items ≡ []
         → IsWritten (writing sink first now) (answer_text index read)
     nothing_begun read talk now s e =
         let none : s.begun ≡ [] = kept_nothing s.begun (sym s.kept ∙ e) in
-        let lines : lines_of read ≡ s.ended =
-        lines_read read talk now s ∙ ap (λ l. s.ended ++ lines_of l) none ∙ append-nil s.ended in
+        let lines : command_lines read ≡ s.ended =
+        lines_read read talk now s ∙ ap (λ l. s.ended ++ command_lines l) none ∙ append-nil s.ended in
         subst (λ l. IsWritten (writing sink first now) (flat_map (answer_to index) l)) (sym lines) s.answered
 
-    begun_line : (begun : List ℕ) → (begun ≡ [] → ⊥) → count_by is_line_end begun ≡ 0 → lines_of begun ≡ begun ∷ []
+    begun_line : (begun : List ℕ) → (begun ≡ [] → ⊥) → count_by is_line_end begun ≡ 0 → command_lines begun ≡ begun ∷ []
     begun_line [] some none = absurd (some refl)
     begun_line (b ∷ begun) some none = last_line b begun none
 
     begun_there : (begun behind : List ℕ) → (begun ≡ [] → ⊥)
-        → (next : List ℕ) × (others : List (List ℕ)) × (lines_of (begun ++ behind) ≡ next ∷ others)
+        → (next : List ℕ) × (others : List (List ℕ)) × (command_lines (begun ++ behind) ≡ next ∷ others)
     begun_there [] behind some = absurd (some refl)
     begun_there (b ∷ begun) behind some = line_there [] b (begun ++ behind)
 
@@ -239,14 +245,14 @@ module _ {W : Type 0} (sink : SinkOf W) where
         → AnswersNext (writing sink before after) talk next (answer_to index talk.line.items) result
         → Concludes sink index first read after result
     last_concludes read talk next before after (Ok done) s some p =
-        let lines : lines_of read ≡ s.ended ++ s.begun ∷ [] =
+        let lines : command_lines read ≡ s.ended ++ s.begun ∷ [] =
         lines_read read talk before s
         ∙ ap (λ l. s.ended ++ l) (begun_line s.begun (λ e. some (s.kept ∙ ap kept_line e)) s.unended) in
         subst (λ l. IsWritten (writing sink first after) (flat_map (answer_to index) l)) (sym lines)
         (line_written read talk before after s p.0)
     last_concludes read talk next before after (Err Read) s some p = absurd p
     last_concludes read talk next before after (Err (Write count)) s some p =
-        let lines : lines_of read ≡ s.ended ++ s.begun ∷ [] =
+        let lines : command_lines read ≡ s.ended ++ s.begun ∷ [] =
         lines_read read talk before s
         ∙ ap (λ l. s.ended ++ l) (begun_line s.begun (λ e. some (s.kept ∙ ap kept_line e)) s.unended) in
         let sent = length (flat_map (answer_to index) s.ended) + p.0 in (
@@ -265,9 +271,10 @@ module _ {W : Type 0} (sink : SinkOf W) where
 
     -- ---- what is due
 
-    halted_due : (all : List ℕ) (ended others : List (List ℕ)) (next : List ℕ) → lines_of all ≡ ended ++ next ∷ others
-        → (k : ℕ) × (k < length (lines_of all))
-        × (flat_map (answer_to index) ended ≡ flat_map (answer_to index) (take k (lines_of all)))
+    halted_due : (all : List ℕ) (ended others : List (List ℕ)) (next : List ℕ) → command_lines all ≡ ended
+        ++ next ∷ others
+        → (k : ℕ) × (k < length (command_lines all))
+        × (flat_map (answer_to index) ended ≡ flat_map (answer_to index) (take k (command_lines all)))
     halted_due all ended others next e = (
       length ended,
       rw e (omega (arith, length-append ended (next ∷ others))),
@@ -297,7 +304,7 @@ module _ {W : Type 0} (sink : SinkOf W) where
     concluded_due known left read now (Err Memory) is p =
         let found = p.lines [] in
         let of = λ (all : List ℕ) (e : all ≡ read). halted_due all p.ended found.1 found.0
-        (ap lines_of (e ∙ sym (append-nil read)) ∙ found.2) in
+        (ap command_lines (e ∙ sym (append-nil read)) ∙ found.2) in
         record {
           due = flat_map (answer_to index) p.ended;
           replies = p.answered;
@@ -349,7 +356,7 @@ module _ {W : Type 0} (sink : SinkOf W) where
     halted_on_the_way known left read talk now Memory is p =
         let of = λ (all rest : List ℕ) (e : all ≡ read ++ rest).
         let found = p.lines rest in
-        halted_due all p.ended found.1 found.0 (ap lines_of e ∙ found.2) in
+        halted_due all p.ended found.1 found.0 (ap command_lines e ∙ found.2) in
         record {
           due = flat_map (answer_to index) p.ended;
           replies = p.answered;
@@ -365,8 +372,8 @@ module _ {W : Type 0} (sink : SinkOf W) where
     unread_due known left read talk now is s =
         let ended : ended_lines read ≡ s.ended =
         ap (take (count_by is_line_end read)) (lines_read read talk now s)
-        ∙ ap (λ n. take n (s.ended ++ lines_of s.begun)) s.ends
-        ∙ take-append_seam s.ended (lines_of s.begun) in
+        ∙ ap (λ n. take n (s.ended ++ command_lines s.begun)) s.ends
+        ∙ take-append_seam s.ended (command_lines s.begun) in
         let due = ap (flat_map (answer_to index)) (sym ended) in
         record {
           due = flat_map (answer_to index) s.ended;

@@ -5,7 +5,7 @@ use Rattle.streams.specs.Streams.{last_count}
 use Rattle.streams.specs.Readers.{Reader, known_before, known_after, IsReadThrough, IsReadFault, IsUnfailed}
 use Rattle.streams.specs.Writers.{Writer, IsWritten, IsCutOff}
 use Rattle.scip_records.specs.declared.records.Index.{Index}
-use Rattle.scip_query.specs.Commands.{lines_of}
+use Rattle.scip_query.specs.Commands.{command_lines}
 use Rattle.scip_query.specs.AnswerText.{answer_to, answer_text}
 use Rattle.scip_query.specs.declared.answer_fault.AnswerFault.{AnswerFault}
 use Rattle.scip_query.specs.declared.answer_fault.AnswerFault.TheVariants.{Read, Write, Memory}
@@ -20,7 +20,7 @@ is_line_end b = b == 10
 
 -- those lines of bytes that have their `\n`
 abbrev pub ended_lines : List ℕ → List (List ℕ)
-ended_lines bytes = take (count_by is_line_end bytes) (lines_of bytes)
+ended_lines bytes = take (count_by is_line_end bytes) (command_lines bytes)
 
 -- what is due, if `all` was left to read and `left` still is: the answers to all lines; at Read those to the lines
 -- that had ended; at Memory those to the lines before some line
@@ -31,7 +31,7 @@ IsDue index all left due (Err Read) =
     × (due ≡ flat_map (answer_to index) (ended_lines read))
 IsDue index all left due (Err (Write count)) = due ≡ answer_text index all
 IsDue index all left due (Err Memory) =
-    (k : ℕ) × (k < length (lines_of all)) × (due ≡ flat_map (answer_to index) (take k (lines_of all)))
+    (k : ℕ) × (k < length (command_lines all)) × (due ≡ flat_map (answer_to index) (take k (command_lines all)))
 
 -- The answers to commands: `known` tells all bytes before the call, and `left` those after it. Of a text that is due
 -- to these bytes so much went out; if the bytes aren't told, of a text that is due to some bytes.

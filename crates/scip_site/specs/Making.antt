@@ -11,13 +11,13 @@ use Rattle.source_files.specs.Made.{MadeFile, MakesAll, StopsBehind}
 use Rattle.source_files.specs.Makers.{Maker}
 use Rattle.streams.specs.Writers.{Writer}
 use Rattle.scip_pages.specs.Snapshot.{lines_of}
-use Rattle.scip_snapshot.specs.declared.show_fault.ShowFault.{ShowFault}
-use Rattle.scip_snapshot.specs.declared.show_fault.ShowFault.TheVariants.{Write, Memory}
-use Rattle.scip_snapshot.specs.Snapshots.{path_in}
+use Rattle.scip_site.specs.declared.show_fault.ShowFault.{ShowFault}
+use Rattle.scip_site.specs.declared.show_fault.ShowFault.TheVariants.{Write, Memory}
+use Rattle.scip_site.specs.Snapshots.{path_in}
 use Rattle.scip_site.specs.declared.styles.TheConstants.{STYLE, SEARCH}
-use Rattle.source_page.specs.Ids.{unit_in}
-use Rattle.source_page.specs.Site.{Sources, has_page, page_path}
-use Rattle.source_page.specs.Page.{firsts_of, page_of}
+use Rattle.scip_pages.specs.Ids.{unit_in}
+use Rattle.scip_pages.specs.Site.{Sources, has_page, page_path}
+use Rattle.scip_pages.specs.Page.{firsts_of, page_of}
 use Rattle.scip_site.specs.Reading.{AreReadBy, AllAreKept}
 use Rattle.scip_site.specs.Script.{listing_text}
 use Rattle.scip_site.specs.Tree.{first_page}

@@ -7,27 +7,30 @@ ghost use Rattle.std.specs.Option.{is_some, option_map};
 ghost use Rattle.scip_query.specs.Tables.{numbers};
 ghost use Rattle.source_files.specs.Makers.{maker};
 ghost use Rattle.streams.specs.Writers.{writer};
-ghost use Rattle.source_page.specs.Facts.{AreRight};
-ghost use Rattle.source_page.specs.Ids as ids;
-ghost use Rattle.source_page.specs.Page.{page_of, firsts_of};
+ghost use Rattle.scip_pages.specs.Facts.{AreRight};
+ghost use Rattle.scip_pages.specs.Ids as ids;
+ghost use Rattle.scip_pages.specs.Page.{page_of, firsts_of};
 ghost use Rattle.scip_site.specs.Script.{listing_text};
 ghost use Rattle.scip_site.specs.Tree as tree_spec;
 ghost use Rattle.scip_site.specs.Making as spec;
 ghost use Rattle.scip_pages.specs.Snapshot.{lines_of};
 
+use crate::filing::Folders;
 use crate::listing::listed_page;
 use crate::order::by_path;
 use crate::reading::read_all;
+use crate::show_fault::ShowFault;
 use crate::site_fault::SiteFault;
+use crate::snapshot_outcome::path_in;
 use crate::styles::{SEARCH, STYLE};
 use crate::tree::first_page;
-use scip_pages::{ColumnUnit, lines_of, unit_of};
+use basics::OwnedText;
+use scip_pages::{
+    Asked, ColumnUnit, Facts, Site, has_page, lines_of, page_path, path_listed, unit_of,
+};
 use scip_query::Queries;
 use scip_records::Document;
-use scip_snapshot::{Folders, ShowFault, path_in};
-use sequences::OwnedText;
 use source_files::{MakeFiles, ReadFiles};
-use source_page::{Asked, Facts, Site, has_page, page_path, path_listed};
 use std::alloc::{AllocError, Global};
 use streams::Sink;
 

@@ -7,11 +7,11 @@ ghost use Rattle.streams.specs.Writers.{writer};
 ghost use Rattle.scip_site.specs.Reading as spec;
 
 use crate::no_page::{NoPage, tell};
-use crate::outcome::{Wanted, outcome_of};
+use crate::page_outcome::{Wanted, outcome_of};
 use crate::repeats::are_repeated;
+use crate::show_fault::ShowFault;
+use basics::OwnedText;
 use scip_records::Document;
-use scip_snapshot::ShowFault;
-use sequences::OwnedText;
 use source_files::ReadFiles;
 use std::alloc::{AllocError, Global};
 use streams::Sink;

@@ -17,8 +17,8 @@ ghost use Rattle.scip_symbol.specs.Entities.{
 
 use crate::package::PackageId;
 use crate::symbol::{Descriptor, GlobalSymbol, Suffix, Symbol, SymbolParts};
+use basics::{OwnedText, Sequence};
 use proto_decl::{Component, DeclarationKind, DeclarationPath, DeclarationStep};
-use sequences::{OwnedText, Sequence};
 use std::alloc::{AllocError, Global};
 
 /// The scheme of the symbols of a proto3 tree.

@@ -9,8 +9,8 @@ ghost use Rattle.scip_wire.specs.Writing.{Leaves};
 use crate::spell::{Buffer, DocumentRecord, encode_pieces, pieces_len};
 use crate::write::MAX_INDEX_LEN;
 use crate::write_fault::WriteFault;
+use basics::Sequence;
 use scip_records::{Metadata, SymbolInformation};
-use sequences::Sequence;
 use streams::{CutOff, Sink};
 
 /// Writes pieces that aren't too long.

@@ -1,10 +1,15 @@
 //! The traits of what bytes are written to and read from, and what whole reads and writes leave of it.
 #![tactic(auto)]
 
+// What bytes are written to, and read from.
 mod failed;
 mod feed;
 mod sink;
+
+// The standard library's as such.
 mod std_streams;
+
+// Writing the whole of a text.
 mod whole_writes;
 
 pub use failed::Failed;

@@ -7,13 +7,13 @@ ghost use Rattle.scip_model.specs.Pieces.{IsRising};
 
 use crate::broken::Broken;
 use crate::shared::see;
+use basics::{OwnedText, Sequence};
 use index_hooks::{Choice, DocChoice};
 use scip_model::{
     Choices, Document, Failed, Feed, Index, Info, MergeFault, Metadata, Occurrence, Range, Sink,
     Std, ToolInfo, Unmerged, merge,
 };
 use scip_wire::write_index;
-use sequences::{OwnedText, Sequence};
 use std::alloc::{AllocError, Global};
 use std::test::Fail;
 

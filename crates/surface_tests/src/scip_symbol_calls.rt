@@ -4,7 +4,7 @@ ghost use Rattle.std.specs.Prelude.{◌≡◌};
 ghost use Rattle.proto_decl.specs.declared.kind.DeclarationKind.TheVariants.{Message};
 
 use crate::shared::{package_of, see};
-use lent_texts::{KeptText, LentText};
+use basics::{KeptText, TextRef};
 use proto_decl::{Component, DeclarationKind, DeclarationPath, DeclarationStep};
 use proto_lex::Span;
 use scip_symbol::{
@@ -45,7 +45,7 @@ fn step_to(name: &str) -> DeclarationStep<'_>
 {
     DeclarationStep {
         kind: DeclarationKind::Message,
-        name: KeptText::lent(name),
+        name: KeptText::borrowed(name),
     }
 }
 
@@ -96,7 +96,7 @@ fn component(name: &str) -> Component<'_>
     ensures { result.name ≡ name.now }
 {
     Component {
-        name: LentText::new(name),
+        name: TextRef::new(name),
         span: Span { start: 0, end: 0 },
     }
 }

@@ -43,19 +43,19 @@ use Rattle.proto_parse.specs.Reading.Messages.{inside_at}
 use Rattle.proto_parse.specs.Reading.Syntax.{syntax_by, version_at, syntax_statement_at, syntax_at}
 use Rattle.proto_parse.specs.Reading.Files.{import_kind_at, path_literal_at, path_literals_at, import_at, package_at}
 use Rattle.proto_parse.specs.Reading.Files.{only_package_at, statement_by, statement_at, statements_at, file_at}
-use Rattle.proto_grammar.proofs.TokenLemmas.{token_exact, one_next, one_others, next_other_word}
-use Rattle.proto_grammar.proofs.UntilLemmas.{until_at-exact, adding-exact}
-use Rattle.proto_parse.proofs.Joined.{joined_exact}
+use Rattle.proto_grammar.proofs.TerminalTokenLemmas.{token_exact, one_next, one_others, next_other_word}
+use Rattle.proto_grammar.proofs.RepetitionUntilLemmas.{until_at-exact, adding-exact}
+use Rattle.proto_parse.proofs.SyntaxJoinedLemmas.{joined_exact}
 use Rattle.proto_parse.proofs.Choices.{file_word, import_begins, package_begins, option_begins, message_begins}
 use Rattle.proto_parse.proofs.Choices.{enum_begins, service_begins, extend_begins}
-use Rattle.proto_parse.proofs.StepsFall.{items_fall, path_literals_fall, statements_fall}
+use Rattle.proto_parse.proofs.ReadingFallLemmas.{items_fall, path_literals_fall, statements_fall}
 use Rattle.proto_grammar.proofs.Exact.Names.{name_exact}
 use Rattle.proto_grammar.proofs.Exact.Options.{option_exact}
 use Rattle.proto_parse.proofs.Exact.Messages.{enum_exact, extend_statement_exact, inside_exact, message_exact}
 use Rattle.proto_parse.proofs.Exact.Messages.{service_exact}
 use Rattle.std.proofs.Common.{None}
-use Rattle.proto_grammar.proofs.TokenLemmas.{plain_exact}
-use Rattle.proto_grammar.proofs.Steps.{same_ok}
+use Rattle.proto_grammar.proofs.TerminalTokenLemmas.{plain_exact}
+use Rattle.proto_grammar.proofs.RepetitionStepLemmas.{same_ok}
 use Rattle.proto_grammar.specs.Terminal.{first_is, of_kind}
 use Rattle.proto_grammar.specs.Lexeme.{Place, place_of}
 

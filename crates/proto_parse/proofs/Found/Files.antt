@@ -47,21 +47,21 @@ use Rattle.proto_parse.specs.Reading.Syntax.{joined_of, behind_literals, syntax_
 use Rattle.proto_parse.specs.Reading.Syntax.{syntax_at}
 use Rattle.proto_parse.specs.Reading.Files.{import_kind_at, path_literal_at, path_literals_at, import_at, package_at}
 use Rattle.proto_parse.specs.Reading.Files.{only_package_at, statement_by, statement_at, statements_at, file_at}
-use Rattle.proto_grammar.proofs.Steps.{same_ok, bind_ok, guard_ok, kept_ok}
-use Rattle.proto_lex.proofs.ReadLemmas.{chosen}
-use Rattle.proto_grammar.proofs.TokenLemmas.{token_found, next_found}
-use Rattle.proto_grammar.proofs.UntilLemmas.{until_at-found, adding-found}
+use Rattle.proto_grammar.proofs.RepetitionStepLemmas.{same_ok, bind_ok, guard_ok, kept_ok}
+use Rattle.proto_lex.proofs.ReadingTestLemmas.{chosen}
+use Rattle.proto_grammar.proofs.TerminalTokenLemmas.{token_found, next_found}
+use Rattle.proto_grammar.proofs.RepetitionUntilLemmas.{until_at-found, adding-found}
 use Rattle.proto_grammar.proofs.Found.Names.{name_found}
 use Rattle.proto_grammar.proofs.Found.Options.{option_found}
 use Rattle.proto_parse.proofs.Found.Messages.{enum_found, extend_statement_found, inside_found, message_found}
 use Rattle.proto_parse.proofs.Found.Messages.{service_found}
-use Rattle.proto_parse.proofs.Joined.{joined_found}
+use Rattle.proto_parse.proofs.SyntaxJoinedLemmas.{joined_found}
 use Rattle.std.proofs.lemmas.Option.{same_Some}
 use Rattle.proto_parse.specs.Reading.Syntax.{past_literals}
 use Rattle.std.specs.Option.{option_map_or}
 use Rattle.std.proofs.lemmas.Bool.{not-true}
-use Rattle.proto_grammar.proofs.TokenLemmas.{plain_found}
-use Rattle.proto_grammar.proofs.Steps.{read_as}
+use Rattle.proto_grammar.proofs.TerminalTokenLemmas.{plain_found}
+use Rattle.proto_grammar.proofs.RepetitionStepLemmas.{read_as}
 use Rattle.proto_grammar.specs.Reading.Repetition.{plain_literal_at}
 use Rattle.proto_grammar.specs.Terminal.{offset_at}
 use Rattle.proto_grammar.specs.Lexeme.{Place}

@@ -19,8 +19,8 @@ use Rattle.proto_parse.proofs.Walk.Then.{each_then, item_then, names_then, betwe
 use Rattle.proto_parse.specs.Walk.Among.{none as no_marks}
 use Rattle.proto_parse.proofs.Walk.Marks.{Puts, each_then-append, until_puts, statement_items, package_marks}
 use Rattle.proto_parse.proofs.Walk.Past.{over}
-use Rattle.proto_parse.proofs.Tails.{syntax_past}
-use Rattle.proto_parse.proofs.Tails.IsTail.{here}
+use Rattle.proto_parse.proofs.GrammarTailLemmas.{syntax_past}
+use Rattle.proto_parse.proofs.GrammarTailLemmas.IsTail.{here}
 use Rattle.proto_parse.specs.Limits.{max_message_depth}
 
 -- a package's name stays

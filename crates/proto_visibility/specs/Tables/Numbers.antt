@@ -1,7 +1,7 @@
 -- Sets of the numbers of full names: names with different numbers differ.
 use Rattle.std.specs.Prelude.{◌≡◌, ℕ, Bool, true, Option, Some, None, List, [], Contains, nat_eq}
 use Rattle.std.specs.HashSet.{HashSet, contains}
-use Rattle.proto_decl.specs.FullNames.{mixed}
+use Rattle.proto_decl.specs.FullNames.{hash64}
 use Rattle.proto_decl.specs.Facts.{Facts}
 use Rattle.proto_decl.specs.declared.declaration.Declaration.{Declaration}
 use Rattle.proto_visibility.specs.Files.{File}
@@ -10,7 +10,7 @@ use Rattle.proto_visibility.specs.Clashes.{NoClashBy}
 
 -- whether the set has the number of this full name
 abbrev pub has_number : {S : Type 0} → HashSet ℕ S → (name : List ℕ) → Bool
-has_number numbers name = contains nat_eq numbers (mixed name)
+has_number numbers name = contains nat_eq numbers (hash64 name)
 
 -- no two of the items clash, and the set has the number of each one's full name
 pub record AreApart {S : Type 0} (items : List Item) (numbers : HashSet ℕ S) : Type 0 where

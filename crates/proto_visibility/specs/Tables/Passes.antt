@@ -9,7 +9,7 @@ use Rattle.proto_visibility.specs.Files.{File}
 use Rattle.proto_visibility.specs.Items.{Item}
 use Rattle.proto_visibility.specs.Clashes.{ClashBy, NoClashBy}
 use Rattle.proto_visibility.specs.Absences.{IsUnread}
-use Rattle.proto_visibility.specs.Kept.{Omissions, IsKept, IsMet}
+use Rattle.proto_visibility.specs.Kept.{Omissions, IsKeptFile, IsMet}
 use Rattle.proto_visibility.specs.Tables.NameTables.{index_in}
 
 -- of each of the first so many files, whether it is left out because it has no facts
@@ -33,12 +33,12 @@ pub record AreClashesOmitted (items : List Item) (start omissions : Omissions) :
   pub size : length omissions ≡ length start
   pub stays : (number : ℕ) (out : FileOmission) → slice_get start number ≡ Some (Some out)
       → slice_get omissions number ≡ Some (Some out)
-  pub told : (number : ℕ) (omission : Option FileOmission) → IsKept start number
+  pub told : (number : ℕ) (omission : Option FileOmission) → IsKeptFile start number
       → slice_get omissions number ≡ Some omission → IsClashOmission (Contains items) omissions number omission
 
 -- the item's file is kept so far
 abbrev pub IsOpen : Omissions → Item → Type 0
-IsOpen omissions item = IsKept omissions item.place.file
+IsOpen omissions item = IsKeptFile omissions item.place.file
 
 abbrev pub IsOpenAt : List Item → Omissions → (index : ℕ) → Type 0
 IsOpenAt items omissions index = (item : Item) × (slice_get items index ≡ Some item) × IsOpen omissions item
@@ -72,7 +72,7 @@ pub record ArePassed {S : Type 0} (items : List Item) (start : Omissions) (count
   pub size : length omissions ≡ length start
   pub stays : (number : ℕ) (out : FileOmission) → slice_get start number ≡ Some (Some out)
       → slice_get omissions number ≡ Some (Some out)
-  pub told : (number : ℕ) (out : FileOmission) → IsKept start number → slice_get omissions number ≡ Some (Some out)
+  pub told : (number : ℕ) (out : FileOmission) → IsKeptFile start number → slice_get omissions number ≡ Some (Some out)
       → IsTold items count omissions number out
   pub clear : NoneClash items omissions count
   pub found : (name : List ℕ) (index : ℕ) → index_in names name ≡ Some index

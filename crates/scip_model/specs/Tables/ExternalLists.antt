@@ -16,7 +16,7 @@ use Rattle.proto_visibility.specs.declared.entities.Entity.{Entity}
 use Rattle.proto_visibility.specs.declared.entities.Entity.TheVariants as link
 use Rattle.proto_link.specs.declared.target.Target.{Target}
 use Rattle.scip_model.specs.Packages.{Packages}
-use Rattle.scip_model.specs.Chosen.{Chosen, HasChoice, IsChosen, IsKept}
+use Rattle.scip_model.specs.Chosen.{Chosen, HasChoice, IsChosen, IsKeptDeclaration}
 use Rattle.scip_model.specs.Entries.{declaration_entry, IsKeptEntry}
 
 abbrev pub Pair : Type 0
@@ -50,7 +50,7 @@ module _ (files : List File) (chosen : Chosen) where
     pub file : File
     pub numbered : slice_get files x.0 ≡ Some file
     pub included : file.is_included ≡ true
-    pub kept : IsKept chosen x.0 x.1
+    pub kept : IsKeptDeclaration chosen x.0 x.1
 
   pub record IsOfUse (source : ℕ) (type_use : Use) (x : Pair) : Type 0 where
     pub target : Target

@@ -62,8 +62,8 @@ abbrev pub unless_found : Option Target → Span → List Span
 unless_found None span = span ∷ []
 unless_found (Some target) span = []
 
-abbrev pub gap_at : List (Option Target) → ℕ → Use → List Span
-gap_at found index type_use = unless_found (found_at (slice_get found index)) type_use.span
+abbrev pub unresolved_use_at : List (Option Target) → ℕ → Use → List Span
+unresolved_use_at found index type_use = unless_found (found_at (slice_get found index)) type_use.span
 
 -- whether the choice keeps a declaration
 abbrev pub keeps_by : Option Choice → Bool

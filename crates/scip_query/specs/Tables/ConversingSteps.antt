@@ -7,7 +7,7 @@ use Rattle.std.specs.List.{flat_map, count_by}
 use Rattle.streams.specs.Streams.{last_count, more_by}
 use Rattle.streams.specs.Writers.{SinkOf, Writer, writing, IsWritten, IsCutOff, IsUntouched}
 use Rattle.scip_records.specs.declared.records.Index.{Index}
-use Rattle.scip_query.specs.Commands.{lines_of, max_command_length}
+use Rattle.scip_query.specs.Commands.{command_lines, max_command_length}
 use Rattle.scip_query.specs.AnswerText.{answer_to, answer_text}
 use Rattle.scip_query.specs.Conversing.{is_line_end}
 use Rattle.scip_query.specs.declared.answer_fault.AnswerFault.{AnswerFault}
@@ -30,7 +30,7 @@ pub record Stands {W : Type 0} (sink : SinkOf W) (index : Index) (first : W)
     (read : List ℕ) (talk : Conversation) (now : W) : Type 0 where
   pub ended : List (List ℕ)
   pub begun : List ℕ
-  pub lines : (behind : List ℕ) → lines_of (read ++ behind) ≡ ended ++ lines_of (begun ++ behind)
+  pub lines : (behind : List ℕ) → command_lines (read ++ behind) ≡ ended ++ command_lines (begun ++ behind)
   pub ends : count_by is_line_end read ≡ length ended
   pub unended : count_by is_line_end begun ≡ 0
   pub kept : talk.line.items ≡ kept_line begun
@@ -42,7 +42,7 @@ pub record IsCutShort {W : Type 0} (sink : SinkOf W) (index : Index) (first : W)
     (read : List ℕ) (now : W) (count : ℕ) : Type 0 where
   pub ended : List (List ℕ)
   pub sent : ℕ
-  pub lines : (behind : List ℕ) → (others : List (List ℕ)) × (lines_of (read ++ behind) ≡ ended ++ others)
+  pub lines : (behind : List ℕ) → (others : List (List ℕ)) × (command_lines (read ++ behind) ≡ ended ++ others)
   pub cut_off : IsCutOff (writing sink first now) (flat_map (answer_to index) ended) sent
   pub counted : count ≡ min sent last_count
 
@@ -51,7 +51,7 @@ pub record IsHalted {W : Type 0} (sink : SinkOf W) (index : Index) (first : W)
     (read : List ℕ) (now : W) : Type 0 where
   pub ended : List (List ℕ)
   pub lines : (behind : List ℕ)
-      → (next : List ℕ) × (others : List (List ℕ)) × (lines_of (read ++ behind) ≡ ended ++ next ∷ others)
+      → (next : List ℕ) × (others : List (List ℕ)) × (command_lines (read ++ behind) ≡ ended ++ next ∷ others)
   pub answered : IsWritten (writing sink first now) (flat_map (answer_to index) ended)
 
 -- what a step on the way leaves. (It reads nothing.)

@@ -1,6 +1,6 @@
 use Rattle.std.proofs.Common.{ℕ, List, Option, arith, codes, subst, sym}
 use Rattle.streams.specs.Writers.{AreSaid}
-use Rattle.scip_snapshot.proofs.ShowLemmas.{said_more}
+use Rattle.scip_site.proofs.SnapshotShowLemmas.{said_more}
 use Rattle.source_files.specs.declared.cause.Cause.{Cause}
 use Rattle.programs.specs.Causes.{cause_lines, explained, report_name}
 use Rattle.programs.proofs.causes.explain_failure.Goals as goal

@@ -2,7 +2,7 @@ use Rattle.std.proofs.Common.{map}
 use Rattle.std.specs.Option.{option_map}
 use Rattle.std.specs.String.{string_bytes}
 use Rattle.streams.specs.Writers.{writing}
-use Rattle.programs.proofs.LackLemmas.{text_is_said}
+use Rattle.programs.proofs.TreeRunOmissionLemmas.{text_is_said}
 use Rattle.programs.proofs.indexing.end.Goals as goal
 
 pub returns-in-Ok : goal.returns-in-Ok

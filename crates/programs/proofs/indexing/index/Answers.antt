@@ -11,8 +11,8 @@ use Rattle.programs.specs.NoSources.{NoneFoundBy}
 use Rattle.programs.specs.Placing.{place}
 use Rattle.programs.specs.Searches.{blamed_by}
 use Rattle.programs.specs.Settings.{allowed_by, settings_in}
-use Rattle.programs.proofs.MoveLemmas.{moved4}
-use Rattle.programs.proofs.NavigableLemmas.{writes}
+use Rattle.basics.proofs.EqualLemmas.{moved4}
+use Rattle.programs.proofs.ServingNavigableLemmas.{writes}
 use Rattle.programs.proofs.TreeRunLemmas.{into_of}
 use Rattle.programs.proofs.indexing.index.Goals as goal
 

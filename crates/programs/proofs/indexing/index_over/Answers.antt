@@ -18,9 +18,9 @@ use Rattle.programs.specs.Messages.{SaysOfSuccess}
 use Rattle.programs.specs.Placing.{place}
 use Rattle.programs.specs.Reporting.{Reports, ran_of, told_by}
 use Rattle.programs.specs.TreeRuns.{Ends}
-use Rattle.programs.proofs.LackLemmas.{is_success}
+use Rattle.programs.proofs.TreeRunOmissionLemmas.{is_success}
 use Rattle.programs.proofs.PlacingLemmas.{fills, forgoes}
-use Rattle.programs.proofs.ReportLemmas.{finished_files, reported_by, reported_files, settled_files}
+use Rattle.programs.proofs.ReportingLemmas.{finished_files, reported_by, reported_files, settled_files}
 use Rattle.programs.proofs.TreeRunLemmas.{part_of, ends_alike}
 use Rattle.programs.proofs.indexing.index_over.Goals as goal
 

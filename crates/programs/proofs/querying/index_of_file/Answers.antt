@@ -1,6 +1,6 @@
 use Rattle.std.proofs.Common.{subst, List, ℕ, Some, sym}
 use Rattle.std.proofs.lemmas.Result.{err_from_is_err_and}
-use Rattle.source_files.proofs.KeptLemmas.{read_some, read_none}
+use Rattle.source_files.proofs.SystemFileKeptLemmas.{read_some, read_none}
 use Rattle.programs.proofs.QueryLemmas.{refused_bytes}
 use Rattle.programs.proofs.querying.index_of_file.Goals as goal
 

@@ -6,7 +6,7 @@ use Rattle.fault_reports.specs.declared.report.ReportFormat.{ReportFormat}
 use Rattle.programs.specs.Choices.{IsChosenBy}
 use Rattle.programs.specs.Placing.{place}
 use Rattle.programs.specs.Reporting.{IsReport, due_status, ran_of, unmade}
-use Rattle.programs.proofs.ReportLemmas.{goes_asked, weaker}
+use Rattle.programs.proofs.ReportingLemmas.{goes_asked, weaker}
 use Rattle.programs.proofs.reporting.report_run.Goals as goal
 
 pub returns-in_err-bytes : goal.returns-in_err-bytes

@@ -76,7 +76,7 @@ returns-in-Shell-clause-served g c =
     (NoneFoundBy (g.F.LookAgain.passes c.args.host.now.files.now) c.args.host.now.is_watched options)
     (g.Q.OutPlace.suspects c.args.places.now.report) options
     (place g.Q.OutPlace g.Q.Part.Sink c.args.places.now.report c.shell_searched.new.report)
-    (reading g.I.Feed c.args.input.now c.shell_searched.new.commands)
+    (parsed_file g.I.Feed c.args.input.now c.shell_searched.new.commands)
     (writing g.W.Sink c.args.out.now c.shell_searched.new.answers)
     (writing g.M.Sink c.args.messages.now c.shell_searched.new.messages) c.shell_searched.result
     × (c.args.places.now.file ≡ c.args.places.now.file)) in
@@ -92,7 +92,7 @@ returns-in-Index-clause-navigable g c =
     (place g.O.OutPlace g.O.Part.Sink c.args.places.now.file c.index_searched.new.places.file)
     c.index_searched.result)
     × IfSome (shell_options request) (λ options. AnswersNavigable (searched_by options lists) gives options
-    (reading g.I.Feed c.args.input.now c.args.input.now)
+    (parsed_file g.I.Feed c.args.input.now c.args.input.now)
     (writing g.W.Sink c.args.out.now c.args.out.now) c.index_searched.result) in
     subst (λ (asked : Result Request AllocError). IfOk asked Here) (sym c.in-Ok.is)
     (subst Here (sym c.in-Index.is) (c.index_searched.ensures.navigable, tt))
@@ -106,7 +106,7 @@ returns-in-Shell-clause-navigable g c =
     (place g.O.OutPlace g.O.Part.Sink c.args.places.now.file c.args.places.now.file)
     c.shell_searched.result)
     × IfSome (shell_options request) (λ options. AnswersNavigable (searched_by options lists) gives options
-    (reading g.I.Feed c.args.input.now c.shell_searched.new.commands)
+    (parsed_file g.I.Feed c.args.input.now c.shell_searched.new.commands)
     (writing g.W.Sink c.args.out.now c.shell_searched.new.answers) c.shell_searched.result) in
     subst (λ (asked : Result Request AllocError). IfOk asked Here) (sym c.in-Ok.is)
     (subst Here (sym c.in-Shell.is) (tt, c.shell_searched.ensures.navigable))

@@ -18,10 +18,10 @@ use Rattle.programs.specs.Reporting.{Reports, ran_of, told_by}
 use Rattle.programs.specs.Serving.{not_begun, not_started, over_tree}
 use Rattle.programs.specs.Settled.{settled}
 use Rattle.programs.specs.TreeRuns.{Ends}
-use Rattle.programs.proofs.LackLemmas.{ends_of}
-use Rattle.programs.proofs.MoveLemmas.{moved4}
-use Rattle.programs.proofs.NavigableLemmas.{answers}
-use Rattle.programs.proofs.ReportLemmas.{reported_files, reported_of, settled_files}
+use Rattle.programs.proofs.TreeRunOmissionLemmas.{ends_of}
+use Rattle.basics.proofs.EqualLemmas.{moved4}
+use Rattle.programs.proofs.ServingNavigableLemmas.{answers}
+use Rattle.programs.proofs.ReportingLemmas.{reported_files, reported_of, settled_files}
 use Rattle.protoscip.specs.Explanations.{explain_in}
 use Rattle.protoscip.specs.FaultLines.{HasFilesOf}
 use Rattle.protoscip.specs.declared.fault.Fault.{Fault}
@@ -53,7 +53,7 @@ returns-clause-served g c =
     let ran = c.session-ran.result in
     let reported = c.report_run-reported.result in
     let By : Option (List ℕ) → Option DocChoice → Settings → ℕ → Type 0 = λ only doc settings workers.
-    Serves (reading g.I.Feed c.args.commands.now c.session-ran.new.commands) (writing g.W.Sink c.args.answers.now
+    Serves (parsed_file g.I.Feed c.args.commands.now c.session-ran.new.commands) (writing g.W.Sink c.args.answers.now
     c.session-ran.new.answers) (IsChosenBy only doc) settings run.tree workers ran in
     let Told : Option (List ℕ) → Option DocChoice → Settings → ℕ → Type 0 = λ only doc settings workers.
     Reports report c.args.options.now.report no_limits (IsChosenBy only doc) settings workers run.tree unread
@@ -87,7 +87,7 @@ returns-in-Err-clause-navigable g c =
     (NoneFoundBy (g.F.LookAgain.passes c.args.host.now.files.now) c.args.host.now.is_watched
     c.args.options.now) (g.Q.OutPlace.suspects c.args.report.now)
     (place g.Q.OutPlace g.Q.Part.Sink c.args.report.now c.put_start_report-said.new.at)
-    (reading g.I.Feed c.args.commands.now c.args.commands.now)
+    (parsed_file g.I.Feed c.args.commands.now c.args.commands.now)
     (writing g.W.Sink c.args.answers.now c.args.answers.now)
     (writing g.M.Sink c.args.messages.now c.report_unstarted.new.messages) c.report_unstarted.result
     (returns-in-Err-clause-served g c)
@@ -100,7 +100,7 @@ returns-in-Err-see_report-clause-navigable g c =
     (NoneFoundBy (g.F.LookAgain.passes c.args.host.now.files.now) c.args.host.now.is_watched
     c.args.options.now) (g.Q.OutPlace.suspects c.args.report.now)
     (place g.Q.OutPlace g.Q.Part.Sink c.args.report.now c.args.report.now)
-    (reading g.I.Feed c.args.commands.now c.args.commands.now)
+    (parsed_file g.I.Feed c.args.commands.now c.args.commands.now)
     (writing g.W.Sink c.args.answers.now c.args.answers.now)
     (writing g.M.Sink c.args.messages.now c.report_start.new.messages) c.report_start.result
     (returns-in-Err-see_report-clause-served g c)
@@ -113,7 +113,7 @@ returns-clause-navigable g c =
     (NoneFoundBy (g.F.LookAgain.passes c.args.host.now.files.now) c.args.host.now.is_watched
     c.args.options.now) (g.Q.OutPlace.suspects c.args.report.now)
     (place g.Q.OutPlace g.Q.Part.Sink c.args.report.now c.report_run-reported.new.at)
-    (reading g.I.Feed c.args.commands.now c.session-ran.new.commands)
+    (parsed_file g.I.Feed c.args.commands.now c.session-ran.new.commands)
     (writing g.W.Sink c.args.answers.now c.session-ran.new.answers)
     (writing g.M.Sink c.args.messages.now c.end.new.messages) c.end.result
     (returns-clause-served g c)

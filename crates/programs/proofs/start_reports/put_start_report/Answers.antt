@@ -1,7 +1,7 @@
 use Rattle.std.proofs.Common.{◌≡◌, ◌∙◌, refl, subst, sym, List, ℕ}
 use Rattle.programs.specs.Placing.{place}
 use Rattle.programs.specs.StartReports.{at_out, goes, lacking, report_of_start, suspected, unasked}
-use Rattle.programs.proofs.ReportLemmas.{weaker}
+use Rattle.programs.proofs.ReportingLemmas.{weaker}
 use Rattle.programs.proofs.StartReportLemmas.{left_untried}
 use Rattle.programs.proofs.start_reports.put_start_report.Goals as goal
 

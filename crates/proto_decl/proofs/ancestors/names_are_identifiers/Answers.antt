@@ -3,7 +3,7 @@ use Rattle.std.proofs.lemmas.List.Elements.{All-weaker}
 use Rattle.proto_decl.specs.Laws.{IsNamedAt}
 use Rattle.proto_decl.specs.declared.declaration.Declaration.{Declaration}
 use Rattle.proto_decl.proofs.NameLemmas.{path_some}
-use Rattle.proto_decl.proofs.IdentifierLemmas.{facts_named}
+use Rattle.proto_decl.proofs.OutlineIdentifierLemmas.{facts_named}
 use Rattle.proto_decl.proofs.ancestors.names_are_identifiers.Goals as goal
 
 pub returns-clause-named : goal.returns-clause-named

@@ -2,10 +2,10 @@ use Rattle.std.proofs.Common.{subst, sym, List}
 use Rattle.std.specs.List.{All}
 use Rattle.proto_lex.specs.Lexed.{part_of}
 use Rattle.proto_parse.proofs.Walk.Then.{package_is}
-use Rattle.proto_decl.proofs.MarkLemmas.{OfNames}
+use Rattle.proto_decl.proofs.SpanMarkLemmas.{OfNames}
 use Rattle.proto_decl.specs.Names.{IsSimple}
 use Rattle.proto_decl.specs.declared.type_use.Component.{Component}
-use Rattle.proto_decl.proofs.ScopedLemmas.{names_simple, package_simple, stand_in_scopes}
+use Rattle.proto_decl.proofs.OutlineScopedLemmas.{names_simple, package_simple, stand_in_scopes}
 use Rattle.proto_decl.proofs.laws.scopes_are_known.Goals as goal
 
 pub returns-clause-declarations : goal.returns-clause-declarations

@@ -1,5 +1,5 @@
 use Rattle.std.proofs.Common.{refl}
-use Rattle.proto_decl.proofs.NextStartLemmas.{adjoining, adjoining_at_once}
+use Rattle.proto_decl.proofs.LineNextStartLemmas.{adjoining, adjoining_at_once}
 use Rattle.proto_decl.proofs.lines.is_adjoining.Goals as goal
 
 pub returns-in-Some : goal.returns-in-Some

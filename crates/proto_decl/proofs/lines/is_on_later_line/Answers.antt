@@ -1,7 +1,7 @@
 use Rattle.std.proofs.Common.{◌∙◌, sym, refl, arith}
 use Rattle.std.proofs.lemmas.Bool.{false≢true}
 use Rattle.proto_decl.proofs.LineEndLemmas.{later_by_lines}
-use Rattle.proto_decl.proofs.NextStartLemmas.{seen, unseen}
+use Rattle.proto_decl.proofs.LineNextStartLemmas.{seen, unseen}
 use Rattle.proto_decl.proofs.lines.is_on_later_line.Goals as goal
 
 pub returns-then-is_some : goal.returns-then-is_some

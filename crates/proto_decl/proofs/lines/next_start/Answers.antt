@@ -1,5 +1,5 @@
 use Rattle.std.proofs.Common.{arith}
-use Rattle.proto_decl.proofs.NextStartLemmas.{found_start, found_within, unfound}
+use Rattle.proto_decl.proofs.LineNextStartLemmas.{found_start, found_within, unfound}
 use Rattle.proto_decl.proofs.lines.next_start.Goals as goal
 
 pub overflow_add-result : goal.overflow_add-result

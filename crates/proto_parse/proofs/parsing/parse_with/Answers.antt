@@ -4,7 +4,7 @@ use Rattle.proto_grammar.specs.declared.fault.SyntaxFault.TheVariants.{Memory}
 use Rattle.proto_parse.specs.Refused.{IsRefused}
 use Rattle.proto_parse.proofs.Found.Files.{file_of_found}
 use Rattle.proto_parse.proofs.Exact.Files.{file_of_exact}
-use Rattle.proto_parse.proofs.Refusing.{file_of_refused}
+use Rattle.proto_parse.proofs.RefusedReadingLemmas.{file_of_refused}
 use Rattle.proto_parse.proofs.parsing.parse_with.Goals as goal
 
 pub returns-clause-found : goal.returns-clause-found

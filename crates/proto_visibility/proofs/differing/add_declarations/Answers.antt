@@ -3,7 +3,7 @@ use Rattle.std.specs.Prelude.{nat_eq}
 use Rattle.std.specs.HashSet.{Updates, contains}
 use Rattle.std.proofs.lemmas.List.{take_all}
 use Rattle.std.proofs.lemmas.Bool.{not-true}
-use Rattle.proto_decl.specs.FullNames.{mixed}
+use Rattle.proto_decl.specs.FullNames.{hash64}
 use Rattle.proto_decl.specs.declared.declaration.Declaration.{Declaration}
 use Rattle.proto_visibility.specs.Tables.FileItems.{declared_item}
 use Rattle.proto_visibility.specs.Tables.Numbers.{AreApart}
@@ -21,9 +21,9 @@ loop-declaration-preserved c =
     let old = c.loop-declaration.numbers in
     let new = c.insert.new.self in
     let within : index < length declarations = omega arith in
-    let key : c.mixed.result ≡ mixed declaration.full_name = c.mixed.ensures ∙ ap mixed c.full_name.ensures in
+    let key : c.hash64.result ≡ hash64 declaration.full_name = c.hash64.ensures ∙ ap hash64 c.full_name.ensures in
     let fresh = ap (contains nat_eq old) (sym key)
-    ∙ not-true (contains nat_eq old c.mixed.result) (sym c.in_ok-new.ensures.added ∙ c.if-not-new.false) in
+    ∙ not-true (contains nat_eq old c.hash64.result) (sym c.in_ok-new.ensures.added ∙ c.if-not-new.false) in
     let after = subst (λ k. Updates nat_eq old new k true) key c.in_ok-new.ensures.updates in
     λ number items apart. apart_with number declarations index declaration items old new within c.declaration-item.is
     fresh after (c.loop-declaration.invariant number items apart)

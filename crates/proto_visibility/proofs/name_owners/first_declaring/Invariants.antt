@@ -1,5 +1,5 @@
 use Rattle.proto_visibility.specs.FileNames.{admits}
-use Rattle.proto_visibility.proofs.ListedLemmas.{NoneDeclaresUpTo}
+use Rattle.proto_visibility.proofs.ListedNameLemmas.{NoneDeclaresUpTo}
 use Rattle.proto_visibility.proofs.name_owners.first_declaring.Given as goal
 
 abbrev pub invariant-loop-one : goal.invariant-loop-one

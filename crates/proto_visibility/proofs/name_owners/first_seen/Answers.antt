@@ -1,6 +1,6 @@
 use Rattle.std.proofs.Common.{sym, ◌∙◌, arith}
 use Rattle.std.proofs.lemmas.Bool.{false≢true}
-use Rattle.proto_visibility.proofs.ListedLemmas.{none_shared_more, none_shared}
+use Rattle.proto_visibility.proofs.ListedNameLemmas.{none_shared_more, none_shared}
 use Rattle.proto_visibility.proofs.name_owners.first_seen.Goals as goal
 
 pub loop-number-preserved : goal.loop-number-preserved

@@ -1,4 +1,4 @@
-use Rattle.proto_visibility.proofs.ListedLemmas.{NoneSharedUpTo}
+use Rattle.proto_visibility.proofs.ListedNameLemmas.{NoneSharedUpTo}
 use Rattle.proto_visibility.proofs.name_owners.first_seen.Given as goal
 
 abbrev pub invariant-loop-number : goal.invariant-loop-number

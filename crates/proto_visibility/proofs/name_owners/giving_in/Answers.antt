@@ -4,7 +4,7 @@ use Rattle.std.specs.List.Sorted.{IsNonDecreasing}
 use Rattle.proto_visibility.specs.declared.names.DeclaredAt.{DeclaredAt}
 use Rattle.proto_visibility.specs.FileNames.{admits}
 use Rattle.proto_visibility.specs.Tables.GivenNames.{IsDeclaring}
-use Rattle.proto_visibility.proofs.ListedLemmas.{by_package, by_none}
+use Rattle.proto_visibility.proofs.ListedNameLemmas.{by_package, by_none}
 use Rattle.proto_visibility.proofs.name_owners.giving_in.Goals as goal
 
 pub shared-requires : goal.shared-requires

@@ -1,4 +1,4 @@
-use Rattle.proto_visibility.proofs.ListedLemmas.{NoneOfFileUpTo}
+use Rattle.proto_visibility.proofs.ListedNameLemmas.{NoneOfFileUpTo}
 use Rattle.proto_visibility.proofs.name_owners.index_in.Given as goal
 
 abbrev pub invariant-loop-listed : goal.invariant-loop-listed

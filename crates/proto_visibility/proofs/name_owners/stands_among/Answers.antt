@@ -1,5 +1,5 @@
 use Rattle.std.proofs.Common.{sym, ◌∙◌}
-use Rattle.proto_visibility.proofs.ListedLemmas.{decides_among}
+use Rattle.proto_visibility.proofs.ListedNameLemmas.{decides_among}
 use Rattle.proto_visibility.proofs.name_owners.stands_among.Goals as goal
 
 pub returns : goal.returns

@@ -2,9 +2,9 @@ use Rattle.std.proofs.Common.{refl}
 use Rattle.std.proofs.lemmas.Result.{err_from_is_err_and}
 use Rattle.streams.specs.Writers.{writing}
 use Rattle.protoscip.specs.Indexes.{recorded_of}
-use Rattle.protoscip.proofs.FileLemmas.{files_of_build, files_of_built}
+use Rattle.protoscip.proofs.HeadlineFileLemmas.{files_of_build, files_of_built}
 use Rattle.protoscip.proofs.IndexingLemmas.{unbuilt, unwritten, written, no_files}
-use Rattle.protoscip.proofs.NavigableLemmas.{writes}
+use Rattle.protoscip.proofs.HeadlineNavigableLemmas.{writes}
 use Rattle.protoscip.proofs.indexing.index_and_tell.Goals as goal
 
 -- where the tree isn't built
@@ -25,8 +25,8 @@ returns-in_err-built-clause-files g c =
 
 -- where memory doesn't suffice for what is to be said
 
-pub text_of_lacks-requires : goal.text_of_lacks-requires
-text_of_lacks-requires g c =
+pub text_of_omissions-requires : goal.text_of_omissions-requires
+text_of_omissions-requires g c =
     let of = c.in_ok-built.ensures.built in
     rw c.as_slice.ensures (files_of_built (g.C.Chooses.allows c.args.chooser.now) c.args.settings.now c.args.tree.now
     (record { index = of.index; choices = c.in_ok-built.built.choices; told = c.in_ok-built.built.told }) of.built)

@@ -17,8 +17,8 @@ push_omissions-requires c =
     let are : Are c.args.all.items = subst Are c.as_slice.ensures.value c.in_ok-omissions.ensures in
     rw (c.as_slice-2.ensures.value, c.as_slice-3.ensures.value) are
 
-pub kept_readings-requires : goal.kept_readings-requires
-kept_readings-requires c =
+pub kept_parsed-requires : goal.kept_parsed-requires
+kept_parsed-requires c =
     let Are : List ReadFile → Type 0 = λ rs. AreOmissions (linked_files rs) c.in_ok-omissions.omissions.items in
     let are : Are c.args.all.items = subst Are c.as_slice.ensures.value c.in_ok-omissions.ensures in
     are.one_each ∙ length-map c.args.all.items linked_file
@@ -38,7 +38,7 @@ returns c =
     record {
       omissions = omissions;
       left_out = subst Are c.as_slice.ensures.value c.in_ok-omissions.ensures;
-      kept = c.in_ok-readings.ensures;
+      kept = c.in_ok-parsed.ensures;
       numbers_are = c.in_ok-numbers.ensures ∙ ap (kept_numbers 0) c.as_slice-4.ensures.value;
       left_are = subst (λ list. From all omissions list) c.new-told.ensures.items third;
     }

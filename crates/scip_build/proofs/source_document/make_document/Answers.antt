@@ -1,7 +1,7 @@
 use Rattle.std.proofs.Common.{◌≡◌, Some, List, subst}
 use Rattle.std.specs.List.{slice_get}
 use Rattle.proto_lex.specs.declared.span.Span.{Span}
-use Rattle.scip_model.proofs.GapLemmas.{first_unresolved}
+use Rattle.scip_model.proofs.UnresolvedUseLemmas.{first_unresolved}
 use Rattle.scip_build.proofs.source_document.make_document.Goals as goal
 
 pub returns-in-Some : goal.returns-in-Some
@@ -10,5 +10,5 @@ returns-in-Some c =
     let First : List Span → Type 0 = λ spans. slice_get spans 0 ≡ Some c.in-Some.span in (
       is.0,
       first_unresolved c.args.sources.now.linker.now c.args.number c.in-Ok.made.unresolved c.in-Some.span
-          c.in-Ok.ensures.gaps (subst First c.unresolved.ensures is.1),
+          c.in-Ok.ensures.unresolved_uses (subst First c.unresolved.ensures is.1),
     )

@@ -9,7 +9,7 @@ use Rattle.std.proofs.lemmas.List.Kept.{Any-dedup, Contains-from_dedup, IsStrict
 use Rattle.std.proofs.lemmas.List.Sorted.{answers_always, Contains-permutation, IsPermutation-sym}
 use Rattle.scip_build.specs.declared.omission.Omission.{Omission}
 use Rattle.scip_build.specs.Kept.{told_cmp}
-use Rattle.scip_build.proofs.ToldLemmas.{told_total, told_rank}
+use Rattle.scip_build.proofs.KeptToldLemmas.{told_total, told_rank}
 use Rattle.scip_build.proofs.telling.in_order.Goals as goal
 
 pub returns : goal.returns

@@ -3,4 +3,4 @@ use Rattle.scip_build.proofs.telling.push_omissions.Given as goal
 
 abbrev pub invariant-loop-number : goal.invariant-loop-number
 invariant-loop-number l =
-    Adds (FromFront (IsLeftIf l.readings) l.omissions l.number) l.fn.told.items l.told.items
+    Adds (FromFront (IsLeftIf l.parsed) l.omissions l.number) l.fn.told.items l.told.items

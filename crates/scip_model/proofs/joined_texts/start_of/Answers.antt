@@ -1,4 +1,4 @@
-use Rattle.scip_model.proofs.JoinedLemmas.{start_is}
+use Rattle.scip_model.proofs.JoinedTextLemmas.{start_is}
 use Rattle.scip_model.proofs.joined_texts.start_of.Goals as goal
 
 pub returns-else-index-eq0 : goal.returns-else-index-eq0

@@ -3,7 +3,7 @@ use Rattle.std.specs.Option.{option_map}
 use Rattle.scip_records.specs.declared.records.Occurrence.{Occurrence}
 use Rattle.scip_model.specs.OccurrenceOrder.{occurrence_cmp}
 use Rattle.scip_model.specs.Tables.Plans.{occurrence_of}
-use Rattle.scip_model.proofs.OrderLemmas.{occurrence_total}
+use Rattle.scip_model.proofs.OccurrenceOrderLemmas.{occurrence_total}
 use Rattle.scip_model.proofs.MergeLemmas.{IsMerging, step, ends}
 use Rattle.scip_model.proofs.PlanLemmas.{least_mapped, one_mapped}
 use Rattle.scip_model.proofs.merging.merged.Goals as goal

@@ -3,7 +3,7 @@ use Rattle.std.specs.Cmp.Lexicographic.{slice_cmp}
 use Rattle.std.specs.Ordering.{ordering_reverse}
 use Rattle.std.proofs.lemmas.Cmp.{nat_list_cmp_total}
 use Rattle.std.proofs.lemmas.List.{append_assoc}
-use Rattle.scip_model.proofs.PartOrderLemmas.{same_front, stripped}
+use Rattle.scip_model.proofs.SymbolOrderPartLemmas.{same_front, stripped}
 use Rattle.scip_model.proofs.symbol_order.compare_parts.Goals as goal
 
 pub returns-in-Some : goal.returns-in-Some

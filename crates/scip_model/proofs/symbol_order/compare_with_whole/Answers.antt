@@ -1,6 +1,6 @@
 use Rattle.std.proofs.Common.{◌∙◌, ◌++◌, List, ℕ, ap, sym, nat_cmp}
 use Rattle.std.specs.Cmp.Lexicographic.{slice_cmp}
-use Rattle.scip_model.proofs.PartOrderLemmas.{same_front, apart_whole, stripped}
+use Rattle.scip_model.proofs.SymbolOrderPartLemmas.{same_front, apart_whole, stripped}
 use Rattle.scip_model.proofs.symbol_order.compare_with_whole.Goals as goal
 
 pub returns-in-Some : goal.returns-in-Some

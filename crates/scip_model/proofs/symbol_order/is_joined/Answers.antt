@@ -1,7 +1,7 @@
 use Rattle.std.proofs.Common.{◌∙◌, ◌++◌, List, ℕ, ap, sym}
 use Rattle.std.proofs.lemmas.List.{append_cancel_left}
 use Rattle.std.proofs.lemmas.Slice.Eq.{bytes_eq-Decides}
-use Rattle.scip_model.proofs.PartOrderLemmas.{stripped}
+use Rattle.scip_model.proofs.SymbolOrderPartLemmas.{stripped}
 use Rattle.scip_model.proofs.symbol_order.is_joined.Goals as goal
 
 pub returns-in-Some : goal.returns-in-Some

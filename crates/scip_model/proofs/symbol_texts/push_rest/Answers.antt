@@ -8,7 +8,7 @@ use Rattle.scip_symbol.specs.EntityTexts.{steps_text}
 use Rattle.scip_model.specs.Named.{text_of}
 use Rattle.scip_model.specs.Tables.JoinedTexts.{behind}
 use Rattle.scip_model.proofs.OwnTextLemmas.{text_behind}
-use Rattle.scip_model.proofs.PartOrderLemmas.{stripped}
+use Rattle.scip_model.proofs.SymbolOrderPartLemmas.{stripped}
 use Rattle.scip_model.proofs.symbol_texts.push_rest.Goals as goal
 
 pub returns-in-Some : goal.returns-in-Some

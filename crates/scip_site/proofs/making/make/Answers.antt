@@ -1,8 +1,8 @@
 use Rattle.std.proofs.Common.{[], refl}
 use Rattle.std.proofs.lemmas.Result.{err_from_is_err_and}
 use Rattle.std.specs.declared.alloc.AllocError.{AllocError}
-use Rattle.scip_snapshot.proofs.ShowLemmas.{makes_false}
-use Rattle.scip_site.proofs.MakeLemmas.{none_made}
+use Rattle.scip_site.proofs.SnapshotShowLemmas.{makes_false}
+use Rattle.scip_site.proofs.MakingLemmas.{none_made}
 use Rattle.scip_site.proofs.making.make.Goals as goal
 
 pub returns : goal.returns

@@ -2,7 +2,7 @@ use Rattle.std.proofs.Common.{◌≡◌, ◌∙◌, ap, List, ℕ, ◌++◌, len
 use Rattle.std.proofs.lemmas.Result.{err_from_is_err_and}
 use Rattle.scip_query.specs.Tables.{numbers}
 use Rattle.scip_site.specs.Making.{listings, script_end, script_text}
-use Rattle.scip_site.proofs.MakeLemmas.{nothing_yet, pages_stop, nothing_shared, all_shared}
+use Rattle.scip_site.proofs.MakingLemmas.{nothing_yet, pages_stop, nothing_shared, all_shared}
 use Rattle.scip_site.proofs.making.make_all.Goals as goal
 
 pub returns-in_err-first : goal.returns-in_err-first

@@ -4,9 +4,9 @@ use Rattle.std.proofs.lemmas.Result.{err_from_is_err_and}
 use Rattle.source_files.specs.Makers.{making}
 use Rattle.scip_records.specs.declared.records.Document.{Document}
 use Rattle.scip_query.specs.Tables.{numbers}
-use Rattle.scip_snapshot.proofs.ShowLemmas.{makes_none}
+use Rattle.scip_site.proofs.SnapshotShowLemmas.{makes_none}
 use Rattle.scip_site.specs.Making.{MakesFiles, in_folder, page_file_at, listing_at, listings, pages}
-use Rattle.scip_site.proofs.MakeLemmas.{more_made, not_made, one_more}
+use Rattle.scip_site.proofs.MakingLemmas.{more_made, not_made, one_more}
 use Rattle.scip_site.proofs.making.make_each.Goals as goal
 
 pub loop-number-init : goal.loop-number-init

@@ -1,7 +1,7 @@
 use Rattle.std.proofs.Common.{◌≡◌, ◌++◌, map}
 use Rattle.source_files.specs.Makers.{making}
 use Rattle.scip_query.specs.Tables.{numbers}
-use Rattle.source_page.specs.Facts.{AreRight}
+use Rattle.scip_pages.specs.Facts.{AreRight}
 use Rattle.scip_site.specs.Making.{AllOf, in_folder, pages, listings}
 use Rattle.scip_site.proofs.making.make_each.Given as goal
 

@@ -1,6 +1,6 @@
 use Rattle.std.proofs.Common.{[]}
 use Rattle.std.proofs.lemmas.Result.{err_from_is_err_and}
-use Rattle.scip_site.proofs.MakeLemmas.{none_made}
+use Rattle.scip_site.proofs.MakingLemmas.{none_made}
 use Rattle.scip_site.proofs.making.make_if_some.Goals as goal
 
 pub returns-in_err-file-in-Some : goal.returns-in_err-file-in-Some

@@ -5,7 +5,7 @@ use Rattle.source_files.specs.Makers.{making}
 use Rattle.scip_records.specs.declared.records.Document.{Document}
 use Rattle.scip_query.specs.Tables.{path_listed}
 use Rattle.scip_site.specs.Making.{MakesFiles, in_folder, page_at, page_file}
-use Rattle.scip_site.proofs.MakeLemmas.{page_left}
+use Rattle.scip_site.proofs.MakingLemmas.{page_left}
 use Rattle.scip_site.proofs.making.make_page.Goals as goal
 
 pub returns-clause-files : goal.returns-clause-files

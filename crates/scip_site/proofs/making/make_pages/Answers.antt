@@ -3,10 +3,10 @@ use Rattle.std.proofs.lemmas.Result.{err_from_is_err_and}
 use Rattle.streams.specs.Writers.{writing}
 use Rattle.scip_records.specs.declared.records.Document.{Document}
 use Rattle.scip_query.specs.Tables.{IsByPath}
-use Rattle.source_page.specs.Site.{Sources}
+use Rattle.scip_pages.specs.Site.{Sources}
 use Rattle.scip_site.specs.Making.{is_bare}
 use Rattle.scip_site.specs.Reading.{AllAreKept, ReadsInto}
-use Rattle.scip_site.proofs.MakeLemmas.{bare_so, nothing_made, nothing_read, made_so}
+use Rattle.scip_site.proofs.MakingLemmas.{bare_so, nothing_made, nothing_read, made_so}
 use Rattle.scip_site.proofs.making.make_pages.Goals as goal
 
 pub returns-in_err-order : goal.returns-in_err-order

@@ -2,7 +2,7 @@ use Rattle.std.proofs.Common.{◌++◌, Ok, Err}
 use Rattle.std.specs.Prelude.{codes}
 use Rattle.std.proofs.lemmas.Result.{err_from_is_err_and}
 use Rattle.scip_site.specs.declared.styles.TheConstants.{STYLE, SEARCH}
-use Rattle.scip_site.proofs.MakeLemmas.{both, stops, one, same_text}
+use Rattle.scip_site.proofs.MakingLemmas.{both, stops, one, same_text}
 use Rattle.scip_site.proofs.making.make_shared.Goals as goal
 
 pub returns-in_err-make : goal.returns-in_err-make

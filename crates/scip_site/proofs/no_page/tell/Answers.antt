@@ -1,6 +1,6 @@
 use Rattle.std.proofs.Common.{◌∙◌, ap, subst, ℕ, List}
 use Rattle.streams.specs.Writers.{IsSaid, said, silent, writing}
-use Rattle.scip_snapshot.specs.LeftOuts.{line_with}
+use Rattle.scip_site.specs.LeftOuts.{line_with}
 use Rattle.scip_site.proofs.no_page.tell.Goals as goal
 
 pub returns : goal.returns

@@ -1,7 +1,7 @@
 use Rattle.std.proofs.Common.{sym, subst, Ok}
 use Rattle.streams.specs.Writers.{silent, writing}
 use Rattle.scip_site.specs.Reading.{Outcome, Keeps}
-use Rattle.scip_site.proofs.ReadLemmas.{told_so}
+use Rattle.scip_site.proofs.ReadingLemmas.{told_so}
 use Rattle.scip_site.proofs.reading.keep.Goals as goal
 
 pub returns-in_ok-push_source-in-Ok : goal.returns-in_ok-push_source-in-Ok

@@ -1,6 +1,6 @@
 use Rattle.std.proofs.lemmas.Result.{err_from_is_err_and}
 use Rattle.streams.specs.Writers.{writing}
-use Rattle.scip_site.proofs.ReadLemmas.{reads_none}
+use Rattle.scip_site.proofs.ReadingLemmas.{reads_none}
 use Rattle.scip_site.proofs.reading.read_all.Goals as goal
 
 pub returns-in_err-read_each : goal.returns-in_err-read_each

@@ -7,7 +7,7 @@ use Rattle.std.proofs.lemmas.Result.{err_from_is_err_and}
 use Rattle.streams.specs.Writers.{silent, writing}
 use Rattle.scip_records.specs.declared.records.Document.{Document}
 use Rattle.scip_site.specs.Reading.{AreKept, none}
-use Rattle.scip_site.proofs.ReadLemmas.{none_kept, kept_more, keeps_no_more, flag_is}
+use Rattle.scip_site.proofs.ReadingLemmas.{none_kept, kept_more, keeps_no_more, flag_is}
 use Rattle.scip_site.proofs.reading.read_each.Goals as goal
 
 pub loop-number-init : goal.loop-number-init

@@ -2,7 +2,7 @@ use Rattle.std.proofs.Common.{refl, subst, ℕ, List}
 use Rattle.std.proofs.lemmas.Result.{err_from_is_err_and}
 use Rattle.streams.specs.Writers.{writing}
 use Rattle.scip_site.specs.Reading.{Keeps}
-use Rattle.scip_site.proofs.ReadLemmas.{read_so}
+use Rattle.scip_site.proofs.ReadingLemmas.{read_so}
 use Rattle.scip_site.proofs.reading.read_one.Goals as goal
 
 pub returns : goal.returns

@@ -5,7 +5,7 @@ use Rattle.proto_visibility.specs.Sees.{Sees}
 use Rattle.proto_visibility.specs.Knows.{KnowsAs}
 use Rattle.proto_visibility.specs.FileNames.{admits, SeesGiving}
 use Rattle.proto_visibility.proofs.NameOwnerLemmas.{knows_by}
-use Rattle.proto_visibility.proofs.ListedLemmas.{found_in_files}
+use Rattle.proto_visibility.proofs.ListedNameLemmas.{found_in_files}
 use Rattle.proto_visibility.proofs.namespace.Namespace.giving_file.Goals as goal
 
 pub row-requires : goal.row-requires

@@ -1,7 +1,7 @@
 use Rattle.std.proofs.Common.{◌↔◌, IsTrue, List, ℕ, subst, sym}
 use Rattle.std.specs.List.{Contains}
 use Rattle.std.proofs.lemmas.Bool.{false≢true}
-use Rattle.proto_visibility.proofs.OrderLemmas.{has_by_place, has_no_place}
+use Rattle.proto_visibility.proofs.FileOrderLemmas.{has_by_place, has_no_place}
 use Rattle.proto_visibility.proofs.seen_row.SeenRow.has.Goals as goal
 
 pub returns-in-Some : goal.returns-in-Some

@@ -1,6 +1,6 @@
 use Rattle.std.proofs.Common.{arith}
 use Rattle.std.proofs.lemmas.Option.{slice_get-get_or}
-use Rattle.proto_visibility.proofs.OrderLemmas.{none_of_runs_more, none_of_runs, seen_by_run}
+use Rattle.proto_visibility.proofs.FileOrderLemmas.{none_of_runs_more, none_of_runs, seen_by_run}
 use Rattle.proto_visibility.proofs.seen_row.SeenRow.one_among.Goals as goal
 
 pub returns-in-Some : goal.returns-in-Some

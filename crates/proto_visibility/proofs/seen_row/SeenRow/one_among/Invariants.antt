@@ -1,4 +1,4 @@
-use Rattle.proto_visibility.proofs.OrderLemmas.{NoneOfRunsUpTo}
+use Rattle.proto_visibility.proofs.FileOrderLemmas.{NoneOfRunsUpTo}
 use Rattle.proto_visibility.proofs.seen_row.SeenRow.one_among.Given as goal
 
 abbrev pub invariant-loop-run : goal.invariant-loop-run

@@ -5,7 +5,7 @@ use Rattle.std.specs.Str.{IsCharBoundary}
 use Rattle.std.proofs.lemmas.List.{get_or_default}
 use Rattle.std.proofs.lemmas.Option.{slice_get_past}
 use Rattle.scip_model.specs.Tables.JoinedTexts.{parts_from, start_of}
-use Rattle.scip_model.proofs.JoinedLemmas.{parts_count, part_is, cuts_there, begins_there}
+use Rattle.scip_model.proofs.JoinedTextLemmas.{parts_count, part_is, cuts_there, begins_there}
 use Rattle.scip_model.proofs.joined_texts.JoinedTexts.get.Goals as goal
 
 pub returns-then-index-len : goal.returns-then-index-len

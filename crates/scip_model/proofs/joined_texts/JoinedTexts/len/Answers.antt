@@ -1,6 +1,6 @@
 use Rattle.std.proofs.Common.{List, ℕ, ap, length, arith}
 use Rattle.std.specs.String.{string_bytes}
-use Rattle.scip_model.proofs.JoinedLemmas.{parts_count}
+use Rattle.scip_model.proofs.JoinedTextLemmas.{parts_count}
 use Rattle.scip_model.proofs.joined_texts.JoinedTexts.len.Goals as goal
 
 pub returns-clause-count : goal.returns-clause-count

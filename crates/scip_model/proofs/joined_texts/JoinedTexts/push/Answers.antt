@@ -1,7 +1,7 @@
 use Rattle.std.proofs.Common.{◌≡◌, ◌∙◌, ◌++◌, ◌∷◌, [], List, ℕ, ap, sym, subst, length}
 use Rattle.std.specs.String.{string_bytes}
 use Rattle.scip_model.specs.Tables.JoinedTexts.{parts_from, AreEnds}
-use Rattle.scip_model.proofs.JoinedLemmas.{parts_more, ends_more}
+use Rattle.scip_model.proofs.JoinedTextLemmas.{parts_more, ends_more}
 use Rattle.scip_model.proofs.joined_texts.JoinedTexts.push.Goals as goal
 
 pub invariant_of-self-2 : goal.invariant_of-self-2

@@ -1,6 +1,6 @@
 use Rattle.std.proofs.Common.{sym, ◌∙◌, arith}
 use Rattle.scip_query.proofs.ConversationLemmas.{nothing_begun, last_concludes}
-use Rattle.scip_query.proofs.LineLemmas.{no_items, some_items}
+use Rattle.scip_query.proofs.CommandLineLemmas.{no_items, some_items}
 use Rattle.scip_query.proofs.queries.Queries.conclude.Goals as goal
 
 pub returns-then-is_empty : goal.returns-then-is_empty

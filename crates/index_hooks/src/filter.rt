@@ -1,7 +1,7 @@
 //! A filter.
 
 ghost use Rattle.std.specs.Prelude.{◌≡◌, Bool};
-ghost use Rattle.proto_decl.specs.Seen.{Seen};
+ghost use Rattle.proto_decl.specs.Values.{Seen};
 
 use crate::callback::FilterCallback;
 use crate::hook::FilterHook;
@@ -20,7 +20,7 @@ pub struct Filter<P: FilterPromise, C: FilterCallback> {
 
 impl<P: FilterPromise, C: FilterCallback> Model for Filter<P, C> {
     ghost use Rattle.std.specs.Prelude.{Bool};
-    ghost use Rattle.proto_decl.specs.Seen.{Seen};
+    ghost use Rattle.proto_decl.specs.Values.{Seen};
     ghost use Rattle.index_hooks.specs.Promised.{Promised};
 
     ghost Value = { Promised P C };

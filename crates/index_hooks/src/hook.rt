@@ -8,7 +8,7 @@ use proto_decl::DeclView;
 
 /// A callback that says of each declaration whether it is kept, with a promise about its answers.
 pub trait FilterHook {
-    ghost use Rattle.proto_decl.specs.Seen.{Seen};
+    ghost use Rattle.proto_decl.specs.Values.{Seen};
 
     // The answers that its promise allows.
     ghost may: { Self → Seen → Bool → Type 0 };
@@ -20,7 +20,7 @@ pub trait FilterHook {
 
 /// A callback that says of each declaration which texts document it, with a promise about its answers.
 pub trait DocHook {
-    ghost use Rattle.proto_decl.specs.Seen.{Seen};
+    ghost use Rattle.proto_decl.specs.Values.{Seen};
     ghost use Rattle.index_hooks.specs.declared.choice.DocChoice.{DocChoice};
 
     // The answers that its promise allows.

@@ -27,7 +27,7 @@ pub struct Registry {
 
 /// What has promises about the answers of its filters and rules, and nothing else is known of these.
 pub trait Promises {
-    ghost use Rattle.proto_decl.specs.Seen.{Seen};
+    ghost use Rattle.proto_decl.specs.Values.{Seen};
 
     // For what is seen of a declaration each promise allows one answer at most.
     ghost are_exact: { Self → Seen → Type 0 };
@@ -49,7 +49,7 @@ fn add<H>(hooks: &mut Sequence<H>, hook: H) -> Result<(), (H, HookFault)>
 
 impl Registry {
     ghost use Rattle.std.specs.Prelude.{◌≡◌, []};
-    ghost use Rattle.proto_decl.specs.Seen.{Seen};
+    ghost use Rattle.proto_decl.specs.Values.{Seen};
     ghost use Rattle.index_hooks.specs.declared.choice.Choice.{Choice};
     ghost use Rattle.index_hooks.specs.Adding.{Adds};
     ghost use Rattle.index_hooks.specs.MayChoose.{IsDefaultChoice};

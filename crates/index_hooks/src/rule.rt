@@ -1,7 +1,7 @@
 //! A documentation rule.
 
 ghost use Rattle.std.specs.Prelude.{◌≡◌};
-ghost use Rattle.proto_decl.specs.Seen.{Seen};
+ghost use Rattle.proto_decl.specs.Values.{Seen};
 ghost use Rattle.index_hooks.specs.declared.choice.DocChoice.{DocChoice};
 
 use crate::callback::DocCallback;
@@ -21,7 +21,7 @@ pub struct DocRule<P: DocPromise, C: DocCallback> {
 }
 
 impl<P: DocPromise, C: DocCallback> Model for DocRule<P, C> {
-    ghost use Rattle.proto_decl.specs.Seen.{Seen};
+    ghost use Rattle.proto_decl.specs.Values.{Seen};
     ghost use Rattle.index_hooks.specs.Promised.{Promised};
     ghost use Rattle.index_hooks.specs.declared.choice.DocChoice.{DocChoice};
 

@@ -53,7 +53,7 @@ impl Turns {
 
 /// What chooses for a declaration.
 pub trait Chooses {
-    ghost use Rattle.proto_decl.specs.Seen.{Seen};
+    ghost use Rattle.proto_decl.specs.Values.{Seen};
     ghost use Rattle.index_hooks.specs.declared.choice.Choice.{Choice};
 
     // The choices that may come.

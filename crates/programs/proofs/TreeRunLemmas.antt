@@ -7,7 +7,7 @@ use Rattle.proto_parse.specs.dialect.Dialect.{Dialect}
 use Rattle.source_tree.specs.Files.{TreeFile}
 use Rattle.scip_build.specs.declared.omission.Omission.{Omission}
 use Rattle.protoscip.specs.declared.fault.Fault.{Fault}
-use Rattle.proto_decl.specs.Seen.{Seen}
+use Rattle.proto_decl.specs.Values.{Seen}
 use Rattle.index_hooks.specs.declared.choice.Choice.{Choice}
 use Rattle.scip_build.specs.declared.settings.Settings.{Settings}
 use Rattle.protoscip.specs.Explanations.{explain_in}

@@ -13,7 +13,7 @@ use Rattle.proto_lex.specs.Lexed.{Lexed, AreInOrder}
 use Rattle.proto_lex.specs.Position.{line_of}
 use Rattle.proto_lex.specs.CommentTexts.{StandsAlone}
 use Rattle.proto_decl.specs.Comments.{first_line, last_line, AreJoined, EndBefore, AreLeading, AreLongestLeading}
-use Rattle.proto_decl.proofs.LineLemmas.{behind_place, ends_before, ends_rise, IsAt, at_any, at_index}
+use Rattle.proto_decl.proofs.LayoutLineLemmas.{behind_place, ends_before, ends_rise, IsAt, at_any, at_index}
 
 abbrev pub CommentsInOrder : List Comment → Type 0
 CommentsInOrder comments = AreInOrder 0 (map (λ (c : Comment). c.span) comments)

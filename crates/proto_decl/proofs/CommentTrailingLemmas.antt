@@ -10,7 +10,7 @@ use Rattle.proto_lex.specs.Lexed.{Lexed}
 use Rattle.proto_lex.specs.Position.{line_of}
 use Rattle.proto_lex.specs.CommentTexts.{NoneBetween}
 use Rattle.proto_decl.specs.Comments.{first_line, last_line, IsTrailing}
-use Rattle.proto_decl.proofs.LineLemmas.{starts_rise, behind_place, ends_before, IsAt, held, at_any, at_index}
+use Rattle.proto_decl.proofs.LayoutLineLemmas.{starts_rise, behind_place, ends_before, IsAt, held, at_any, at_index}
 use Rattle.proto_decl.proofs.CommentLeadingLemmas.{CommentsInOrder}
 
 module _ (lexed : Lexed) (closing : Span) (n : ℕ) (x : Comment) (ordered : CommentsInOrder lexed.comments)

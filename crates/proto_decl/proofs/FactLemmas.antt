@@ -7,8 +7,7 @@ use Rattle.proto_parse.specs.Lexeme.{Lexeme}
 use Rattle.proto_parse.specs.Walk.{Mark, MarksAreInOrder, Among, names_marks, marks_in, PackageIsAmongItems}
 use Rattle.proto_parse.specs.tree.FileItem.{FileItem}
 use Rattle.proto_parse.specs.tree.File.{File}
-use Rattle.proto_decl.specs.Outlines.{file_surrounding, outlines_in, outlines_of, package_spans}
-use Rattle.proto_decl.specs.Declares.{IsDeclaration}
+use Rattle.proto_decl.specs.Declares.{file_surrounding, outlines_in, outlines_of, package_spans, IsDeclaration}
 use Rattle.proto_decl.specs.Facts.{Facts, AreFactsOf, name_spans, component_spans, PackageInOrder}
 use Rattle.proto_decl.specs.declared.declaration.Declaration.{Declaration}
 use Rattle.proto_decl.specs.declared.declaration.Outline.{Outline}

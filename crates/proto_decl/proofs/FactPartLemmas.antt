@@ -21,14 +21,14 @@ use Rattle.proto_parse.proofs.PartLemmas.{flat-all, placed-all}
 use Rattle.proto_decl.specs.Names.{components_at}
 use Rattle.proto_decl.specs.Spans.{OfTypeName, OfType, OfHead, OfPart, OfPackage}
 use Rattle.proto_decl.specs.Imports.{start_of, end_of, imports_of}
-use Rattle.proto_decl.specs.Outlines.{inside_part, file_surrounding, package_spans}
+use Rattle.proto_decl.specs.Declares.{inside_part, file_surrounding, package_spans}
 use Rattle.proto_decl.specs.Uses.{use_of, used_by, uses_of}
 use Rattle.proto_decl.specs.Facts.{component_spans, name_spans, use_spans}
 use Rattle.proto_decl.specs.Laws.{IsNamedAt}
 use Rattle.proto_decl.specs.declared.declaration.Declaration.{Declaration}
 use Rattle.proto_decl.specs.declared.surrounding.Surrounding.{Surrounding}
-use Rattle.proto_decl.specs.declared.type_use.Use.{Use}
-use Rattle.proto_decl.specs.declared.imported.Imported.{Imported}
+use Rattle.proto_decl.specs.declared.uses.Use.{Use}
+use Rattle.proto_decl.specs.declared.imports.Imported.{Imported}
 use Rattle.proto_decl.proofs.OutlinePickLemmas.{spans_of_components}
 
 module _ (text : List ℕ) where

@@ -9,8 +9,7 @@ use Rattle.std.proofs.Math.Seq.{take-length}
 use Rattle.std.specs.Bool.{nat_eq, IsTrue}
 use Rattle.std.specs.Cmp.Lexicographic.{pointwise, bytes_decides}
 use Rattle.std.specs.Str.{bytes_eq}
-use Rattle.proto_decl.specs.Names.{qualified}
-use Rattle.proto_decl.specs.FullNames.{hash64_byte, hash64_on, hash64, hash64_front}
+use Rattle.proto_decl.specs.Names.{qualified, hash64_byte, hash64_on, hash64, hash64_front}
 use Rattle.proto_parse.proofs.RefusedLemmas.{heads, tails}
 
 -- ---- what they are hashed by

@@ -9,7 +9,7 @@ use Rattle.proto_lex.proofs.PositionLineStartLemmas.{more_lines as lines_rise}
 use Rattle.proto_lex.specs.declared.token.Comment.{Comment}
 use Rattle.proto_lex.specs.Lexed.{Lexed}
 use Rattle.proto_lex.specs.Position.{line_of}
-use Rattle.proto_decl.proofs.LineLemmas.{behind_place, ends_rise}
+use Rattle.proto_decl.proofs.LayoutLineLemmas.{behind_place, ends_rise}
 use Rattle.proto_decl.proofs.CommentLeadingLemmas.{CommentsInOrder, EndAbove}
 
 -- no comment from this one on ends on a line before that of the offset

@@ -13,7 +13,7 @@ use Rattle.proto_lex.specs.CommentTexts.{Touches, StandsAlone}
 use Rattle.proto_decl.specs.Comments.{IsFirstOnLine}
 use Rattle.proto_decl.specs.Layout.{AreBegun, IsNextStart, IsFreeFrom}
 use Rattle.proto_decl.specs.declared.layout.Begun.{Begun}
-use Rattle.proto_decl.proofs.LineLemmas.{IsAt, at_index}
+use Rattle.proto_decl.proofs.LayoutLineLemmas.{IsAt, at_index}
 use Rattle.proto_decl.proofs.LayoutLemmas.{TokensInOrder, ends_by, filled, first_less, less_first, alone_by_both}
 use Rattle.proto_decl.proofs.LayoutLemmas.{IsClearBefore, IsClearBehind, before_or_not}
 

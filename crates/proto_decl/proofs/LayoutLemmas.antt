@@ -11,8 +11,8 @@ use Rattle.proto_lex.specs.Position.{line_of}
 use Rattle.proto_lex.specs.Lexed.{Lexed, AreInOrder, AreApart}
 use Rattle.proto_lex.specs.CommentTexts.{Touches, StandsAlone, NoneBetween}
 use Rattle.proto_decl.specs.Comments.{IsFirstOnLine, first_line, last_line}
-use Rattle.proto_decl.proofs.LineLemmas.{behind_place, starts_rise, ends_rise, IsAt, held, at_any, at_index}
-use Rattle.proto_decl.proofs.LineLemmas.{no_more-test}
+use Rattle.proto_decl.proofs.LayoutLineLemmas.{behind_place, starts_rise, ends_rise, IsAt, held, at_any, at_index}
+use Rattle.proto_decl.proofs.LayoutLineLemmas.{no_more-test}
 
 -- so many tokens begin before an offset, or end by it
 abbrev pub HaveBegun : List Token → (offset count : ℕ) → Type 0

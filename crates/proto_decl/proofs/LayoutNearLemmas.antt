@@ -6,7 +6,7 @@ use Rattle.std.proofs.lemmas.List.{get_or_default}
 use Rattle.std.proofs.lemmas.Bool.{ltb-true}
 use Rattle.proto_lex.specs.declared.span.Span.{Span}
 use Rattle.proto_lex.specs.Lexed.{AreInOrder}
-use Rattle.proto_decl.proofs.LineLemmas.{starts_rise}
+use Rattle.proto_decl.proofs.LayoutLineLemmas.{starts_rise}
 
 module _ {X : Type 0} (span : X → Span) (offset count : ℕ) (xs : List X) where
   -- the first ones, so many, begin before the offset

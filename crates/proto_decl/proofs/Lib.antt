@@ -1,6 +1,4 @@
 -- Each file is named after the spec or source that it serves.
--- What holds a declaration of a file is declared there too, and full names are those of the scopes on the path
-pub mod AncestorLemmas
 -- The comments that lead a declaration, by their places in the list of comments
 pub mod CommentLeadingLemmas
 -- The marks of comments, and texts of several
@@ -15,22 +13,27 @@ pub mod FactPartLemmas
 pub mod FullNameLemmas
 -- String literals may be cut behind their first quote and before their last one
 pub mod ImportLiteralLemmas
+-- What holds a declaration of a file is declared there too, and full names are those of the scopes on the path
+pub mod LawAncestorLemmas
 -- A file's facts and comment texts are the only ones
 pub mod LawLemmas
+-- What a file's facts tell has places of its own: the components of uses stand apart from names, and no import begins
+-- where one of those does
+pub mod LawPlaceLemmas
 -- How many comments end on lines before that of an offset
 pub mod LayoutAboveLemmas
 -- The lines above a token that are free of other tokens, and the comments on them
 pub mod LayoutFreeLemmas
 -- How tokens in order stand on the lines of a text
 pub mod LayoutLemmas
+-- Lines that end between two offsets
+pub mod LayoutLineEndLemmas
+-- Lines of offsets, and what stands in order
+pub mod LayoutLineLemmas
 -- How many of a list in order begin before an offset, known by the last that does and the first that doesn't
 pub mod LayoutNearLemmas
--- Lines that end between two offsets
-pub mod LineEndLemmas
--- Lines of offsets, and what stands in order
-pub mod LineLemmas
 -- Where the line behind that of an offset starts
-pub mod LineNextStartLemmas
+pub mod LayoutNextStartLemmas
 -- The components of a plain name, which has no dot, and of one behind a scope; the prefixes that they make
 pub mod NameComponentLemmas
 -- Declared names are spelled as they stand, but for those of groups' fields, and aren't empty
@@ -50,9 +53,6 @@ pub mod OutlineOrderLemmas
 pub mod OutlinePickLemmas
 -- Each declaration has a simple name in a scope of its file
 pub mod OutlineScopedLemmas
--- What a file's facts tell has places of its own: the components of uses stand apart from names, and no import begins
--- where one of those does
-pub mod PlaceLemmas
 -- The scope around one
 pub mod ScopeLemmas
 -- The spans of a tree are spans of its tokens

@@ -18,13 +18,13 @@ use Rattle.proto_parse.specs.Parts.Part.{MethodPart}
 use Rattle.proto_parse.proofs.PartLemmas.{flat-all, placed-all}
 use Rattle.proto_decl.specs.Names.{qualified, small_letters}
 use Rattle.proto_decl.specs.Spans.{OfHeading, OfHead, OfPart}
-use Rattle.proto_decl.specs.Outlines.{heading_name, step_named, step_to, outline_at, group_field, in_head, inside_part}
-use Rattle.proto_decl.specs.Outlines.{declared_by, file_surrounding, outlines_in, outlines_of}
+use Rattle.proto_decl.specs.Declares.{heading_name, step_named, step_to, outline_at, group_field, in_head, inside_part}
+use Rattle.proto_decl.specs.Declares.{declared_by, file_surrounding, outlines_in, outlines_of}
 use Rattle.proto_decl.specs.Declares.{IsDeclaration, simple_name}
 use Rattle.proto_decl.specs.Laws.{AreOfGroup, IsSpelled, IsNamedAt}
 use Rattle.proto_decl.specs.Laws.IsSpelled.{as_it_stands, as_its_group}
-use Rattle.proto_decl.specs.declared.kind.DeclarationKind.{DeclarationKind}
-use Rattle.proto_decl.specs.declared.kind.DeclarationKind.TheVariants as kind
+use Rattle.proto_decl.specs.declared.declaration.DeclarationKind.{DeclarationKind}
+use Rattle.proto_decl.specs.declared.declaration.DeclarationKind.TheVariants as kind
 use Rattle.proto_decl.specs.declared.declaration.DeclarationStep.{DeclarationStep}
 use Rattle.proto_decl.specs.declared.declaration.Declaration.{Declaration}
 use Rattle.proto_decl.specs.declared.declaration.Outline.{Outline}

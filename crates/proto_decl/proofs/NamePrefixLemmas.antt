@@ -10,7 +10,7 @@ use Rattle.proto_decl.specs.Facts.{Facts}
 use Rattle.proto_decl.specs.Laws.{IsScope, StandsInScope, IsEntity}
 use Rattle.proto_decl.specs.Laws.IsScope.{of_package, of_declaration}
 use Rattle.proto_decl.specs.Laws.IsEntity.{packaged, declared}
-use Rattle.proto_decl.specs.declared.type_use.Component.{Component}
+use Rattle.proto_decl.specs.declared.uses.Component.{Component}
 use Rattle.proto_decl.specs.declared.declaration.Declaration.{Declaration}
 use Rattle.proto_decl.proofs.NameComponentLemmas.{is_dot, is_plain, of_plain, of_behind, whole_prefix, prefix_of_scope}
 

@@ -23,18 +23,17 @@ use Rattle.proto_parse.proofs.PartLemmas.{flat-all, placed-all, items-around}
 use Rattle.proto_parse.proofs.Walk.Then.{Name, Other, each_then, names_then, type_name_then, field_then, head_then}
 use Rattle.proto_parse.proofs.Walk.Then.{method_then, parts_are, package_is}
 use Rattle.proto_decl.specs.Names.{components_at, small_letters}
-use Rattle.proto_decl.specs.Outlines.{step_named, step_to, outline_at, group_field, within, scope_heading, in_head}
-use Rattle.proto_decl.specs.Outlines.{inside_part, declared_by, file_surrounding, package_spans, outlines_in}
-use Rattle.proto_decl.specs.Outlines.{outlines_of}
-use Rattle.proto_decl.specs.Declares.{IsDeclaration}
+use Rattle.proto_decl.specs.Declares.{step_named, step_to, outline_at, group_field, within, scope_heading, in_head}
+use Rattle.proto_decl.specs.Declares.{inside_part, declared_by, file_surrounding, package_spans, outlines_in}
+use Rattle.proto_decl.specs.Declares.{outlines_of, IsDeclaration}
 use Rattle.proto_decl.specs.Facts.{Facts, AreFactsOf}
-use Rattle.proto_decl.specs.Ancestors.{component_names, AreNamed}
-use Rattle.proto_decl.specs.declared.kind.DeclarationKind.{DeclarationKind}
-use Rattle.proto_decl.specs.declared.kind.DeclarationKind.TheVariants as kind
+use Rattle.proto_decl.specs.Laws.{component_names, AreNamed}
+use Rattle.proto_decl.specs.declared.declaration.DeclarationKind.{DeclarationKind}
+use Rattle.proto_decl.specs.declared.declaration.DeclarationKind.TheVariants as kind
 use Rattle.proto_decl.specs.declared.declaration.DeclarationStep.{DeclarationStep}
 use Rattle.proto_decl.specs.declared.declaration.Outline.{Outline}
 use Rattle.proto_decl.specs.declared.declaration.Declaration.{Declaration}
-use Rattle.proto_decl.specs.declared.type_use.Component.{Component}
+use Rattle.proto_decl.specs.declared.uses.Component.{Component}
 use Rattle.proto_decl.specs.declared.surrounding.Surrounding.{Surrounding}
 use Rattle.proto_decl.proofs.SpanMarkLemmas.{OfNames, OfPartNames, of_lexemes, of_names, of_part_names, past_type_name}
 use Rattle.proto_decl.proofs.SpanMarkLemmas.{past_type}

@@ -15,10 +15,10 @@ use Rattle.proto_parse.specs.Walk.{marks_of_items}
 use Rattle.proto_parse.proofs.Walk.Then.{each_then, literal_then, import_then, items_are, between_are}
 use Rattle.proto_parse.specs.Filled.{FilledImport}
 use Rattle.proto_decl.specs.Imports.{start_of, end_of, imports_of}
-use Rattle.proto_decl.specs.Outlines.{file_surrounding, outlines_in, outlines_of}
+use Rattle.proto_decl.specs.Declares.{file_surrounding, outlines_in, outlines_of}
 use Rattle.proto_decl.specs.Uses.{uses_of}
 use Rattle.proto_decl.specs.Facts.{use_spans}
-use Rattle.proto_decl.specs.declared.imported.Imported.{Imported}
+use Rattle.proto_decl.specs.declared.imports.Imported.{Imported}
 use Rattle.proto_decl.proofs.OutlinePickLemmas.{Picked, heading_names, items_picked, package_picked}
 use Rattle.proto_decl.proofs.OutlinePickLemmas.Picked.{none, skip, a_name, a_component}
 

@@ -28,18 +28,18 @@ use Rattle.proto_parse.proofs.Walk.Then.{heading_then, field_then, map_field_the
 use Rattle.proto_parse.proofs.Walk.Then.{body_then, block_then, method_then, service_then, item_then}
 use Rattle.proto_parse.specs.Parts.Part.{ValuePart, MethodPart}
 use Rattle.proto_decl.specs.Names.{components_at}
-use Rattle.proto_decl.specs.Outlines.{inside, beside, within, scope_heading, in_head, declared_by, outlines_in}
+use Rattle.proto_decl.specs.Declares.{inside, beside, within, scope_heading, in_head, declared_by, outlines_in}
 use Rattle.proto_decl.specs.Uses.{use_of, uses_in}
 use Rattle.proto_decl.specs.Walked.{in_enum, in_leaf, in_body, in_block, in_service, in_item, uses_of_type}
 use Rattle.proto_decl.specs.Walked.{uses_of_head, uses_of_method, uses_in_leaf, uses_in_body, uses_in_block}
 use Rattle.proto_decl.specs.Walked.{uses_in_service, uses_in_item}
 use Rattle.proto_decl.proofs.WalkedLemmas.{outlines_are, uses_are, enum_uses_none}
 use Rattle.proto_decl.specs.Facts.{use_spans}
-use Rattle.proto_decl.specs.declared.kind.DeclarationKind.TheVariants as kind
+use Rattle.proto_decl.specs.declared.declaration.DeclarationKind.TheVariants as kind
 use Rattle.proto_decl.specs.declared.declaration.Outline.{Outline}
 use Rattle.proto_decl.specs.declared.surrounding.Surrounding.{Surrounding}
-use Rattle.proto_decl.specs.declared.type_use.Component.{Component}
-use Rattle.proto_decl.specs.declared.type_use.Use.{Use}
+use Rattle.proto_decl.specs.declared.uses.Component.{Component}
+use Rattle.proto_decl.specs.declared.uses.Use.{Use}
 
 -- Names and components are picked from marks, each mark once at most, up to the marks behind.
 pub data Picked : (marks : List Mark) (names components : List Span) (behind : List Mark) → Type 0 where

@@ -33,20 +33,19 @@ use Rattle.proto_decl.proofs.SpanMarkLemmas.{past_type}
 use Rattle.proto_decl.proofs.NameSmallLemmas.{simple_small}
 use Rattle.proto_decl.proofs.WalkedLemmas.{outlines_are}
 use Rattle.proto_decl.specs.Names.{qualified, IsSimple, dotted, components_at, small_letters}
-use Rattle.proto_decl.specs.Outlines.{heading_name, outline_at, group_field, within, scope_heading, in_head}
-use Rattle.proto_decl.specs.Outlines.{inside_part}
-use Rattle.proto_decl.specs.Outlines.{declared_by, file_surrounding, package_scope, package_spans, outlines_in}
-use Rattle.proto_decl.specs.Outlines.{outlines_of}
-use Rattle.proto_decl.specs.Declares.{IsDeclaration}
+use Rattle.proto_decl.specs.Declares.{heading_name, outline_at, group_field, within, scope_heading, in_head}
+use Rattle.proto_decl.specs.Declares.{inside_part}
+use Rattle.proto_decl.specs.Declares.{declared_by, file_surrounding, package_scope, package_spans, outlines_in}
+use Rattle.proto_decl.specs.Declares.{outlines_of, IsDeclaration}
 use Rattle.proto_decl.specs.Facts.{Facts, AreFactsOf}
 use Rattle.proto_decl.specs.Laws.{IsScope, StandsInScope}
 use Rattle.proto_decl.specs.Laws.IsScope.{of_package, of_declaration}
-use Rattle.proto_decl.specs.declared.kind.DeclarationKind.{DeclarationKind}
-use Rattle.proto_decl.specs.declared.kind.DeclarationKind.TheVariants as kind
+use Rattle.proto_decl.specs.declared.declaration.DeclarationKind.{DeclarationKind}
+use Rattle.proto_decl.specs.declared.declaration.DeclarationKind.TheVariants as kind
 use Rattle.proto_decl.specs.declared.declaration.Outline.{Outline}
 use Rattle.proto_decl.specs.declared.surrounding.Surrounding.{Surrounding}
 use Rattle.proto_decl.specs.declared.declaration.Declaration.{Declaration}
-use Rattle.proto_decl.specs.declared.type_use.Component.{Component}
+use Rattle.proto_decl.specs.declared.uses.Component.{Component}
 use Rattle.basics.proofs.BoolLemmas.{never}
 
 -- identifiers are simple

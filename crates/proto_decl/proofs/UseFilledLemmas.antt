@@ -9,9 +9,9 @@ use Rattle.proto_parse.specs.Parts.{parts_of, types_of}
 use Rattle.proto_parse.specs.Filled.{FilledTypeName, FilledPart}
 use Rattle.proto_parse.proofs.PartLemmas.{items-all}
 use Rattle.proto_decl.specs.Names.{component_at}
-use Rattle.proto_decl.specs.Outlines.{inside_part, file_surrounding}
+use Rattle.proto_decl.specs.Declares.{inside_part, file_surrounding}
 use Rattle.proto_decl.specs.Uses.{use_of, used_by, uses_of}
-use Rattle.proto_decl.specs.declared.type_use.Use.{Use}
+use Rattle.proto_decl.specs.declared.uses.Use.{Use}
 use Rattle.proto_decl.proofs.WalkedLemmas.{uses_are}
 
 -- a use has a component

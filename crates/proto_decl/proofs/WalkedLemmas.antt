@@ -8,11 +8,11 @@ use Rattle.proto_parse.specs.tree.Leaf.TheVariants as leaf
 use Rattle.proto_parse.specs.tree.FileItem.{FileItem}
 use Rattle.proto_parse.specs.Parts.{Placed, placed, placed_parts, of_item}
 use Rattle.proto_parse.proofs.PartLemmas.{items-each}
-use Rattle.proto_decl.specs.Outlines.{inside_part, declared_by, outlines_in}
+use Rattle.proto_decl.specs.Declares.{inside_part, declared_by, outlines_in}
 use Rattle.proto_decl.specs.Uses.{used_by, uses_in}
 use Rattle.proto_decl.specs.Walked.{in_item, uses_in_leaf, uses_in_item}
 use Rattle.proto_decl.specs.declared.surrounding.Surrounding.{Surrounding}
-use Rattle.proto_decl.specs.declared.type_use.Use.{Use}
+use Rattle.proto_decl.specs.declared.uses.Use.{Use}
 
 pub outlines_are : (text : List ℕ) (surrounding : Surrounding) (items : List FileItem)
     → flat_map (in_item text surrounding) items ≡ outlines_in text surrounding items

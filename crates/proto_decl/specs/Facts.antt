@@ -7,12 +7,11 @@ use Rattle.proto_parse.specs.tree.File.{File}
 use Rattle.proto_parse.specs.Derives.{DerivesBySome}
 use Rattle.proto_decl.specs.Names.{components_at}
 use Rattle.proto_decl.specs.Imports.{imports_of}
-use Rattle.proto_decl.specs.Outlines.{package_spans}
-use Rattle.proto_decl.specs.Declares.{Declares}
+use Rattle.proto_decl.specs.Declares.{package_spans, Declares}
 use Rattle.proto_decl.specs.Uses.{uses_of}
-use Rattle.proto_decl.specs.declared.type_use.Component.{Component}
-use Rattle.proto_decl.specs.declared.type_use.Use.{Use}
-use Rattle.proto_decl.specs.declared.imported.Imported.{Imported}
+use Rattle.proto_decl.specs.declared.uses.Component.{Component}
+use Rattle.proto_decl.specs.declared.uses.Use.{Use}
+use Rattle.proto_decl.specs.declared.imports.Imported.{Imported}
 use Rattle.proto_decl.specs.declared.declaration.Declaration.{Declaration}
 
 -- The package's name has no components if the file has no package.

@@ -1,12 +1,12 @@
--- Names and scopes (proto3 specification, "Identifiers"; proto3 language guide, "Packages and Name Resolution").
-use Rattle.std.specs.Prelude.{ℕ, ◌≡◌, ◌<◌, ◌==◌, not, true, List, [], ◌∷◌, ◌++◌, length, take}
-use Rattle.std.specs.Prelude.{map}
+-- Names and scopes (proto3 specification, "Identifiers"; proto3 language guide, "Packages and Name Resolution"),
+-- and the numbers that full names are hashed by.
+use Rattle.std.specs.Prelude.{ℕ, ◌≡◌, ◌<◌, ◌==◌, not, true, List, [], ◌∷◌, ◌++◌, length, take, map, ◌+◌, ◌*◌, ◌%◌, ◌^◌}
 use Rattle.std.specs.Char.{to_ascii_lowercase}
-use Rattle.std.specs.List.{join_with_byte, list_all, slice_split}
+use Rattle.std.specs.List.{join_with_byte, list_all, slice_split, fold}
 use Rattle.proto_lex.specs.declared.span.Span.{Span}
-use Rattle.proto_lex.specs.Ascii as ascii
 use Rattle.proto_lex.specs.Lexed.{part_of}
-use Rattle.proto_decl.specs.declared.type_use.Component.{Component}
+use Rattle.proto_lex.specs.Ascii as ascii
+use Rattle.proto_decl.specs.declared.uses.Component.{Component}
 
 -- The full name of a name in the scope with this full name. The root's is empty.
 abbrev pub qualified : (scope name : List ℕ) → List ℕ
@@ -54,3 +54,19 @@ components_at text spans = map (component_at text) spans
 pub data IsAround : (scope outer : List ℕ) → Type 0 where
   before_dot : {outer : List ℕ} (name : List ℕ) → HasNoDot name → IsAround (outer ++ ascii.dot ∷ name) outer
   root : {byte : ℕ} {name : List ℕ} → HasNoDot (byte ∷ name) → IsAround (byte ∷ name) []
+
+-- ---- the number of a full name: its bytes are mixed in one by one, so that it is the same however the name is parted
+
+abbrev pub hash64_byte : (hash64 byte : ℕ) → ℕ
+hash64_byte hash64 byte = (hash64 * 1099511628211 % 2 ^ 64 + byte) % 2 ^ 64
+
+abbrev pub hash64_on : (hash64 : ℕ) → List ℕ → ℕ
+hash64_on hash64 bytes = fold hash64_byte hash64 bytes
+
+abbrev pub hash64 : List ℕ → ℕ
+hash64 name = hash64_on 0 name
+
+-- that of a scope's full name with what comes before a name in the scope
+abbrev pub hash64_front : (scope : List ℕ) → ℕ
+hash64_front [] = 0
+hash64_front (byte ∷ scope) = hash64_byte (hash64 (byte ∷ scope)) ascii.dot

@@ -11,9 +11,9 @@ use Rattle.proto_parse.specs.tree.File.{File}
 use Rattle.proto_parse.specs.Parts.{Part, types_of, placed_parts}
 use Rattle.proto_decl.specs.Names.{components_at}
 use Rattle.proto_decl.specs.Imports.{start_of, end_of}
-use Rattle.proto_decl.specs.Outlines.{inside_part, file_surrounding}
+use Rattle.proto_decl.specs.Declares.{inside_part, file_surrounding}
 use Rattle.proto_decl.specs.declared.surrounding.Surrounding.{Surrounding}
-use Rattle.proto_decl.specs.declared.type_use.Use.{Use}
+use Rattle.proto_decl.specs.declared.uses.Use.{Use}
 
 -- where a type's name starts: its leading dot, if there is one, or its first component
 abbrev pub name_start : Option Span → List Span → ℕ

@@ -13,11 +13,11 @@ use Rattle.proto_parse.specs.Tree.{Body, BlockTree}
 use Rattle.proto_parse.specs.Parts.{Part, of_enum, of_leaf, of_body, of_block, of_service, of_item, anywhere, one_part}
 use Rattle.proto_parse.specs.Parts.{named_by}
 use Rattle.proto_parse.specs.Parts.Part.{BlockPart, MethodPart}
-use Rattle.proto_decl.specs.Outlines.{inside_part, declared_by}
+use Rattle.proto_decl.specs.Declares.{inside_part, declared_by}
 use Rattle.proto_decl.specs.Uses.{use_of, used_by}
 use Rattle.proto_decl.specs.declared.declaration.Outline.{Outline}
 use Rattle.proto_decl.specs.declared.surrounding.Surrounding.{Surrounding}
-use Rattle.proto_decl.specs.declared.type_use.Use.{Use}
+use Rattle.proto_decl.specs.declared.uses.Use.{Use}
 
 abbrev pub in_enum : (text : List ℕ) → Surrounding → Enum → List Outline
 in_enum text surrounding enum = of_enum (inside_part text) (declared_by text) surrounding enum

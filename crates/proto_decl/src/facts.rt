@@ -4,8 +4,8 @@ ghost use Rattle.std.specs.Prelude.{◌≡◌};
 ghost use Rattle.proto_decl.specs.Facts.{AreOfSomeFile};
 
 use crate::declaration::Declaration;
-use crate::imported::Imported;
-use crate::type_use::{Component, Use};
+use crate::imports::Imported;
+use crate::uses::{Component, Use};
 use basics::Sequence;
 use std::marker::Model;
 

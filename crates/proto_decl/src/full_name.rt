@@ -1,30 +1,15 @@
-//! Full names.
+//! Full names, and the numbers that they are hashed by.
 
-ghost use Rattle.std.specs.Prelude.{
-  ℕ,
-  List,
-  ◌≡◌,
-  ◌<◌,
-  ◌↔◌,
-  ◌++◌,
-  ◌∷◌,
-  ◌&&◌,
-  bytes_eq,
-  length,
-  nat_eq,
-  IsTrue,
-  IfOk,
-  MatchOption,
-};
+ghost use Rattle.std.specs.Prelude.{ℕ, List, ◌≡◌, ◌<◌, ◌↔◌, ◌++◌, ◌∷◌, ◌&&◌, bytes_eq, length, nat_eq, IsTrue, IfOk};
+ghost use Rattle.std.specs.Prelude.{MatchOption};
 ghost use Rattle.std.specs.Cmp.{partial_equiv_from_equiv};
 ghost use Rattle.std.specs.Cmp.Lexicographic.{pointwise, bytes_decides, nat_list_eq_equiv};
-ghost use Rattle.std.specs.Hash as fed;
 ghost use Rattle.std.proofs.Common.{ap};
+ghost use Rattle.std.specs.Hash as fed;
 ghost use Rattle.proto_lex.specs.Ascii as ascii;
 ghost use Rattle.proto_decl.specs.Names.{qualified};
-ghost use Rattle.proto_decl.specs.FullNames as spec;
+ghost use Rattle.proto_decl.specs.Names as spec;
 
-use crate::hashing::hash64_on;
 use crate::names::qualified;
 use crate::surrounding::Surrounding;
 use basics::OwnedText;
@@ -45,8 +30,7 @@ pub struct FullName<'a> {
 
 impl<'a> Model for FullName<'a> {
     ghost use Rattle.std.specs.Prelude.{◌≡◌, List, ℕ};
-    ghost use Rattle.proto_decl.specs.Names.{qualified};
-    ghost use Rattle.proto_decl.specs.FullNames.{hash64_front};
+    ghost use Rattle.proto_decl.specs.Names.{qualified, hash64_front};
 
     ghost Value = { List ℕ };
 
@@ -193,4 +177,35 @@ fn are_same(scope: &str, name: &str, other_scope: &str, other_name: &str) -> boo
         return is_same_outside(scope, name, other_scope, other_name);
     }
     is_same_outside(other_scope, other_name, scope, name)
+}
+
+/// What a number is multiplied by before a byte is mixed in: a prime, as of the hash FNV-1 of 64 bits.
+const MULTIPLIER: u64 = 1_099_511_628_211;
+
+/// The hash of what has one, with a byte behind it.
+fn hash64_byte(hash64: u64, byte: u8) -> u64
+    ensures { result ≡ spec.hash64_byte hash64 byte }
+{
+    hash64.wrapping_mul(MULTIPLIER).wrapping_add(byte as u64)
+}
+
+/// The hash of what has one, with a text behind it.
+fn hash64_on(hash64: u64, text: &str) -> u64
+    ensures { result ≡ spec.hash64_on hash64 text.now }
+{
+    let mut more = hash64;
+    for byte in text.as_bytes() {
+        more = hash64_byte(more, *byte);
+    }
+    more
+}
+
+/// The hash of a scope's full name in front of a name in it.
+pub(crate) fn hash64_front(scope: &str) -> u64
+    ensures { result ≡ spec.hash64_front scope.now }
+{
+    if scope.is_empty() {
+        return 0;
+    }
+    hash64_byte(hash64_on(0, scope), b'.')
 }

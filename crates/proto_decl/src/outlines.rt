@@ -6,11 +6,10 @@ ghost use Rattle.proto_lex.specs.Lexed.{IsPart};
 ghost use Rattle.proto_parse.specs.tree.Head.TheVariants as Head;
 ghost use Rattle.proto_decl.specs.Spans.{OfHeading, OfGroup, OfHead, OfMethod, OfParts};
 ghost use Rattle.proto_parse.specs.Parts.Part.{ValuePart, MethodPart};
-ghost use Rattle.proto_decl.specs.Outlines as spec;
+ghost use Rattle.proto_decl.specs.Declares as spec;
 ghost use Rattle.proto_decl.specs.Walked as walked;
 
-use crate::declaration::{DeclarationStep, Outline};
-use crate::kind::DeclarationKind;
+use crate::declaration::{DeclarationKind, DeclarationStep, Outline};
 use crate::names::{small_letters, spelling_at};
 use crate::surrounding::{Surrounding, beside};
 use basics::KeptText;

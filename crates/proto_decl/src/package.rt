@@ -3,7 +3,7 @@
 ghost use Rattle.std.specs.Prelude.{◌≡◌, ◌∷◌, map, All, IfOk};
 ghost use Rattle.proto_lex.specs.Lexed.{IsPart, part_of};
 ghost use Rattle.proto_decl.specs.Names.{dotted};
-ghost use Rattle.proto_decl.specs.Outlines as spec;
+ghost use Rattle.proto_decl.specs.Declares as spec;
 
 use crate::names::spelling_at;
 use basics::OwnedText;

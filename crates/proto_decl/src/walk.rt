@@ -4,18 +4,16 @@ ghost use Rattle.std.specs.Prelude.{◌≡◌, ◌++◌, All, IfOk, OnOk};
 ghost use Rattle.proto_lex.specs.Lexed.{IsPart};
 ghost use Rattle.proto_parse.specs.Items.{body_of};
 ghost use Rattle.proto_decl.specs.Spans.{OfHead, OfParts};
-ghost use Rattle.proto_decl.specs.Outlines.{in_head};
+ghost use Rattle.proto_decl.specs.Declares.{in_head};
 ghost use Rattle.proto_decl.specs.Walked.{in_leaf, in_block, in_body, in_service, in_item, uses_of_head};
 ghost use Rattle.proto_decl.specs.Walked.{uses_in_leaf, uses_in_block, uses_in_body, uses_in_service, uses_in_item};
 ghost use Rattle.proto_decl.specs.Walked.{parts_in_leaf, parts_in_block, parts_in_service, parts_in_item};
 ghost use Rattle.proto_decl.specs.Walked.{parts_of_inner};
 
-use crate::declaration::Outline;
-use crate::kind::DeclarationKind;
+use crate::declaration::{DeclarationKind, Outline};
 use crate::outlines::{outline_at, outline_enum, outline_head, outline_leaf, outline_methods};
 use crate::surrounding::{Surrounding, inside, scope_heading};
-use crate::type_use::Use;
-use crate::type_uses::{use_head, use_leaf, use_methods};
+use crate::uses::{Use, use_head, use_leaf, use_methods};
 use proto_parse::{Block, FileItem, Head, Item, Leaf, Service};
 use std::alloc::{AllocError, Global};
 

@@ -4,13 +4,12 @@ use Rattle.std.proofs.Common.{refl, ap, sym, ◌∙◌, arith}
 use Rattle.std.specs.List.{slice_get}
 use Rattle.std.proofs.lemmas.Option.{same_Some}
 use Rattle.proto_decl.specs.Facts.{Facts, AreOfSomeFile, NamesInOrder, PackageInOrder}
-use Rattle.proto_visibility.specs.declared.place.FilePlace.{FilePlace}
+use Rattle.proto_visibility.specs.declared.files.FilePlace.{FilePlace}
 use Rattle.proto_visibility.specs.declared.omissions.FileOmission.{FileOmission}
 use Rattle.proto_visibility.specs.declared.omissions.FileOmission.TheVariants.{Broken, Duplicate}
 use Rattle.proto_visibility.specs.Files.{File, HasFacts, HaveOrigins}
-use Rattle.proto_visibility.specs.Items.{Before, Item, IsItem}
-use Rattle.proto_visibility.specs.Items.IsItem.{declared, packaged}
-use Rattle.proto_visibility.specs.Clashes.{ClashBy}
+use Rattle.proto_visibility.specs.Clashes.{Before, Item, IsItem, ClashBy}
+use Rattle.proto_visibility.specs.Clashes.IsItem.{declared, packaged}
 use Rattle.proto_visibility.specs.Absences.{IsUnread}
 use Rattle.proto_visibility.specs.Kept.{Omissions, IsKeptFile, IsMet, IsOmission, AreOmissions}
 use Rattle.proto_visibility.proofs.ClashLemmas.{clash_by}

@@ -14,12 +14,11 @@ use Rattle.proto_lex.specs.Lexed.{AreInOrder}
 use Rattle.proto_decl.specs.Names.{package_of}
 use Rattle.proto_decl.specs.Facts.{Facts, AreOfSomeFile, NamesInOrder, PackageInOrder, name_spans, component_spans}
 use Rattle.proto_decl.specs.declared.declaration.Declaration.{Declaration}
-use Rattle.proto_decl.specs.declared.type_use.Component.{Component}
-use Rattle.proto_visibility.specs.declared.place.FilePlace.{FilePlace}
+use Rattle.proto_decl.specs.declared.uses.Component.{Component}
+use Rattle.proto_visibility.specs.declared.files.FilePlace.{FilePlace}
 use Rattle.proto_visibility.specs.Files.{File, HasFacts, HaveOrigins}
-use Rattle.proto_visibility.specs.Items.{Before, Item, IsItem}
-use Rattle.proto_visibility.specs.Items.IsItem.{declared, packaged}
-use Rattle.proto_visibility.specs.Clashes.{NoClash}
+use Rattle.proto_visibility.specs.Clashes.{Before, Item, IsItem, NoClash}
+use Rattle.proto_visibility.specs.Clashes.IsItem.{declared, packaged}
 use Rattle.proto_link.specs.Laws.{IsDeclaredAt, HasPackage}
 use Rattle.basics.proofs.FirstLemmas.{contained}
 use Rattle.proto_visibility.proofs.FileFactLemmas.{one_list_of_facts}

@@ -2,8 +2,8 @@
 use Rattle.std.proofs.Common.{◌≡◌, ℕ, ◌≤◌, Bool, true, false, List, [], ◌∷◌, length, map, get_or, Option, Some, None}
 use Rattle.std.proofs.Common.{MatchOption, Result, Ok, Err, IfOk, refl, ap, sym, ◌∙◌, subst, arith}
 use Rattle.proto_decl.specs.Names.{qualified, dotted}
-use Rattle.proto_decl.specs.declared.type_use.Component.{Component}
-use Rattle.proto_decl.specs.declared.type_use.Use.{Use}
+use Rattle.proto_decl.specs.declared.uses.Component.{Component}
+use Rattle.proto_decl.specs.declared.uses.Use.{Use}
 use Rattle.proto_visibility.specs.Files.{File}
 use Rattle.proto_visibility.specs.Knows.{KnowsAs, is_type, is_aggregate}
 use Rattle.proto_link.specs.Resolves.{Innermost, ResolvesIn, Resolves, words_of}

@@ -13,13 +13,13 @@ use denote.Ref.{Bor}
 use Rattle.proto_decl.specs.Names.{qualified, dotted, components_of, prefix_of}
 use Rattle.proto_decl.specs.Facts.{Facts}
 use Rattle.proto_decl.specs.Laws.{IsEntity, PrefixesAreEntities}
-use Rattle.proto_decl.specs.declared.type_use.Component.{Component}
-use Rattle.proto_decl.specs.declared.type_use.Use.{Use}
+use Rattle.proto_decl.specs.declared.uses.Component.{Component}
+use Rattle.proto_decl.specs.declared.uses.Use.{Use}
 use Rattle.proto_decl.specs.declared.declaration.Declaration.{Declaration}
-use Rattle.proto_visibility.specs.declared.entities.Entity.{Entity}
+use Rattle.proto_visibility.specs.declared.lookup.Entity.{Entity}
 use Rattle.proto_visibility.specs.Files.{File, HasFacts}
 use Rattle.proto_visibility.specs.Sees.{Sees}
-use Rattle.proto_visibility.specs.Knows.{NameKind, Knows, KnowsAs, is_type}
+use Rattle.proto_visibility.specs.Knows.{NameKind, Knows, KnowsAs, is_type, DeclaresName, DeclaresNameAs, SeesGiving}
 use Rattle.proto_visibility.specs.Knows.NameKind.{OfPackage}
 use Rattle.proto_visibility.specs.Knows.Knows.{packaged as known_packaged}
 use Rattle.proto_link.specs.Resolves.{Innermost, ResolvesIn, Resolves}
@@ -28,11 +28,10 @@ use Rattle.proto_link.specs.Resolves.ResolvesIn.{absolute, single, compound}
 use Rattle.proto_link.specs.declared.target.Target.{Target}
 use Rattle.proto_link.specs.Targets.{IsNamed, IsTarget}
 use Rattle.proto_link.specs.Targets.IsNamed.{packaged as named_packaged, declared as named_declared}
-use Rattle.proto_visibility.specs.FileNames.{DeclaresName, DeclaresNameAs, SeesGiving}
-use Rattle.proto_visibility.specs.FileNames.DeclaresName.{declared as gives_declared, packaged as gives_packaged}
-use Rattle.proto_visibility.specs.Entities.{IsEntityOf}
+use Rattle.proto_visibility.specs.Knows.DeclaresName.{declared as gives_declared, packaged as gives_packaged}
+use Rattle.proto_visibility.specs.Knows.{IsEntityOf}
 use Rattle.proto_link.specs.Tables.Parts.{AreEntitiesOf, AreNamed, longer}
-use Rattle.proto_visibility.specs.Entities.IsEntityOf.{packaged, declared}
+use Rattle.proto_visibility.specs.Knows.IsEntityOf.{packaged, declared}
 use Rattle.proto_decl.proofs.CommentTextLemmas.{join_with_byte-push}
 use Rattle.proto_visibility.proofs.SeeingLemmas.{slice_get_prefix}
 use Rattle.proto_visibility.proofs.FileFactLemmas.{one_list_of_facts}

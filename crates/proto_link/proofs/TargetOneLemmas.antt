@@ -8,19 +8,18 @@ use Rattle.proto_lex.specs.declared.span.Span.{Span}
 use Rattle.proto_decl.specs.Names.{components_of}
 use Rattle.proto_decl.specs.Facts.{Facts, AreOfSomeFile, NamesInOrder, ImportsInOrder, PackageInOrder}
 use Rattle.proto_decl.specs.declared.declaration.Declaration.{Declaration}
-use Rattle.proto_decl.specs.declared.imported.Imported.{Imported}
-use Rattle.proto_decl.specs.declared.type_use.Use.{Use}
-use Rattle.proto_visibility.specs.declared.place.FilePlace.{FilePlace}
+use Rattle.proto_decl.specs.declared.imports.Imported.{Imported}
+use Rattle.proto_decl.specs.declared.uses.Use.{Use}
+use Rattle.proto_visibility.specs.declared.files.FilePlace.{FilePlace}
 use Rattle.proto_visibility.specs.declared.fault.LinkFault.{LinkFault}
 use Rattle.proto_visibility.specs.declared.fault.LinkFault.TheVariants as fault
-use Rattle.proto_visibility.specs.declared.entities.Entity.{Entity}
-use Rattle.proto_visibility.specs.declared.entities.Entity.TheVariants.{Declared}
+use Rattle.proto_visibility.specs.declared.lookup.Entity.{Entity}
+use Rattle.proto_visibility.specs.declared.lookup.Entity.TheVariants.{Declared}
 use Rattle.proto_link.specs.declared.target.Target.{Target}
 use Rattle.proto_visibility.specs.Files.{File, HasFacts, HaveOrigins, IsSource}
 use Rattle.proto_visibility.specs.Sees.{Sees, IsReachable}
 use Rattle.proto_visibility.specs.Sees.IsReachable.{seen as counts_seen}
-use Rattle.proto_visibility.specs.Items.{Before, Item, IsItem}
-use Rattle.proto_visibility.specs.Clashes.{Clash, ClashBy, NoClash}
+use Rattle.proto_visibility.specs.Clashes.{Before, Item, IsItem, Clash, ClashBy, NoClash}
 use Rattle.proto_visibility.specs.Absences.{IsNeeded, Absent}
 use Rattle.proto_visibility.specs.Absences.IsNeeded.{of_source, of_included}
 use Rattle.proto_visibility.specs.Knows.{NameKind, Knows}

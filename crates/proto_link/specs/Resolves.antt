@@ -2,7 +2,7 @@
 -- or aggregates, are passed by, and that the innermost aggregate decides, is the profile's).
 use Rattle.std.specs.Prelude.{ℕ, Bool, true, false, List, [], ◌∷◌, map}
 use Rattle.proto_decl.specs.Names.{qualified, dotted, IsAround}
-use Rattle.proto_decl.specs.declared.type_use.Use.{Use}
+use Rattle.proto_decl.specs.declared.uses.Use.{Use}
 use Rattle.proto_visibility.specs.Files.{File}
 use Rattle.proto_visibility.specs.Knows.{NameKind, is_type, is_aggregate, KnowsAs}
 

@@ -3,10 +3,9 @@
 ghost use Rattle.std.specs.Prelude.{List, ℕ, ◌≡◌, ◌<◌, ◌↔◌, IsTrue, IfOk, OnOk, MatchOption, ◌∷◌, map, length};
 ghost use Rattle.std.specs.String.{string_bytes};
 ghost use Rattle.proto_decl.specs.Names.{qualified, dotted};
-ghost use Rattle.proto_visibility.specs.Knows.{KnowsAs, is_type};
+ghost use Rattle.proto_visibility.specs.Knows.{KnowsAs, is_type, admits};
 ghost use Rattle.proto_link.specs.Resolves.{Innermost, Resolves};
 ghost use Rattle.proto_link.specs.Targets.{IsUnresolved};
-ghost use Rattle.proto_visibility.specs.FileNames.{admits};
 ghost use Rattle.proto_link.specs.Tables.Found.{IsSingle, IsCompound};
 
 use proto_decl::{Component, Use, scope_around};

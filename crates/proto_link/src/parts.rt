@@ -4,8 +4,7 @@ ghost use Rattle.std.specs.Prelude.{ℕ, List, ◌≡◌, ◌≤◌, IfOk, OnOk,
 ghost use Rattle.proto_decl.specs.Names.{components_of};
 ghost use denote.Ref.{Bor};
 ghost use Rattle.std.specs.String.{string_bytes};
-ghost use Rattle.proto_visibility.specs.Knows.{is_type};
-ghost use Rattle.proto_visibility.specs.FileNames.{DeclaresNameAs};
+ghost use Rattle.proto_visibility.specs.Knows.{is_type, DeclaresNameAs};
 ghost use Rattle.proto_visibility.specs.Files.{HasFacts};
 ghost use Rattle.proto_link.specs.Tables.Parts.{AreEntitiesOf, longer};
 

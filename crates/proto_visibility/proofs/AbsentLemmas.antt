@@ -16,18 +16,18 @@ use Rattle.basics.proofs.ListLemmas.{only}
 use Rattle.proto_lex.specs.declared.span.Span.{Span}
 use Rattle.proto_lex.specs.Lexed.{AreInOrder}
 use Rattle.proto_decl.specs.Facts.{Facts, ImportsInOrder}
-use Rattle.proto_decl.specs.declared.imported.Imported.{Imported}
-use Rattle.proto_visibility.specs.declared.place.FilePlace.{FilePlace}
+use Rattle.proto_decl.specs.declared.imports.Imported.{Imported}
+use Rattle.proto_visibility.specs.declared.files.FilePlace.{FilePlace}
 use Rattle.proto_visibility.specs.Files.{File, HasFacts, HasPath, is_public, HasPathAt}
 use Rattle.proto_visibility.specs.Sees.{IsReachable}
 use Rattle.proto_visibility.specs.Sees.IsReachable.{seen}
 use Rattle.proto_visibility.specs.Sees.SeesBy.{itself}
-use Rattle.proto_visibility.specs.Items.{Before}
+use Rattle.proto_visibility.specs.Clashes.{Before}
 use Rattle.proto_visibility.specs.Absences.{IsNeeded, IsMissing, Absent, NoAbsent, AreMissing}
 use Rattle.proto_visibility.specs.Absences.IsNeeded.{of_source, of_included}
 use Rattle.proto_visibility.specs.Tables.ImportTables.{imports_in, imports_of, is_absent, absent_at, absents_of}
 use Rattle.proto_visibility.specs.Tables.ImportTables.{absents_at, NoneIsAbsent, IsFirstAbsent}
-use Rattle.proto_visibility.proofs.FileRowLemmas.{not_falling}
+use Rattle.proto_visibility.proofs.RowRisingLemmas.{not_falling}
 use Rattle.basics.proofs.FirstLemmas.{contained, take_next, at_contained}
 
 -- ---- imports in order

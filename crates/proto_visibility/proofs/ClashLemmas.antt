@@ -7,11 +7,10 @@ use Rattle.std.specs.HashMap.{HashMap}
 use Rattle.std.proofs.lemmas.Bool.{cases_lt, cases_order, cases_Bool, false≢true, cond-true, cond-false, or_parts}
 use Rattle.std.proofs.lemmas.Option.{slice_get_within, same_Some}
 use Rattle.std.proofs.lemmas.Slice.Eq.{bytes_eq-Decides}
-use Rattle.proto_visibility.specs.declared.place.FilePlace.{FilePlace}
-use Rattle.proto_visibility.specs.Items.{Before, Item}
-use Rattle.proto_visibility.specs.Clashes.{Excludes, ClashBy, NoClashBy}
-use Rattle.proto_visibility.specs.Tables.NameTables.{AreInPlace, HasNone, IsFirstNamed, AreFirst, place_if_declared}
-use Rattle.proto_visibility.specs.Tables.NameTables.{clash_with, index_in}
+use Rattle.proto_visibility.specs.declared.files.FilePlace.{FilePlace}
+use Rattle.proto_visibility.specs.Clashes.{Before, Item, Excludes, ClashBy, NoClashBy}
+use Rattle.proto_visibility.specs.Tables.ClashTables.{AreInPlace, HasNone, IsFirstNamed, AreFirst, place_if_declared}
+use Rattle.proto_visibility.specs.Tables.ClashTables.{clash_with, index_in}
 use Rattle.basics.proofs.FirstLemmas.{contained_at, contained}
 
 -- ---- places

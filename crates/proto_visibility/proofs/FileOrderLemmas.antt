@@ -8,13 +8,13 @@ use Rattle.std.proofs.lemmas.Option.{slice_get_within, slice_get-get_or, get_or_
 use Rattle.std.proofs.lemmas.List.{length-set, get_or-set_same, get_or-set_other, take_more}
 use Rattle.std.proofs.lemmas.List.Elements.{filter_map-append}
 use Rattle.std.proofs.lemmas.Map.Keys.{apart_from_distinct}
-use Rattle.proto_visibility.specs.declared.runs.Run.{Run}
+use Rattle.proto_visibility.specs.declared.rows.Run.{Run}
 use Rattle.proto_visibility.specs.Tables.Rows.{numbers_in, IsIn, files_at, AreRanks}
-use Rattle.proto_visibility.proofs.FileRowLemmas.{same_numbers}
+use Rattle.proto_visibility.proofs.RowRisingLemmas.{same_numbers}
 use Rattle.proto_visibility.proofs.ImportTableLemmas.{kept_from, kept_if}
 use Rattle.proto_visibility.specs.Tables.Visits.{visit}
 use Rattle.proto_visibility.proofs.SeeingLemmas.{visits_keep}
-use Rattle.proto_visibility.proofs.RunLemmas.{in_runs_from, in_runs_if}
+use Rattle.proto_visibility.proofs.RowRunLemmas.{in_runs_from, in_runs_if}
 
 -- ---- a walk that finds all files
 

@@ -16,7 +16,7 @@ use Rattle.std.proofs.lemmas.List.Elements.{filter_map-append}
 use Rattle.basics.proofs.ListLemmas.{in_front, only}
 use Rattle.proto_visibility.proofs.SeeingLemmas.{slice_get_prefix}
 use Rattle.proto_decl.specs.Facts.{Facts}
-use Rattle.proto_decl.specs.declared.imported.Imported.{Imported}
+use Rattle.proto_decl.specs.declared.imports.Imported.{Imported}
 use Rattle.proto_visibility.specs.declared.import_table.Steps.{Steps}
 use Rattle.proto_visibility.specs.Files.{File, Imports, HaveOwnPaths, is_public, HasPathAt}
 use Rattle.proto_visibility.specs.Tables.ImportTables.{targets, HasStep, AreWithin, IsTableOf, number_in, AreNumbered}

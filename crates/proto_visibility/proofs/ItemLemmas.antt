@@ -18,14 +18,14 @@ use Rattle.proto_lex.specs.declared.span.Span.{Span}
 use Rattle.proto_lex.specs.Lexed.{AreInOrder}
 use Rattle.proto_decl.specs.Names.{dotted, package_of}
 use Rattle.proto_decl.specs.Facts.{Facts, PackageInOrder, component_spans, name_spans}
-use Rattle.proto_decl.specs.declared.type_use.Component.{Component}
+use Rattle.proto_decl.specs.declared.uses.Component.{Component}
 use Rattle.proto_decl.specs.declared.declaration.Declaration.{Declaration}
 use Rattle.proto_decl.proofs.CommentTextLemmas.{join_with_byte-push}
-use Rattle.proto_visibility.specs.Items.{Item}
-use Rattle.proto_visibility.specs.Tables.NameTables.{AreInPlace}
+use Rattle.proto_visibility.specs.Clashes.{Item}
+use Rattle.proto_visibility.specs.Tables.ClashTables.{AreInPlace}
 use Rattle.proto_visibility.specs.Tables.FileItems.{declared_item, packaged_item, IsPackaged, IsItemOf, starts_of}
 use Rattle.proto_visibility.specs.Tables.FileItems.{AreOfFile, AreWithPackage}
-use Rattle.proto_visibility.proofs.FileRowLemmas.{flips}
+use Rattle.proto_visibility.proofs.RowRisingLemmas.{flips}
 use Rattle.proto_visibility.proofs.SeeingLemmas.{slice_get_prefix}
 
 -- ---- prefixes

@@ -12,9 +12,8 @@ use Rattle.proto_visibility.specs.Sees.{LeadsTo, Sees, IsReachable}
 use Rattle.proto_visibility.specs.Sees.LeadsTo.{at_once, through}
 use Rattle.proto_visibility.specs.Sees.SeesBy.{itself, import}
 use Rattle.proto_visibility.specs.Sees.IsReachable.{seen}
-use Rattle.proto_visibility.specs.Items.{Before, Item, IsItem}
-use Rattle.proto_visibility.specs.Items.IsItem.{declared, packaged}
-use Rattle.proto_visibility.specs.Clashes.{Excludes, NoClash}
+use Rattle.proto_visibility.specs.Clashes.{Before, Item, IsItem, Excludes, NoClash}
+use Rattle.proto_visibility.specs.Clashes.IsItem.{declared, packaged}
 use Rattle.proto_visibility.specs.Absences.{NoneBroken}
 use Rattle.proto_visibility.specs.Kept.{Omissions, IsKeptFile, IsMet, IsOmission, AreOmissions, kept_of}
 use Rattle.proto_visibility.specs.Kept.{number_among_all}

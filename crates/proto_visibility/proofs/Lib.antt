@@ -1,43 +1,43 @@
 -- Each file is named after the spec or source that it serves.
 -- The first import that isn't there
 pub mod AbsentLemmas
--- The items of all reachable files, in order of place
-pub mod AllItemsLemmas
+-- Names that can't clash, since the numbers of them differ
+pub mod ClashDifferingLemmas
 -- The first clash of names, over items in order of place
 pub mod ClashLemmas
--- Names that can't clash, since the numbers of them differ
-pub mod DifferingLemmas
--- What a full name names in one file
-pub mod EntityLemmas
 -- The facts of the file with a number
 pub mod FileFactLemmas
 -- An order of files, and rows of places in it
 pub mod FileOrderLemmas
--- Rows of numbers that rise, and binary search in them
-pub mod FileRowLemmas
+-- The facts of files are those of texts
+pub mod FileOriginLemmas
 -- Steps by the numbers of paths are imports
 pub mod ImportTableLemmas
+-- The items of all reachable files, in order of place
+pub mod ItemAllLemmas
 -- The items of one file, in order of place
 pub mod ItemLemmas
 -- The laws of what is kept
 pub mod KeptLemmas
 -- Why files can't be linked, for functions that refuse them
 pub mod LinkedRefusalRules
+-- What a full name names in one file
+pub mod LookupEntityLemmas
+-- The names that a file knows
+pub mod LookupKnownLemmas
 -- The files that give a name, by the tables
-pub mod ListedNameLemmas
+pub mod LookupListedLemmas
 -- Tables of the names that files give
 pub mod NameLemmas
--- The names that a file knows
-pub mod NameOwnerLemmas
--- The facts of files are those of texts
-pub mod OriginLemmas
 -- The pass over items that leaves out the files with a clash, and the files without facts
 pub mod PassLemmas
--- Which files are reachable, by one search from all sources
-pub mod ReachableLemmas
+-- Rows of numbers that rise, and binary search in them
+pub mod RowRisingLemmas
 -- Runs of numbers
-pub mod RunLemmas
+pub mod RowRunLemmas
 -- The marks of a search over files
 pub mod SearchLemmas
 -- A search along the steps of a table finds what a file sees
 pub mod SeeingLemmas
+-- Which files are reachable, by one search from all sources
+pub mod SeeingReachableLemmas

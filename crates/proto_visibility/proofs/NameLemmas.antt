@@ -16,10 +16,9 @@ use Rattle.proto_decl.specs.Facts.{Facts}
 use Rattle.proto_decl.specs.declared.declaration.Declaration.{Declaration}
 use Rattle.proto_visibility.specs.declared.names.DeclaredAt.{DeclaredAt}
 use Rattle.proto_visibility.specs.Files.{File}
-use Rattle.proto_visibility.specs.Knows.{is_aggregate}
+use Rattle.proto_visibility.specs.Knows.{is_aggregate, IsPrefix}
 use Rattle.proto_visibility.specs.Knows.NameKind.{OfDeclaration}
 use Rattle.proto_visibility.specs.Tables.FileItems.{ArePrefixes, AreAllPrefixes, package_name_of, package_name_in}
-use Rattle.proto_visibility.specs.FileNames.{IsPrefix}
 use Rattle.proto_visibility.specs.Tables.GivenNames.{IsDeclaredOf, IsDeclaredIn, IsDeclaredBy, ArePackaged, HasPrefix}
 use Rattle.proto_visibility.specs.Tables.GivenNames.{HasPrefixAt}
 use Rattle.basics.proofs.FirstLemmas.{contained, contained_at}

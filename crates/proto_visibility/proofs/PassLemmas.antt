@@ -9,16 +9,15 @@ use Rattle.std.specs.HashMap.{HashMap}
 use Rattle.std.proofs.lemmas.Bool.{cases_lt, cases_order, cases_Bool, false≢true, cond-true, cond-false, or_parts}
 use Rattle.std.proofs.lemmas.Option.{slice_get_within, slice_get-get_or, same_Some}
 use Rattle.std.proofs.lemmas.Slice.Eq.{bytes_eq-Decides}
-use Rattle.proto_visibility.specs.declared.place.FilePlace.{FilePlace}
+use Rattle.proto_visibility.specs.declared.files.FilePlace.{FilePlace}
 use Rattle.proto_visibility.specs.declared.omissions.FileOmission.{FileOmission}
 use Rattle.proto_visibility.specs.declared.omissions.FileOmission.TheVariants.{Broken, Duplicate}
 use Rattle.proto_visibility.specs.Files.{File}
 use Rattle.proto_visibility.specs.Sees.{IsReachable}
-use Rattle.proto_visibility.specs.Items.{Before, Item, IsItem}
-use Rattle.proto_visibility.specs.Clashes.{ClashBy}
+use Rattle.proto_visibility.specs.Clashes.{Before, Item, IsItem, ClashBy}
 use Rattle.proto_visibility.specs.Absences.{IsUnread}
 use Rattle.proto_visibility.specs.Kept.{Omissions, IsKeptFile, IsMet, IsOmission, AreOmissions}
-use Rattle.proto_visibility.specs.Tables.NameTables.{AreInPlace, clash_with, index_in}
+use Rattle.proto_visibility.specs.Tables.ClashTables.{AreInPlace, clash_with, index_in}
 use Rattle.proto_visibility.specs.Tables.Passes.{AreUnreadOf, IsOutByClash, IsClashOmission, AreClashesOmitted, IsOpen}
 use Rattle.proto_visibility.specs.Tables.Passes.{IsOpenAt, IsTold, ArePassed}
 use Rattle.proto_visibility.specs.Tables.Passes.IsOutByClash.{by_clash}

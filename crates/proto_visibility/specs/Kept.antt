@@ -4,8 +4,7 @@ use Rattle.std.specs.List.{slice_get}
 use Rattle.proto_visibility.specs.declared.omissions.FileOmission.{FileOmission}
 use Rattle.proto_visibility.specs.declared.omissions.FileOmission.TheVariants.{Broken, Duplicate}
 use Rattle.proto_visibility.specs.Files.{File, HaveOwnPaths}
-use Rattle.proto_visibility.specs.Items.{Item, IsItem}
-use Rattle.proto_visibility.specs.Clashes.{ClashBy, NoClashBy}
+use Rattle.proto_visibility.specs.Clashes.{Item, IsItem, ClashBy, NoClashBy}
 use Rattle.proto_visibility.specs.Absences.{IsUnread}
 use Rattle.proto_visibility.specs.Linked.{HaveClearNames}
 

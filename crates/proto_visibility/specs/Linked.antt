@@ -4,7 +4,7 @@ use Rattle.std.specs.HashMap.{HashMap}
 use denote.Ref.{Bor}
 use Rattle.proto_visibility.specs.declared.fault.LinkFault.{LinkFault}
 use Rattle.proto_visibility.specs.declared.fault.LinkFault.TheVariants.{Broken, Duplicate, MissingImport, Memory}
-use Rattle.proto_visibility.specs.declared.place.FilePlace.{FilePlace}
+use Rattle.proto_visibility.specs.declared.files.FilePlace.{FilePlace}
 use Rattle.proto_visibility.specs.Files.{File, Imports, HaveOrigins}
 use Rattle.proto_visibility.specs.Clashes.{Clash, NoClash}
 use Rattle.proto_visibility.specs.Absences as absences

@@ -17,10 +17,8 @@ ghost use Rattle.proto_visibility.specs.Tables.ImportTables.{
   IsFirstAbsent,
 };
 
-use crate::file_row::FileRow;
-use crate::link_file::LinkFile;
-use crate::origins::have_origins;
-use crate::place::FilePlace;
+use crate::files::{FilePlace, LinkFile, have_origins};
+use crate::rows::FileRow;
 use proto_decl::{Imported, facts_in_order};
 use proto_lex::Span;
 use proto_parse::ImportKind;

@@ -1,6 +1,6 @@
 //! Why files can't be linked.
 
-use crate::place::FilePlace;
+use crate::files::FilePlace;
 use std::alloc::AllocError;
 use thiserror::Error;
 

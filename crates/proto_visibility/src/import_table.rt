@@ -22,7 +22,7 @@ ghost use Rattle.std.specs.Str.{bytes_eq};
 ghost use Rattle.proto_visibility.specs.Files.{HaveOwnPaths, is_public};
 ghost use Rattle.proto_visibility.specs.Tables.ImportTables.{IsTableOf, AreNumbered, imports_of, number_in, target};
 
-use crate::link_file::LinkFile;
+use crate::files::LinkFile;
 use proto_decl::Imported;
 use proto_parse::ImportKind;
 use std::alloc::{AllocError, Global};

@@ -20,16 +20,15 @@ ghost use Rattle.proto_visibility.specs.declared.omissions.FileOmission.TheVaria
 ghost use Rattle.proto_visibility.specs.Files.{HaveOwnPaths};
 ghost use Rattle.proto_visibility.specs.Sees.{IsReachable};
 ghost use Rattle.proto_visibility.specs.Kept.{Omissions, IsKeptFile, AreOmissions};
-ghost use Rattle.proto_visibility.specs.Tables.NameTables.{AreInPlace, clash_with, index_in};
+ghost use Rattle.proto_visibility.specs.Tables.ClashTables.{AreInPlace, clash_with, index_in};
 ghost use Rattle.proto_visibility.specs.Tables.Passes.{AreUnreadOf, AreClashesOmitted, ArePassed, IsOpenAt};
 
-use crate::all_items::{all_items, all_prefixes};
 use crate::clash::{Item, clash_with};
-use crate::file_row::FileRow;
+use crate::files::{FilePlace, LinkFile};
 use crate::import_table::{numbers_of, steps_of};
-use crate::link_file::LinkFile;
-use crate::place::FilePlace;
-use crate::reachable::reachable_files;
+use crate::items::{all_items, all_prefixes};
+use crate::rows::FileRow;
+use crate::seeing::reachable_files;
 use proto_decl::FullName;
 use std::alloc::{AllocError, Global};
 use std::collections::HashMap;

@@ -9,7 +9,7 @@ use Rattle.proto_lex.specs.declared.fault.LexFault.TheVariants as lexing
 use Rattle.proto_lex.specs.Text.{IsText, IsNoText, max_text_length}
 use Rattle.proto_lex.specs.Faults.{IsFirstFault}
 use Rattle.proto_parse.specs.dialect.Dialect.{Dialect}
-use Rattle.proto_decl.specs.Seen.{Seen}
+use Rattle.proto_decl.specs.Values.{Seen}
 use Rattle.index_hooks.specs.declared.choice.Choice.{Choice}
 use Rattle.source_tree.specs.Files.{TreeFile}
 use Rattle.source_tree.specs.Reading.{kept_bytes, max_kept_length}

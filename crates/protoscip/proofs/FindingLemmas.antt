@@ -1,6 +1,6 @@
 -- Why what is told of a tree can't be had.
 use Rattle.std.proofs.Common.{◌≡◌, ℕ, List, subst}
-use Rattle.proto_decl.specs.Seen.{Seen}
+use Rattle.proto_decl.specs.Values.{Seen}
 use Rattle.index_hooks.specs.declared.choice.Choice.{Choice}
 use Rattle.proto_parse.specs.dialect.Dialect.{Dialect}
 use Rattle.source_tree.specs.Files.{TreeFile}

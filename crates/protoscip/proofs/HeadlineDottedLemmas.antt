@@ -7,8 +7,8 @@ use Rattle.std.proofs.lemmas.List.Elements.{All-nil, All-cons, All-head, All-tai
 use Rattle.std.proofs.lemmas.List.Splits.{slice_split-cons_yes, slice_split-cons_no, slice_split_none, slice_split_at}
 use Rattle.std.proofs.lemmas.List.Splits.{length-slice_split}
 use Rattle.proto_decl.specs.Names.{IsSimple, dotted, components_of}
-use Rattle.proto_decl.specs.Ancestors.{component_names}
-use Rattle.proto_decl.specs.declared.type_use.Component.{Component}
+use Rattle.proto_decl.specs.Laws.{component_names}
+use Rattle.proto_decl.specs.declared.uses.Component.{Component}
 use Rattle.basics.proofs.BoolLemmas.{first_no}
 
 abbrev is_dot : ℕ → Bool

@@ -12,12 +12,12 @@ use Rattle.basics.proofs.ListLemmas.{in_front, behind_it, only, in_nothing}
 use Rattle.proto_lex.specs.declared.position.Encoding.{Encoding}
 use Rattle.proto_decl.specs.Names.{dotted, components_of, prefix_of}
 use Rattle.proto_decl.specs.Facts.{Facts}
-use Rattle.proto_decl.specs.Ancestors.{names_of, component_names, AreHeld}
-use Rattle.proto_decl.specs.declared.imported.Imported.{Imported}
+use Rattle.proto_decl.specs.Laws.{names_of, component_names, AreHeld}
+use Rattle.proto_decl.specs.declared.imports.Imported.{Imported}
 use Rattle.proto_decl.specs.declared.declaration.Declaration.{Declaration}
-use Rattle.proto_decl.specs.declared.type_use.Component.{Component}
-use Rattle.proto_visibility.specs.declared.entities.Entity.{Entity as Part}
-use Rattle.proto_visibility.specs.declared.entities.Entity.TheVariants as link
+use Rattle.proto_decl.specs.declared.uses.Component.{Component}
+use Rattle.proto_visibility.specs.declared.lookup.Entity.{Entity as Part}
+use Rattle.proto_visibility.specs.declared.lookup.Entity.TheVariants as link
 use Rattle.proto_visibility.specs.Clashes.{NoClash}
 use Rattle.proto_visibility.specs.Files.{File, HasFacts, HaveOrigins, HasPath, IsSource}
 use Rattle.proto_visibility.specs.Knows.{NameKind, Knows}

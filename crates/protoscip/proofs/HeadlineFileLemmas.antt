@@ -6,16 +6,16 @@ use Rattle.std.proofs.lemmas.Option.{slice_get_within}
 use Rattle.std.proofs.lemmas.List.{length-map}
 use Rattle.proto_visibility.proofs.KeptLemmas.{file_of as of_item}
 use Rattle.proto_parse.specs.dialect.Dialect.{Dialect}
-use Rattle.proto_decl.specs.Seen.{Seen}
-use Rattle.proto_visibility.specs.declared.place.FilePlace.{FilePlace}
+use Rattle.proto_decl.specs.Values.{Seen}
+use Rattle.proto_visibility.specs.declared.files.FilePlace.{FilePlace}
 use Rattle.proto_visibility.specs.declared.omissions.FileOmission.{FileOmission}
 use Rattle.proto_visibility.specs.declared.omissions.FileOmission.TheVariants as left_for
 use Rattle.proto_visibility.specs.Files.{File}
 use Rattle.proto_visibility.specs.Linked.MayRefuse.{clashing, absent_import}
 use Rattle.proto_visibility.specs.Kept.{Omissions, IsOmission, AreOmissions, kept_of, number_among_all}
-use Rattle.proto_visibility.specs.Items.{Item, IsItem, declared, packaged}
+use Rattle.proto_visibility.specs.Clashes.{Item, IsItem, declared, packaged}
 use Rattle.proto_visibility.specs.Absences.{IsNeeded, of_source, of_included}
-use Rattle.proto_decl.specs.declared.imported.Imported.{Imported}
+use Rattle.proto_decl.specs.declared.imports.Imported.{Imported}
 use Rattle.index_hooks.specs.declared.choice.Choice.{Choice}
 use Rattle.source_tree.specs.Files.{TreeFile}
 use Rattle.scip_build.specs.Builds.{IsBuilt, IsBuildFault}

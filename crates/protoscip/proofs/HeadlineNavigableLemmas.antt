@@ -1,6 +1,6 @@
 -- What is built, written or answered from navigates its tree.
 use Rattle.std.proofs.Common.{ℕ, List, Ok}
-use Rattle.proto_decl.specs.Seen.{Seen}
+use Rattle.proto_decl.specs.Values.{Seen}
 use Rattle.index_hooks.specs.declared.choice.Choice.{Choice}
 use Rattle.source_tree.specs.Files.{TreeFile}
 use Rattle.streams.specs.Readers.{Reader}

@@ -4,7 +4,7 @@ use Rattle.std.proofs.Common.{Err, refl, sym, subst, arith}
 use Rattle.std.specs.List.{All, AllZip}
 use Rattle.std.proofs.lemmas.List.Elements.{All-nil, All-cons}
 use Rattle.std.proofs.Math.Nat.{lt_of_not-le}
-use Rattle.proto_decl.specs.Seen.{Seen}
+use Rattle.proto_decl.specs.Values.{Seen}
 use Rattle.index_hooks.specs.declared.choice.Choice.{Choice}
 use Rattle.source_tree.specs.Files.{TreeFile}
 use Rattle.streams.specs.Writers.{SinkOf, Writer, writing}

@@ -4,7 +4,7 @@ use Rattle.proto_lex.specs.declared.position.Encoding.TheVariants.{Utf8}
 use Rattle.proto_parse.specs.dialect.CustomOptions.TheVariants as custom
 use Rattle.proto_parse.specs.dialect.Dialect.{Dialect}
 use Rattle.proto_parse.specs.dialect.Dialect.TheVariants.{Proto3}
-use Rattle.proto_decl.specs.Seen.{Seen}
+use Rattle.proto_decl.specs.Values.{Seen}
 use Rattle.index_hooks.specs.declared.choice.Choice.{Choice}
 use Rattle.index_hooks.specs.MayChoose.{IsDefaultChoice}
 use Rattle.source_tree.specs.Files.{TreeFile}

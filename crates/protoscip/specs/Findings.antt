@@ -8,7 +8,7 @@ use Rattle.fault_reports.specs.declared.finding.FindingKind.{FindingKind}
 use Rattle.fault_reports.specs.declared.finding.FindingKind.TheVariants as kind
 use Rattle.proto_lex.specs.FaultNames.{lex_offset}
 use Rattle.proto_parse.specs.FaultNames.{syntax_offset}
-use Rattle.proto_visibility.specs.declared.place.FilePlace.{FilePlace}
+use Rattle.proto_visibility.specs.declared.files.FilePlace.{FilePlace}
 use Rattle.scip_build.specs.declared.omission.Omission.{Omission}
 use Rattle.scip_build.specs.declared.omission.Omission.TheVariants as omitted
 use Rattle.source_tree.specs.Files.{TreeFile}

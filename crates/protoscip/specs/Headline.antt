@@ -6,11 +6,11 @@ use Rattle.std.specs.Ordering.{nat_cmp, on, then_cmp}
 use Rattle.std.specs.List.{slice_get}
 use Rattle.proto_lex.specs.declared.position.Encoding.{Encoding}
 use Rattle.proto_decl.specs.Facts.{Facts}
-use Rattle.proto_decl.specs.Seen.{Seen}
+use Rattle.proto_decl.specs.Values.{Seen}
 use Rattle.proto_decl.specs.declared.declaration.Declaration.{Declaration}
-use Rattle.proto_decl.specs.declared.type_use.Component.{Component}
-use Rattle.proto_decl.specs.declared.type_use.Use.{Use}
-use Rattle.proto_visibility.specs.declared.entities.Entity.{Entity as Part}
+use Rattle.proto_decl.specs.declared.uses.Component.{Component}
+use Rattle.proto_decl.specs.declared.uses.Use.{Use}
+use Rattle.proto_visibility.specs.declared.lookup.Entity.{Entity as Part}
 use Rattle.proto_visibility.specs.Files.{File, HasFacts, IsSource}
 use Rattle.proto_visibility.specs.Sees.{IsReachable}
 use Rattle.index_hooks.specs.declared.choice.Choice.{Choice}

@@ -1,6 +1,6 @@
 -- What a session answers, and what it leaves of its reader and its writer.
 use Rattle.std.specs.Prelude.{◌⊎◌, ℕ, List, Result, Ok, Err}
-use Rattle.proto_decl.specs.Seen.{Seen}
+use Rattle.proto_decl.specs.Values.{Seen}
 use Rattle.index_hooks.specs.declared.choice.Choice.{Choice}
 use Rattle.source_tree.specs.Files.{TreeFile}
 use Rattle.streams.specs.Readers.{Reader, IsReadBriefly, IsUnread}

@@ -16,7 +16,7 @@ use Rattle.proto_visibility.specs.Kept.{Omissions, IsOmission, AreOmissions, kep
 use Rattle.proto_visibility.specs.Kept.{NothingIsLeftOutOfGoodFiles}
 use Rattle.proto_visibility.proofs.KeptLemmas.{excludes_as}
 use Rattle.proto_lex.specs.declared.position.Encoding.{Encoding}
-use Rattle.proto_decl.specs.Seen.{Seen}
+use Rattle.proto_decl.specs.Values.{Seen}
 use Rattle.proto_visibility.specs.Sees.IsReachable.{seen}
 use Rattle.proto_visibility.specs.Sees.SeesBy.{itself}
 use Rattle.index_hooks.specs.declared.choice.Choice.{Choice}

@@ -10,18 +10,17 @@ use Rattle.basics.proofs.ListLemmas.{item_at}
 use Rattle.proto_parse.specs.dialect.Dialect.{Dialect}
 use Rattle.proto_lex.specs.declared.span.Span.{Span}
 use Rattle.proto_decl.specs.Facts.{Facts}
-use Rattle.proto_decl.specs.Seen.{Seen}
-use Rattle.proto_decl.specs.declared.type_use.Use.{Use}
+use Rattle.proto_decl.specs.Values.{Seen}
+use Rattle.proto_decl.specs.declared.uses.Use.{Use}
 use Rattle.index_hooks.specs.declared.choice.Choice.{Choice}
 use Rattle.proto_visibility.specs.Files.{File, HaveOrigins}
 use Rattle.proto_link.specs.Laws.{OneRefusal}
 use Rattle.proto_visibility.specs.Linked.{CanBeLinked, MayRefuse}
 use Rattle.proto_visibility.specs.Linked.MayRefuse.{broken_file, clashing, absent_import, lacks_memory}
-use Rattle.proto_visibility.specs.declared.place.FilePlace.{FilePlace}
+use Rattle.proto_visibility.specs.declared.files.FilePlace.{FilePlace}
 use Rattle.proto_visibility.specs.declared.fault.LinkFault.{LinkFault}
 use Rattle.proto_visibility.specs.declared.fault.LinkFault.TheVariants as link
-use Rattle.scip_model.specs.Conditions.{IsResolved, AllResolve, IsFirstUnresolved}
-use Rattle.scip_model.specs.Uses.{UsesResolve}
+use Rattle.scip_model.specs.Conditions.{IsResolved, AllResolve, IsFirstUnresolved, UsesResolve}
 use Rattle.source_tree.specs.Files.{TreeFile}
 use Rattle.scip_build.specs.declared.faulty.Faulty.{Faulty}
 use Rattle.scip_build.specs.declared.faulty.Faulty.TheVariants.{Refuse}

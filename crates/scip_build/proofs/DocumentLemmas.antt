@@ -10,11 +10,10 @@ use Rattle.basics.proofs.FirstLemmas.{contained, at_contained}
 use Rattle.index_pool.specs.Phase.{AnswersEach, IsLeastFault}
 use Rattle.scip_records.specs.declared.records.Document.{Document}
 use Rattle.scip_model.specs.Chosen.{Chosen}
-use Rattle.scip_model.specs.Conditions.{IsFirstUnresolved}
+use Rattle.scip_model.specs.Conditions.{IsFirstUnresolved, UsesResolve}
 use Rattle.scip_model.specs.Indexes.{IsAscendingListOf, IsDocumentOf, HasDocument, HaveDocuments, document_cmp}
-use Rattle.scip_model.specs.Uses.{UsesResolve}
 use Rattle.scip_model.specs.declared.source_document.SourceDocument.{SourceDocument}
-use Rattle.scip_model.proofs.UnresolvedUseLemmas.{all_resolve}
+use Rattle.scip_model.proofs.ConditionUnresolvedLemmas.{all_resolve}
 use Rattle.scip_model.specs.Laws.{OneDocument}
 use Rattle.scip_build.specs.declared.faulty.Faulty.TheVariants.{Refuse}
 use Rattle.scip_build.specs.declared.settings.Settings.{Settings}

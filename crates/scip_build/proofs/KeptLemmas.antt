@@ -4,7 +4,7 @@ use Rattle.std.proofs.Common.{arith}
 use Rattle.std.specs.List.{AllZip, Contains, slice_get, each_same}
 use Rattle.std.proofs.lemmas.Option.{same_Some, none-some}
 use Rattle.proto_lex.specs.declared.span.Span.{Span}
-use Rattle.proto_visibility.specs.declared.place.FilePlace.{FilePlace}
+use Rattle.proto_visibility.specs.declared.files.FilePlace.{FilePlace}
 use Rattle.proto_visibility.specs.Files.{File, IsSource}
 use Rattle.proto_visibility.specs.Linked.{HaveClearNames}
 use Rattle.index_pool.specs.Phase.{AnswersEach, IsLeastFault}

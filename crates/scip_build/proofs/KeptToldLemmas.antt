@@ -11,12 +11,11 @@ use Rattle.std.proofs.lemmas.Map.Lookups.{exact_unsigned}
 use Rattle.std.proofs.lemmas.Option.{same_Some, slice_get_within}
 use Rattle.std.proofs.lemmas.List.Elements.{Contains-append_right, Contains-append_left, Contains-append_cases}
 use Rattle.basics.proofs.ListLemmas.{contains_map, in_nothing}
-use Rattle.proto_visibility.specs.declared.place.FilePlace.{FilePlace}
+use Rattle.proto_visibility.specs.declared.files.FilePlace.{FilePlace}
 use Rattle.proto_visibility.specs.declared.omissions.FileOmission.{FileOmission}
 use Rattle.proto_visibility.specs.declared.omissions.FileOmission.TheVariants as left_for
 use Rattle.proto_visibility.specs.Files as files
-use Rattle.proto_visibility.specs.Items.{IsItem}
-use Rattle.proto_visibility.specs.Clashes.{ClashBy}
+use Rattle.proto_visibility.specs.Clashes.{IsItem, ClashBy}
 use Rattle.proto_visibility.specs.Absences.{IsNeeded, IsMissing, AreMissing}
 use Rattle.proto_visibility.specs.Absences.IsNeeded.{of_source, of_included}
 use Rattle.proto_visibility.specs.Kept.{Omissions, IsMet, IsOmission, AreOmissions, kept_of, number_among_all}

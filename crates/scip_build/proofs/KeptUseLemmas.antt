@@ -5,8 +5,8 @@ use Rattle.std.proofs.lemmas.Option.{same_Some, none-some}
 use Rattle.std.proofs.lemmas.List.{length-map}
 use Rattle.proto_decl.specs.Names.{qualified, dotted}
 use Rattle.proto_decl.specs.Facts.{Facts}
-use Rattle.proto_decl.specs.declared.type_use.Use.{Use}
-use Rattle.proto_visibility.specs.declared.entities.Entity.{Entity}
+use Rattle.proto_decl.specs.declared.uses.Use.{Use}
+use Rattle.proto_visibility.specs.declared.lookup.Entity.{Entity}
 use Rattle.proto_visibility.specs.Files.{File, HasFacts, Imports}
 use Rattle.proto_visibility.specs.Sees.{LeadsTo, Sees}
 use Rattle.proto_visibility.specs.Sees.LeadsTo.{at_once, through}

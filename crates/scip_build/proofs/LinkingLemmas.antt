@@ -7,7 +7,7 @@ use Rattle.basics.proofs.ListLemmas.{item_at}
 use Rattle.proto_visibility.specs.Files.{File}
 use Rattle.proto_visibility.specs.Files as link
 use Rattle.proto_parse.specs.dialect.Dialect.{Dialect}
-use Rattle.proto_decl.specs.Seen.{Seen}
+use Rattle.proto_decl.specs.Values.{Seen}
 use Rattle.index_hooks.specs.declared.choice.Choice.{Choice}
 use Rattle.source_tree.specs.Files.{TreeFile}
 use Rattle.source_tree.specs.Trees.{HaveOwnPaths}

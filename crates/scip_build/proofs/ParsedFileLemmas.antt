@@ -6,7 +6,7 @@ use Rattle.std.specs.Option.{IfSome}
 use Rattle.std.proofs.lemmas.Option.{slice_get_within}
 use Rattle.basics.proofs.ListLemmas.{item_at}
 use Rattle.proto_parse.specs.dialect.Dialect.{Dialect}
-use Rattle.proto_decl.specs.Seen.{Seen}
+use Rattle.proto_decl.specs.Values.{Seen}
 use Rattle.index_hooks.specs.declared.choice.Choice.{Choice}
 use Rattle.index_pool.specs.Phase.{AnswersEach, IsLeastFault}
 use Rattle.scip_build.specs.declared.faulty.Faulty.{Faulty}

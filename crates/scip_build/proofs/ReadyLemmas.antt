@@ -13,7 +13,7 @@ use Rattle.std.proofs.lemmas.Bool.{not-true}
 use Rattle.basics.proofs.ListLemmas.{item_at}
 use Rattle.proto_parse.specs.dialect.Dialect.{Dialect}
 use Rattle.proto_decl.specs.Facts.{Facts, AreFactsOf, AreOfSomeFile}
-use Rattle.proto_decl.specs.Seen.{Seen}
+use Rattle.proto_decl.specs.Values.{Seen}
 use Rattle.proto_decl.specs.declared.declaration.Declaration.{Declaration}
 use Rattle.index_hooks.specs.declared.choice.Choice.{Choice}
 use Rattle.proto_visibility.specs.Files.{File, HasFacts, HaveOrigins, IsSource}
@@ -22,8 +22,7 @@ use Rattle.proto_visibility.specs.Sees.SeesBy.{itself}
 use Rattle.proto_visibility.specs.Linked.{HaveClearNames}
 use Rattle.scip_symbol.specs.Path.{IsGoodPath}
 use Rattle.scip_model.specs.Chosen.{HaveChoices}
-use Rattle.scip_model.specs.Conditions.{HaveGoodPaths}
-use Rattle.scip_model.specs.Texts.{AreOfText, HasText}
+use Rattle.scip_model.specs.Conditions.{HaveGoodPaths, AreOfText, HasText}
 use Rattle.source_tree.specs.Files.{TreeFile, file_cmp}
 use Rattle.source_tree.specs.Trees.{IsTree}
 use Rattle.scip_build.specs.declared.faulty.Faulty.{Faulty}

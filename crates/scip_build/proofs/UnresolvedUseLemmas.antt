@@ -7,14 +7,13 @@ use Rattle.std.proofs.lemmas.List.Elements.{Contains-append_right, Contains-appe
 use Rattle.basics.proofs.ListLemmas.{contains_map, in_front, behind_it, in_nothing}
 use Rattle.proto_lex.specs.declared.span.Span.{Span}
 use Rattle.proto_decl.specs.Facts.{Facts}
-use Rattle.proto_decl.specs.declared.type_use.Use.{Use}
+use Rattle.proto_decl.specs.declared.uses.Use.{Use}
 use Rattle.proto_link.specs.Targets.{IsUnresolved}
-use Rattle.proto_visibility.specs.declared.place.FilePlace.{FilePlace}
+use Rattle.proto_visibility.specs.declared.files.FilePlace.{FilePlace}
 use Rattle.proto_visibility.specs.Files.{File, HasFacts, IsSource}
 use Rattle.proto_visibility.proofs.FileFactLemmas.{one_list_of_facts}
-use Rattle.scip_model.specs.Conditions.{IsResolved}
-use Rattle.scip_model.specs.UnresolvedUses.{ListsUnresolved, AreUnresolvedUses}
-use Rattle.scip_model.specs.UnresolvedUses.ListsUnresolved.{at_end, has, lacks}
+use Rattle.scip_model.specs.Conditions.{IsResolved, ListsUnresolved, AreUnresolvedUses}
+use Rattle.scip_model.specs.Conditions.ListsUnresolved.{at_end, has, lacks}
 use Rattle.scip_build.specs.declared.made.MadeDocument.{MadeDocument}
 use Rattle.scip_build.specs.Documents.{IsUnresolvedAt}
 use Rattle.scip_build.specs.Made.{place_in, unresolved_from}

@@ -1,7 +1,7 @@
 -- What is built from a tree, and why nothing is.
 use Rattle.std.specs.Prelude.{◌≡◌, ◌⊎◌, ◌<◌, ℕ, ⊤, List, map}
 use Rattle.proto_parse.specs.dialect.Dialect.{Dialect}
-use Rattle.proto_decl.specs.Seen.{Seen}
+use Rattle.proto_decl.specs.Values.{Seen}
 use Rattle.index_hooks.specs.declared.choice.Choice.{Choice}
 use Rattle.proto_visibility.specs.Linked.{CanBeLinked, HaveClearNames}
 use Rattle.scip_model.specs.Indexes.{IsIndexOf}

@@ -6,18 +6,16 @@ use Rattle.std.specs.Ordering.{nat_cmp}
 use Rattle.std.specs.Cmp.Lexicographic.{slice_cmp}
 use Rattle.std.specs.List.{slice_get}
 use Rattle.proto_decl.specs.Facts.{Facts}
-use Rattle.proto_decl.specs.declared.type_use.Use.{Use}
+use Rattle.proto_decl.specs.declared.uses.Use.{Use}
 use Rattle.proto_link.specs.Targets.{IsUnresolved}
-use Rattle.proto_visibility.specs.declared.place.FilePlace.{FilePlace}
+use Rattle.proto_visibility.specs.declared.files.FilePlace.{FilePlace}
 use Rattle.proto_visibility.specs.Files.{File, HasFacts, IsSource}
 use Rattle.scip_records.specs.declared.records.Document.{Document}
 use Rattle.scip_model.specs.Chosen.{Chosen, HaveChoices}
-use Rattle.scip_model.specs.Conditions.{HaveGoodPaths, IsResolved, AllResolve, IsFirstUnresolved}
-use Rattle.scip_model.specs.Uses.{UsesResolve}
-use Rattle.scip_model.specs.Texts.{HasText}
+use Rattle.scip_model.specs.Conditions.{HaveGoodPaths, IsResolved, AllResolve, IsFirstUnresolved, UsesResolve, HasText}
 use Rattle.scip_model.specs.Indexes.{IsAscendingListOf, IsDocumentOf, document_cmp, HasDocument, HaveDocuments}
 use Rattle.scip_build.specs.declared.settings.Settings.{Settings}
-use Rattle.scip_model.specs.UnresolvedUses.{AreUnresolvedUses}
+use Rattle.scip_model.specs.Conditions.{AreUnresolvedUses}
 use Rattle.scip_model.specs.declared.source_document.SourceDocument.{SourceDocument}
 use Rattle.scip_build.specs.declared.faulty.Faulty.{Faulty}
 use Rattle.scip_build.specs.declared.faulty.Faulty.TheVariants.{Refuse}

@@ -1,8 +1,8 @@
 -- An index in a form: what is kept of its documents. `Is document out` says that this is kept of a document.
 use Rattle.std.specs.Prelude.{◌≡◌, ℕ, List, map, Result, MatchResult}
 use Rattle.std.specs.List.{AllZip}
-use Rattle.proto_decl.specs.Seen.{Seen}
-use Rattle.proto_visibility.specs.declared.place.FilePlace.{FilePlace}
+use Rattle.proto_decl.specs.Values.{Seen}
+use Rattle.proto_visibility.specs.declared.files.FilePlace.{FilePlace}
 use Rattle.proto_visibility.specs.Files.{File}
 use Rattle.proto_visibility.specs.Linked.{HaveClearNames, CanBeLinked}
 use Rattle.index_hooks.specs.declared.choice.Choice.{Choice}

@@ -3,7 +3,7 @@ use Rattle.std.specs.Prelude.{◌≡◌, ◌↔◌, ℕ, Bool, true, false, Opti
 use Rattle.std.specs.declared.cmp.Ordering.{Ordering}
 use Rattle.std.specs.Ordering.{nat_cmp, bool_cmp, on, ordering_then}
 use Rattle.std.specs.List.{slice_get}
-use Rattle.proto_visibility.specs.declared.place.FilePlace.{FilePlace}
+use Rattle.proto_visibility.specs.declared.files.FilePlace.{FilePlace}
 use Rattle.proto_visibility.specs.declared.omissions.FileOmission.{FileOmission}
 use Rattle.proto_visibility.specs.declared.omissions.FileOmission.TheVariants as left_for
 use Rattle.proto_visibility.specs.Absences.{IsMissing}

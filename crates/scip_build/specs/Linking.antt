@@ -3,7 +3,7 @@ use Rattle.std.specs.Prelude.{◌≡◌, ℕ, Option, Some, None, Result, Ok, Er
 use Rattle.std.specs.List.{slice_get}
 use Rattle.proto_decl.specs.Facts.{Facts}
 use Rattle.proto_visibility.specs.declared.fault.LinkFault.TheVariants as link
-use Rattle.proto_visibility.specs.declared.place.FilePlace.{FilePlace}
+use Rattle.proto_visibility.specs.declared.files.FilePlace.{FilePlace}
 use Rattle.proto_visibility.specs.Files.{File}
 use Rattle.proto_visibility.specs.Absences.{Broken}
 use Rattle.proto_visibility.specs.Linked.{CanBeLinked, MayRefuse}

@@ -1,7 +1,7 @@
 -- What was made of the sources, apart.
 use Rattle.std.specs.Prelude.{ℕ, ◌+◌, List, [], ◌∷◌, ◌++◌, map}
 use Rattle.proto_lex.specs.declared.span.Span.{Span}
-use Rattle.proto_visibility.specs.declared.place.FilePlace.{FilePlace}
+use Rattle.proto_visibility.specs.declared.files.FilePlace.{FilePlace}
 use Rattle.scip_build.specs.declared.made.MadeDocument.{MadeDocument}
 
 abbrev pub place_in : (file : ℕ) → Span → FilePlace

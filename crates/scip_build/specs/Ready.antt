@@ -10,7 +10,7 @@ use Rattle.index_hooks.specs.declared.choice.Choice.{Choice}
 use Rattle.index_pool.specs.declared.workers.TheConstants.{MAX_INPUTS}
 use Rattle.proto_visibility.specs.Files as link
 use Rattle.scip_symbol.specs.Path.{IsGoodPath}
-use Rattle.scip_model.specs.Texts.{AreOfText}
+use Rattle.scip_model.specs.Conditions.{AreOfText}
 use Rattle.scip_build.specs.declared.fault.FileFault.{FileFault}
 use Rattle.scip_build.specs.Files.{FileContents, ReadFile}
 use Rattle.scip_build.specs.Linking.{linked_files}

@@ -5,10 +5,9 @@ use Rattle.std.specs.Prelude.{ℕ, List, Result}
 use Rattle.proto_visibility.specs.Files.{IsSource}
 use Rattle.scip_records.specs.declared.records.Document.{Document}
 use Rattle.scip_model.specs.Chosen.{HaveChoices}
-use Rattle.scip_model.specs.Conditions.{HaveGoodPaths}
-use Rattle.scip_model.specs.Texts.{HasText}
+use Rattle.scip_model.specs.Conditions.{HaveGoodPaths, HasText}
 use Rattle.scip_model.specs.declared.source_document.SourceDocument.{SourceDocument}
-use Rattle.proto_visibility.specs.declared.place.FilePlace.{FilePlace}
+use Rattle.proto_visibility.specs.declared.files.FilePlace.{FilePlace}
 use Rattle.scip_build.specs.Documents.{AreReady, GivesDocument, HasReadText, IsRead, MayRefuseDocuments, SourceWork}
 use Rattle.scip_build.specs.Forms.{AreMade, IsMadeInForm}
 use Rattle.scip_build.specs.declared.fault.BuildFault.{BuildFault}

@@ -11,13 +11,12 @@ use Rattle.basics.proofs.ListLemmas.{item_at}
 use Rattle.proto_lex.specs.Lexed.{IsPart}
 use Rattle.proto_decl.specs.Facts.{Facts, component_spans, use_spans}
 use Rattle.proto_decl.specs.Laws.{StandInText, FactsStandInText}
-use Rattle.proto_decl.specs.declared.type_use.Component.{Component}
-use Rattle.proto_decl.specs.declared.type_use.Use.{Use}
+use Rattle.proto_decl.specs.declared.uses.Component.{Component}
+use Rattle.proto_decl.specs.declared.uses.Use.{Use}
 use Rattle.scip_symbol.specs.Path.{IsGoodPath}
 use Rattle.proto_visibility.specs.Files.{File, HasFacts, HasPath}
 use Rattle.scip_model.specs.Chosen.{Chosen, HasChoice, HaveChoices}
-use Rattle.scip_model.specs.Conditions.{HaveGoodPaths}
-use Rattle.scip_model.specs.Texts.{AreOfText}
+use Rattle.scip_model.specs.Conditions.{HaveGoodPaths, AreOfText}
 use Rattle.scip_records.specs.declared.records.Occurrence.{Occurrence}
 use Rattle.scip_model.specs.OccurrenceOrder.{occurrence_cmp}
 use Rattle.scip_model.specs.Tables.Listing.{has_path}

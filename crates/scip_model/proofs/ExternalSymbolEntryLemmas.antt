@@ -19,8 +19,8 @@ use Rattle.proto_visibility.specs.Clashes.{NoClash}
 use Rattle.proto_link.specs.Laws.{OneDeclarationAName}
 use Rattle.proto_link.specs.Targets.{IsNamed}
 use Rattle.proto_link.specs.Targets.IsNamed.{packaged, declared}
-use Rattle.proto_visibility.specs.declared.entities.Entity.{Entity}
-use Rattle.proto_visibility.specs.declared.entities.Entity.TheVariants as link
+use Rattle.proto_visibility.specs.declared.lookup.Entity.{Entity}
+use Rattle.proto_visibility.specs.declared.lookup.Entity.TheVariants as link
 use Rattle.proto_visibility.proofs.FileFactLemmas.{one_list_of_facts}
 use Rattle.basics.proofs.FirstLemmas.{contained, contained_at}
 use Rattle.scip_records.specs.declared.records.SymbolInformation.{SymbolInformation}

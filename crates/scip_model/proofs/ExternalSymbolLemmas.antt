@@ -5,17 +5,17 @@ use Rattle.std.specs.List.{slice_get, All}
 use Rattle.std.proofs.lemmas.Bool.{cases_lt}
 use Rattle.std.proofs.lemmas.Option.{same_Some, slice_get-get_or, slice_get_within}
 use Rattle.proto_decl.specs.Facts.{Facts}
-use Rattle.proto_decl.specs.declared.type_use.Use.{Use}
+use Rattle.proto_decl.specs.declared.uses.Use.{Use}
 use Rattle.proto_visibility.specs.Files.{File, HasFacts, IsSource, HaveOrigins}
 use Rattle.proto_visibility.specs.Clashes.{NoClash}
 use Rattle.proto_link.specs.Laws.{OneTargetAUse}
 use Rattle.proto_link.specs.Targets.{IsNamed, IsTarget}
 use Rattle.proto_link.specs.Targets.IsNamed.{packaged, declared}
-use Rattle.proto_visibility.specs.declared.entities.Entity.{Entity}
+use Rattle.proto_visibility.specs.declared.lookup.Entity.{Entity}
 use Rattle.proto_link.specs.declared.target.Target.{Target}
 use Rattle.proto_visibility.proofs.FileFactLemmas.{one_list_of_facts}
 use Rattle.scip_model.specs.Chosen.{Chosen, HaveChoices}
-use Rattle.scip_model.specs.UnresolvedUses.{IsFound}
+use Rattle.scip_model.specs.Conditions.{IsFound}
 use Rattle.scip_model.specs.Tables.Listing.{parts_of}
 use Rattle.scip_model.specs.Tables.ExternalLists.{Pair, Adds, FromFront, IsKnownPart, IsOfPart, IsOfUse, IsOfSource}
 use Rattle.scip_model.specs.Tables.ExternalLists.{IsExternal}

@@ -3,6 +3,8 @@
 pub mod ConditionLemmas
 -- Sources of files that can be linked: they count, and have facts
 pub mod ConditionLinkedLemmas
+-- The uses of a source that name no type, and what follows where there are none
+pub mod ConditionUnresolvedLemmas
 -- The lists of entries: what they have
 pub mod EntryLemmas
 -- Entries that have numbers
@@ -17,8 +19,6 @@ pub mod ExternalSymbolLemmas
 pub mod ExternalSymbolPairLemmas
 -- The ascending list of a set: what a sort leaves of elements that differ
 pub mod IndexSortLemmas
--- Texts in one, one behind the other
-pub mod JoinedTextLemmas
 -- Of a source's facts: its lists of occurrences ascend, and merged they are the list of what occurs
 pub mod ListingDocumentLemmas
 -- The lists that make up a document's occurrences have what they give, and ascend
@@ -39,6 +39,8 @@ pub mod OccurTieLemmas
 pub mod OccurrenceOrderLemmas
 -- The lists that a document's occurrences are made of have just what occurs
 pub mod OccursLemmas
+-- Texts in one, one behind the other
+pub mod OwnTextJoinedLemmas
 -- The texts of the symbols of a file's own declarations
 pub mod OwnTextLemmas
 -- The packages of files, and symbols in several packages
@@ -54,8 +56,6 @@ pub mod PieceRefusalLemmas
 -- Texts with numbers, and what is planned by them
 pub mod PlanLemmas
 -- The order of texts in two parts
-pub mod SymbolOrderPartLemmas
+pub mod SymbolTableOrderLemmas
 -- Lists that go side by side, and what is found by the linker's answer
 pub mod TargetLemmas
--- The uses of a source that name no type, and what follows where there are none
-pub mod UnresolvedUseLemmas

@@ -14,19 +14,19 @@ use Rattle.scip_records.specs.declared.records.Occurrence.{Occurrence}
 use Rattle.proto_decl.specs.Facts.{Facts, PackageInOrder, NamesInOrder, UsesInOrder, ImportsInOrder, component_spans}
 use Rattle.proto_decl.specs.Facts.{name_spans, use_spans}
 use Rattle.proto_decl.specs.Laws.{StandInText}
-use Rattle.proto_decl.specs.declared.imported.Imported.{Imported}
+use Rattle.proto_decl.specs.declared.imports.Imported.{Imported}
 use Rattle.proto_decl.specs.declared.declaration.Declaration.{Declaration}
-use Rattle.proto_decl.specs.declared.type_use.Component.{Component}
-use Rattle.proto_decl.specs.declared.type_use.Use.{Use}
+use Rattle.proto_decl.specs.declared.uses.Component.{Component}
+use Rattle.proto_decl.specs.declared.uses.Use.{Use}
 use Rattle.scip_symbol.specs.Entities as symbols
 use Rattle.scip_symbol.specs.Package.{Package}
 use Rattle.proto_visibility.specs.Files.{File, HasFacts}
 use Rattle.proto_link.specs.Targets.{IsTarget}
 use Rattle.proto_link.specs.declared.target.Target.{Target}
-use Rattle.proto_visibility.specs.declared.entities.Entity.{Entity}
+use Rattle.proto_visibility.specs.declared.lookup.Entity.{Entity}
 use Rattle.scip_model.specs.Packages.{Packages, package_of_file, package_of_part}
 use Rattle.scip_model.specs.Chosen.{Chosen}
-use Rattle.scip_model.specs.UnresolvedUses.{IsFound}
+use Rattle.scip_model.specs.Conditions.{IsFound}
 use Rattle.scip_model.specs.Occurs.{Occurs}
 use Rattle.scip_model.specs.Indexes.{IsAscendingListOf}
 use Rattle.scip_model.specs.OccurrenceOrder.{occurrence_cmp}

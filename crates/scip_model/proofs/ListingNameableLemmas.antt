@@ -15,13 +15,13 @@ use Rattle.proto_lex.specs.declared.token.TokenKind.TheVariants.{Identifier}
 use Rattle.proto_lex.proofs.PieceFound.{sign_cases}
 use Rattle.proto_decl.specs.Names.{qualified, dotted, components_of}
 use Rattle.proto_decl.specs.Facts.{Facts, AreOfSomeFile}
-use Rattle.proto_decl.specs.Ancestors.{scoped, names_of, component_names}
-use Rattle.proto_decl.specs.declared.kind.DeclarationKind.{DeclarationKind}
-use Rattle.proto_decl.specs.declared.kind.DeclarationKind.TheVariants.{Message, Enum, Service, Field, Oneof, Value}
-use Rattle.proto_decl.specs.declared.kind.DeclarationKind.TheVariants.{Method}
+use Rattle.proto_decl.specs.Laws.{scoped, names_of, component_names}
+use Rattle.proto_decl.specs.declared.declaration.DeclarationKind.{DeclarationKind}
+use Rattle.proto_decl.specs.declared.declaration.DeclarationKind.TheVariants.{Message, Enum, Service, Field, Oneof, Value}
+use Rattle.proto_decl.specs.declared.declaration.DeclarationKind.TheVariants.{Method}
 use Rattle.proto_decl.specs.declared.declaration.DeclarationStep.{DeclarationStep}
 use Rattle.proto_decl.specs.declared.declaration.Declaration.{Declaration}
-use Rattle.proto_decl.specs.declared.type_use.Use.{Use}
+use Rattle.proto_decl.specs.declared.uses.Use.{Use}
 use Rattle.basics.proofs.BoolLemmas.{never}
 use Rattle.scip_symbol.specs.Entities.{IsIdentifier}
 use Rattle.proto_visibility.specs.Files.{File, HaveOrigins}
@@ -33,7 +33,7 @@ use Rattle.proto_link.specs.Resolves.ResolvesIn.{absolute, single, compound}
 use Rattle.proto_link.specs.Targets.{IsNamed, IsTarget}
 use Rattle.proto_link.specs.Targets.IsNamed.{packaged as named_package, declared as named_declared}
 use Rattle.proto_link.specs.declared.target.Target.{Target}
-use Rattle.proto_visibility.specs.declared.entities.Entity.{Entity}
+use Rattle.proto_visibility.specs.declared.lookup.Entity.{Entity}
 use Rattle.scip_model.specs.Tables.Listing.{IsNameable, AreNameable}
 use Rattle.scip_model.proofs.NamedApartLemmas.{AreIdentifiers}
 

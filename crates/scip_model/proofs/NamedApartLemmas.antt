@@ -7,7 +7,7 @@ use Rattle.std.proofs.lemmas.Option.{same_Some}
 use Rattle.basics.proofs.ListLemmas.{in_front, behind_it, only}
 use Rattle.proto_decl.specs.Names.{dotted}
 use Rattle.proto_decl.specs.Facts.{Facts}
-use Rattle.proto_decl.specs.Ancestors.{names_of, component_names, AreHeld}
+use Rattle.proto_decl.specs.Laws.{names_of, component_names, AreHeld}
 use Rattle.proto_decl.specs.declared.declaration.Declaration.{Declaration}
 use Rattle.proto_visibility.specs.Files.{File, HasFacts, HaveOrigins}
 use Rattle.proto_visibility.specs.Sees.{IsReachable}

@@ -4,10 +4,10 @@ use Rattle.std.specs.Prelude.{All, Contains}
 use Rattle.std.proofs.lemmas.List.{take-map, length-map, length-take-le}
 use Rattle.std.proofs.lemmas.List.Elements.{All-take, All-contains}
 use Rattle.proto_decl.specs.Facts.{Facts}
-use Rattle.proto_decl.specs.Ancestors.{component_names, AreNamed}
+use Rattle.proto_decl.specs.Laws.{component_names, AreNamed}
 use Rattle.proto_decl.specs.declared.declaration.Declaration.{Declaration}
 use Rattle.proto_decl.specs.declared.declaration.DeclarationStep.{DeclarationStep}
-use Rattle.proto_decl.specs.declared.type_use.Component.{Component}
+use Rattle.proto_decl.specs.declared.uses.Component.{Component}
 use Rattle.scip_symbol.specs.Entities.{IsEntity, IsIdentifier}
 use Rattle.scip_model.specs.Named.{package_at, declaration_at}
 

@@ -14,12 +14,11 @@ use Rattle.proto_lex.specs.PositionLaws.{CharactersRise}
 use Rattle.scip_records.specs.Range.{RangeNumbers}
 use Rattle.scip_records.specs.declared.records.Occurrence.{Occurrence}
 use Rattle.proto_decl.specs.Facts.{Facts, component_spans, name_spans, use_spans}
-use Rattle.proto_decl.specs.Laws.{StandInText}
-use Rattle.proto_decl.specs.Places.{StandApart, named_spans}
-use Rattle.proto_decl.specs.declared.imported.Imported.{Imported}
+use Rattle.proto_decl.specs.Laws.{StandInText, StandApart, named_spans}
+use Rattle.proto_decl.specs.declared.imports.Imported.{Imported}
 use Rattle.proto_decl.specs.declared.declaration.Declaration.{Declaration}
-use Rattle.proto_decl.specs.declared.type_use.Component.{Component}
-use Rattle.proto_decl.specs.declared.type_use.Use.{Use}
+use Rattle.proto_decl.specs.declared.uses.Component.{Component}
+use Rattle.proto_decl.specs.declared.uses.Use.{Use}
 use Rattle.proto_visibility.specs.Files.{File, HasFacts}
 use Rattle.basics.proofs.FirstLemmas.{contained}
 use Rattle.scip_model.specs.Packages.{Packages}

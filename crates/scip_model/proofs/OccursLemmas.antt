@@ -12,8 +12,8 @@ use Rattle.scip_records.specs.declared.records.Occurrence.{Occurrence}
 use Rattle.index_hooks.specs.declared.choice.Choice.{Choice}
 use Rattle.proto_decl.specs.Facts.{Facts}
 use Rattle.proto_decl.specs.declared.declaration.Declaration.{Declaration}
-use Rattle.proto_decl.specs.declared.type_use.Component.{Component}
-use Rattle.proto_decl.specs.declared.type_use.Use.{Use}
+use Rattle.proto_decl.specs.declared.uses.Component.{Component}
+use Rattle.proto_decl.specs.declared.uses.Use.{Use}
 use Rattle.basics.proofs.BoolLemmas.{never}
 use Rattle.scip_symbol.specs.Entities.{OfFile}
 use Rattle.scip_symbol.specs.Entities as symbols
@@ -21,12 +21,12 @@ use Rattle.scip_symbol.specs.Package.{Package}
 use Rattle.proto_visibility.specs.Files.{File, HasFacts}
 use Rattle.proto_link.specs.Targets.{IsTarget}
 use Rattle.proto_link.specs.declared.target.Target.{Target}
-use Rattle.proto_visibility.specs.declared.entities.Entity.{Entity}
-use Rattle.proto_visibility.specs.declared.entities.Entity.TheVariants as link
+use Rattle.proto_visibility.specs.declared.lookup.Entity.{Entity}
+use Rattle.proto_visibility.specs.declared.lookup.Entity.TheVariants as link
 use Rattle.basics.proofs.FirstLemmas.{contained, contained_at}
 use Rattle.scip_model.specs.Packages.{Packages, package_of_path, package_of_file, package_of_part}
 use Rattle.scip_model.specs.Chosen.{Chosen, IsKeptDeclaration}
-use Rattle.scip_model.specs.UnresolvedUses.{IsFound}
+use Rattle.scip_model.specs.Conditions.{IsFound}
 use Rattle.scip_model.specs.Named.{IsDeclaredAs, IsNamedAs, NamesIn, package_at, declaration_at}
 use Rattle.scip_model.specs.Occurs.{Occurs, IsShown, no_role, definition_role, import_role, occurrence_over}
 use Rattle.scip_model.specs.Occurs.Occurs.{of_file, of_import, of_package, of_declaration, of_component}

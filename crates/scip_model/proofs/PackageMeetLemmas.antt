@@ -2,9 +2,9 @@
 use Rattle.std.proofs.Common.{◌≡◌, ◌∙◌, sym, ap, ℕ, List}
 use Rattle.std.specs.List.{slice_get}
 use Rattle.std.proofs.lemmas.Option.{same_Some}
-use Rattle.proto_decl.specs.Ancestors.{component_names}
+use Rattle.proto_decl.specs.Laws.{component_names}
 use Rattle.proto_decl.specs.Facts.{Facts}
-use Rattle.proto_decl.specs.declared.type_use.Component.{Component}
+use Rattle.proto_decl.specs.declared.uses.Component.{Component}
 use Rattle.proto_decl.specs.declared.declaration.Declaration.{Declaration}
 use Rattle.scip_records.specs.declared.records.SymbolInformation.{SymbolInformation}
 use Rattle.scip_symbol.specs.Entities.{OfFile, OfDeclaration}

@@ -32,8 +32,8 @@ use Rattle.scip_model.specs.Indexes.{document_cmp}
 use Rattle.scip_model.specs.Pieces.{IsRising, paths_of, AreMerged, IsStranger, IsTwice, AreFine, IsFirstMissing}
 use Rattle.scip_model.specs.Pieces.{MayRefuseMerge, texts}
 use Rattle.scip_model.specs.Tables.TakenPaths.{IsMarked, IsNotMarked, AreMarked}
-use Rattle.scip_model.specs.declared.merge_fault.MergeFault.{MergeFault}
-use Rattle.scip_model.specs.declared.merge_fault.MergeFault.TheVariants.{Stranger, Twice, Missing, Memory}
+use Rattle.scip_model.specs.declared.pieces.MergeFault.{MergeFault}
+use Rattle.scip_model.specs.declared.pieces.MergeFault.TheVariants.{Stranger, Twice, Missing, Memory}
 use Rattle.scip_model.proofs.IndexSortLemmas.{rises, one-ascending, keys-ascend}
 
 -- ---- a path among rising ones

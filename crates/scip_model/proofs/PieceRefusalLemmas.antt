@@ -5,7 +5,7 @@ use Rattle.std.proofs.lemmas.Bool.{cases_order}
 use Rattle.std.proofs.lemmas.Option.{same_Some, slice_get_within}
 use Rattle.scip_records.specs.declared.records.Document.{Document}
 use Rattle.scip_model.specs.Pieces.{IsStranger, IsTwice, AreFine, OneMergeRefusal}
-use Rattle.scip_model.specs.declared.merge_fault.MergeFault.TheVariants.{Stranger, Twice, Missing, Memory}
+use Rattle.scip_model.specs.declared.pieces.MergeFault.TheVariants.{Stranger, Twice, Missing, Memory}
 
 -- of two numbers neither of which is below the other
 neither : (i j : ℕ) → (i < j → ⊥) → (j < i → ⊥) → i ≡ j

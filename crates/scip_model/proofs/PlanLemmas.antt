@@ -37,7 +37,7 @@ use Rattle.scip_model.specs.Tables.Merges.{TakesLeast, fronts_cmp, first_of}
 use Rattle.scip_model.specs.Tables.OwnTexts.{declaration_texts, occurrence_with}
 use Rattle.scip_model.specs.Tables.Plans.{text_at, Grown, IsNumberOf, IsNumberIn, HasOwnTexts, AreAdded}
 use Rattle.scip_model.specs.Tables.Plans.{occurrence_of, package_texts_up_to, own_texts, declaration_number}
-use Rattle.scip_model.specs.declared.planned.PlannedOccurrence.{PlannedOccurrence}
+use Rattle.scip_model.specs.declared.document_plan.PlannedOccurrence.{PlannedOccurrence}
 use Rattle.scip_model.proofs.NamedLemmas.{declared_is}
 
 -- ---- texts that grow

@@ -7,12 +7,12 @@ use Rattle.proto_lex.specs.Lexed.{IsPart}
 use Rattle.proto_lex.specs.declared.span.Span.{Span}
 use Rattle.proto_decl.specs.Facts.{Facts}
 use Rattle.proto_decl.specs.declared.declaration.Declaration.{Declaration}
-use Rattle.proto_decl.specs.declared.imported.Imported.{Imported}
-use Rattle.proto_decl.specs.declared.type_use.Component.{Component}
-use Rattle.proto_decl.specs.declared.type_use.Use.{Use}
+use Rattle.proto_decl.specs.declared.imports.Imported.{Imported}
+use Rattle.proto_decl.specs.declared.uses.Component.{Component}
+use Rattle.proto_decl.specs.declared.uses.Use.{Use}
 use Rattle.proto_link.specs.declared.target.Target.{Target}
 use Rattle.proto_visibility.specs.Files.{HasFacts, HasPathAt, IsSource}
-use Rattle.proto_visibility.specs.declared.entities.Entity.{Entity}
+use Rattle.proto_visibility.specs.declared.lookup.Entity.{Entity}
 use Rattle.proto_visibility.specs.declared.fault.LinkFault.{LinkFault}
 use Rattle.scip_records.specs.declared.records.Document.{Document}
 use Rattle.scip_records.specs.declared.records.Occurrence.{Occurrence}
@@ -21,15 +21,13 @@ use Rattle.scip_symbol.specs.Entities as symbols
 use Rattle.scip_symbol.specs.Package.{Package}
 use Rattle.index_hooks.specs.declared.choice.Choice.{Choice}
 use Rattle.scip_model.specs.Chosen.{HasChoice, HaveChoices}
-use Rattle.scip_model.specs.Conditions.{HaveGoodPaths}
+use Rattle.scip_model.specs.Conditions.{HaveGoodPaths, AreUnresolvedUses, IsFound}
 use Rattle.scip_model.specs.Entries.{HasEntry}
-use Rattle.scip_model.specs.UnresolvedUses.{AreUnresolvedUses, IsFound}
 use Rattle.scip_model.specs.Indexes.{IsDocumentOf}
 use Rattle.scip_model.specs.Named.{HasDeclaration, text_of}
 use Rattle.scip_model.specs.Occurs.{Occurs}
 use Rattle.scip_model.specs.Packages.{package_of_file, package_of_part}
-use Rattle.scip_model.specs.Texts.{AreOfText, HasText, MayRefuseDocument}
-use Rattle.scip_model.specs.Uses.{UsesResolve}
+use Rattle.scip_model.specs.Conditions.{AreOfText, HasText, MayRefuseDocument, UsesResolve}
 use Rattle.scip_model.specs.Tables.Listing.{entity_of, declared_by, IsNameable, AreNameable}
 use Rattle.scip_model.specs.Tables.Listing.{at_import, at_declaration, at_entity, at_part, at_component, at_target}
 use Rattle.scip_model.specs.Tables.Listing.{at_use}

@@ -8,15 +8,15 @@ use Rattle.proto_lex.specs.Position.{position_of}
 use Rattle.scip_records.specs.Range.{RangeNumbers}
 use Rattle.scip_records.specs.declared.records.Occurrence.{Occurrence}
 use Rattle.proto_decl.specs.Facts.{Facts}
-use Rattle.proto_decl.specs.declared.imported.Imported.{Imported}
+use Rattle.proto_decl.specs.declared.imports.Imported.{Imported}
 use Rattle.proto_decl.specs.declared.declaration.Declaration.{Declaration}
-use Rattle.proto_decl.specs.declared.type_use.Component.{Component}
+use Rattle.proto_decl.specs.declared.uses.Component.{Component}
 use Rattle.scip_symbol.specs.Entities.{OfFile}
 use Rattle.scip_symbol.specs.Entities as symbols
 use Rattle.scip_symbol.specs.Package.{Package}
 use Rattle.proto_visibility.specs.Files.{File, HasFacts, HasPath}
-use Rattle.proto_visibility.specs.declared.entities.Entity.{Entity}
-use Rattle.proto_visibility.specs.declared.entities.Entity.TheVariants as link
+use Rattle.proto_visibility.specs.declared.lookup.Entity.{Entity}
+use Rattle.proto_visibility.specs.declared.lookup.Entity.TheVariants as link
 use Rattle.scip_model.specs.Packages.{Packages, package_of_path, package_of_file, package_of_part}
 use Rattle.scip_model.specs.Chosen.{Chosen, IsKeptDeclaration}
 use Rattle.scip_model.specs.Named.{HasDeclaration, NamesIn, text_of, package_at, declaration_at}

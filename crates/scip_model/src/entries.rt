@@ -1,40 +1,29 @@
-//! The symbol entries of the document of a source, and one of a declaration.
+//! The symbol entries of the document of a source, and one of a declaration, with the texts that document it.
 
 ghost use Rattle.std.specs.Prelude.{ℕ, ◌≡◌, ◌+◌, ◌<◌, ◌≤◌, ◌∷◌, [], ◌++◌, IfOk, OnOk, Contains, length, map};
 ghost use Rattle.std.specs.Prelude.{if◌then◌else◌};
 ghost use Rattle.std.specs.List.{range_with_len};
 ghost use Rattle.proto_decl.specs.Names.{dotted, package_of};
-ghost use Rattle.proto_decl.specs.Ancestors.{component_names};
-ghost use Rattle.scip_records.specs.declared.records.SymbolInformation.{SymbolInformation};
+ghost use Rattle.proto_decl.specs.Laws.{component_names};
 ghost use Rattle.scip_symbol.specs.Package.{Package};
-ghost use Rattle.scip_model.specs.Entries.{declaration_entry};
-ghost use Rattle.scip_model.specs.Tables.EntryLists.{kept_entries};
+ghost use Rattle.scip_records.specs.declared.records.SymbolInformation.{SymbolInformation};
+ghost use Rattle.scip_model.specs.Entries.{declaration_entry, documentation_of};
+ghost use Rattle.scip_model.specs.Tables.EntryLists.{kept_entries, package_names, AreNumbered};
 ghost use Rattle.scip_model.specs.Tables.OwnTexts.{entry_with};
-ghost use Rattle.scip_model.specs.Tables.EntryNumbers.{package_names, AreNumbered};
 ghost use Rattle.scip_model.specs.Tables.Plans.{Grown, entry_of};
 ghost use Rattle.scip_model.specs.Indexes.{info_cmp, IsAscendingListOf};
-ghost use Rattle.scip_model.specs.Makers.{
-  HasChosen,
-  HasChosenFor,
-  HasGoodPaths,
-  HasSourceFacts,
-  HasSourcePath,
-  IsItsEntry,
-  IsOfSource,
-  choices_of,
-  source_texts,
-};
+ghost use Rattle.scip_model.specs.Makers.{HasChosen, HasChosenFor, HasGoodPaths, HasSourceFacts, HasSourcePath};
+ghost use Rattle.scip_model.specs.Makers.{IsItsEntry, IsOfSource, choices_of, source_texts};
 
 use crate::document_maker::DocumentMaker;
-use crate::documentation::documentation_of;
 use crate::entry_order::{compare_texts, put_near};
 use crate::known_facts::symbols_stand_apart;
 use crate::symbol_table::{SymbolTable, declaration_number, number_at};
 use crate::symbol_texts::declaration_text;
 use basics::OwnedText;
-use index_hooks::Choice;
+use index_hooks::{Choice, DocChoice};
 use proto_decl::{Component, Declaration, FileFacts};
-use scip_records::{InformationRef, SymbolInformation, SymbolRef};
+use scip_records::{InformationRef, SymbolInformation, SymbolRef, TextsRef};
 use scip_symbol::PackageId;
 use std::alloc::{AllocError, Global};
 use std::cmp::Ordering;
@@ -200,4 +189,19 @@ pub(crate) fn entry_numbers(
     put_near(maker.alloc, &mut numbers, texts, facts)?;
     numbers.sort_unstable_by(|a, b| compare_texts(texts, *a, *b));
     Ok(numbers)
+}
+
+/// Those chosen of a declaration's texts, without empty ones.
+fn documentation_of<'a>(choice: DocChoice, declaration: &'a Declaration) -> TextsRef<'a>
+    ensures { result ≡ documentation_of choice declaration.now }
+{
+    let leading = declaration.leading();
+    let trailing = declaration.trailing();
+    match choice {
+        DocChoice::Pass => TextsRef::of_list(&[]),
+        DocChoice::Nothing => TextsRef::of_list(&[]),
+        DocChoice::Leading => TextsRef::of_two(leading, ""),
+        DocChoice::Trailing => TextsRef::of_two(trailing, ""),
+        DocChoice::Both => TextsRef::of_two(leading, trailing),
+    }
 }

@@ -4,7 +4,7 @@ ghost use Rattle.std.specs.Prelude.{◌<◌, ◌↔◌, [], OnOk, IfOk, MatchBoo
 ghost use Rattle.std.specs.List.{AllZip};
 ghost use Rattle.std.specs.List.Sorted.{IsStrictlySortedBy};
 ghost use Rattle.proto_visibility.specs.Files.{IsSource};
-ghost use Rattle.proto_visibility.specs.declared.entities.Entity.TheVariants.{Declared};
+ghost use Rattle.proto_visibility.specs.declared.lookup.Entity.TheVariants.{Declared};
 ghost use Rattle.scip_model.specs.Chosen.{HasChoice, HaveChoices};
 ghost use Rattle.scip_model.specs.Entries.{IsKeptEntry};
 ghost use Rattle.scip_model.specs.Tables.ExternalLists.{Pair, pair_cmp, IsEntryAt, IsEntryOf, Adds, FromFront};
@@ -12,7 +12,7 @@ ghost use Rattle.scip_model.specs.Tables.ExternalLists.{IsKnownPart, IsOfPart, I
 ghost use Rattle.scip_model.specs.Tables.ExternalLists.{HasIncluded, NoneIncluded};
 ghost use Rattle.scip_model.specs.Indexes.{AreExternals};
 
-use crate::choices::Choices;
+use crate::document_maker::Choices;
 use crate::entries::{compare_symbols, declaration_entry};
 use crate::known_facts::symbols_stand_apart;
 use crate::packages::{FilePackages, package_of_file};

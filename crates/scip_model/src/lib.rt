@@ -2,57 +2,47 @@
 #![tactic(auto)]
 
 // What documents are made from.
-mod choices;
 mod document_maker;
 mod known_facts;
 mod packages;
 
-// The document of a source: its plan, and its parts.
+// The document of a source: its plan, with its parts, and how it is made.
 mod document_plan;
-mod plan_parts;
-mod planned;
 mod source_document;
 
-// Its occurrences.
-mod merging;
+// Its occurrences, in order.
 mod occurrence_order;
 mod occurrences;
 mod targets;
 mod use_occurrences;
 
 // Its entries.
-mod documentation;
 mod entries;
 mod entry_order;
 
 // The texts of symbols, each kept once.
-mod joined_texts;
 mod own_symbols;
-mod symbol_order;
 mod symbol_table;
 mod symbol_texts;
 
 // Entries of what is outside, and a whole index.
 mod external_symbols;
-mod merge_fault;
 mod one_package;
 mod pieces;
 
 // The laws.
 mod laws;
 
-pub use choices::Choices;
-pub use document_maker::DocumentMaker;
+pub use document_maker::{Choices, DocumentMaker};
 pub use document_plan::{DocumentPlan, PlannedDocument};
 pub use external_symbols::externals_in_packages;
 pub use laws::{
     no_two_occurrences_tie, one_document_a_source, one_index, one_merge_refusal, one_merged_list,
     symbols_meet, symbols_name_one_entity_in_packages,
 };
-pub use merge_fault::{MergeFault, Unmerged};
 pub use one_package::{document, externals};
 pub use packages::{FilePackages, RootPackage};
-pub use pieces::merge;
+pub use pieces::{MergeFault, Unmerged, merge};
 pub use scip_records::{Document, Index, Metadata, Occurrence, Range, SymbolInformation, ToolInfo};
 pub use source_document::{SourceDocument, document_and_unresolved, make_document, plan_document};
 pub use streams::{Failed, Feed, Sink, Std};

@@ -4,9 +4,9 @@ ghost use Rattle.std.specs.Prelude.{◌≡◌, ◌<◌, ◌∷◌, [], ℕ, List
 ghost use Rattle.std.specs.List.{slice_get};
 ghost use Rattle.proto_lex.specs.Lexed.{IsPart};
 ghost use Rattle.proto_decl.specs.Facts.{Facts};
-ghost use Rattle.proto_decl.specs.declared.type_use.Component.{Component};
+ghost use Rattle.proto_decl.specs.declared.uses.Component.{Component};
 ghost use Rattle.proto_decl.specs.declared.declaration.Declaration.{Declaration};
-ghost use Rattle.proto_decl.specs.declared.imported.Imported.{Imported};
+ghost use Rattle.proto_decl.specs.declared.imports.Imported.{Imported};
 ghost use Rattle.scip_symbol.specs.Entities.{OfFile};
 ghost use Rattle.scip_symbol.specs.Package.{Package};
 ghost use Rattle.scip_symbol.specs.Path.{IsGoodPath};
@@ -19,7 +19,7 @@ ghost use Rattle.scip_model.specs.Tables.Plans.{own_texts, Grown, IsNumberOf, Ar
 ghost use Rattle.scip_model.specs.Makers.{HasChosenFor, HasGoodPaths, HasPart, at_its_declaration, at_its_import};
 
 use crate::document_maker::DocumentMaker;
-use crate::planned::PlannedOccurrence;
+use crate::document_plan::PlannedOccurrence;
 use crate::symbol_table::{SymbolTable, declaration_number, number_at};
 use crate::symbol_texts::file_text;
 use proto_decl::{Declaration, FileFacts, Imported};

@@ -23,15 +23,14 @@ ghost use Rattle.scip_model.specs.Makers.{
 };
 
 use crate::document_maker::DocumentMaker;
-use crate::document_plan::{DocumentPlan, PlannedDocument};
+use crate::document_plan::{DocumentPlan, PlannedDocument, PlannedOccurrence};
 use crate::entries::{entry_numbers, package_names};
 use crate::known_facts::facts_occur_in_order;
-use crate::merging::merged;
+use crate::occurrence_order::merged;
 use crate::occurrences::{
     declaration_occurrences, import_occurrences, own_occurrences, package_occurrences,
 };
 use crate::packages::package_of_file;
-use crate::planned::PlannedOccurrence;
 use crate::symbol_table::SymbolTable;
 use crate::symbol_texts::own_texts;
 use crate::use_occurrences::use_occurrences;

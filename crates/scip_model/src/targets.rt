@@ -1,7 +1,7 @@
 //! What a use of a source names.
 
 ghost use Rattle.std.specs.Prelude.{◌≡◌, ◌<◌, ◌++◌, length, IfOk, OnOk};
-ghost use Rattle.scip_model.specs.UnresolvedUses.{IsFound};
+ghost use Rattle.scip_model.specs.Conditions.{IsFound};
 ghost use Rattle.scip_model.specs.Tables.Listing.{Finds, parts_of, unless_found};
 
 use proto_decl::Use;

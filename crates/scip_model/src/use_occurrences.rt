@@ -6,11 +6,11 @@ ghost use Rattle.std.specs.List.{AllZip, slice_get};
 ghost use denote.Ref.{Bor};
 ghost use Rattle.proto_decl.specs.Names.{components_of};
 ghost use Rattle.proto_decl.specs.Facts.{Facts};
-ghost use Rattle.proto_decl.specs.declared.type_use.Component.{Component};
-ghost use Rattle.proto_decl.specs.declared.type_use.Use.{Use};
+ghost use Rattle.proto_decl.specs.declared.uses.Component.{Component};
+ghost use Rattle.proto_decl.specs.declared.uses.Use.{Use};
 ghost use Rattle.proto_link.specs.declared.target.Target.{Target};
-ghost use Rattle.proto_visibility.specs.declared.entities.Entity.{Entity};
-ghost use Rattle.proto_visibility.specs.declared.entities.Entity.TheVariants.{Declared, Package};
+ghost use Rattle.proto_visibility.specs.declared.lookup.Entity.{Entity};
+ghost use Rattle.proto_visibility.specs.declared.lookup.Entity.TheVariants.{Declared, Package};
 ghost use Rattle.scip_symbol.specs.Entities.{OfPackage, IsEntity};
 ghost use Rattle.proto_visibility.specs.declared.fault.LinkFault.TheVariants.{Memory};
 ghost use Rattle.scip_model.specs.Named.{text_of};
@@ -39,9 +39,9 @@ ghost use Rattle.scip_model.specs.Makers.{
 };
 
 use crate::document_maker::DocumentMaker;
+use crate::document_plan::PlannedOccurrence;
 use crate::occurrences::planned_over;
 use crate::packages::package_of_file;
-use crate::planned::PlannedOccurrence;
 use crate::symbol_table::{SymbolTable, declaration_number};
 use crate::symbol_texts::declaration_text;
 use crate::targets::{add_unresolved, target_of};

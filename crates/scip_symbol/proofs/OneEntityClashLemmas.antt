@@ -5,7 +5,7 @@ use Rattle.std.proofs.lemmas.List.Elements.{All-contains, Contains-append_left, 
 use Rattle.std.proofs.lemmas.List.Elements.{Contains-append_cases, Contains-push}
 use Rattle.basics.proofs.ListLemmas.{only}
 use Rattle.proto_decl.specs.Names.{dotted}
-use Rattle.proto_decl.specs.Ancestors.{names_of, component_names, AreHeld}
+use Rattle.proto_decl.specs.Laws.{names_of, component_names, AreHeld}
 use Rattle.proto_decl.specs.Facts.{Facts}
 use Rattle.proto_decl.specs.declared.declaration.DeclarationStep.{DeclarationStep}
 use Rattle.proto_decl.specs.declared.declaration.Declaration.{Declaration}

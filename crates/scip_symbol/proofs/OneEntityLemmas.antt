@@ -16,13 +16,13 @@ use Rattle.scip_symbol.specs.SymbolText.{symbol_text}
 use Rattle.scip_symbol.specs.Entities.{Entity, OfFile, OfPackage, OfDeclaration, suffix_of, namespace_of}
 use Rattle.scip_symbol.specs.Entities.{step_descriptor, descriptors_of, scheme_text, global_in, symbol_in, IsIdentifier}
 use Rattle.scip_symbol.specs.Entities.{IsEntity}
-use Rattle.proto_decl.specs.Ancestors.{scoped, names_of}
+use Rattle.proto_decl.specs.Laws.{scoped, names_of}
 use Rattle.scip_symbol.specs.OneEntity.{IsWithoutClash, IsAmong}
-use Rattle.proto_decl.specs.declared.kind.DeclarationKind.{DeclarationKind}
-use Rattle.proto_decl.specs.declared.kind.DeclarationKind.TheVariants.{Message, Enum, Service, Field, Oneof, Value}
-use Rattle.proto_decl.specs.declared.kind.DeclarationKind.TheVariants.{Method}
+use Rattle.proto_decl.specs.declared.declaration.DeclarationKind.{DeclarationKind}
+use Rattle.proto_decl.specs.declared.declaration.DeclarationKind.TheVariants.{Message, Enum, Service, Field, Oneof, Value}
+use Rattle.proto_decl.specs.declared.declaration.DeclarationKind.TheVariants.{Method}
 use Rattle.proto_decl.specs.declared.declaration.DeclarationStep.{DeclarationStep}
-use Rattle.proto_decl.proofs.AncestorLemmas.{heads, tails}
+use Rattle.proto_decl.proofs.LawAncestorLemmas.{heads, tails}
 use Rattle.scip_symbol.specs.declared.symbol.Suffix.TheVariants as suffix
 use Rattle.scip_symbol.specs.declared.symbol.Descriptor.{Descriptor}
 use Rattle.scip_symbol.specs.declared.symbol.SymbolParts.{SymbolParts}

@@ -22,7 +22,7 @@ use Rattle.scip_symbol.proofs.NameLemmas.{simple-found}
 use Rattle.scip_symbol.proofs.SymbolLemmas.{not-space, local-there, spells-some, spaced-found, part-found}
 use Rattle.scip_symbol.proofs.SpellsBeginLemmas.{Begins, StopsIn, at-once, at-end, simple-stops, some-behind}
 use Rattle.scip_symbol.proofs.SpellsBeginLemmas.{descriptors-begin}
-use Rattle.proto_decl.proofs.AncestorLemmas.{heads, tails}
+use Rattle.proto_decl.proofs.LawAncestorLemmas.{heads, tails}
 
 -- ---- schemes and parts
 

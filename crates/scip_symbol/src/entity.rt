@@ -1,7 +1,7 @@
 //! The symbols of files, packages and declarations.
 
 ghost use Rattle.std.specs.Prelude.{◌≡◌, ◌≢◌, ◌++◌, ◌∷◌, [], map, All, OnOk, IfOk};
-ghost use Rattle.proto_decl.specs.Ancestors.{component_names};
+ghost use Rattle.proto_decl.specs.Laws.{component_names};
 ghost use Rattle.scip_symbol.specs.Parts.{IsDescriptor};
 ghost use Rattle.scip_symbol.specs.Entities.{
   OfFile,

@@ -1,7 +1,7 @@
 //! The symbols of a file, a package and a declaration, their texts, and the parts of a package.
 
 ghost use Rattle.std.specs.Prelude.{◌≡◌};
-ghost use Rattle.proto_decl.specs.declared.kind.DeclarationKind.TheVariants.{Message};
+ghost use Rattle.proto_decl.specs.declared.declaration.DeclarationKind.TheVariants.{Message};
 
 use crate::calls::{see, text_of_symbol};
 use basics::{KeptText, OwnedText, TextRef};

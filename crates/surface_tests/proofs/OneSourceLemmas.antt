@@ -13,8 +13,7 @@ use Rattle.proto_decl.specs.Facts.{Facts}
 use Rattle.scip_symbol.specs.Path.{IsGoodPath, IsComponent}
 use Rattle.proto_visibility.specs.Files.{File, IsSource}
 use Rattle.scip_model.specs.Chosen.{HaveChoices}
-use Rattle.scip_model.specs.Conditions.{HaveGoodPaths}
-use Rattle.scip_model.specs.Texts.{AreOfText, HasText}
+use Rattle.scip_model.specs.Conditions.{HaveGoodPaths, AreOfText, HasText}
 use Rattle.surface_tests.specs.OneSource.{source_with}
 
 -- what a list of one has

@@ -1,7 +1,7 @@
 //! Symbols and packages.
 
 ghost use Rattle.std.specs.Prelude.{◌≡◌};
-ghost use Rattle.proto_decl.specs.declared.kind.DeclarationKind.TheVariants.{Message};
+ghost use Rattle.proto_decl.specs.declared.declaration.DeclarationKind.TheVariants.{Message};
 
 use crate::shared::{package_of, see};
 use basics::{KeptText, TextRef};

@@ -2,15 +2,14 @@
 use Rattle.std.specs.Prelude.{◌≡◌, ◌<◌, ◌≤◌, ℕ, Option, Some, None, List, ◌||◌, false, length, MatchOption, Contains}
 use Rattle.std.specs.List.{slice_get}
 use Rattle.std.specs.HashMap.{HashMap}
-use Rattle.proto_visibility.specs.declared.place.FilePlace.{FilePlace}
+use Rattle.proto_visibility.specs.declared.files.FilePlace.{FilePlace}
 use Rattle.proto_visibility.specs.declared.omissions.FileOmission.{FileOmission}
 use Rattle.proto_visibility.specs.declared.omissions.FileOmission.TheVariants.{Broken, Duplicate}
 use Rattle.proto_visibility.specs.Files.{File}
-use Rattle.proto_visibility.specs.Items.{Item}
-use Rattle.proto_visibility.specs.Clashes.{ClashBy, NoClashBy}
+use Rattle.proto_visibility.specs.Clashes.{Item, ClashBy, NoClashBy}
 use Rattle.proto_visibility.specs.Absences.{IsUnread}
 use Rattle.proto_visibility.specs.Kept.{Omissions, IsKeptFile, IsMet}
-use Rattle.proto_visibility.specs.Tables.NameTables.{index_in}
+use Rattle.proto_visibility.specs.Tables.ClashTables.{index_in}
 
 -- of each of the first so many files, whether it is left out because it has no facts
 pub record AreUnreadOf (files : List File) (count : ℕ) (omissions : Omissions) : Type 0 where

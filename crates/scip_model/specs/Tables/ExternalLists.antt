@@ -6,14 +6,14 @@ use Rattle.std.specs.Ordering.{nat_cmp, ordering_then}
 use Rattle.std.specs.List.{slice_get}
 use Rattle.proto_decl.specs.Facts.{Facts}
 use Rattle.proto_decl.specs.declared.declaration.Declaration.{Declaration}
-use Rattle.proto_decl.specs.declared.type_use.Use.{Use}
+use Rattle.proto_decl.specs.declared.uses.Use.{Use}
 use Rattle.index_hooks.specs.declared.choice.Choice.{Choice}
 use Rattle.scip_records.specs.declared.records.SymbolInformation.{SymbolInformation}
 use Rattle.scip_symbol.specs.Package.{Package}
 use Rattle.proto_visibility.specs.Files.{File, HasFacts, IsSource, IsIncludedAt}
 use Rattle.proto_link.specs.Targets.{IsTarget}
-use Rattle.proto_visibility.specs.declared.entities.Entity.{Entity}
-use Rattle.proto_visibility.specs.declared.entities.Entity.TheVariants as link
+use Rattle.proto_visibility.specs.declared.lookup.Entity.{Entity}
+use Rattle.proto_visibility.specs.declared.lookup.Entity.TheVariants as link
 use Rattle.proto_link.specs.declared.target.Target.{Target}
 use Rattle.scip_model.specs.Packages.{Packages}
 use Rattle.scip_model.specs.Chosen.{Chosen, HasChoice, IsChosen, IsKeptDeclaration}

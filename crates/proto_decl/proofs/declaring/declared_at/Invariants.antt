@@ -1,8 +1,7 @@
 use Rattle.std.proofs.Common.{◌≡◌, take}
 use Rattle.std.specs.List.{AllZip}
-use Rattle.proto_decl.specs.Outlines.{outlines_in}
+use Rattle.proto_decl.specs.Declares.{outlines_in, IsDeclaration}
 use Rattle.proto_decl.specs.Uses.{uses_in}
-use Rattle.proto_decl.specs.Declares.{IsDeclaration}
 use Rattle.proto_decl.proofs.declaring.declared_at.Given as goal
 
 -- what the items so far declare and use

@@ -1,6 +1,6 @@
 use Rattle.std.proofs.Common.{List, sym, subst}
 use Rattle.proto_decl.specs.Facts.{UsesAreFilled}
-use Rattle.proto_decl.specs.declared.type_use.Use.{Use}
+use Rattle.proto_decl.specs.declared.uses.Use.{Use}
 use Rattle.proto_decl.proofs.UseFilledLemmas.{uses_filled}
 use Rattle.proto_decl.proofs.NameLemmas.{named_some}
 use Rattle.proto_decl.proofs.laws.facts_are_filled.Goals as goal

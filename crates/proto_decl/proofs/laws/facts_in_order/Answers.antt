@@ -4,9 +4,9 @@ use Rattle.proto_lex.specs.Lexed.{AreInOrder}
 use Rattle.proto_parse.specs.Lexeme.{lexemes_of}
 use Rattle.proto_parse.specs.Walk.{Mark, Among, MarksAreInOrder, marks_of_items, marks_of_imports}
 use Rattle.proto_parse.proofs.Walk.Then.{imports_are}
-use Rattle.proto_decl.specs.Outlines.{outlines_of}
+use Rattle.proto_decl.specs.Declares.{outlines_of}
 use Rattle.proto_decl.specs.Facts.{Facts, AreOfSomeFile, NamesInOrder, use_spans}
-use Rattle.proto_decl.specs.declared.imported.Imported.{Imported}
+use Rattle.proto_decl.specs.declared.imports.Imported.{Imported}
 use Rattle.proto_decl.proofs.OutlineOrderLemmas.{names_in_order, uses_in_order, imports_in_order}
 use Rattle.proto_decl.proofs.FactLemmas.{same_names, package_placed}
 use Rattle.proto_decl.proofs.laws.facts_in_order.Goals as goal

@@ -1,6 +1,6 @@
 use Rattle.std.proofs.Common.{refl}
 use Rattle.proto_parse.specs.Lexeme.{lexemes_of}
-use Rattle.proto_decl.proofs.PlaceLemmas.{marks_of, uses_apart, imports_apart}
+use Rattle.proto_decl.proofs.LawPlaceLemmas.{marks_of, uses_apart, imports_apart}
 use Rattle.proto_decl.proofs.laws.facts_stand_apart.Goals as goal
 
 pub returns : goal.returns

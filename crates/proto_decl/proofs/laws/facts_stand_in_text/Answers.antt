@@ -4,7 +4,7 @@ use Rattle.proto_lex.specs.declared.span.Span.{Span}
 use Rattle.proto_lex.specs.declared.token.Token.{Token}
 use Rattle.proto_lex.specs.Lexed.{Lexed, IsLexed, IsPart, AreInOrder}
 use Rattle.proto_decl.specs.Facts.{component_spans, use_spans}
-use Rattle.proto_decl.specs.declared.imported.Imported.{Imported}
+use Rattle.proto_decl.specs.declared.imports.Imported.{Imported}
 use Rattle.proto_decl.proofs.SpanLemmas.{OfToken, parts_hold, imports_hold, package_holds}
 use Rattle.proto_decl.proofs.FactPartLemmas.{uses_part, package_part, names_part, imports_part}
 use Rattle.proto_decl.proofs.laws.facts_stand_in_text.Goals as goal

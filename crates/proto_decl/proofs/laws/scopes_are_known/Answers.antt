@@ -4,7 +4,7 @@ use Rattle.proto_lex.specs.Lexed.{part_of}
 use Rattle.proto_parse.proofs.Walk.Then.{package_is}
 use Rattle.proto_decl.proofs.SpanMarkLemmas.{OfNames}
 use Rattle.proto_decl.specs.Names.{IsSimple}
-use Rattle.proto_decl.specs.declared.type_use.Component.{Component}
+use Rattle.proto_decl.specs.declared.uses.Component.{Component}
 use Rattle.proto_decl.proofs.OutlineScopedLemmas.{names_simple, package_simple, stand_in_scopes}
 use Rattle.proto_decl.proofs.laws.scopes_are_known.Goals as goal
 

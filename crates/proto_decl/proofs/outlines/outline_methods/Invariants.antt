@@ -2,7 +2,7 @@ use Rattle.std.proofs.Common.{◌≡◌, ◌++◌, take}
 use Rattle.std.specs.List.{flat_map}
 use Rattle.proto_parse.specs.tree.Method.{Method}
 use Rattle.proto_parse.specs.Parts.Part.{MethodPart}
-use Rattle.proto_decl.specs.Outlines.{declared_by}
+use Rattle.proto_decl.specs.Declares.{declared_by}
 use Rattle.proto_decl.proofs.outlines.outline_methods.Given as goal
 
 -- the methods so far

@@ -2,7 +2,7 @@ use Rattle.std.proofs.Common.{◌≡◌, ◌++◌, take}
 use Rattle.std.specs.List.{flat_map}
 use Rattle.proto_parse.specs.tree.Heading.{Heading}
 use Rattle.proto_parse.specs.Parts.Part.{ValuePart}
-use Rattle.proto_decl.specs.Outlines.{declared_by}
+use Rattle.proto_decl.specs.Declares.{declared_by}
 use Rattle.proto_decl.proofs.outlines.outline_values.Given as goal
 
 -- the values so far

@@ -1,7 +1,7 @@
 use Rattle.std.proofs.Common.{◌≡◌, List, length, map, ◌∙◌, ap, arith}
 use Rattle.std.specs.String.{string_bytes}
 use Rattle.proto_decl.specs.Names.{dotted}
-use Rattle.proto_decl.specs.declared.type_use.Component.{Component}
+use Rattle.proto_decl.specs.declared.uses.Component.{Component}
 use Rattle.proto_link.proofs.ResolveLemmas.{AnswersUse, SingleFound, CompoundFound, ok_each, use_dotted, single_of_use}
 use Rattle.proto_link.proofs.ResolveLemmas.{compound_of_use}
 use Rattle.proto_link.proofs.lookup.full_name_of_use.Goals as goal

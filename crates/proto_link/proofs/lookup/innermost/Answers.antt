@@ -1,8 +1,7 @@
 use Rattle.std.proofs.Common.{List, ℕ, Option, sym, ◌∙◌, subst}
 use Rattle.std.proofs.lemmas.Bool.{false≢true}
 use denote.Ref.{Bor}
-use Rattle.proto_visibility.specs.Knows.{KnowsAs}
-use Rattle.proto_visibility.specs.FileNames.{admits}
+use Rattle.proto_visibility.specs.Knows.{KnowsAs, admits}
 use Rattle.proto_link.specs.Resolves.Innermost.{here}
 use Rattle.proto_link.proofs.LookupLemmas.{StandsFor, stands_next}
 use Rattle.proto_link.proofs.lookup.innermost.Goals as goal

@@ -4,7 +4,7 @@ use Rattle.std.specs.List.{slice_get}
 use Rattle.std.proofs.lemmas.Option.{slice_get_read, slice_get-get_or}
 use Rattle.proto_visibility.specs.Files.{File}
 use Rattle.proto_visibility.specs.Tables.ImportTables.{number_in, absents_of, absents_at}
-use Rattle.proto_visibility.proofs.ReachableLemmas.{reachable_at}
+use Rattle.proto_visibility.proofs.SeeingReachableLemmas.{reachable_at}
 use Rattle.proto_visibility.proofs.AbsentLemmas.{given_next, all_in_order, all_missing}
 use Rattle.proto_visibility.proofs.absent.all_absent.Goals as goal
 

@@ -2,7 +2,7 @@ use Rattle.std.proofs.Common.{◌≡◌, ◌<◌, ◌≤◌, Some, length, get_o
 use Rattle.std.specs.List.{slice_get}
 use Rattle.std.proofs.lemmas.Option.{slice_get_read}
 use Rattle.proto_visibility.specs.Tables.ImportTables.{number_in}
-use Rattle.proto_visibility.proofs.ReachableLemmas.{reachable_at}
+use Rattle.proto_visibility.proofs.SeeingReachableLemmas.{reachable_at}
 use Rattle.proto_visibility.proofs.AbsentLemmas.{none_absent, none_more, is_absent_place}
 use Rattle.proto_visibility.proofs.absent.first_absent.Goals as goal
 

@@ -1,7 +1,7 @@
 use Rattle.std.proofs.Common.{◌≡◌, Some, List, subst}
 use Rattle.std.specs.List.{slice_get}
 use Rattle.proto_lex.specs.declared.span.Span.{Span}
-use Rattle.scip_model.proofs.UnresolvedUseLemmas.{first_unresolved}
+use Rattle.scip_model.proofs.ConditionUnresolvedLemmas.{first_unresolved}
 use Rattle.scip_build.proofs.source_document.make_document.Goals as goal
 
 pub returns-in-Some : goal.returns-in-Some

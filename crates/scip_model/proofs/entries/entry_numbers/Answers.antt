@@ -5,8 +5,7 @@ use Rattle.std.proofs.lemmas.Fn.{always_returns_same}
 use Rattle.std.proofs.lemmas.List.Sorted.{IsPermutation-map, IsPermutation-trans}
 use Rattle.basics.proofs.ListLemmas.{item_at}
 use Rattle.scip_model.specs.Packages.{package_of_file}
-use Rattle.scip_model.specs.Tables.EntryLists.{source_entries, choices_for}
-use Rattle.scip_model.specs.Tables.EntryNumbers.{package_names}
+use Rattle.scip_model.specs.Tables.EntryLists.{source_entries, choices_for, package_names}
 use Rattle.scip_model.specs.Tables.Plans.{text_at, entry_of}
 use Rattle.scip_model.proofs.NamedApartLemmas.{AreCounted}
 use Rattle.scip_model.proofs.EntryNumberLemmas.{texts_rank, sorted_entries, all_are, are_numbered}

@@ -1,6 +1,6 @@
 use Rattle.std.proofs.Common.{◌∙◌, subst, sym, List}
 use Rattle.proto_lex.specs.declared.span.Span.{Span}
-use Rattle.scip_model.specs.UnresolvedUses.{AreUnresolvedUses}
+use Rattle.scip_model.specs.Conditions.{AreUnresolvedUses}
 use Rattle.scip_model.specs.Indexes.{IsDocumentOf}
 use Rattle.scip_model.proofs.source_document.document_and_unresolved.Goals as goal
 

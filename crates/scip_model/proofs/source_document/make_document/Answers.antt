@@ -1,7 +1,7 @@
 use Rattle.std.proofs.Common.{◌∙◌, ap, sym, refl, List}
 use Rattle.std.specs.List.{slice_get}
 use Rattle.proto_lex.specs.declared.span.Span.{Span}
-use Rattle.scip_model.proofs.UnresolvedUseLemmas.{all_resolve, first_unresolved}
+use Rattle.scip_model.proofs.ConditionUnresolvedLemmas.{all_resolve, first_unresolved}
 use Rattle.scip_model.proofs.source_document.make_document.Goals as goal
 
 pub returns-in-None-clause-resolved : goal.returns-in-None-clause-resolved

@@ -1,28 +1,27 @@
 use Rattle.std.proofs.Common.{◌≡◌, ◌∙◌, ap, sym, subst, refl, List, ℕ, [], ◌∷◌, ◌++◌, map}
 use Rattle.std.specs.List.{All, AllZip}
 use Rattle.proto_lex.specs.Lexed.{IsPart}
-use Rattle.proto_decl.specs.declared.imported.Imported.{Imported}
+use Rattle.proto_decl.specs.declared.imports.Imported.{Imported}
 use Rattle.proto_decl.specs.declared.declaration.Declaration.{Declaration}
-use Rattle.proto_decl.specs.declared.type_use.Component.{Component}
-use Rattle.proto_decl.specs.declared.type_use.Use.{Use}
+use Rattle.proto_decl.specs.declared.uses.Component.{Component}
+use Rattle.proto_decl.specs.declared.uses.Use.{Use}
 use Rattle.scip_model.specs.Tables.Listing.{own_occurrence, each_from, at_import, at_use, unresolved_use_at}
 use Rattle.std.proofs.lemmas.Option.{slice_get_within}
 use Rattle.proto_lex.specs.declared.span.Span.{Span}
 use Rattle.scip_model.proofs.ListingNameableLemmas.{target_nameable}
-use Rattle.scip_model.proofs.UnresolvedUseLemmas.{unresolved_of}
+use Rattle.scip_model.proofs.ConditionUnresolvedLemmas.{unresolved_of}
 use Rattle.scip_model.proofs.ConditionLemmas.{all_of_map, uses_stand_there, stand_there, choices_there, merged_of}
 use Rattle.scip_model.proofs.ListingDocumentLemmas.{merged_lists}
 use Rattle.scip_model.proofs.OccurrenceOrderLemmas.{tied}
 use Rattle.scip_model.specs.OccurrenceOrder.{occurrence_cmp}
 use Rattle.scip_model.specs.Occurs.{Occurs}
-use Rattle.scip_model.specs.Texts.{AreOfText}
+use Rattle.scip_model.specs.Conditions.{AreOfText, IsFound, AreUnresolvedUses}
 use Rattle.scip_model.specs.Packages.{package_of_file}
 use Rattle.scip_model.specs.Tables.Plans.{own_texts, occurrence_of}
 use Rattle.scip_model.proofs.PlanLemmas.{grown_same, grown_then}
 use Rattle.scip_records.specs.declared.records.Occurrence.{Occurrence}
 use Rattle.std.specs.declared.cmp.Ordering.TheVariants.{Equal}
 use Rattle.proto_visibility.proofs.FileFactLemmas.{one_list_of_facts as same_facts}
-use Rattle.scip_model.specs.UnresolvedUses.{IsFound, AreUnresolvedUses}
 use Rattle.scip_model.proofs.source_document.occurrences.Goals as goal
 
 pub import_occurrences-requires-clause-parts : goal.import_occurrences-requires-clause-parts

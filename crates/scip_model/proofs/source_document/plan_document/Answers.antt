@@ -11,7 +11,7 @@ use Rattle.proto_visibility.specs.Files.{File}
 use Rattle.index_hooks.specs.declared.choice.Choice.{Choice}
 use Rattle.scip_model.specs.Entries.{HasEntry}
 use Rattle.scip_model.specs.Indexes.{IsAscendingListOf, info_cmp}
-use Rattle.scip_model.specs.Tables.EntryNumbers.{package_names}
+use Rattle.scip_model.specs.Tables.EntryLists.{package_names}
 use Rattle.scip_model.specs.Tables.Plans.{entry_of}
 use Rattle.scip_model.proofs.source_document.plan_document.Goals as goal
 

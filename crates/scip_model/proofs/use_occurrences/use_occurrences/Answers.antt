@@ -4,11 +4,11 @@ use Rattle.std.specs.List.{AllZip, slice_get}
 use Rattle.std.proofs.lemmas.List.{append-nil, append_assoc, take_all}
 use Rattle.std.proofs.lemmas.Option.{slice_get_read}
 use Rattle.proto_lex.specs.declared.span.Span.{Span}
-use Rattle.proto_decl.specs.declared.type_use.Use.{Use}
+use Rattle.proto_decl.specs.declared.uses.Use.{Use}
 use Rattle.basics.proofs.FirstLemmas.{take_next}
 use Rattle.proto_link.specs.declared.target.Target.{Target}
 use Rattle.scip_records.specs.declared.records.Occurrence.{Occurrence}
-use Rattle.scip_model.specs.UnresolvedUses.{IsFound}
+use Rattle.scip_model.specs.Conditions.{IsFound}
 use Rattle.scip_model.specs.Tables.Listing.{each_from, at_target, at_use, unless_found, unresolved_use_at}
 use Rattle.scip_model.specs.Tables.Plans.{occurrence_of}
 use Rattle.scip_model.proofs.TargetLemmas.{zip_more, zip_length, more_found}

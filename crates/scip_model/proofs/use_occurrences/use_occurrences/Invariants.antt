@@ -1,7 +1,7 @@
 use Rattle.std.proofs.Common.{◌≡◌, ◌++◌, Option, List, take}
 use Rattle.std.specs.List.{AllZip}
 use Rattle.proto_link.specs.declared.target.Target.{Target}
-use Rattle.scip_model.specs.UnresolvedUses.{IsFound}
+use Rattle.scip_model.specs.Conditions.{IsFound}
 use Rattle.scip_model.specs.Tables.Listing.{each_from, at_use, unresolved_use_at}
 use Rattle.scip_model.specs.Tables.Plans.{Grown, ArePlanned}
 use Rattle.scip_model.proofs.use_occurrences.use_occurrences.Given as goal

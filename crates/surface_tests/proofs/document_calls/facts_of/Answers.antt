@@ -3,7 +3,7 @@ use Rattle.std.proofs.lemmas.Result.{IfOk-weaker}
 use Rattle.proto_decl.specs.Facts.{AreFactsOf}
 use Rattle.proto_parse.specs.dialect.CustomOptions.TheVariants.{Refuse}
 use Rattle.proto_parse.specs.dialect.Dialect.TheVariants.{Proto3}
-use Rattle.scip_model.specs.Texts.{AreOfText}
+use Rattle.scip_model.specs.Conditions.{AreOfText}
 use Rattle.surface_tests.proofs.document_calls.facts_of.Goals as goal
 
 pub returns : goal.returns

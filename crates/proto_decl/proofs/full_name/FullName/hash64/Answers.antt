@@ -1,5 +1,5 @@
 use Rattle.std.proofs.Common.{◌∙◌, ap}
-use Rattle.proto_decl.specs.FullNames.{hash64_on, hash64}
+use Rattle.proto_decl.specs.Names.{hash64_on, hash64}
 use Rattle.proto_decl.proofs.FullNameLemmas.{hash64_behind}
 use Rattle.proto_decl.proofs.full_name.FullName.hash64.Goals as goal
 

@@ -1,6 +1,5 @@
 use Rattle.std.proofs.Common.{◌∙◌, ap, sym}
-use Rattle.proto_decl.specs.Names.{qualified}
-use Rattle.proto_decl.specs.FullNames.{hash64_front}
+use Rattle.proto_decl.specs.Names.{qualified, hash64_front}
 use Rattle.proto_decl.proofs.full_name.FullName.within.Goals as goal
 
 pub invariant_of-result : goal.invariant_of-result

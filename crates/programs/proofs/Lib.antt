@@ -15,14 +15,20 @@ mod MessageLemmas
 mod NoSourceLemmas
 -- What becomes of a place, by what a run answered that wrote to a part of it
 mod PlacingLemmas
+-- Why no part is begun, and no report is made, and what becomes of a place
+mod PlacingRules
 -- What the program `query` answers of an index's bytes
 mod QueryLemmas
+-- What is read from a file that may hold an index
+mod QueryRules
 -- What is reported of a run, by what it answers, and where the report goes
 mod ReportingLemmas
 -- A run about a tree that ends with the status 0 made an index that navigates the tree
 mod ServingNavigableLemmas
 -- What is reported of a run that doesn't start
 mod StartReportLemmas
+-- Why a program about a tree doesn't start
+mod StartingRules
 -- A run over a tree that hands out more than what is recorded
 mod TreeRunLemmas
 -- What is said of an index, by what it lacks

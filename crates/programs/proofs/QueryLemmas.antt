@@ -14,6 +14,7 @@ use Rattle.protoscip.specs.Sessions.{MayAnswer, AreAnswered, AreUntouched}
 use Rattle.programs.specs.declared.query_fault.QueryFault.{QueryFault}
 use Rattle.programs.specs.declared.query_fault.QueryFault.TheVariants as query
 use Rattle.programs.specs.Queries.{IsReadFrom, IsAnswered, Queried}
+use Rattle.programs.specs.Queries.IsReadFrom.{is_unreadable, is_no_index, reading_lacks_memory}
 
 -- why commands aren't answered is why the program stops
 abbrev pub outcome_of : Result (Unit {0}) AnswerFault → Result (Unit {0}) QueryFault
@@ -21,33 +22,31 @@ outcome_of (Ok done) = Ok done
 outcome_of (Err fault) = Err (query.Answers fault)
 
 -- a fault that isn't want of memory is why there is no index
-named : (bytes : List ℕ) (fault : WireFault) → (fault ≡ wire.Memory) ⊎ NoIndex bytes fault → (fault ≢ wire.Memory)
-    → NoIndex bytes fault
-named bytes fault (inl same) other = absurd (other same)
-named bytes fault (inr no_index) other = no_index
+no_index : (gives : Option (List ℕ) → Type 0) (bytes : List ℕ) (fault : WireFault) → gives (Some bytes)
+    → (fault ≡ wire.Memory) ⊎ NoIndex bytes fault → (fault ≢ wire.Memory) → IsReadFrom gives (Err (query.Wire fault))
+no_index gives bytes fault given (inl same) other = absurd (other same)
+no_index gives bytes fault given (inr none) other = is_no_index bytes given none
 
 -- bytes that are refused, and not for want of memory, decode to no index
 pub refused_bytes : (gives : Option (List ℕ) → Type 0) (bytes : List ℕ) (fault : WireFault) → gives (Some bytes)
     → (fault ≡ wire.Memory) ⊎ NoIndex bytes fault → IsReadFrom gives (Err (fault_of_wire fault))
-refused_bytes gives bytes (wire.Truncated at) given why = (bytes, given, named bytes _ why (λ same. cc))
-refused_bytes gives bytes (wire.Varint at) given why = (bytes, given, named bytes _ why (λ same. cc))
-refused_bytes gives bytes (wire.FieldZero at) given why = (bytes, given, named bytes _ why (λ same. cc))
-refused_bytes gives bytes (wire.Group at) given why = (bytes, given, named bytes _ why (λ same. cc))
-refused_bytes gives bytes (wire.WireType at) given why = (bytes, given, named bytes _ why (λ same. cc))
-refused_bytes gives bytes (wire.Repeated at) given why = (bytes, given, named bytes _ why (λ same. cc))
-refused_bytes gives bytes (wire.Utf8 at) given why = (bytes, given, named bytes _ why (λ same. cc))
-refused_bytes gives bytes (wire.BadRange at) given why = (bytes, given, named bytes _ why (λ same. cc))
-refused_bytes gives bytes wire.Memory given why = tt
+refused_bytes gives bytes (wire.Truncated at) given why = no_index gives bytes _ given why (λ same. cc)
+refused_bytes gives bytes (wire.Varint at) given why = no_index gives bytes _ given why (λ same. cc)
+refused_bytes gives bytes (wire.FieldZero at) given why = no_index gives bytes _ given why (λ same. cc)
+refused_bytes gives bytes (wire.Group at) given why = no_index gives bytes _ given why (λ same. cc)
+refused_bytes gives bytes (wire.WireType at) given why = no_index gives bytes _ given why (λ same. cc)
+refused_bytes gives bytes (wire.Repeated at) given why = no_index gives bytes _ given why (λ same. cc)
+refused_bytes gives bytes (wire.Utf8 at) given why = no_index gives bytes _ given why (λ same. cc)
+refused_bytes gives bytes (wire.BadRange at) given why = no_index gives bytes _ given why (λ same. cc)
+refused_bytes gives bytes wire.Memory given why = reading_lacks_memory
 
 module _ {R W : Type 0} (gives : Option (List ℕ) → Type 0) (commands : Reader R) (answers : Writer W) where
   -- there is no index
   pub unread : (fault : QueryFault) → IsReadFrom gives (Err fault) → AreUntouched commands answers
       → Queried gives commands answers (Err fault)
-  unread query.Unreadable why unused = (why, unused)
-  unread (query.Wire fault) why unused = (why, unused)
-  unread (query.Answers answer.Read) why unused = absurd why
-  unread (query.Answers (answer.Write count)) why unused = absurd why
-  unread (query.Answers answer.Memory) why unused = inl unused
+  unread _ (is_unreadable given) unused = (is_unreadable given, unused)
+  unread _ (is_no_index bytes given none) unused = (is_no_index bytes given none, unused)
+  unread _ reading_lacks_memory unused = inl unused
 
   module _ (index : Index) (is : IsReadFrom gives (Ok index)) where
     answered : (done : Result (Unit {0}) AnswerFault)

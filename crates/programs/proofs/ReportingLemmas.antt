@@ -17,13 +17,13 @@ use Rattle.protoscip.specs.Findings.{all_findings, counts_of, counts_with, refus
 use Rattle.protoscip.specs.FaultTexts.{status_of}
 use Rattle.protoscip.specs.ToldLines.{is_skipped}
 use Rattle.protoscip.specs.ToldTrees.{MayNotTell}
+use Rattle.protoscip.specs.ToldTrees.MayNotTell.{telling_lacks_thread, telling_lacks_memory}
 use Rattle.protoscip.specs.declared.fault.Fault.{Fault}
-use Rattle.protoscip.specs.declared.fault.Fault.TheVariants.{Spawn, Memory, Lex, Syntax, Duplicate, MissingImport}
-use Rattle.protoscip.specs.declared.fault.Fault.TheVariants.{Unresolved, TooLarge, Write, Read, Answer}
 use Rattle.protoscip.specs.declared.recorded.Recorded.{Recorded}
 use Rattle.command_line.specs.declared.options.limits.Limits.{Limits}
 use Rattle.command_line.specs.declared.options.report.ReportOptions.{ReportOptions}
 use Rattle.programs.specs.Placing.{Finishes, Place}
+use Rattle.programs.specs.Placing.Finishes.{part_is_put, part_is_refused, breaks_limit, part_is_unmade}
 use Rattle.programs.specs.Reporting.{GoesIfAsked, GoesTo, IsReport, IsToldBeside, Reports, due_status}
 use Rattle.programs.specs.Reporting.{path_asked, ran_of, told_by, cut_off, of_fault, of_index, put, refused, unmade}
 use Rattle.programs.specs.Settled.{settled}
@@ -119,17 +119,8 @@ goes_asked bytes_of at options Is workers (Some path) reported asked goes = goes
 -- ---- the files that faults name
 
 untold_files : (tree : List TreeFile) (workers : ℕ) (fault : Fault) → MayNotTell workers fault → HasFilesOf tree fault
-untold_files tree workers Spawn may = tt
-untold_files tree workers Memory may = tt
-untold_files tree workers (Lex number fault) may = absurd may
-untold_files tree workers (Syntax number fault) may = absurd may
-untold_files tree workers (Duplicate first second) may = absurd may
-untold_files tree workers (MissingImport place) may = absurd may
-untold_files tree workers (Unresolved place) may = absurd may
-untold_files tree workers TooLarge may = absurd may
-untold_files tree workers (Write count) may = absurd may
-untold_files tree workers Read may = absurd may
-untold_files tree workers (Answer count) may = absurd may
+untold_files tree workers _ (telling_lacks_thread more) = tt
+untold_files tree workers _ telling_lacks_memory = tt
 
 goes_files : {Q V : Type 0} (at : Place Q V) (Is : List ℕ → Type 0) (workers : ℕ) (tree : List TreeFile)
     (reported : Result (Unit {0}) Fault) → GoesTo at Is workers reported → IfErr reported (HasFilesOf tree)
@@ -152,8 +143,8 @@ pub reported_files : {Q V : Type 0} (at : Place Q V) (options : ReportOptions) (
     → Reports at options limits allows settings workers tree unread ran reported → IfErr reported (HasFilesOf tree)
 reported_files at options limits allows settings workers tree unread ran reported reports =
     asked_files at options
-    (λ format. IsReport allows settings tree unread format ran (due_status ran reports.0)) workers tree (path_asked options)
-    reported reports.2
+    (λ format. IsReport allows settings tree unread format ran (due_status ran reports.0)) workers tree
+    (path_asked options) reported reports.2
 
 pub settled_files : {A : Type 0} (tree : List TreeFile) (ran : Result A Fault) (reported : Result (Unit {0}) Fault)
     → IfErr ran (HasFilesOf tree) → IfErr reported (HasFilesOf tree) → IfErr (settled ran reported) (HasFilesOf tree)
@@ -164,11 +155,7 @@ settled_files tree (Err fault) reported of_run of_report = of_run
 pub finished_files : {P W A : Type 0} (at : Place P W) (whole : W) (tree : List TreeFile) (ran : Result A Fault)
     (broken : Option LimitFault) (done : Result A Fault) → Finishes at whole ran broken done
     → IfErr ran (HasFilesOf tree) → IfErr done (HasFilesOf tree)
-finished_files at whole tree (Ok made) None (Ok kept) finishes have = tt
-finished_files at whole tree (Ok made) None (Err fault) finishes have =
-    subst (HasFilesOf tree) (sym finishes.0) tt
-finished_files at whole tree (Ok made) (Some limit) (Ok kept) finishes have = tt
-finished_files at whole tree (Ok made) (Some limit) (Err fault) finishes have = absurd finishes
-finished_files at whole tree (Err fault) broken (Ok kept) finishes have = tt
-finished_files at whole tree (Err fault) broken (Err other) finishes have =
-    subst (HasFilesOf tree) (sym finishes.0) have
+finished_files at whole tree _ _ _ (part_is_put put) have = tt
+finished_files at whole tree _ _ _ (part_is_refused left) have = tt
+finished_files at whole tree _ _ _ (breaks_limit left) have = tt
+finished_files at whole tree _ _ _ (part_is_unmade left) have = have

@@ -12,7 +12,7 @@ use Rattle.source_files.specs.Listings.{Listing}
 use Rattle.source_tree.specs.Files.{TreeFile}
 use Rattle.source_files.specs.declared.load_fault.LoadFault.TheVariants.{Unreadable, TooMany, BadPath, SamePath}
 use Rattle.source_files.specs.declared.load_fault.LoadFault.TheVariants as load
-use Rattle.protoscip.specs.FaultTexts.{lex_status, syntax_status, status_of}
+use Rattle.protoscip.specs.FaultTexts.{lex_text, status_of, syntax_text}
 use Rattle.protoscip.specs.declared.fault.Fault.{Fault}
 use Rattle.protoscip.specs.declared.fault.Fault.TheVariants.{Spawn, Memory, Lex, Syntax, Duplicate, MissingImport}
 use Rattle.protoscip.specs.declared.fault.Fault.TheVariants.{Unresolved, TooLarge, Write, Read, Answer}
@@ -26,8 +26,8 @@ use Rattle.programs.proofs.PlacingLemmas.{held_now}
 use Rattle.programs.specs.Serving.{AnswersNavigable, Served, not_begun, not_started, over_tree}
 use Rattle.programs.specs.StartFaults.{status_of as start_status}
 use Rattle.programs.specs.declared.start_fault.StartFault.{StartFault}
-use Rattle.programs.specs.declared.start_fault.StartFault.TheVariants.{BadPart, BadFolder, Load, IsSource, ReportIsSource}
-use Rattle.programs.specs.declared.start_fault.StartFault.TheVariants.{ReportIsOut}
+use Rattle.programs.specs.declared.start_fault.StartFault.TheVariants.{BadPart, BadFolder, Load, IsSource}
+use Rattle.programs.specs.declared.start_fault.StartFault.TheVariants.{ReportIsSource, ReportIsOut}
 
 -- ---- no fault has the status of a success
 
@@ -38,7 +38,7 @@ IsFailure (suc status) = Unit {0}
 no_success : {status due : ℕ} → IsFailure due → status ≡ due → status ≡ 0 → ⊥
 no_success failure is none = subst IsFailure (sym is ∙ none) failure
 
-lex_fails : (fault : LexFault) → IsFailure (lex_status fault)
+lex_fails : (fault : LexFault) → IsFailure (lex_text fault).status
 lex_fails lexing.TooLong = tt
 lex_fails (lexing.NotUtf8 at) = tt
 lex_fails (lexing.BadByte at) = tt
@@ -48,7 +48,7 @@ lex_fails (lexing.BadEscape at) = tt
 lex_fails (lexing.BadNumber at) = tt
 lex_fails lexing.Memory = tt
 
-syntax_fails : (fault : SyntaxFault) → IsFailure (syntax_status fault)
+syntax_fails : (fault : SyntaxFault) → IsFailure (syntax_text fault).status
 syntax_fails (parsing.NotProto3 at) = tt
 syntax_fails (parsing.CustomOption at) = tt
 syntax_fails (parsing.Aggregate at) = tt
@@ -159,7 +159,12 @@ module _ (lists : List ℕ → List ℕ → Option Listing → Type 0) (gives : 
         ids = ids;
         recorded = recorded;
         folders = folders;
-        navigable = (runs.bytes, runs.indexed.index, headline tree unread ids folders recorded runs.bytes runs.indexed, runs.are);
+        navigable = (
+          runs.bytes,
+          runs.indexed.index,
+          headline tree unread ids folders recorded runs.bytes runs.indexed,
+          runs.are,
+        );
       }
   answers blames none_found suspects report commands written messages status
       (over_tree tree unread ids (Ok recorded) (Err fault) named folders apart runs told ends) none =

@@ -1,4 +1,5 @@
 -- what is printed and said, and the exit status
+pub mod FaultTexts
 pub mod Messages
 pub mod Printing
 -- why the system refuses

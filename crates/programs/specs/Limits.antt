@@ -56,22 +56,31 @@ no_limits = NO_LIMITS
 
 -- ---- what is said of it
 
-abbrev pub name_of : LimitFault → List ℕ
-name_of (TooManySkipped skipped most) = codes "TooManySkipped"
-name_of (TooFewSources indexed least) = codes "TooFewSources"
+-- the name in its line; and what explains it, by how many there are, words, and how many there may be, or have to be
+pub record LimitSaid : Type 0 where
+  pub name : List ℕ
+  pub counted : ℕ
+  pub words : List ℕ
+  pub limit : ℕ
+
+abbrev pub said : (name : List ℕ) → (counted : ℕ) → (words : List ℕ) → (limit : ℕ) → LimitSaid
+said name counted words limit = record { name = name; counted = counted; words = words; limit = limit }
+
+abbrev pub said_of : LimitFault → LimitSaid
+said_of (TooManySkipped skipped most) =
+    said (codes "TooManySkipped") skipped (codes " files are left out, and --max-skipped allows ") most
+said_of (TooFewSources indexed least) =
+    said (codes "TooFewSources") indexed (codes " sources are indexed, and --min-sources wants ") least
 
 abbrev pub sentence_with : (first : ℕ) → (words : List ℕ) → (second : ℕ) → List ℕ
 sentence_with first words second = codes "\n" ++ decimal first ++ words ++ decimal second
 
 abbrev pub sentence_of : LimitFault → List ℕ
-sentence_of (TooManySkipped skipped most) =
-    sentence_with skipped (codes " files are left out, and --max-skipped allows ") most
-sentence_of (TooFewSources indexed least) =
-    sentence_with indexed (codes " sources are indexed, and --min-sources wants ") least
+sentence_of fault = sentence_with (said_of fault).counted (said_of fault).words (said_of fault).limit
 
 abbrev pub told : (explain : Bool) → LimitFault → List ℕ
 told explain fault =
-    if explain then plain_line (name_of fault) ++ sentence_of fault else plain_line (name_of fault)
+    if explain then plain_line (said_of fault).name ++ sentence_of fault else plain_line (said_of fault).name
 
 -- the exit status
 abbrev pub limit_status : ℕ

@@ -90,12 +90,13 @@ pub data Fills {P F M : Type 0} (gives : List ℕ → Option (List ℕ) → Type
 
 -- what becomes of the places by the folder `whole`, in which pages were made, with the answer `made`; `done` is what is
 -- answered in the end
-abbrev pub Finishes : {P F : Type 0} → FolderPlaces P F → (out : List ℕ) → (whole : F)
-    → (made done : Result (Unit {0}) SiteFault) → Type 0
-Finishes places out whole (Ok made) (Ok done) = IsFilled places out whole
-Finishes places out whole (Ok made) (Err fault) = (fault ≡ Show Write) × IsRefused places out whole
-Finishes places out whole (Err fault) (Ok done) = ⊥
-Finishes places out whole (Err fault) (Err other) = (other ≡ fault) × IsGivenUp places whole
+pub data Finishes {P F : Type 0} (places : FolderPlaces P F) (out : List ℕ) (whole : F)
+    : (made done : Result (Unit {0}) SiteFault) → Type 0 where
+  folder_is_put : {made done : Unit {0}} → IsFilled places out whole
+      → Finishes places out whole (Ok made) (Ok done)
+  folder_is_refused : {made : Unit {0}} → IsRefused places out whole
+      → Finishes places out whole (Ok made) (Err (Show Write))
+  folder_is_unmade : {fault : SiteFault} → IsGivenUp places whole → Finishes places out whole (Err fault) (Err fault)
 
 -- ---- the program
 

@@ -1,6 +1,7 @@
 -- Where the program `index` puts an index, and its report.
 use Rattle.std.specs.Prelude.{◌≡◌, ◌⊎◌, ℕ, Bool, true, false, List, [], ◌∷◌, Option, None, Some, Result, Ok, Err}
-use Rattle.std.specs.Prelude.{string_bytes, IfSome}
+use Rattle.std.specs.Prelude.{String, string_bytes, IfSome}
+use Rattle.std.specs.Global.{Global}
 use Rattle.std.specs.Option.{option_map}
 use Rattle.streams.specs.Writers.{IsWritten, SinkOf, writing}
 use Rattle.source_tree.specs.Files.{TreeFile}
@@ -89,14 +90,14 @@ pub record Forgoes {P W : Type 0} (at : Place P W) (runs : W → W → Result Re
 
 -- what becomes of a place and of the part `whole`, to which a run wrote that answered `ran`; `broken` is the limit that
 -- its index breaks, and `done` what is answered in the end
-abbrev pub Finishes : {P W A : Type 0} → Place P W → (whole : W) → (ran : Result A Fault)
-    → (broken : Option LimitFault) → (done : Result A Fault) → Type 0
-Finishes at whole (Ok made) None (Ok kept) = (kept ≡ made) × IsFilled at whole
-Finishes at whole (Ok made) None (Err fault) = (fault ≡ Write 0) × IsRefused at whole
-Finishes at whole (Ok made) (Some limit) (Ok kept) = (kept ≡ made) × IsGivenUp at whole
-Finishes at whole (Ok made) (Some limit) (Err fault) = ⊥
-Finishes at whole (Err fault) broken (Ok kept) = ⊥
-Finishes at whole (Err fault) broken (Err other) = (other ≡ fault) × IsGivenUp at whole
+pub data Finishes {P W A : Type 0} (at : Place P W) (whole : W)
+    : (ran : Result A Fault) → (broken : Option LimitFault) → (done : Result A Fault) → Type 0 where
+  part_is_put : {made : A} → IsFilled at whole → Finishes at whole (Ok made) None (Ok made)
+  part_is_refused : {made : A} → IsRefused at whole → Finishes at whole (Ok made) None (Err (Write 0))
+  breaks_limit : {made : A} {limit : LimitFault} → IsGivenUp at whole
+      → Finishes at whole (Ok made) (Some limit) (Ok made)
+  part_is_unmade : {fault : Fault} {broken : Option LimitFault} → IsGivenUp at whole
+      → Finishes at whole (Err fault) broken (Err fault)
 
 -- These bytes, and no others, were written to a part, which was put there. So the place holds them, if it is known what
 -- parts hold.
@@ -137,30 +138,28 @@ pub record AreApart {P W Q V : Type 0} (at : Place P W) (report : Place Q V) (as
 
 -- why no report is made of a tree: one of the files that were read is said to be the one at its place, whose path is
 -- named; or memory ran out
-abbrev pub MayNotReport : {Q V : Type 0} → Place Q V → IndexOptions → List TreeFile → StartFault → Type 0
-MayNotReport at options tree (ReportIsSource named) =
-    (option_map string_bytes options.report.path ≡ Some (string_bytes named)) × IsRead at options tree true
-MayNotReport at options tree (Load load.Memory) = Unit {0}
-MayNotReport at options tree fault = ⊥
+pub data MayNotReport {Q V : Type 0} (at : Place Q V) (options : IndexOptions) (tree : List TreeFile)
+    : StartFault → Type 0 where
+  report_is_source : {named : String Global} → option_map string_bytes options.report.path ≡ Some (string_bytes named)
+      → IsRead at options tree true → MayNotReport at options tree (ReportIsSource named)
+  report_lacks_memory : MayNotReport at options tree (Load load.Memory)
 
 -- why the report can't go to its place: it is that of the index, by its path or as that is asked; or memory ran out
-abbrev pub IsOneFile : (same : List ℕ → Bool → Type 0) → Asked → StartFault → Type 0
-IsOneFile same asked (ReportIsOut named) =
-    (option_map string_bytes asked.options.report.path ≡ Some (string_bytes named))
-    × IsAt same asked.path (string_bytes named) true
-IsOneFile same asked (Load load.Memory) = Unit {0}
-IsOneFile same asked fault = ⊥
+pub data IsOneFile (same : List ℕ → Bool → Type 0) (asked : Asked) : StartFault → Type 0 where
+  report_is_index : {named : String Global}
+      → option_map string_bytes asked.options.report.path ≡ Some (string_bytes named)
+      → IsAt same asked.path (string_bytes named) true → IsOneFile same asked (ReportIsOut named)
+  path_lacks_memory : IsOneFile same asked (Load load.Memory)
 
 -- why no part is begun for a tree, the first of these: one of the files that were read is said to be the one at the
 -- place of the index, whose path is named; the report would go there; one of them is said to be the one at its place,
 -- whose path is named. Memory may run out before each of them.
-abbrev pub MayNotBegin : {P W Q V : Type 0} → Place P W → Place Q V → Asked → List TreeFile → StartFault → Type 0
-MayNotBegin at report asked tree (IsSource named) =
-    (string_bytes named ≡ asked.path) × IsRead at asked.options tree true
-MayNotBegin at report asked tree (ReportIsOut named) =
-    IsRead at asked.options tree false × IsOneFile (at.same at.before) asked (ReportIsOut named)
-MayNotBegin at report asked tree (ReportIsSource named) =
-    IsRead at asked.options tree false × AreTwo at asked
-    × MayNotReport report asked.options tree (ReportIsSource named)
-MayNotBegin at report asked tree (Load load.Memory) = Unit {0}
-MayNotBegin at report asked tree fault = ⊥
+pub data MayNotBegin {P W Q V : Type 0} (at : Place P W) (report : Place Q V) (asked : Asked) (tree : List TreeFile)
+    : StartFault → Type 0 where
+  index_is_source : {named : String Global} → string_bytes named ≡ asked.path → IsRead at asked.options tree true
+      → MayNotBegin at report asked tree (IsSource named)
+  report_at_index : {fault : StartFault} → IsRead at asked.options tree false
+      → IsOneFile (at.same at.before) asked fault → MayNotBegin at report asked tree fault
+  report_at_source : {fault : StartFault} → IsRead at asked.options tree false → AreTwo at asked
+      → MayNotReport report asked.options tree fault → MayNotBegin at report asked tree fault
+  beginning_lacks_memory : MayNotBegin at report asked tree (Load load.Memory)

@@ -6,6 +6,7 @@ use Rattle.streams.specs.Writers.{Writer}
 use Rattle.scip_records.specs.declared.records.Index.{Index}
 use Rattle.scip_wire.specs.Decodes.{Decodes}
 use Rattle.scip_wire.specs.Refused.{NoIndex}
+use Rattle.scip_wire.specs.declared.wire_fault.WireFault.{WireFault}
 use Rattle.scip_query.specs.declared.answer_fault.AnswerFault.{AnswerFault}
 use Rattle.scip_query.specs.declared.answer_fault.AnswerFault.TheVariants as answer
 use Rattle.protoscip.specs.Sessions.{AreAnswered, AreUntouched}
@@ -13,12 +14,12 @@ use Rattle.programs.specs.declared.query_fault.QueryFault.{QueryFault}
 use Rattle.programs.specs.declared.query_fault.QueryFault.TheVariants.{Unreadable, Wire, Answers}
 
 -- the index that the file's bytes decode to; or that it can't be read, or why they decode to none; or memory ran out
-abbrev pub IsReadFrom : (Option (List ℕ) → Type 0) → Result Index QueryFault → Type 0
-IsReadFrom gives (Ok index) = (bytes : List ℕ) × gives (Some bytes) × Decodes bytes index
-IsReadFrom gives (Err (Answers answer.Memory)) = Unit {0}
-IsReadFrom gives (Err Unreadable) = gives None
-IsReadFrom gives (Err (Wire fault)) = (bytes : List ℕ) × gives (Some bytes) × NoIndex bytes fault
-IsReadFrom gives (Err other) = ⊥
+pub data IsReadFrom (gives : Option (List ℕ) → Type 0) : Result Index QueryFault → Type 0 where
+  is_index : {index : Index} (bytes : List ℕ) → gives (Some bytes) → Decodes bytes index → IsReadFrom gives (Ok index)
+  is_unreadable : gives None → IsReadFrom gives (Err Unreadable)
+  is_no_index : {fault : WireFault} (bytes : List ℕ) → gives (Some bytes) → NoIndex bytes fault
+      → IsReadFrom gives (Err (Wire fault))
+  reading_lacks_memory : IsReadFrom gives (Err (Answers answer.Memory))
 
 -- the index is read, and answers go out to commands about it
 pub record IsAnswered {R W : Type 0} (gives : Option (List ℕ) → Type 0) (commands : Reader R) (answers : Writer W)

@@ -114,6 +114,7 @@ fn is_out<P: OutPlace>(request: &IndexRequest<'_>, at: &P) -> bool
 }
 
 /// Sees, if a report is asked for, that it doesn't go to the place of the index. `ReportIsOut`: it does.
+#[tactic(auto, using(crate::proofs::PlacingRules::of_two))]
 fn see_two<P: OutPlace>(alloc: Global, request: &IndexRequest<'_>, at: &P) -> Result<(), StartFault>
     ensures two { IfOk result (λ _.
         IsOut (P.same at.now) request.now.path.now request.now.options.now.report false) }
@@ -132,6 +133,7 @@ fn see_two<P: OutPlace>(alloc: Global, request: &IndexRequest<'_>, at: &P) -> Re
 
 /// Begins the part that the index goes to. `IsSource`: one of the files that were read is the one at its place;
 /// `ReportIsOut`, `ReportIsSource`: the report can't go to its own.
+#[tactic(auto, using(crate::proofs::PlacingRules::of_beginning))]
 fn begin<P: OutPlace, Q: OutPlace>(
     alloc: Global,
     request: &IndexRequest<'_>,
@@ -189,6 +191,7 @@ fn told_in<'a>(ran: &'a Result<KeptIndex<'_>, Fault>) -> &'a [Omission]
 
 /// Puts what was written at its place, if it is a whole index that breaks no limit, and else gives it up. `Write`: the
 /// place refuses it.
+#[tactic(auto, using(crate::proofs::PlacingRules::of_parts))]
 fn finish<'a, P: OutPlace>(
     done: Result<KeptIndex<'a>, Fault>,
     broken: Option<LimitFault>,

@@ -39,6 +39,7 @@ fn taken_text(alloc: Global, out: &str, explain: bool) -> Result<String, AllocEr
 }
 
 /// Puts a folder at its place if all pages are made in it, and else gives it up. `Write`: the place refuses it.
+#[tactic(auto, using(crate::proofs::PlacingRules::of_folders))]
 fn finish<P: FolderPlace>(
     done: Result<(), SiteFault>,
     out: &str,

@@ -13,6 +13,7 @@ use std::alloc::Global;
 use streams::{Feed, Sink};
 
 /// The index that a file holds. Nothing of the file's bytes is kept beside it.
+#[tactic(auto, using(crate::proofs::QueryRules::of_index))]
 pub(crate) fn index_of_file<F: ReadFiles>(
     alloc: Global,
     files: &F,

@@ -59,6 +59,7 @@ pub(crate) struct Reporter<'a, R> {
 
 /// Sees, if a report is asked for, that none of the files that were read is the one at its place. `ReportIsSource`: one
 /// is.
+#[tactic(auto, using(crate::proofs::PlacingRules::of_report))]
 pub(crate) fn see_report<Q: OutPlace>(
     alloc: Global,
     options: &IndexOptions,

@@ -22,6 +22,7 @@ use std::alloc::Global;
 use streams::Sink;
 
 /// The index that the file with a path holds, with its tables.
+#[tactic(auto, using(crate::proofs::QueryRules::of_index))]
 pub(crate) fn queries_of<F: ReadFiles>(
     alloc: Global,
     files: &F,

@@ -34,6 +34,7 @@ use Rattle.protoscip.specs.Faults.{fault_of_build}
 use Rattle.protoscip.specs.FaultLines.{HasFilesOf}
 use Rattle.protoscip.specs.Indexes.{IsRefused}
 use Rattle.protoscip.specs.Writing.{IsNotReadBack}
+use Rattle.protoscip.specs.Writing.IsNotReadBack.{reading_lacks_memory, has_no_bytes}
 use Rattle.protoscip.specs.Output.{Writes}
 use Rattle.protoscip.specs.Indexes.{recorded_of}
 use Rattle.protoscip.specs.Dump.{source_path, dump_tree, dump_settings, default_choices, IsListing, IsRefusal, Dumps}
@@ -85,17 +86,8 @@ module _ (dialect : Dialect) (bytes : List ℕ) (settings : Settings) (tree : Li
     indexed = record { index = built.index; built = built_of_dump built is; spelled = listing.0 };
     listing_is = listing.1;
   }
-  listed_or_refused text built (Err fault.Memory) is none = tt
-  listed_or_refused text built (Err fault.TooLarge) is none = (built, built_of_dump built is, none)
-  listed_or_refused text built (Err fault.Spawn) is none = absurd none
-  listed_or_refused text built (Err (fault.Lex number e)) is none = absurd none
-  listed_or_refused text built (Err (fault.Syntax number e)) is none = absurd none
-  listed_or_refused text built (Err (fault.Duplicate first second)) is none = absurd none
-  listed_or_refused text built (Err (fault.MissingImport place)) is none = absurd none
-  listed_or_refused text built (Err (fault.Unresolved place)) is none = absurd none
-  listed_or_refused text built (Err (fault.Write count)) is none = absurd none
-  listed_or_refused text built (Err fault.Read) is none = absurd none
-  listed_or_refused text built (Err (fault.Answer count)) is none = absurd none
+  listed_or_refused text built (Err _) is (reading_lacks_memory short) = tt
+  listed_or_refused text built (Err _) is (has_no_bytes large) = (built, built_of_dump built is, large)
 
 -- ---- what is kept of bytes is all of them, where that isn't too long
 

@@ -29,9 +29,9 @@ use Rattle.scip_wire.specs.declared.write_fault.WriteFault.TheVariants as writin
 use Rattle.protoscip.specs.Faults.{fault_of_build, fault_of_writing}
 use Rattle.protoscip.specs.Indexes.{recorded_of, IsSpelled, Indexes}
 use Rattle.protoscip.specs.Writing.{IsRecordOf, WritesIndex}
+use Rattle.protoscip.specs.Writing.WritesIndex.{index_is_written, index_is_cut_off, index_is_too_large}
 use Rattle.protoscip.specs.FaultLines.{HasFilesOf}
 use Rattle.protoscip.specs.declared.fault.Fault.{Fault}
-use Rattle.protoscip.specs.declared.fault.Fault.TheVariants as fault
 
 pub not_above : (n m : ℕ) → (m < n → ⊥) → n ≤ m
 not_above n m never = let h : n < suc m = lt_of_not-le never in omega arith
@@ -65,9 +65,10 @@ module _ (decodes : SpellingDecodes) (one : OneDecoding) (index : Index) (known 
     pub not_written : (e : WriteFault) → (stopped e ≡ stopped writing.TooLarge)
         ↔ (max_index_len < length (spelling_of index)) → Leaves out (spelling_of index) e
         → WritesIndex index out (Err (fault_of_writing e))
-    not_written writing.TooLarge large leaves = (large.0 refl, leaves)
+    not_written writing.TooLarge large leaves = index_is_too_large (large.0 refl) leaves
     not_written (writing.Write count) large leaves =
-        (spelled_unless (stopped (writing.Write count) ≡ stopped writing.TooLarge) large (λ same. cc), leaves)
+        index_is_cut_off (spelled_unless (stopped (writing.Write count) ≡ stopped writing.TooLarge) large (λ same. cc))
+        leaves
 
 -- ---- the parts of an index, of whose documents the records are kept
 
@@ -124,44 +125,26 @@ module _ {W : Type 0} (allows : Seen → Choice → Type 0) (settings : Settings
     -- its index isn't written, or cut off
     pub unwritten : (e : Fault) → WritesIndex built.index out (Err e)
         → Indexes allows settings tree workers out (Err e)
-    unwritten fault.Spawn wrote = absurd wrote
-    unwritten fault.Memory wrote = absurd wrote
-    unwritten (fault.Lex number e) wrote = absurd wrote
-    unwritten (fault.Syntax number e) wrote = absurd wrote
-    unwritten (fault.Duplicate first second) wrote = absurd wrote
-    unwritten (fault.MissingImport place) wrote = absurd wrote
-    unwritten (fault.Unresolved place) wrote = absurd wrote
-    unwritten fault.TooLarge wrote = ((built, is, wrote.0), wrote.1)
-    unwritten (fault.Write count) wrote = (
+    unwritten _ (index_is_too_large large left) = ((built, is, large), left)
+    unwritten _ (index_is_cut_off spells cut) = (
       recorded_of built.choices built.told,
       spelling_of built.index,
-      record { index = built.index; built = is; spelled = wrote.0 },
-      wrote.1,
+      record { index = built.index; built = is; spelled = spells },
+      cut,
     )
-    unwritten fault.Read wrote = absurd wrote
-    unwritten (fault.Answer count) wrote = absurd wrote
 
     -- it is written
     pub written : (done : Unit {0}) → WritesIndex built.index out (Ok done)
         → Indexes allows settings tree workers out
         (Ok (recorded_of built.choices built.told))
-    written done wrote = (
+    written done (index_is_written spells wrote) = (
       spelling_of built.index,
-      record { index = built.index; built = is; spelled = wrote.0 },
-      wrote.1,
+      record { index = built.index; built = is; spelled = spells },
+      wrote,
     )
 
 -- writing an index has no fault of a file
 pub no_files : {W : Type 0} (tree : List TreeFile) (out : Writer W) (index : Index) (e : Fault)
     → WritesIndex index out (Err e) → HasFilesOf tree e
-no_files tree out index fault.Spawn wrote = tt
-no_files tree out index fault.Memory wrote = absurd wrote
-no_files tree out index (fault.Lex number e) wrote = absurd wrote
-no_files tree out index (fault.Syntax number e) wrote = absurd wrote
-no_files tree out index (fault.Duplicate first second) wrote = absurd wrote
-no_files tree out index (fault.MissingImport place) wrote = absurd wrote
-no_files tree out index (fault.Unresolved place) wrote = absurd wrote
-no_files tree out index fault.TooLarge wrote = tt
-no_files tree out index (fault.Write count) wrote = tt
-no_files tree out index fault.Read wrote = tt
-no_files tree out index (fault.Answer count) wrote = tt
+no_files tree out index _ (index_is_too_large large left) = tt
+no_files tree out index _ (index_is_cut_off spells cut) = tt

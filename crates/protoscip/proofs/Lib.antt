@@ -1,4 +1,6 @@
 -- Each file is named after the spec or source that it serves.
+-- What becomes of commands about an index that isn't read back
+mod ConversingRules
 -- A source has one listing, and is refused for want of memory alone where it has one
 mod DumpLawLemmas
 -- What a dump answers, by where it stops
@@ -43,7 +45,11 @@ mod LineLemmas
 mod SessionLemmas
 -- What is to be said of an index, by what it lacks
 mod ToldLineOmissionLemmas
+-- Why what is told of a tree can't be had
+mod ToldTreeRules
 -- What couldn't be read, in a report: each once, and unlike all else
 mod UnreadLemmas
 -- A use that names a type has a target, so each component of a use of a source names an entity
 mod UseLawLemmas
+-- Why an index isn't read back from its bytes
+mod WritingRules

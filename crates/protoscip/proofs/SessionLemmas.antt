@@ -16,9 +16,10 @@ use Rattle.protoscip.specs.Faults.{fault_of_answering}
 use Rattle.protoscip.specs.FaultLines.{HasFilesOf}
 use Rattle.protoscip.specs.Indexes.{recorded_of, IsSpelled}
 use Rattle.protoscip.specs.Conversing.{AreAnsweredFrom, Converses}
+use Rattle.protoscip.specs.Conversing.Converses.{all_are_answered, reading_stops, writing_stops, answer_lacks_memory}
+use Rattle.protoscip.specs.Conversing.Converses.{first_lacks_memory, has_too_many_bytes}
 use Rattle.protoscip.specs.Sessions.{AreAnswered, MayAnswer, IsServed, Serves}
 use Rattle.protoscip.specs.declared.fault.Fault.{Fault}
-use Rattle.protoscip.specs.declared.fault.Fault.TheVariants as fault
 
 module _ {R W : Type 0} (commands : Reader R) (answers : Writer W) where
   -- commands are answered from an index that was read back
@@ -37,10 +38,10 @@ module _ {R W : Type 0} (commands : Reader R) (answers : Writer W) where
         → MayAnswer commands answers read (Err e)
         → Converses commands answers index
         (Err (fault_of_answering e))
-    stopped answer.Read are = conversed (Err answer.Read) are
-    stopped (answer.Write count) are = conversed (Err (answer.Write count)) are
-    stopped answer.Memory (inl untouched) = inl (spelled.small, untouched)
-    stopped answer.Memory (inr are) = inr (conversed (Err answer.Memory) are)
+    stopped answer.Read are = reading_stops (conversed (Err answer.Read) are)
+    stopped (answer.Write count) are = writing_stops (conversed (Err (answer.Write count)) are)
+    stopped answer.Memory (inl untouched) = first_lacks_memory spelled.small untouched
+    stopped answer.Memory (inr are) = answer_lacks_memory (conversed (Err answer.Memory) are)
 
   pub may_answer : (index : Index) (answered : Result (Unit {0}) AnswerFault)
       → AreAnswered commands answers index answered
@@ -67,37 +68,24 @@ module _ {R W : Type 0} (commands : Reader R) (answers : Writer W) where
         → Converses commands answers built.index
         (Err e)
         → Serves commands answers allows settings tree workers (Err e)
-    unserved fault.Spawn from = absurd from
-    unserved fault.Memory (inl from) = inl from.1
-    unserved fault.Memory (inr from) = inr (recorded_of built.choices built.told, served (Err answer.Memory) from)
-    unserved (fault.Lex number e) from = absurd from
-    unserved (fault.Syntax number e) from = absurd from
-    unserved (fault.Duplicate earlier later) from = absurd from
-    unserved (fault.MissingImport place) from = absurd from
-    unserved (fault.Unresolved place) from = absurd from
-    unserved fault.TooLarge from = ((built, is, from.0), from.1)
-    unserved (fault.Write count) from = absurd from
-    unserved fault.Read from = (recorded_of built.choices built.told, served (Err answer.Read) from)
-    unserved (fault.Answer count) from = (recorded_of built.choices built.told, served (Err (answer.Write count)) from)
+    unserved _ (reading_stops from) = (recorded_of built.choices built.told, served _ from)
+    unserved _ (writing_stops from) = (recorded_of built.choices built.told, served _ from)
+    unserved _ (answer_lacks_memory from) = inr (recorded_of built.choices built.told, served _ from)
+    unserved _ (first_lacks_memory short untouched) = inl untouched
+    unserved _ (has_too_many_bytes large untouched) = ((built, is, large), untouched)
 
     pub all_served : (done : Unit {0})
         → Converses commands answers built.index
         (Ok done)
         → Serves commands answers allows settings tree workers (Ok (recorded_of built.choices built.told))
-    all_served done from = served (Ok tt) from
+    all_served done (all_are_answered from) = served (Ok tt) from
 
   -- it has no fault of a file
   pub no_files : (tree : List TreeFile) (index : Index) (e : Fault)
       → Converses commands answers index (Err e)
       → HasFilesOf tree e
-  no_files tree index fault.Spawn from = tt
-  no_files tree index fault.Memory from = tt
-  no_files tree index (fault.Lex number e) from = absurd from
-  no_files tree index (fault.Syntax number e) from = absurd from
-  no_files tree index (fault.Duplicate earlier later) from = absurd from
-  no_files tree index (fault.MissingImport place) from = absurd from
-  no_files tree index (fault.Unresolved place) from = absurd from
-  no_files tree index fault.TooLarge from = tt
-  no_files tree index (fault.Write count) from = tt
-  no_files tree index fault.Read from = tt
-  no_files tree index (fault.Answer count) from = tt
+  no_files tree index _ (reading_stops from) = tt
+  no_files tree index _ (writing_stops from) = tt
+  no_files tree index _ (answer_lacks_memory from) = tt
+  no_files tree index _ (first_lacks_memory short untouched) = tt
+  no_files tree index _ (has_too_many_bytes large untouched) = tt

@@ -8,15 +8,13 @@ use Rattle.std.proofs.lemmas.List.Elements.{All-append, All-map}
 use Rattle.std.proofs.lemmas.List.Kept.{AllPairs-cons}
 use Rattle.std.proofs.lemmas.Slice.Eq.{bytes_eq-Decides}
 use Rattle.fault_reports.specs.Findings.{Found, FoundPlace}
-use Rattle.proto_lex.specs.FaultNames.{lex_name}
 use Rattle.proto_lex.specs.declared.fault.LexFault.{LexFault}
 use Rattle.proto_lex.specs.declared.fault.LexFault.TheVariants as lexing
-use Rattle.proto_parse.specs.FaultNames.{syntax_name}
 use Rattle.proto_parse.specs.fault.SyntaxFault.{SyntaxFault}
 use Rattle.proto_parse.specs.fault.SyntaxFault.TheVariants as parsing
 use Rattle.source_tree.specs.Files.{TreeFile}
 use Rattle.scip_build.specs.declared.omission.Omission.{Omission}
-use Rattle.protoscip.specs.FaultTexts.{name_of}
+use Rattle.protoscip.specs.FaultTexts.{lex_text, name_of, syntax_text}
 use Rattle.protoscip.specs.FindingLaws.{AreApart}
 use Rattle.protoscip.specs.Findings.{all_findings, told_finding, told_findings}
 use Rattle.protoscip.specs.Faults.{fault_of_omission}
@@ -26,7 +24,7 @@ use Rattle.protoscip.specs.declared.fault.Fault.TheVariants as fault
 
 -- ---- no fault has its name
 
-lex_unlike : (e : LexFault) → bytes_eq (lex_name e) unread_name ≡ false
+lex_unlike : (e : LexFault) → bytes_eq (lex_text e).name unread_name ≡ false
 lex_unlike lexing.TooLong = refl
 lex_unlike (lexing.NotUtf8 at) = refl
 lex_unlike (lexing.BadByte at) = refl
@@ -36,7 +34,7 @@ lex_unlike (lexing.BadEscape at) = refl
 lex_unlike (lexing.BadNumber at) = refl
 lex_unlike lexing.Memory = refl
 
-syntax_unlike : (e : SyntaxFault) → bytes_eq (syntax_name e) unread_name ≡ false
+syntax_unlike : (e : SyntaxFault) → bytes_eq (syntax_text e).name unread_name ≡ false
 syntax_unlike (parsing.NotProto3 at) = refl
 syntax_unlike (parsing.CustomOption at) = refl
 syntax_unlike (parsing.Aggregate at) = refl

@@ -1,5 +1,5 @@
 -- What becomes of commands about an index, which are answered from its bytes.
-use Rattle.std.specs.Prelude.{◌⊎◌, ◌<◌, ◌≤◌, length, Result, Ok, Err}
+use Rattle.std.specs.Prelude.{ℕ, ◌<◌, ◌≤◌, length, Result, Ok, Err}
 use Rattle.streams.specs.Readers.{Reader}
 use Rattle.streams.specs.Writers.{Writer}
 use Rattle.scip_records.specs.declared.records.Index.{Index}
@@ -17,16 +17,19 @@ module _ {R W : Type 0} (commands : Reader R) (answers : Writer W) where
     pub spelled : IsSpelled index (spelling_of index)
     pub are : AreAnswered commands answers index answered
 
-  -- they are; or reading or writing stops; or the index has too many bytes; or it hasn't, and memory runs out before an
-  -- answer, or before the first
-  abbrev pub Converses : Index → Result (Unit {0}) Fault → Type 0
-  Converses index (Ok done) = AreAnsweredFrom index (Ok done)
-  Converses index (Err Read) = AreAnsweredFrom index (Err answer.Read)
-  Converses index (Err (Answer count)) =
-      AreAnsweredFrom index (Err (answer.Write count))
-  Converses index (Err Memory) =
-      ((length (spelling_of index) ≤ max_index_len) × AreUntouched commands answers)
-      ⊎ AreAnsweredFrom index (Err answer.Memory)
-  Converses index (Err TooLarge) =
-      (max_index_len < length (spelling_of index)) × AreUntouched commands answers
-  Converses index (Err other) = ⊥
+-- they are; or reading or writing stops; or the index has too many bytes; or it hasn't, and memory runs out before an
+-- answer, or before the first
+pub data Converses {R W : Type 0} (commands : Reader R) (answers : Writer W) (index : Index)
+    : Result (Unit {0}) Fault → Type 0 where
+  all_are_answered : {done : Unit {0}} → AreAnsweredFrom commands answers index (Ok done)
+      → Converses commands answers index (Ok done)
+  reading_stops : AreAnsweredFrom commands answers index (Err answer.Read)
+      → Converses commands answers index (Err Read)
+  writing_stops : {count : ℕ} → AreAnsweredFrom commands answers index (Err (answer.Write count))
+      → Converses commands answers index (Err (Answer count))
+  answer_lacks_memory : AreAnsweredFrom commands answers index (Err answer.Memory)
+      → Converses commands answers index (Err Memory)
+  first_lacks_memory : length (spelling_of index) ≤ max_index_len → AreUntouched commands answers
+      → Converses commands answers index (Err Memory)
+  has_too_many_bytes : max_index_len < length (spelling_of index) → AreUntouched commands answers
+      → Converses commands answers index (Err TooLarge)

@@ -17,7 +17,7 @@ use Rattle.proto_visibility.specs.declared.files.FilePlace.{FilePlace}
 use Rattle.source_tree.specs.Files.{TreeFile}
 use Rattle.diagnostics.specs.Hints.{IsHinted}
 use Rattle.protoscip.specs.FaultLines.{line_of, path_of}
-use Rattle.protoscip.specs.FaultTexts.{lex_sentence, sentence_of, syntax_sentence}
+use Rattle.protoscip.specs.FaultTexts.{sentence_of, syntax_sentence}
 use Rattle.protoscip.specs.Required.{has_required}
 use Rattle.protoscip.specs.declared.fault.Fault.{Fault}
 use Rattle.protoscip.specs.declared.fault.Fault.TheVariants.{Memory, Lex, Syntax, Duplicate, MissingImport}
@@ -92,12 +92,6 @@ imported tree place = take (place.span.end - place.span.start) (drop place.span.
 abbrev pub has_path : (path : List ℕ) → List TreeFile → Bool
 has_path path tree = list_any (λ (file : TreeFile). bytes_eq file.path path) tree
 
--- an import without a file may be of one that is left out
-abbrev pub import_sentence : (is_there : Bool) → List ℕ
-import_sentence is_there =
-    if is_there then codes "the file with this path is left out"
-    else codes "no source has this path, below ROOT or a folder that is included"
-
 -- the token there is the word `edition`
 abbrev pub is_edition : List ℕ → Bool
 is_edition bytes = bytes_eq (take (token_len bytes) bytes) (codes "edition")
@@ -112,9 +106,12 @@ met_sentence text (parsing.Grammar at) =
     else syntax_sentence (parsing.Grammar at)
 met_sentence text fault = syntax_sentence fault
 
+-- an import without a file may be of one that is left out
 abbrev pub sentence_in : List TreeFile → Fault → List ℕ
 sentence_in tree (Syntax number fault) = met_sentence (bytes_of tree number) fault
-sentence_in tree (MissingImport place) = import_sentence (has_path (joined (imported tree place)) tree)
+sentence_in tree (MissingImport place) =
+    if has_path (joined (imported tree place)) tree then codes "the file with this path is left out"
+    else sentence_of (MissingImport place)
 sentence_in tree fault = sentence_of fault
 
 -- ---- explanations
@@ -123,7 +120,8 @@ sentence_in tree fault = sentence_of fault
 abbrev pub explanation_of : List TreeFile → Fault → (hints : List ℕ) → List ℕ
 explanation_of tree Memory hints = []
 explanation_of tree (Lex number fault) hints =
-    at_token (path_of tree number) (bytes_of tree number) (lex_offset fault) (lex_sentence fault)
+    at_token (path_of tree number) (bytes_of tree number) (lex_offset fault)
+    (sentence_of (Lex number fault))
 explanation_of tree (Syntax number fault) hints =
     at_met (path_of tree number) (bytes_of tree number) (syntax_offset fault)
     (met_sentence (bytes_of tree number) fault) hints

@@ -25,7 +25,6 @@ pub record IsToldOf (allows : Seen → Choice → Type 0) (dialect : Dialect) (t
   pub told_is : built.told ≡ told
 
 -- why that can't be had: memory ran out, or a thread is refused, if one is to be started
-abbrev pub MayNotTell : (workers : ℕ) → Fault → Type 0
-MayNotTell workers Spawn = 1 < workers
-MayNotTell workers Memory = Unit {0}
-MayNotTell workers fault = ⊥
+pub data MayNotTell (workers : ℕ) : Fault → Type 0 where
+  telling_lacks_thread : 1 < workers → MayNotTell workers Spawn
+  telling_lacks_memory : MayNotTell workers Memory

@@ -1,15 +1,7 @@
 //! What is said of a fault: its name, a sentence that explains it, and the exit status of a program that stops for it.
 
 ghost use Rattle.std.specs.Prelude.{◌≡◌};
-ghost use Rattle.protoscip.specs.FaultTexts.{
-  lex_sentence,
-  lex_status,
-  name_of,
-  sentence_of,
-  status_of,
-  syntax_sentence,
-  syntax_status,
-};
+ghost use Rattle.protoscip.specs.FaultTexts.{lacking, lex_text, name_of, refused, sentence_of, status_of, syntax_text};
 
 use crate::fault::Fault;
 use crate::statuses::{MEMORY_STATUS, SOURCES_STATUS, STREAM_STATUS};
@@ -46,64 +38,76 @@ fn said(name: &'static str, sentence: &'static str, status: u8) -> FaultText
     }
 }
 
-/// For a fault of a text or of its lexing; empty for lack of memory.
-fn lex_sentence(fault: &LexFault) -> &'static str
-    ensures { result.now ≡ lex_sentence fault.now }
+/// For a source that is refused.
+fn refused(name: &'static str, sentence: &'static str) -> FaultText
+    ensures name { result.name.now ≡ (refused name.now sentence.now).name }
+    ensures sentence { result.sentence.now ≡ (refused name.now sentence.now).sentence }
+    ensures status { result.status ≡ (refused name.now sentence.now).status }
 {
+    said(name, sentence, SOURCES_STATUS)
+}
+
+/// For lack of memory.
+fn lacking(name: &'static str) -> FaultText
+    ensures name { result.name.now ≡ (lacking name.now).name }
+    ensures sentence { result.sentence.now ≡ (lacking name.now).sentence }
+    ensures status { result.status ≡ (lacking name.now).status }
+{
+    said(name, "", MEMORY_STATUS)
+}
+
+/// What is said of a fault of a text or of its lexing.
+fn lex_text(fault: &LexFault) -> FaultText
+    ensures name { result.name.now ≡ (lex_text fault.now).name }
+    ensures sentence { result.sentence.now ≡ (lex_text fault.now).sentence }
+    ensures status { result.status ≡ (lex_text fault.now).status }
+{
+    let name = fault.name();
     match fault {
-        LexFault::TooLong => "a source has at most 67108864 bytes",
-        LexFault::NotUtf8(_) => "the bytes from here on aren't UTF-8",
-        LexFault::BadByte(_) => "this character can't be here",
-        LexFault::OpenString(_) => "this string has no end on its line",
-        LexFault::OpenComment(_) => "this comment has no `*/`",
-        LexFault::BadEscape(_) => "this backslash begins no escape",
-        LexFault::BadNumber(_) => "these letters and digits are no number",
-        LexFault::Memory => "",
+        LexFault::TooLong => refused(name, "a source has at most 67108864 bytes"),
+        LexFault::NotUtf8(_) => refused(name, "the bytes from here on aren't UTF-8"),
+        LexFault::BadByte(_) => refused(name, "this character can't be here"),
+        LexFault::OpenString(_) => refused(name, "this string has no end on its line"),
+        LexFault::OpenComment(_) => refused(name, "this comment has no `*/`"),
+        LexFault::BadEscape(_) => refused(name, "this backslash begins no escape"),
+        LexFault::BadNumber(_) => refused(name, "these letters and digits are no number"),
+        LexFault::Memory => lacking(name),
     }
 }
 
-/// For a fault of a text or of its lexing.
-fn lex_status(fault: &LexFault) -> u8
-    ensures { result ≡ lex_status fault.now }
+/// What is said of a fault of the parser.
+pub(crate) fn syntax_text(fault: &SyntaxFault) -> FaultText
+    ensures name { result.name.now ≡ (syntax_text fault.now).name }
+    ensures sentence { result.sentence.now ≡ (syntax_text fault.now).sentence }
+    ensures status { result.status ≡ (syntax_text fault.now).status }
 {
-    match fault {
-        LexFault::Memory => MEMORY_STATUS,
-        _ => SOURCES_STATUS,
-    }
-}
-
-/// For a fault of the parser; empty for lack of memory.
-pub(crate) fn syntax_sentence(fault: &SyntaxFault) -> &'static str
-    ensures { result.now ≡ syntax_sentence fault.now }
-{
+    let name = fault.name();
     match fault {
         SyntaxFault::NotProto3(_) => {
-            "a source begins with `syntax = \"proto3\";`; with `--accept all` it may be proto2"
+            let sentence =
+                "a source begins with `syntax = \"proto3\";`; with `--accept all` it may be proto2";
+            refused(name, sentence)
         }
         SyntaxFault::CustomOption(_) => {
-            "`--custom-options skip`, or `--accept all`, reads past options with parentheses"
+            let sentence =
+                "`--custom-options skip`, or `--accept all`, reads past options with parentheses";
+            refused(name, sentence)
         }
         SyntaxFault::Aggregate(_) => {
-            "`--custom-options skip`, or `--accept all`, reads past values in braces"
+            let sentence =
+                "`--custom-options skip`, or `--accept all`, reads past values in braces";
+            refused(name, sentence)
         }
         SyntaxFault::Extend(_) => {
-            "`--custom-options skip` reads past `extend`, and `--accept all` reads it"
+            let sentence =
+                "`--custom-options skip` reads past `extend`, and `--accept all` reads it";
+            refused(name, sentence)
         }
-        SyntaxFault::TwoPackages(_) => "a source has one package statement at most",
-        SyntaxFault::ImportEscape(_) => "an import's path is written without `\\`",
-        SyntaxFault::TooDeep(_) => "messages and groups nest at most 64 deep",
-        SyntaxFault::Grammar(_) => "the grammar wants something else here",
-        SyntaxFault::Memory => "",
-    }
-}
-
-/// For a fault of the parser.
-fn syntax_status(fault: &SyntaxFault) -> u8
-    ensures { result ≡ syntax_status fault.now }
-{
-    match fault {
-        SyntaxFault::Memory => MEMORY_STATUS,
-        _ => SOURCES_STATUS,
+        SyntaxFault::TwoPackages(_) => refused(name, "a source has one package statement at most"),
+        SyntaxFault::ImportEscape(_) => refused(name, "an import's path is written without `\\`"),
+        SyntaxFault::TooDeep(_) => refused(name, "messages and groups nest at most 64 deep"),
+        SyntaxFault::Grammar(_) => refused(name, "the grammar wants something else here"),
+        SyntaxFault::Memory => lacking(name),
     }
 }
 
@@ -119,25 +123,17 @@ impl Fault {
                 let sentence = "no thread could be started; `--workers 1` needs none";
                 said("Spawn", sentence, MEMORY_STATUS)
             }
-            Fault::Memory => said("Memory", "", MEMORY_STATUS),
-            Fault::Lex(_, fault) => said(fault.name(), lex_sentence(fault), lex_status(fault)),
-            Fault::Syntax(_, fault) => {
-                said(fault.name(), syntax_sentence(fault), syntax_status(fault))
-            }
-            Fault::Duplicate(..) => {
-                said(
-                    "Duplicate",
-                    "this full name is given already",
-                    SOURCES_STATUS,
-                )
-            }
+            Fault::Memory => lacking("Memory"),
+            Fault::Lex(_, fault) => lex_text(fault),
+            Fault::Syntax(_, fault) => syntax_text(fault),
+            Fault::Duplicate(..) => refused("Duplicate", "this full name is given already"),
             Fault::MissingImport(_) => {
                 let sentence = "no source has this path, below ROOT or a folder that is included";
-                said("MissingImport", sentence, SOURCES_STATUS)
+                refused("MissingImport", sentence)
             }
             Fault::Unresolved(_) => {
                 let sentence = "no type that this source sees has this name";
-                said("Unresolved", sentence, SOURCES_STATUS)
+                refused("Unresolved", sentence)
             }
             Fault::TooLarge => {
                 said(

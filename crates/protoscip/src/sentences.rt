@@ -4,7 +4,6 @@ ghost use Rattle.std.specs.Prelude.{◌≡◌};
 ghost use Rattle.diagnostics.specs.Literals.{joined};
 ghost use Rattle.protoscip.specs.Explanations.{
   has_path,
-  import_sentence,
   imported,
   is_edition,
   met_sentence,
@@ -14,7 +13,7 @@ ghost use Rattle.protoscip.specs.FaultLines.{HasFile, HasFilesOf};
 
 use crate::explaining::{head, tail};
 use crate::fault::Fault;
-use crate::fault_text::syntax_sentence;
+use crate::fault_text::syntax_text;
 use crate::required::has_required;
 use diagnostics::{is_joined, token_len};
 use proto_link::FilePlace;
@@ -37,13 +36,13 @@ fn met_sentence(text: &[u8], fault: &SyntaxFault) -> &'static str
             if is_edition(tail(text, *at)) {
                 return "editions aren't read, only proto3, and, with `--accept all`, proto2";
             }
-            syntax_sentence(fault)
+            syntax_text(fault).sentence
         }
         SyntaxFault::Grammar(at) => {
             if has_required(text, *at) {
                 return "proto3 has no `required`: leave it out; with `--accept all` a source may be proto2";
             }
-            syntax_sentence(fault)
+            syntax_text(fault).sentence
         }
         SyntaxFault::CustomOption(_)
         | SyntaxFault::Aggregate(_)
@@ -51,7 +50,7 @@ fn met_sentence(text: &[u8], fault: &SyntaxFault) -> &'static str
         | SyntaxFault::TwoPackages(_)
         | SyntaxFault::ImportEscape(_)
         | SyntaxFault::TooDeep(_)
-        | SyntaxFault::Memory => syntax_sentence(fault),
+        | SyntaxFault::Memory => syntax_text(fault).sentence,
     }
 }
 
@@ -77,26 +76,20 @@ fn has_path(tree: &Tree, literals: &[u8]) -> bool
     false
 }
 
-/// For an import without a file: that may be one that is left out.
-fn import_sentence(is_there: bool) -> &'static str
-    ensures { result.now ≡ import_sentence is_there }
-{
-    if is_there {
-        "the file with this path is left out"
-    } else {
-        "no source has this path, below ROOT or a folder that is included"
-    }
-}
-
-/// For a fault of a tree, by what that holds; empty for lack of memory. If two places have one full name, it is that of
-/// the second.
+/// For a fault of a tree, by what that holds; empty for lack of memory. An import without a file may be of one that is
+/// left out. If two places have one full name, it is that of the second.
 pub(crate) fn sentence_in(tree: &Tree, fault: &Fault) -> &'static str
     requires { HasFilesOf tree.now fault.now }
     ensures { result.now ≡ sentence_in tree.now fault.now }
 {
     match fault {
         Fault::Syntax(file, syntax) => met_sentence(tree.bytes(*file), syntax),
-        Fault::MissingImport(place) => import_sentence(has_path(tree, imported(tree, place))),
+        Fault::MissingImport(place) => {
+            if has_path(tree, imported(tree, place)) {
+                return "the file with this path is left out";
+            }
+            fault.text().sentence
+        }
         Fault::Spawn
         | Fault::Memory
         | Fault::Lex(..)

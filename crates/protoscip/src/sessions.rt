@@ -24,6 +24,7 @@ use std::thread::Threads;
 use streams::{Feed, Sink};
 
 /// Answers commands about the index that an index's bytes decode to: itself.
+#[tactic(auto, using(crate::proofs::ConversingRules::of_unread))]
 fn converse<F: Feed, W: Sink>(
     alloc: Global,
     index: Index,

@@ -46,6 +46,7 @@ fn skipping(alloc: Global, dialect: Dialect) -> Result<Settings, AllocError>
 /// index is built and let go of, so a run that was refused can say each of its faults.
 ///
 /// `Spawn`, `Memory`: that can't be had. File numbers are those of the tree.
+#[tactic(auto, using(crate::proofs::ToldTreeRules::of_tree))]
 pub fn told_of_tree<R: Threads + Wait, C: Chooses + Sync, G: Gate>(
     run: &Run<'_, R, G>,
     tree: &Tree,

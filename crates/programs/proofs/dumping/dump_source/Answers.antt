@@ -25,7 +25,7 @@ returns-in-Err g c =
       of_fault
           (explain_in c.args.options.now.explain c.args.options.now.dialect)
           (is_closed (g.W.Caused.cause c.args.out.now))
-          (parsed_file g.I.Feed c.args.input.now c.args.input.now) (writing g.M.Sink c.args.messages.now
+          (reading g.I.Feed c.args.input.now c.args.input.now) (writing g.M.Sink c.args.messages.now
           c.report.new.messages)
           c.report.result Memory (dump_tree []) tt (inr c.report.ensures),
     )
@@ -40,7 +40,7 @@ returns g c =
     let tree = c.dump_and_keep.new.tree in
     let explain = explain_in c.args.options.now.explain c.args.options.now.dialect in
     let messages = writing g.M.Sink c.args.messages.now c.stop_listing.new.messages in
-    let source = parsed_file g.I.Feed c.args.input.now c.dump_and_keep.new.source in
+    let source = reading g.I.Feed c.args.input.now c.dump_and_keep.new.source in
     let closed = is_closed (g.W.Caused.cause c.dump_and_keep.new.out) in
     let Told : Option Dialect → Type 0 =
     λ asked. EndsCut (is_write fault && closed) (TellsOne (IsFaultText asked tree fault) (status_of fault) messages

@@ -40,7 +40,8 @@ returns-in-Refuse-clause-refused g c =
     × (c.args.input.now ≡ c.args.input.now) × (c.args.out.now ≡ c.args.out.now)
     × (c.args.places.now ≡ c.args.places.now)) in
     subst (λ (asked : Result Request AllocError). IfOk asked Here) (sym c.in-Ok.is)
-    (subst Here (sym c.in-Refuse.is) (subst Refused c.as_str-in-Refuse.ensures.value c.refuse.ensures, refl, refl, refl))
+    (subst Here (sym c.in-Refuse.is)
+    (subst Refused c.as_str-in-Refuse.ensures.value c.refuse.ensures, refl, refl, refl))
 
 pub returns-in-Index-clause-indexed : goal.returns-in-Index-clause-indexed
 returns-in-Index-clause-indexed g c =
@@ -71,12 +72,13 @@ returns-in-Index-clause-indexed g c =
 pub returns-in-Shell-clause-served : goal.returns-in-Shell-clause-served
 returns-in-Shell-clause-served g c =
     let Here : Request → Type 0 = λ request. IfSome (shell_options request) (λ options.
-    Served (searched_by options (g.F.ReadFiles.lists c.args.host.now.files.now)) (g.F.ReadFiles.gives c.args.host.now.files.now)
+    Served (searched_by options (g.F.ReadFiles.lists c.args.host.now.files.now))
+    (g.F.ReadFiles.gives c.args.host.now.files.now)
     (blamed_by options (g.F.LookAgain.blames c.args.host.now.files.now))
     (NoneFoundBy (g.F.LookAgain.passes c.args.host.now.files.now) c.args.host.now.is_watched options)
     (g.Q.OutPlace.suspects c.args.places.now.report) options
     (place g.Q.OutPlace g.Q.Part.Sink c.args.places.now.report c.shell_searched.new.report)
-    (parsed_file g.I.Feed c.args.input.now c.shell_searched.new.commands)
+    (reading g.I.Feed c.args.input.now c.shell_searched.new.commands)
     (writing g.W.Sink c.args.out.now c.shell_searched.new.answers)
     (writing g.M.Sink c.args.messages.now c.shell_searched.new.messages) c.shell_searched.result
     × (c.args.places.now.file ≡ c.args.places.now.file)) in
@@ -92,7 +94,7 @@ returns-in-Index-clause-navigable g c =
     (place g.O.OutPlace g.O.Part.Sink c.args.places.now.file c.index_searched.new.places.file)
     c.index_searched.result)
     × IfSome (shell_options request) (λ options. AnswersNavigable (searched_by options lists) gives options
-    (parsed_file g.I.Feed c.args.input.now c.args.input.now)
+    (reading g.I.Feed c.args.input.now c.args.input.now)
     (writing g.W.Sink c.args.out.now c.args.out.now) c.index_searched.result) in
     subst (λ (asked : Result Request AllocError). IfOk asked Here) (sym c.in-Ok.is)
     (subst Here (sym c.in-Index.is) (c.index_searched.ensures.navigable, tt))
@@ -106,7 +108,7 @@ returns-in-Shell-clause-navigable g c =
     (place g.O.OutPlace g.O.Part.Sink c.args.places.now.file c.args.places.now.file)
     c.shell_searched.result)
     × IfSome (shell_options request) (λ options. AnswersNavigable (searched_by options lists) gives options
-    (parsed_file g.I.Feed c.args.input.now c.shell_searched.new.commands)
+    (reading g.I.Feed c.args.input.now c.shell_searched.new.commands)
     (writing g.W.Sink c.args.out.now c.shell_searched.new.answers) c.shell_searched.result) in
     subst (λ (asked : Result Request AllocError). IfOk asked Here) (sym c.in-Ok.is)
     (subst Here (sym c.in-Shell.is) (tt, c.shell_searched.ensures.navigable))

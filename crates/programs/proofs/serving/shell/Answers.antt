@@ -39,7 +39,8 @@ returns-in-Err-clause-served g c =
 pub returns-in-Err-see_report-clause-served : goal.returns-in-Err-see_report-clause-served
 returns-in-Err-see_report-clause-served g c =
     let run = c.in-Ok.start in
-    not_begun run.tree (map string_bytes run.unread.items) run.settings.package c.in-Err-see_report.fault c.in-Ok.ensures.named c.in-Ok.ensures.folders
+    not_begun run.tree (map string_bytes run.unread.items) run.settings.package c.in-Err-see_report.fault
+    c.in-Ok.ensures.named c.in-Ok.ensures.folders
     c.in-Err-see_report.ensures.stops (record { unread = refl; unwritten = refl }, refl) c.report_start.ensures
 
 pub returns-clause-served : goal.returns-clause-served
@@ -53,13 +54,14 @@ returns-clause-served g c =
     let ran = c.session-ran.result in
     let reported = c.report_run-reported.result in
     let By : Option (List ℕ) → Option DocChoice → Settings → ℕ → Type 0 = λ only doc settings workers.
-    Serves (parsed_file g.I.Feed c.args.commands.now c.session-ran.new.commands) (writing g.W.Sink c.args.answers.now
+    Serves (reading g.I.Feed c.args.commands.now c.session-ran.new.commands) (writing g.W.Sink c.args.answers.now
     c.session-ran.new.answers) (IsChosenBy only doc) settings run.tree workers ran in
     let Told : Option (List ℕ) → Option DocChoice → Settings → ℕ → Type 0 = λ only doc settings workers.
     Reports report c.args.options.now.report no_limits (IsChosenBy only doc) settings workers run.tree unread
     (told_by ran) reported in
     let Ended : Option Dialect → Type 0 = λ explain.
-    Ends TellsOfSuccess (λ l. l ≡ line) explain run.tree unread (λ r. r.told) (settled ran reported) messages c.end.result in
+    Ends TellsOfSuccess (λ l. l ≡ line) explain run.tree unread (λ r. r.told) (settled ran reported) messages
+    c.end.result in
     over_tree run.tree unread run.settings.package ran reported c.in-Ok.ensures.named c.in-Ok.ensures.folders
     c.in-Ok-see_report.ensures.apart
     (moved4 By c.in-Ok.ensures.only c.in-Ok.ensures.doc c.in-Ok.ensures.settings
@@ -87,7 +89,7 @@ returns-in-Err-clause-navigable g c =
     (NoneFoundBy (g.F.LookAgain.passes c.args.host.now.files.now) c.args.host.now.is_watched
     c.args.options.now) (g.Q.OutPlace.suspects c.args.report.now)
     (place g.Q.OutPlace g.Q.Part.Sink c.args.report.now c.put_start_report-said.new.at)
-    (parsed_file g.I.Feed c.args.commands.now c.args.commands.now)
+    (reading g.I.Feed c.args.commands.now c.args.commands.now)
     (writing g.W.Sink c.args.answers.now c.args.answers.now)
     (writing g.M.Sink c.args.messages.now c.report_unstarted.new.messages) c.report_unstarted.result
     (returns-in-Err-clause-served g c)
@@ -100,7 +102,7 @@ returns-in-Err-see_report-clause-navigable g c =
     (NoneFoundBy (g.F.LookAgain.passes c.args.host.now.files.now) c.args.host.now.is_watched
     c.args.options.now) (g.Q.OutPlace.suspects c.args.report.now)
     (place g.Q.OutPlace g.Q.Part.Sink c.args.report.now c.args.report.now)
-    (parsed_file g.I.Feed c.args.commands.now c.args.commands.now)
+    (reading g.I.Feed c.args.commands.now c.args.commands.now)
     (writing g.W.Sink c.args.answers.now c.args.answers.now)
     (writing g.M.Sink c.args.messages.now c.report_start.new.messages) c.report_start.result
     (returns-in-Err-see_report-clause-served g c)
@@ -113,7 +115,7 @@ returns-clause-navigable g c =
     (NoneFoundBy (g.F.LookAgain.passes c.args.host.now.files.now) c.args.host.now.is_watched
     c.args.options.now) (g.Q.OutPlace.suspects c.args.report.now)
     (place g.Q.OutPlace g.Q.Part.Sink c.args.report.now c.report_run-reported.new.at)
-    (parsed_file g.I.Feed c.args.commands.now c.session-ran.new.commands)
+    (reading g.I.Feed c.args.commands.now c.session-ran.new.commands)
     (writing g.W.Sink c.args.answers.now c.session-ran.new.answers)
     (writing g.M.Sink c.args.messages.now c.end.new.messages) c.end.result
     (returns-clause-served g c)
@@ -130,4 +132,5 @@ end-requires-clause-files g c =
     subst (λ (r : Result Recorded Fault). IfErr r (HasFilesOf run.tree)) (sym c.settle-done.ensures)
     (settled_files run.tree c.session-ran.result reported c.session-ran.ensures.files
     (reported_files report c.args.options.now.report no_limits allows run.settings run.workers run.tree
-    (map string_bytes run.unread.items) (ran_of c.told_in.result.now c.fault_in.result) reported c.report_run-reported.ensures))
+    (map string_bytes run.unread.items) (ran_of c.told_in.result.now c.fault_in.result) reported
+    c.report_run-reported.ensures))

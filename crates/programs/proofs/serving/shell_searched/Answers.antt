@@ -17,7 +17,7 @@ returns-clause-served g c =
     (g.F.ReadFiles.gives files) (blamed_by options (g.F.LookAgain.blames files))
     (NoneFoundBy (g.F.LookAgain.passes files) c.args.host.now.is_watched options)
     (g.Q.OutPlace.suspects c.args.report.now) options report
-    (parsed_file g.I.Feed c.args.commands.now c.shell.new.commands)
+    (reading g.I.Feed c.args.commands.now c.shell.new.commands)
     (writing g.W.Sink c.args.answers.now c.shell.new.answers)
     (writing g.M.Sink c.args.messages.now c.shell.new.messages) c.shell.result)
     (ap (map string_bytes) c.deref.ensures.value) c.shell.ensures.served
@@ -27,6 +27,6 @@ returns-clause-navigable g c =
     let files = c.args.host.now.files.now in
     subst (λ (patterns : List (List ℕ)). AnswersNavigable (ListsWithout (g.F.ReadFiles.lists files) patterns)
     (g.F.ReadFiles.gives files) c.args.options.now
-    (parsed_file g.I.Feed c.args.commands.now c.shell.new.commands)
+    (reading g.I.Feed c.args.commands.now c.shell.new.commands)
     (writing g.W.Sink c.args.answers.now c.shell.new.answers) c.shell.result)
     (ap (map string_bytes) c.deref.ensures.value) c.shell.ensures.navigable

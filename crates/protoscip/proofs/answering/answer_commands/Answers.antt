@@ -10,9 +10,9 @@ pub returns-in-Ok : goal.returns-in-Ok
 returns-in-Ok g c =
     let answered = c.answer_all.ensures in
     let Are : Index → Type 0 =
-    λ index. AreAnswered (parsed_file g.F.Feed c.args.commands.now c.answer_all.new.commands)
+    λ index. AreAnswered (reading g.F.Feed c.args.commands.now c.answer_all.new.commands)
     (writing g.W.Sink c.args.answers.now c.answer_all.new.answers) index c.answer_all.result in
-    may_answer (parsed_file g.F.Feed c.args.commands.now c.answer_all.new.commands) (writing g.W.Sink c.args.answers.now
+    may_answer (reading g.F.Feed c.args.commands.now c.answer_all.new.commands) (writing g.W.Sink c.args.answers.now
     c.answer_all.new.answers) c.args.index
     c.answer_all.result
     (subst Are c.in-Ok.ensures

@@ -17,12 +17,12 @@ use Rattle.protoscip.proofs.dumping.dump_and_keep.Goals as goal
 pub returns-in_err-bytes-clause-dumped : goal.returns-in_err-bytes-clause-dumped
 returns-in_err-bytes-clause-dumped g c =
     let p = err_from_is_err_and c.from_residual.result c.from_residual.ensures.1 in
-    rw (p.1, p.2) (starved_dumped (parsed_file g.F.Feed c.args.source.now _) g.W.Sink c.args.dialect
+    rw (p.1, p.2) (starved_dumped (reading g.F.Feed c.args.source.now _) g.W.Sink c.args.dialect
     c.args.out.now)
 
 pub returns-in-None-clause-dumped : goal.returns-in-None-clause-dumped
 returns-in-None-clause-dumped g c =
-    unread_dumped (parsed_file g.F.Feed c.args.source.now _) g.W.Sink c.args.dialect c.args.out.now
+    unread_dumped (reading g.F.Feed c.args.source.now _) g.W.Sink c.args.dialect c.args.out.now
 
 pub returns-in-None-clause-reader : goal.returns-in-None-clause-reader
 returns-in-None-clause-reader g c = c.in_ok-bytes.ensures.read (ap Ok c.in-None.is)
@@ -33,7 +33,7 @@ pub returns-in_err-keep_source-clause-dumped : goal.returns-in_err-keep_source-c
 returns-in_err-keep_source-clause-dumped g c =
     let p = err_from_is_err_and c.from_residual-in_err-keep_source.result c.from_residual-in_err-keep_source.ensures.1
     in
-    rw (p.1, p.2) (starved_dumped (parsed_file g.F.Feed c.args.source.now _) g.W.Sink c.args.dialect
+    rw (p.1, p.2) (starved_dumped (reading g.F.Feed c.args.source.now _) g.W.Sink c.args.dialect
     c.args.out.now)
 
 -- where the source is refused
@@ -59,7 +59,7 @@ pub returns-in_err-listing-clause-tree : goal.returns-in_err-listing-clause-tree
 returns-in_err-listing-clause-tree g c =
     let p = err_from_is_err_and c.from_residual-in_err-listing.result c.from_residual-in_err-listing.ensures.1 in
     let kept = said_of_read _ c.in_ok-bytes.field-0 c.in-Some.bytes c.in-Some.is c.in_ok-bytes.ensures.bytes in
-    rw (p.1, p.2) (tree_of_fault (parsed_file g.F.Feed c.args.source.now _) c.keep_source.new.tree
+    rw (p.1, p.2) (tree_of_fault (reading g.F.Feed c.args.source.now _) c.keep_source.new.tree
     c.in_err-listing.field-0.0
     (record { kept = c.in-Some.bytes.items; tree_is = c.in_ok-keep_source.ensures; told = kept }))
 
@@ -109,5 +109,5 @@ returns-clause-dumped g c =
 pub returns-clause-tree : goal.returns-clause-tree
 returns-clause-tree g c =
     let kept = said_of_read _ c.in_ok-bytes.field-0 c.in-Some.bytes c.in-Some.is c.in_ok-bytes.ensures.bytes in
-    tree_of_done (parsed_file g.F.Feed c.args.source.now _) c.keep_source.new.tree c.write_text.result
+    tree_of_done (reading g.F.Feed c.args.source.now _) c.keep_source.new.tree c.write_text.result
     (record { kept = c.in-Some.bytes.items; tree_is = c.in_ok-keep_source.ensures; told = kept })

@@ -4,6 +4,7 @@ use Rattle.scip_wire.specs.Spelling.{joined_pieces, max_index_len}
 use Rattle.scip_wire.specs.Writing.{Leaves}
 use Rattle.scip_wire.specs.declared.write_fault.WriteFault.TheVariants as refusal
 use Rattle.streams.specs.Writers.{writing, IsWritten}
+use Rattle.protoscip.specs.Writing.WritesIndex.{index_is_written}
 use Rattle.protoscip.proofs.IndexingLemmas.{stopped, not_written, spelled_unless, pieces_are, known_whole}
 use Rattle.protoscip.proofs.indexing.write_spelled.Goals as goal
 
@@ -32,8 +33,6 @@ returns g c index are =
     c.as_slice.ensures ∙ pieces_are index parts are c.spelling_is_of_pieces.ensures in
     let Sent : List ℕ → Type 0 =
     λ due. IsWritten (writing g.W.Sink c.args.out.now c.write_pieces.new.sink) due in
-    let large = rw pieces at done.too_large in (
-      spelled_unless c.spelling_decodes_to_its_index.ensures c.bytes_decode_to_one_index.ensures index
-          (known_whole index parts are done.known done.known_externals) _ large (λ same. cc),
-      subst Sent pieces done.ok,
-    )
+    let large = rw pieces at done.too_large in
+    index_is_written (spelled_unless c.spelling_decodes_to_its_index.ensures c.bytes_decode_to_one_index.ensures index
+    (known_whole index parts are done.known done.known_externals) _ large (λ same. cc)) (subst Sent pieces done.ok)

@@ -22,7 +22,7 @@ returns-in_err-index-clause-files g c =
 pub returns-in_err-converse-clause-served : goal.returns-in_err-converse-clause-served
 returns-in_err-converse-clause-served g c =
     let p = err_from_is_err_and c.from_residual-in_err-converse.result c.from_residual-in_err-converse.ensures.1 in
-    rw (p.1, p.2) (unserved (parsed_file g.F.Feed c.args.commands.now c.converse.new.commands)
+    rw (p.1, p.2) (unserved (reading g.F.Feed c.args.commands.now c.converse.new.commands)
     (writing g.W.Sink c.args.answers.now c.converse.new.answers)
     (g.C.Chooses.allows c.args.chooser.now) c.args.settings.now c.args.tree.now c.args.run.now.workers
     c.in_ok-index.field-0 c.in_ok-index.ensures.built c.in_err-converse.field-0.0 c.in_err-converse.ensures)
@@ -30,7 +30,7 @@ returns-in_err-converse-clause-served g c =
 pub returns-in_err-converse-clause-files : goal.returns-in_err-converse-clause-files
 returns-in_err-converse-clause-files g c =
     let p = err_from_is_err_and c.from_residual-in_err-converse.result c.from_residual-in_err-converse.ensures.1 in
-    rw (p.1, p.2) (no_files (parsed_file g.F.Feed c.args.commands.now c.converse.new.commands)
+    rw (p.1, p.2) (no_files (reading g.F.Feed c.args.commands.now c.converse.new.commands)
     (writing g.W.Sink c.args.answers.now c.converse.new.answers)
     c.args.tree.now c.in_ok-index.field-0.index c.in_err-converse.field-0.0 c.in_err-converse.ensures)
 
@@ -38,7 +38,7 @@ returns-in_err-converse-clause-files g c =
 
 pub returns-clause-served : goal.returns-clause-served
 returns-clause-served g c =
-    all_served (parsed_file g.F.Feed c.args.commands.now c.converse.new.commands) (writing g.W.Sink c.args.answers.now
+    all_served (reading g.F.Feed c.args.commands.now c.converse.new.commands) (writing g.W.Sink c.args.answers.now
     c.converse.new.answers)
     (g.C.Chooses.allows c.args.chooser.now) c.args.settings.now c.args.tree.now c.args.run.now.workers
     c.in_ok-index.field-0 c.in_ok-index.ensures.built c.in_ok-converse.field-0 c.in_ok-converse.ensures
@@ -46,7 +46,7 @@ returns-clause-served g c =
 pub returns-clause-navigable : goal.returns-clause-navigable
 returns-clause-navigable g c =
     answers (g.C.Chooses.allows c.args.chooser.now) c.args.settings.now c.args.tree.now c.headline_of_tree.ensures
-    (parsed_file g.F.Feed c.args.commands.now c.converse.new.commands)
+    (reading g.F.Feed c.args.commands.now c.converse.new.commands)
     (writing g.W.Sink c.args.answers.now c.converse.new.answers) c.args.run.now.workers
     (recorded_of c.in_ok-index.field-0.choices c.in_ok-index.field-0.told)
     (returns-clause-served g c)

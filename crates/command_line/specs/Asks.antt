@@ -4,10 +4,8 @@ use Rattle.std.specs.Prelude.{◌≡◌, ◌≢◌, Bool, true, false, List, [],
 use Rattle.std.specs.Option.{option_map}
 use Rattle.clap.specs.Words.{Kinds, IsAmong, Row, Text, fault_of, subcommand_of}
 use Rattle.clap.specs.declared.error.kind.ErrorKind.{ErrorKind}
-use Rattle.command_line.specs.Options.{AreListed, Carries, CarriesDump, CarriesPages, CarriesSnapshot}
+use Rattle.command_line.specs.Options.{AreListed, Carries, CarriesDump, CarriesIndex, CarriesPages, CarriesSnapshot}
 use Rattle.command_line.specs.Options.Explain.{explains_in}
-use Rattle.command_line.specs.Options.Limits.{limits_of}
-use Rattle.command_line.specs.Options.Quiet.{quiet_in}
 use Rattle.command_line.specs.Options.Report.{lacks_report}
 use Rattle.command_line.specs.Program.{command_line}
 use Rattle.command_line.specs.Requests.{IsRefused, Prints}
@@ -23,11 +21,8 @@ program_name program = option_map (λ p. p.0) program
 -- the program, with what it is given: `index`, `shell`, `query`, `snapshot`, `pages`, and else
 -- `dump`, the only other one
 abbrev pub Names : Option (Text × List Row) → Request → Type 0
-Names program (request.Index options out quiet limits) = (program_name program ≡ Some (codes "index"))
-    × Carries (rows_in program) options
-    × (string_bytes out ≡ text_of (codes "OUT") (rows_in program))
-    × (quiet ≡ quiet_in (rows_in program))
-    × (limits ≡ limits_of (rows_in program))
+Names program (request.Index given) = (program_name program ≡ Some (codes "index"))
+    × CarriesIndex (rows_in program) given
 Names program (request.Shell options) = (program_name program ≡ Some (codes "shell"))
     × Carries (rows_in program) options
 Names program (request.Query index explain) = (program_name program ≡ Some (codes "query"))

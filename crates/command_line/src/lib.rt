@@ -17,8 +17,8 @@ mod values;
 mod arguments;
 
 pub use options::{
-    DumpOptions, IndexOptions, Limits, Links, PackageFolder, PagesOptions, ReportOptions,
-    SnapshotOptions,
+    DumpOptions, IndexOptions, IndexRequest, Limits, Links, PackageFolder, PagesOptions,
+    ReportOptions, SnapshotOptions,
 };
 pub use reading::{request_of, request_of_process};
 pub use request::Request;

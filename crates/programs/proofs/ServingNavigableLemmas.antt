@@ -7,7 +7,7 @@ use Rattle.proto_lex.specs.declared.fault.LexFault.TheVariants as lexing
 use Rattle.proto_parse.specs.fault.SyntaxFault.{SyntaxFault}
 use Rattle.proto_parse.specs.fault.SyntaxFault.TheVariants as parsing
 use Rattle.command_line.specs.declared.options.IndexOptions.{IndexOptions}
-use Rattle.command_line.specs.declared.options.limits.Limits.{Limits}
+use Rattle.command_line.specs.declared.options.IndexRequest.{IndexRequest}
 use Rattle.source_files.specs.Listings.{Listing}
 use Rattle.source_tree.specs.Files.{TreeFile}
 use Rattle.source_files.specs.declared.load_fault.LoadFault.TheVariants.{Unreadable, TooMany, BadPath, SamePath}
@@ -97,20 +97,19 @@ told_one_no_success Due due messages status failure (inr said) none = no_success
 -- ---- so after a success there is an index
 
 module _ (lists : List ℕ → List ℕ → Option Listing → Type 0) (gives : List ℕ → Option (List ℕ) → Type 0)
-    (options : IndexOptions) (headline : HeadlineOfFiles lists gives options) where
+    (asked : IndexRequest) (headline : HeadlineOfFiles lists gives asked.options) where
   pub writes : {P W Q V M : Type 0} (blames : List ℕ → Option (List ℕ) → Type 0)
-      (none_found : List TreeFile → Option (List ℕ) → Type 0) (suspects : Bool → Type 0) (path : List ℕ)
-      (limits : Limits) (at : Place P W) (report : Place Q V) (messages : Writer M) (status : ℕ)
-      → Indexed lists gives blames none_found suspects
-      (record { options = options; path = path; limits = limits }) at report messages status
-      → WritesNavigable lists gives options at status
-  writes blames none_found suspects path limits at report messages status
+      (none_found : List TreeFile → Option (List ℕ) → Type 0) (suspects : Bool → Type 0)
+      (at : Place P W) (report : Place Q V) (messages : Writer M) (status : ℕ)
+      → Indexed lists gives blames none_found suspects asked at report messages status
+      → WritesNavigable lists gives asked.options at status
+  writes blames none_found suspects at report messages status
       (indexing.not_started fault said is_out may left out reported tells) none =
       absurd (told_one_no_success _ (start_status said) messages status (start_fails said) tells none)
-  writes blames none_found suspects path limits at report messages status
+  writes blames none_found suspects at report messages status
       (indexing.over_tree tree unread ids named folders (indexing.not_begun fault may left as_it_was tells)) none =
       absurd (told_no_success _ (start_status fault) messages status (start_fails fault) tells none)
-  writes blames none_found suspects path limits at report messages status
+  writes blames none_found suspects at report messages status
       (indexing.over_tree tree unread ids named folders
       (into_part (Ok recorded) apart (filled begun whole nothing keeps runs told put) ends)) none =
       record {
@@ -134,13 +133,15 @@ module _ (lists : List ℕ → List ℕ → Option Listing → Type 0) (gives : 
           },
         );
       }
-  writes blames none_found suspects path limits at report messages status
+  writes blames none_found suspects at report messages status
       (indexing.over_tree tree unread ids named folders (into_part (Err fault) apart fills ends)) none =
       absurd (told_one_no_success _ (status_of fault) messages status (fails fault) ends none)
-  writes blames none_found suspects path limits at report messages status
+  writes blames none_found suspects at report messages status
       (indexing.over_tree tree unread ids named folders (too_poor recorded fault apart forgoes breaks ends)) none =
       absurd (told_no_success _ limit_status _ status tt ends.2 none)
 
+module _ (lists : List ℕ → List ℕ → Option Listing → Type 0) (gives : List ℕ → Option (List ℕ) → Type 0)
+    (options : IndexOptions) (headline : HeadlineOfFiles lists gives options) where
   pub answers : {Q V R W M : Type 0} (blames : List ℕ → Option (List ℕ) → Type 0)
       (none_found : List TreeFile → Option (List ℕ) → Type 0) (suspects : Bool → Type 0)
       (report : Place Q V) (commands : Reader R) (written : Writer W) (messages : Writer M) (status : ℕ)

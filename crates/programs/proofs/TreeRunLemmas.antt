@@ -10,8 +10,8 @@ use Rattle.protoscip.specs.declared.fault.Fault.{Fault}
 use Rattle.proto_decl.specs.Values.{Seen}
 use Rattle.index_hooks.specs.declared.choice.Choice.{Choice}
 use Rattle.scip_build.specs.declared.settings.Settings.{Settings}
+use Rattle.command_line.specs.declared.options.IndexRequest.{IndexRequest}
 use Rattle.protoscip.specs.Explanations.{explain_in}
-use Rattle.programs.specs.Asked.{Asked}
 use Rattle.programs.specs.Indexing.{IndexesInto, not_begun, into_part, too_poor}
 use Rattle.programs.specs.Messages.{SaysOfSuccess}
 use Rattle.programs.specs.Placing.{Place}
@@ -39,7 +39,7 @@ ends_alike f told_of says none_found explain tree unread (Ok a) messages status 
 ends_alike f told_of says none_found explain tree unread (Err e) messages status ends = ends
 
 -- a tree is indexed alike, if the line of none found is one of which `none_found` holds
-pub into_of : {P W Q V M : Type 0} (none_found : List TreeFile → Option (List ℕ) → Type 0) (asked : Asked)
+pub into_of : {P W Q V M : Type 0} (none_found : List TreeFile → Option (List ℕ) → Type 0) (asked : IndexRequest)
     (allows : Seen → Choice → Type 0) (settings : Settings) (workers : ℕ) (tree : List TreeFile)
     (unread : List (List ℕ)) (at : Place P W)
     (report : Place Q V) (messages : Writer M) (status : ℕ) (line : Option (List ℕ)) → none_found tree line

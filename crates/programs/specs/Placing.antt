@@ -9,10 +9,10 @@ use Rattle.source_files.specs.Places.{IsAsked, IsBegun}
 use Rattle.source_files.specs.declared.out_place.OutPlace.{Ghosts as OutPlaceOf}
 use Rattle.source_files.specs.declared.load_fault.LoadFault.TheVariants as load
 use Rattle.command_line.specs.declared.options.IndexOptions.{IndexOptions}
+use Rattle.command_line.specs.declared.options.IndexRequest.{IndexRequest}
 use Rattle.protoscip.specs.declared.fault.Fault.{Fault}
 use Rattle.protoscip.specs.declared.fault.Fault.TheVariants.{Write}
 use Rattle.protoscip.specs.declared.recorded.Recorded.{Recorded}
-use Rattle.programs.specs.Asked.{Asked}
 use Rattle.programs.specs.Folders.{included_in}
 use Rattle.programs.specs.declared.limits.LimitFault.{LimitFault}
 use Rattle.programs.specs.declared.start_fault.StartFault.{StartFault}
@@ -124,14 +124,15 @@ IsAt same out path true = (path ≡ out) ⊎ same path true
 IsAt same out path false = (path ≡ out → ⊥) × same path false
 
 -- if a report is asked for, its file isn't the one at the place of the index
-abbrev pub AreTwo : {P W : Type 0} → Place P W → Asked → Type 0
+abbrev pub AreTwo : {P W : Type 0} → Place P W → IndexRequest → Type 0
 AreTwo at asked =
-    IfSome asked.options.report.path (λ path. IsAt (at.same at.before) asked.path (string_bytes path) false)
+    IfSome asked.options.report.path
+    (λ path. IsAt (at.same at.before) (string_bytes asked.out) (string_bytes path) false)
 
 -- None of the files that were read is said to be the one at the place of the index, nor, if a report is asked for, the
 -- one at its place; and the two have different paths, and aren't said to be one.
-pub record AreApart {P W Q V : Type 0} (at : Place P W) (report : Place Q V) (asked : Asked) (tree : List TreeFile)
-    : Type 0 where
+pub record AreApart {P W Q V : Type 0} (at : Place P W) (report : Place Q V) (asked : IndexRequest)
+    (tree : List TreeFile) : Type 0 where
   pub index : IsRead at asked.options tree false
   pub reported : IfSome asked.options.report.path (λ _. IsRead report asked.options tree false)
   pub two : AreTwo at asked
@@ -145,18 +146,18 @@ pub data MayNotReport {Q V : Type 0} (at : Place Q V) (options : IndexOptions) (
   report_lacks_memory : MayNotReport at options tree (Load load.Memory)
 
 -- why the report can't go to its place: it is that of the index, by its path or as that is asked; or memory ran out
-pub data IsOneFile (same : List ℕ → Bool → Type 0) (asked : Asked) : StartFault → Type 0 where
+pub data IsOneFile (same : List ℕ → Bool → Type 0) (asked : IndexRequest) : StartFault → Type 0 where
   report_is_index : {named : String Global}
       → option_map string_bytes asked.options.report.path ≡ Some (string_bytes named)
-      → IsAt same asked.path (string_bytes named) true → IsOneFile same asked (ReportIsOut named)
+      → IsAt same (string_bytes asked.out) (string_bytes named) true → IsOneFile same asked (ReportIsOut named)
   path_lacks_memory : IsOneFile same asked (Load load.Memory)
 
 -- why no part is begun for a tree, the first of these: one of the files that were read is said to be the one at the
 -- place of the index, whose path is named; the report would go there; one of them is said to be the one at its place,
 -- whose path is named. Memory may run out before each of them.
-pub data MayNotBegin {P W Q V : Type 0} (at : Place P W) (report : Place Q V) (asked : Asked) (tree : List TreeFile)
+pub data MayNotBegin {P W Q V : Type 0} (at : Place P W) (report : Place Q V) (asked : IndexRequest) (tree : List TreeFile)
     : StartFault → Type 0 where
-  index_is_source : {named : String Global} → string_bytes named ≡ asked.path → IsRead at asked.options tree true
+  index_is_source : {named : String Global} → string_bytes named ≡ string_bytes asked.out → IsRead at asked.options tree true
       → MayNotBegin at report asked tree (IsSource named)
   report_at_index : {fault : StartFault} → IsRead at asked.options tree false
       → IsOneFile (at.same at.before) asked fault → MayNotBegin at report asked tree fault

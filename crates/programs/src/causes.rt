@@ -35,7 +35,7 @@ fn is_explained(asked: &Result<Request, AllocError>) -> bool
             Request::Query(_, explain) => *explain,
             Request::Snapshot(options) => options.explain,
             Request::Pages(options) => options.explain,
-            Request::Index(options, _, _, _) => options.explain,
+            Request::Index(given) => given.options.explain,
             Request::Shell(options) => options.explain,
             Request::Print(_) | Request::Refuse(_) => false,
         },
@@ -49,7 +49,7 @@ fn made_path(asked: &Result<Request, AllocError>) -> &str
 {
     match asked {
         Ok(request) => match request {
-            Request::Index(_, path, _, _) => path.as_str(),
+            Request::Index(given) => given.out.as_str(),
             Request::Pages(options) => options.out.as_str(),
             Request::Snapshot(options) => match &options.to {
                 Some(to) => to.as_str(),

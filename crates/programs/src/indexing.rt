@@ -6,7 +6,6 @@ ghost use Rattle.streams.specs.Writers.{writer};
 ghost use Rattle.protoscip.specs.FaultLines.{HasFilesOf};
 ghost use Rattle.protoscip.specs.ToldLines.{IsTextOfAllOmissions};
 ghost use Rattle.source_files.specs.Places.{IsBegun};
-ghost use Rattle.programs.specs.Asked.{asked_by};
 ghost use Rattle.programs.specs.Choices.{IsChosenBy};
 ghost use Rattle.programs.specs.Indexing.{Indexed, IndexesInto, WritesNavigable};
 ghost use Rattle.programs.specs.Limits.{Breaks};
@@ -30,7 +29,7 @@ use crate::start_explanations::{report_start, report_unstarted};
 use crate::start_fault::StartFault;
 use crate::start_reports::put_start_report;
 use crate::starting::{TreeRun, start};
-use command_line::{IndexOptions, Limits};
+use command_line::{IndexRequest, Limits};
 use proto_parse::Dialect;
 use protoscip::{Fault, KeptIndex, Telling, explain_in, index_and_tell};
 use scip_build::Omission;
@@ -42,19 +41,6 @@ use std::sync::Wait;
 use std::thread::Threads;
 use std::time::{Clock, Instant};
 use streams::{Failed, Sink};
-
-/// What `index` is asked for.
-#[derive(Clone, Copy)]
-pub(crate) struct IndexRequest<'a> {
-    /// What its options say.
-    pub(crate) options: &'a IndexOptions,
-    /// The path of the file that the index goes to.
-    pub(crate) path: &'a str,
-    /// Whether it isn't to be shown how far the run is.
-    pub(crate) quiet: bool,
-    /// The limits that the index has to keep.
-    pub(crate) limits: Limits,
-}
 
 /// Says what couldn't be read, and what an index that is written lacks, or that there are no sources, or why there is
 /// no index, and gives the exit status. It is said once the line of the progress is wiped. The memory of what was made
@@ -104,22 +90,21 @@ fn beginning<R: Clock, F>(host: &Host<'_, R, F>, quiet: bool) -> Option<Instant>
 }
 
 /// Whether the report, if one is asked for, would go to the place of the index.
-fn is_out<P: OutPlace>(request: &IndexRequest<'_>, at: &P) -> bool
-    ensures { IsOut (P.same at.now) request.now.path.now request.now.options.now.report result }
+fn is_out<P: OutPlace>(request: &IndexRequest, at: &P) -> bool
+    ensures { IsOut (P.same at.now) (string_bytes request.now.out) request.now.options.report result }
 {
     match &request.options.report.path {
-        Some(path) => path.as_str() == request.path || at.is_file(path.as_str()),
+        Some(path) => path.as_str() == request.out.as_str() || at.is_file(path.as_str()),
         None => false,
     }
 }
 
 /// Sees, if a report is asked for, that it doesn't go to the place of the index. `ReportIsOut`: it does.
 #[tactic(auto, using(crate::proofs::PlacingRules::of_two))]
-fn see_two<P: OutPlace>(alloc: Global, request: &IndexRequest<'_>, at: &P) -> Result<(), StartFault>
+fn see_two<P: OutPlace>(alloc: Global, request: &IndexRequest, at: &P) -> Result<(), StartFault>
     ensures two { IfOk result (λ _.
-        IsOut (P.same at.now) request.now.path.now request.now.options.now.report false) }
-    ensures stops { IfErr result (IsOneFile (P.same at.now)
-        (asked_by request.now.options.now request.now.path.now request.now.limits)) }
+        IsOut (P.same at.now) (string_bytes request.now.out) request.now.options.report false) }
+    ensures stops { IfErr result (IsOneFile (P.same at.now) request.now) }
 {
     let Some(path) = &request.options.report.path else {
         return Ok(());
@@ -136,25 +121,23 @@ fn see_two<P: OutPlace>(alloc: Global, request: &IndexRequest<'_>, at: &P) -> Re
 #[tactic(auto, using(crate::proofs::PlacingRules::of_beginning))]
 fn begin<P: OutPlace, Q: OutPlace>(
     alloc: Global,
-    request: &IndexRequest<'_>,
+    request: &IndexRequest,
     tree: &Tree,
     places: &Places<P, Q>,
 ) -> Result<P::Part, StartFault>
     ensures begun { IfOk result (IsBegun P.Part.contents P.Part.failures) }
     ensures apart { IfOk result (λ _. AreApart (place P.OutPlace P.Part.Sink places.now.file places.now.file)
-        (place Q.OutPlace Q.Part.Sink places.now.report places.now.report)
-        (asked_by request.now.options.now request.now.path.now request.now.limits) tree.now) }
+        (place Q.OutPlace Q.Part.Sink places.now.report places.now.report) request.now tree.now) }
     ensures stops { IfErr result (MayNotBegin (place P.OutPlace P.Part.Sink places.now.file places.now.file)
-        (place Q.OutPlace Q.Part.Sink places.now.report places.now.report)
-        (asked_by request.now.options.now request.now.path.now request.now.limits) tree.now) }
+        (place Q.OutPlace Q.Part.Sink places.now.report places.now.report) request.now tree.now) }
 {
-    let folders = folders_read(alloc, request.options)?;
+    let folders = folders_read(alloc, &request.options)?;
     if is_read_from(alloc, &places.file, &folders, tree)? {
-        let path = String::from_str(alloc, request.path)?;
+        let path = String::from_str(alloc, request.out.as_str())?;
         return Err(StartFault::IsSource(path));
     }
     see_two(alloc, request, &places.file)?;
-    see_report(alloc, request.options, tree, &places.report)?;
+    see_report(alloc, &request.options, tree, &places.report)?;
     Ok(places.file.begin(alloc)?)
 }
 
@@ -220,7 +203,7 @@ fn finish<'a, P: OutPlace>(
 /// whose report can't be written isn't put there, nor one that breaks a limit; the limit is said, too.
 fn index_over<R, F, P: OutPlace, Q: OutPlace, M: Sink>(
     host: &Host<'_, R, F>,
-    request: &IndexRequest<'_>,
+    request: &IndexRequest,
     begun: Option<Instant>,
     run: &TreeRun,
     places: &mut Places<P, Q>,
@@ -228,8 +211,7 @@ fn index_over<R, F, P: OutPlace, Q: OutPlace, M: Sink>(
 ) -> u8
 where
     R: Threads + Wait + Clock + Eprint + Sync,
-    ensures { IndexesInto (λ _ line. line ≡ option_map string_bytes run.now.none_found)
-        (asked_by request.now.options.now request.now.path.now request.now.limits)
+    ensures { IndexesInto (λ _ line. line ≡ option_map string_bytes run.now.none_found) request.now
         (IsChosenBy (option_map (λ f. string_bytes f.promise.0) run.now.choices.filter) (option_map (λ r. r.promise.0)
         run.now.choices.rule)) run.now.settings run.now.workers run.now.tree (map string_bytes run.now.unread.items)
         (place P.OutPlace P.Part.Sink places.old.file places.new.file)
@@ -284,26 +266,22 @@ where
 /// run is; it is wiped before anything is said.
 fn index<R, F: ReadFiles + LookAgain + Sync, P: OutPlace, Q: OutPlace, M: Sink>(
     host: &Host<'_, R, F>,
-    request: &IndexRequest<'_>,
+    request: &IndexRequest,
     places: &mut Places<P, Q>,
     messages: &mut M,
 ) -> u8
 where
     R: Threads + Wait + Clock + Eprint + Sync,
     ensures indexed { Indexed (F.lists host.now.files.now) (F.gives host.now.files.now)
-        (blamed_by request.now.options.now (F.blames host.now.files.now))
-        (NoneFoundBy (F.passes host.now.files.now) host.now.is_watched request.now.options.now)
-        (Q.suspects places.old.report)
-        (asked_by request.now.options.now request.now.path.now request.now.limits)
+        (blamed_by request.now.options (F.blames host.now.files.now))
+        (NoneFoundBy (F.passes host.now.files.now) host.now.is_watched request.now.options)
+        (Q.suspects places.old.report) request.now
         (place P.OutPlace P.Part.Sink places.old.file places.new.file)
-        (place Q.OutPlace Q.Part.Sink places.old.report
-        places.new.report) (writer M.Sink messages) result }
-    ensures navigable { WritesNavigable (F.lists host.now.files.now) (F.gives host.now.files.now)
-        request.now.options.now
-        (place P.OutPlace P.Part.Sink places.old.file places.new.file)
-        result }
+        (place Q.OutPlace Q.Part.Sink places.old.report places.new.report) (writer M.Sink messages) result }
+    ensures navigable { WritesNavigable (F.lists host.now.files.now) (F.gives host.now.files.now) request.now.options
+        (place P.OutPlace P.Part.Sink places.old.file places.new.file) result }
 {
-    let options = request.options;
+    let options = &request.options;
     headline_of_options(host.files, options);
     let begun = beginning(host, request.quiet);
     let run = match start(host, options) {
@@ -323,22 +301,20 @@ where
 /// The same of the files that the options don't exclude.
 pub(crate) fn index_searched<R, F: ReadFiles + LookAgain + Sync, P: OutPlace, Q: OutPlace, M: Sink>(
     host: &Host<'_, R, F>,
-    request: &IndexRequest<'_>,
+    request: &IndexRequest,
     places: &mut Places<P, Q>,
     messages: &mut M,
 ) -> u8
 where
     R: Threads + Wait + Clock + Eprint + Sync,
-    ensures indexed { Indexed (searched_by request.now.options.now (F.lists host.now.files.now))
-        (F.gives host.now.files.now) (blamed_by request.now.options.now (F.blames host.now.files.now))
-        (NoneFoundBy (F.passes host.now.files.now) host.now.is_watched request.now.options.now)
-        (Q.suspects places.old.report)
-        (asked_by request.now.options.now request.now.path.now request.now.limits)
+    ensures indexed { Indexed (searched_by request.now.options (F.lists host.now.files.now))
+        (F.gives host.now.files.now) (blamed_by request.now.options (F.blames host.now.files.now))
+        (NoneFoundBy (F.passes host.now.files.now) host.now.is_watched request.now.options)
+        (Q.suspects places.old.report) request.now
         (place P.OutPlace P.Part.Sink places.old.file places.new.file)
-        (place Q.OutPlace Q.Part.Sink places.old.report
-        places.new.report) (writer M.Sink messages) result }
-    ensures navigable { WritesNavigable (searched_by request.now.options.now (F.lists host.now.files.now))
-        (F.gives host.now.files.now) request.now.options.now
+        (place Q.OutPlace Q.Part.Sink places.old.report places.new.report) (writer M.Sink messages) result }
+    ensures navigable { WritesNavigable (searched_by request.now.options (F.lists host.now.files.now))
+        (F.gives host.now.files.now) request.now.options
         (place P.OutPlace P.Part.Sink places.old.file places.new.file)
         result }
 {

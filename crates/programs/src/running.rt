@@ -7,8 +7,8 @@ ghost use Rattle.source_files.specs.Makers.{making};
 ghost use Rattle.command_line.specs.Requests.{
   dump_options,
   explains,
-  index_options,
   index_path,
+  index_request,
   out_path,
   pages_options,
   printed_text,
@@ -21,7 +21,7 @@ ghost use Rattle.protoscip.specs.Dump.{IsDumped, LeavesReader};
 ghost use Rattle.protoscip.specs.Explanations.{explain_in};
 ghost use Rattle.programs.specs.declared.query_fault.QueryFault.{QueryFault};
 ghost use Rattle.programs.specs.Answering.{Answers};
-ghost use Rattle.programs.specs.Asked.{asked_of, report_path};
+ghost use Rattle.programs.specs.Asked.{report_path};
 ghost use Rattle.programs.specs.Dumping.{EndsDump};
 ghost use Rattle.programs.specs.Indexing.{Indexed, WritesNavigable};
 ghost use Rattle.programs.specs.Messages.{Tells, memory_line, memory_status};
@@ -36,7 +36,7 @@ ghost use Rattle.programs.specs.Snapshotting.{RunsSnapshot};
 
 use crate::dumping::dump_source;
 use crate::host::Host;
-use crate::indexing::{IndexRequest, index_searched};
+use crate::indexing::index_searched;
 use crate::messages::report;
 use crate::output::print;
 use crate::paging::pages;
@@ -90,7 +90,7 @@ pub fn out_path(asked: &Result<Request, AllocError>) -> &str
     ensures unread { IfErr asked.now (λ _. result.now ≡ []) }
 {
     match asked {
-        Ok(Request::Index(_, path, _, _)) => path.as_str(),
+        Ok(Request::Index(given)) => given.out.as_str(),
         _ => "",
     }
 }
@@ -113,7 +113,7 @@ pub fn report_path(asked: &Result<Request, AllocError>) -> &str
     ensures unread { IfErr asked.now (λ _. result.now ≡ []) }
 {
     match asked {
-        Ok(Request::Index(options, _, _, _)) => path_of(&options.report),
+        Ok(Request::Index(given)) => path_of(&given.options.report),
         Ok(Request::Shell(options)) => path_of(&options.report),
         _ => "",
     }
@@ -124,7 +124,7 @@ pub fn links_followed(asked: &Result<Request, AllocError>) -> bool
     ensures { result ≡ links_followed asked.now }
 {
     match asked {
-        Ok(Request::Index(options, _, _, _)) => matches!(options.links, Links::Follow),
+        Ok(Request::Index(given)) => matches!(given.options.links, Links::Follow),
         Ok(Request::Shell(options)) => matches!(options.links, Links::Follow),
         _ => false,
     }
@@ -169,11 +169,11 @@ where
         × Answers (F.blames host.now.files.now [] []) (explains request) path done (writer M.Sink messages) result)
         × (places.new ≡ places.old))) }
     // What `index` does.
-    ensures indexed { IfOk asked.now (λ request. IfSome (asked_of request) (λ asked.
-        Indexed (searched_by asked.options (F.lists host.now.files.now)) (F.gives host.now.files.now)
-        (blamed_by asked.options (F.blames host.now.files.now))
-        (NoneFoundBy (F.passes host.now.files.now) host.now.is_watched asked.options)
-        (Q.suspects places.old.report) asked (place O.OutPlace O.Part.Sink places.old.file places.new.file)
+    ensures indexed { IfOk asked.now (λ request. IfSome (index_request request) (λ given.
+        Indexed (searched_by given.options (F.lists host.now.files.now)) (F.gives host.now.files.now)
+        (blamed_by given.options (F.blames host.now.files.now))
+        (NoneFoundBy (F.passes host.now.files.now) host.now.is_watched given.options)
+        (Q.suspects places.old.report) given (place O.OutPlace O.Part.Sink places.old.file places.new.file)
         (place Q.OutPlace Q.Part.Sink places.old.report places.new.report) (writer M.Sink messages) result
         × (input.new ≡ input.old) × (out.new ≡ out.old))) }
     // What `shell` does.
@@ -185,8 +185,9 @@ where
         (reader I.Feed input) (writer W.Sink out) (writer M.Sink messages) result
         × (places.new.file ≡ places.old.file))) }
     // After a success of either, queries over what is written, or answered from, are exact.
-    ensures navigable { IfOk asked.now (λ request. IfSome (index_options request) (λ options.
-        WritesNavigable (searched_by options (F.lists host.now.files.now)) (F.gives host.now.files.now) options
+    ensures navigable { IfOk asked.now (λ request. IfSome (index_request request) (λ given.
+        WritesNavigable (searched_by given.options (F.lists host.now.files.now)) (F.gives host.now.files.now)
+        given.options
         (place O.OutPlace O.Part.Sink places.old.file places.new.file) result)
         × IfSome (shell_options request) (λ options.
         AnswersNavigable (searched_by options (F.lists host.now.files.now)) (F.gives host.now.files.now) options
@@ -215,15 +216,7 @@ where
                 snapshot(host, options, out, &mut places.file, messages)
             }
             Request::Pages(options) => pages(host, options, &mut places.file, messages),
-            Request::Index(options, path, quiet, limits) => {
-                let index_request = IndexRequest {
-                    options,
-                    path: path.as_str(),
-                    quiet: *quiet,
-                    limits: *limits,
-                };
-                index_searched(host, &index_request, places, messages)
-            }
+            Request::Index(given) => index_searched(host, given, places, messages),
             Request::Shell(options) => {
                 shell_searched(host, options, input, out, &mut places.report, messages)
             }

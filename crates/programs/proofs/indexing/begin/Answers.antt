@@ -2,7 +2,6 @@ use Rattle.std.proofs.Common.{◌∙◌, ap, map, subst, ℕ, false, List}
 use Rattle.std.specs.String.{string_bytes}
 use Rattle.std.proofs.lemmas.Result.{err_from_is_err_and}
 use Rattle.source_files.specs.Places.{IsAsked}
-use Rattle.programs.specs.Asked.{asked_by}
 use Rattle.programs.specs.Placing.{MayNotBegin, place}
 use Rattle.programs.specs.Placing.MayNotBegin.{report_at_index, report_at_source}
 use Rattle.programs.proofs.indexing.begin.Goals as goal
@@ -19,7 +18,7 @@ returns-in_err-see_two-clause-stops g c =
     let spared = subst Spares (ap (λ folders. map string_bytes folders) c.deref.ensures.value ∙ c.in_ok-folders.ensures)
     (subst (IsAsked (at.same at.before) (map string_bytes c.deref.result.now) tree) c.if-branch.false
     c.in_ok-is_read_from.ensures) in
-    let stops : MayNotBegin at report (asked_by request.options.now request.path.now request.limits) tree
+    let stops : MayNotBegin at report request tree
     c.in_err-see_two.field-0.0 = report_at_index spared c.in_err-see_two.ensures.stops in
     rw (p.1, p.2) stops
 
@@ -35,7 +34,7 @@ returns-in_err-see_report-clause-stops g c =
     let spared = subst Spares (ap (λ folders. map string_bytes folders) c.deref.ensures.value ∙ c.in_ok-folders.ensures)
     (subst (IsAsked (at.same at.before) (map string_bytes c.deref.result.now) tree) c.if-branch.false
     c.in_ok-is_read_from.ensures) in
-    let stops : MayNotBegin at report (asked_by request.options.now request.path.now request.limits) tree
+    let stops : MayNotBegin at report request tree
     c.in_err-see_report.field-0.0 =
     report_at_source spared c.in_ok-see_two.ensures.two c.in_err-see_report.ensures.stops in
     rw (p.1, p.2) stops

@@ -4,7 +4,6 @@ use Rattle.std.specs.String.{string_bytes}
 use Rattle.streams.specs.Writers.{writing}
 use Rattle.index_hooks.specs.declared.choice.DocChoice.{DocChoice}
 use Rattle.scip_build.specs.declared.settings.Settings.{Settings}
-use Rattle.programs.specs.Asked.{asked_by}
 use Rattle.programs.specs.Choices.{IsChosenBy}
 use Rattle.programs.specs.Indexing.{IndexesInto, not_started, over_tree}
 use Rattle.programs.specs.NoSources.{NoneFoundBy}
@@ -24,7 +23,7 @@ returns-in-Err-clause-indexed g c =
 pub returns-clause-indexed : goal.returns-clause-indexed
 returns-clause-indexed g c =
     let run = c.in-Ok.start in
-    let asked = asked_by c.args.request.now.options.now c.args.request.now.path.now c.args.request.now.limits in
+    let asked = c.args.request.now in
     let options = asked.options in
     let unread = map string_bytes run.unread.items in
     let at = place g.P.OutPlace g.P.Part.Sink c.args.places.now.file c.index_over-status.new.places.file in
@@ -44,12 +43,12 @@ returns-clause-indexed g c =
 
 pub returns-in-Err-clause-navigable : goal.returns-in-Err-clause-navigable
 returns-in-Err-clause-navigable g c =
-    let asked = asked_by c.args.request.now.options.now c.args.request.now.path.now c.args.request.now.limits in
+    let asked = c.args.request.now in
     writes (g.F.ReadFiles.lists c.args.host.now.files.now) (g.F.ReadFiles.gives c.args.host.now.files.now)
-    asked.options c.headline_of_options.ensures.files
+    asked c.headline_of_options.ensures.files
     (blamed_by asked.options (g.F.LookAgain.blames c.args.host.now.files.now))
     (NoneFoundBy (g.F.LookAgain.passes c.args.host.now.files.now) c.args.host.now.is_watched asked.options)
-    (g.Q.OutPlace.suspects c.args.places.now.report) asked.path asked.limits
+    (g.Q.OutPlace.suspects c.args.places.now.report)
     (place g.P.OutPlace g.P.Part.Sink c.args.places.now.file c.args.places.now.file)
     (place g.Q.OutPlace g.Q.Part.Sink c.args.places.now.report c.put_start_report-said.new.at)
     (writing g.M.Sink c.args.messages.now c.report_unstarted.new.messages) c.report_unstarted.result
@@ -57,12 +56,12 @@ returns-in-Err-clause-navigable g c =
 
 pub returns-clause-navigable : goal.returns-clause-navigable
 returns-clause-navigable g c =
-    let asked = asked_by c.args.request.now.options.now c.args.request.now.path.now c.args.request.now.limits in
+    let asked = c.args.request.now in
     writes (g.F.ReadFiles.lists c.args.host.now.files.now) (g.F.ReadFiles.gives c.args.host.now.files.now)
-    asked.options c.headline_of_options.ensures.files
+    asked c.headline_of_options.ensures.files
     (blamed_by asked.options (g.F.LookAgain.blames c.args.host.now.files.now))
     (NoneFoundBy (g.F.LookAgain.passes c.args.host.now.files.now) c.args.host.now.is_watched asked.options)
-    (g.Q.OutPlace.suspects c.args.places.now.report) asked.path asked.limits
+    (g.Q.OutPlace.suspects c.args.places.now.report)
     (place g.P.OutPlace g.P.Part.Sink c.args.places.now.file c.index_over-status.new.places.file)
     (place g.Q.OutPlace g.Q.Part.Sink c.args.places.now.report c.index_over-status.new.places.report)
     (writing g.M.Sink c.args.messages.now c.index_over-status.new.messages)

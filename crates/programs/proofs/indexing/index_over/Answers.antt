@@ -10,7 +10,6 @@ use Rattle.protoscip.specs.Indexes.{Indexes, recorded_of}
 use Rattle.protoscip.specs.declared.fault.Fault.{Fault}
 use Rattle.protoscip.specs.declared.indexing.KeptIndex.{KeptIndex}
 use Rattle.protoscip.specs.declared.recorded.Recorded.{Recorded}
-use Rattle.programs.specs.Asked.{asked_by}
 use Rattle.programs.specs.Choices.{IsChosenBy}
 use Rattle.programs.specs.Indexing.{not_begun, into_part, too_poor}
 use Rattle.programs.specs.Limits.{Breaks}
@@ -32,7 +31,7 @@ returns-in-Err g c = not_begun c.in-Err.fault c.in-Err.ensures.stops refl refl c
 pub returns-in-Some : goal.returns-in-Some
 returns-in-Some g c =
     let run = c.args.run.now in
-    let asked = asked_by c.args.request.now.options.now c.args.request.now.path.now c.args.request.now.limits in
+    let asked = c.args.request.now in
     let sink = g.P.Part.Sink in
     let there = place g.P.OutPlace sink c.args.places.now.file c.finish-done.new.out in
     let report = place g.Q.OutPlace g.Q.Part.Sink c.args.places.now.report c.report_run-reported.new.at in
@@ -80,7 +79,7 @@ returns-in-Some g c =
 pub returns-in-None : goal.returns-in-None
 returns-in-None g c =
     let run = c.args.run.now in
-    let asked = asked_by c.args.request.now.options.now c.args.request.now.path.now c.args.request.now.limits in
+    let asked = c.args.request.now in
     let sink = g.P.Part.Sink in
     let there = place g.P.OutPlace sink c.args.places.now.file c.finish-done.new.out in
     let report = place g.Q.OutPlace g.Q.Part.Sink c.args.places.now.report c.report_run-reported.new.at in
@@ -132,5 +131,5 @@ end-status-requires-clause-files g c =
     c.finish-done.result c.finish-done.ensures
     (subst (λ (r : Result KeptIndex Fault). IfErr r (HasFilesOf run.tree)) (sym c.settle-done.ensures)
     (settled_files run.tree c.index_and_tell-ran.result reported c.index_and_tell-ran.ensures.files
-    (reported_files report c.args.request.now.options.now.report c.args.request.now.limits allows run.settings
+    (reported_files report c.args.request.now.options.report c.args.request.now.limits allows run.settings
     run.workers run.tree unread (ran_of c.told_in.result.now c.fault_in.result) reported c.report_run-reported.ensures)))

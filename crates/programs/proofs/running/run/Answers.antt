@@ -5,10 +5,10 @@ use Rattle.std.specs.declared.alloc.AllocError.{AllocError}
 use Rattle.streams.specs.Readers.{reading}
 use Rattle.streams.specs.Writers.{writing}
 use Rattle.source_files.specs.Makers.{making}
-use Rattle.command_line.specs.Requests.{index_options, pages_options, printed_text, refused_text, shell_options}
+use Rattle.command_line.specs.Requests.{index_request, pages_options, printed_text, refused_text, shell_options}
 use Rattle.command_line.specs.Requests.{snapshot_options}
+use Rattle.command_line.specs.declared.options.IndexRequest.{IndexRequest}
 use Rattle.command_line.specs.declared.request.Request.{Request}
-use Rattle.programs.specs.Asked.{Asked, asked_of}
 use Rattle.programs.specs.Indexing.{Indexed, WritesNavigable}
 use Rattle.programs.specs.Messages.{memory_line}
 use Rattle.programs.specs.NoSources.{NoneFoundBy}
@@ -50,24 +50,16 @@ returns-in-Index-clause-indexed g c =
     let at : Place _ _ = place g.O.OutPlace g.O.Part.Sink c.args.places.now.file c.index_searched.new.places.file in
     let report : Place _ _ = place g.Q.OutPlace g.Q.Part.Sink c.args.places.now.report
     c.index_searched.new.places.report in
-    let By : Asked → Type 0 = λ asked.
-    Indexed (searched_by asked.options lists) gives
-    (blamed_by asked.options (g.F.LookAgain.blames c.args.host.now.files.now))
-    (NoneFoundBy (g.F.LookAgain.passes c.args.host.now.files.now) c.args.host.now.is_watched asked.options)
-    (g.Q.OutPlace.suspects c.args.places.now.report) asked at report (writing g.M.Sink c.args.messages.now
+    let By : IndexRequest → Type 0 = λ given.
+    Indexed (searched_by given.options lists) gives
+    (blamed_by given.options (g.F.LookAgain.blames c.args.host.now.files.now))
+    (NoneFoundBy (g.F.LookAgain.passes c.args.host.now.files.now) c.args.host.now.is_watched given.options)
+    (g.Q.OutPlace.suspects c.args.places.now.report) given at report (writing g.M.Sink c.args.messages.now
     c.index_searched.new.messages) c.index_searched.result in
-    let Here : Request → Type 0 = λ request. IfSome (asked_of request) (λ asked. By asked
+    let Here : Request → Type 0 = λ request. IfSome (index_request request) (λ given. By given
     × (c.args.input.now ≡ c.args.input.now) × (c.args.out.now ≡ c.args.out.now)) in
     subst (λ (asked : Result Request AllocError). IfOk asked Here) (sym c.in-Ok.is)
-    (subst Here (sym c.in-Index.is) (
-      subst (λ (path : List ℕ). By (record {
-        options = c.in-Index.options;
-        path = path;
-        limits = c.in-Index.limits;
-      })) c.as_str-in-Index.ensures.value c.index_searched.ensures.indexed,
-      refl,
-      refl,
-    ))
+    (subst Here (sym c.in-Index.is) (c.index_searched.ensures.indexed, refl, refl))
 
 pub returns-in-Shell-clause-served : goal.returns-in-Shell-clause-served
 returns-in-Shell-clause-served g c =
@@ -90,7 +82,7 @@ returns-in-Index-clause-navigable g c =
     let lists = g.F.ReadFiles.lists c.args.host.now.files.now in
     let gives = g.F.ReadFiles.gives c.args.host.now.files.now in
     let Here : Request → Type 0 = λ request.
-    IfSome (index_options request) (λ options. WritesNavigable (searched_by options lists) gives options
+    IfSome (index_request request) (λ given. WritesNavigable (searched_by given.options lists) gives given.options
     (place g.O.OutPlace g.O.Part.Sink c.args.places.now.file c.index_searched.new.places.file)
     c.index_searched.result)
     × IfSome (shell_options request) (λ options. AnswersNavigable (searched_by options lists) gives options
@@ -104,7 +96,7 @@ returns-in-Shell-clause-navigable g c =
     let lists = g.F.ReadFiles.lists c.args.host.now.files.now in
     let gives = g.F.ReadFiles.gives c.args.host.now.files.now in
     let Here : Request → Type 0 = λ request.
-    IfSome (index_options request) (λ options. WritesNavigable (searched_by options lists) gives options
+    IfSome (index_request request) (λ given. WritesNavigable (searched_by given.options lists) gives given.options
     (place g.O.OutPlace g.O.Part.Sink c.args.places.now.file c.args.places.now.file)
     c.shell_searched.result)
     × IfSome (shell_options request) (λ options. AnswersNavigable (searched_by options lists) gives options

@@ -118,7 +118,7 @@ fn told<R: Threads + Wait, G: Gate>(
     match build(run, &site.tree, chooser, &site.settings) {
         Ok(built) => listing_of(run.alloc, &built),
         Err(BuildFault::Memory) | Err(BuildFault::Spawn) => Err(AllocError),
-        Err(fault) => format!(in run.alloc; "{omission:?}"),
+        Err(fault) => format!(in run.alloc; "{fault:?}"),
     }
 }
 

@@ -2,7 +2,7 @@
 use Rattle.std.proofs.Common.{◌≡◌, ◌∙◌, ◌+◌, ap, arith, refl, subst, sym, ℕ, true, List, [], Option, None, Some}
 use Rattle.std.proofs.Common.{Result, Ok, Err}
 use Rattle.std.specs.List.{count_by}
-use Rattle.std.specs.Prelude.{IfErr, IfSome, MatchResult, is_some}
+use Rattle.std.specs.Prelude.{IfErr, IfOk, IfSome, MatchResult, is_some}
 use Rattle.std.specs.Option.{option_map}
 use Rattle.proto_decl.specs.Values.{Seen}
 use Rattle.index_hooks.specs.declared.choice.Choice.{Choice}
@@ -155,7 +155,22 @@ settled_files tree (Err fault) reported of_run of_report = of_run
 pub finished_files : {P W A : Type 0} (at : Place P W) (whole : W) (tree : List TreeFile) (ran : Result A Fault)
     (broken : Option LimitFault) (done : Result A Fault) → Finishes at whole ran broken done
     → IfErr ran (HasFilesOf tree) → IfErr done (HasFilesOf tree)
-finished_files at whole tree _ _ _ (part_is_put put) have = tt
+finished_files at whole tree _ _ _ (part_is_put filled) have = tt
 finished_files at whole tree _ _ _ (part_is_refused left) have = tt
 finished_files at whole tree _ _ _ (breaks_limit left) have = tt
 finished_files at whole tree _ _ _ (part_is_unmade left) have = have
+
+-- what is said of what a run made is said of what is answered in the end
+pub settled_said : {A : Type 0} (Says : A → Type 0) (ran : Result A Fault) (reported : Result (Unit {0}) Fault)
+    → IfOk ran Says → IfOk (settled ran reported) Says
+settled_said Says (Ok made) (Ok done) says = says
+settled_said Says (Ok made) (Err fault) says = tt
+settled_said Says (Err fault) reported says = tt
+
+pub finished_said : {P W A : Type 0} (at : Place P W) (whole : W) (Says : A → Type 0) (ran : Result A Fault)
+    (broken : Option LimitFault) (done : Result A Fault) → Finishes at whole ran broken done
+    → IfOk ran Says → IfOk done Says
+finished_said at whole Says _ _ _ (part_is_put filled) says = says
+finished_said at whole Says _ _ _ (part_is_refused left) says = tt
+finished_said at whole Says _ _ _ (breaks_limit left) says = says
+finished_said at whole Says _ _ _ (part_is_unmade left) says = tt

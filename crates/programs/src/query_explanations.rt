@@ -8,7 +8,7 @@ ghost use Rattle.programs.specs.QueryExplanations.{IsTold, told, unread_path};
 ghost use Rattle.programs.specs.QueryFaults.{status_of};
 
 use crate::causes::with_reason;
-use crate::fault_text::explained;
+use crate::fault_texts::explained;
 use crate::host::Host;
 use crate::messages::report;
 use crate::query_fault::QueryFault;

@@ -186,6 +186,7 @@ impl<R: Threads + Wait> Reporter<'_, R> {
     }
 
     /// The bytes of the report of a run that has a fault, or whose index lacks this; it is to end with this status.
+    #[tactic(auto, using(crate::proofs::PlacingRules::of_telling))]
     fn report(&self, told: &[Omission], fault: Option<Fault>, status: u8) -> Result<Vec<u8>, Fault>
         requires fault { IfSome fault (HasFilesOf self.now.run.now.tree) }
         requires told { HaveFilesOf self.now.run.now.tree told.now }

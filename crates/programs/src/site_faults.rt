@@ -3,7 +3,7 @@
 ghost use Rattle.std.specs.Prelude.{◌≡◌, IfOk, string_bytes};
 ghost use Rattle.programs.specs.SiteFaults.{status_of, text_of, told};
 
-use crate::fault_text::{FaultText, said, told};
+use crate::fault_texts::{FaultText, said, told};
 use crate::show_faults;
 use protoscip::STREAM_STATUS;
 use scip_site::SiteFault;

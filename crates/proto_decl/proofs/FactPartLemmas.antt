@@ -1,5 +1,5 @@
 -- The places of a file's facts are parts of its text, as the spans of its tree are.
-use Rattle.std.proofs.Common.{sym, subst, ℕ, ◌<◌, ◌≤◌, Option, Some, None, List, [], ◌∷◌, ◌++◌, length, map}
+use Rattle.std.proofs.Common.{sym, subst, ℕ, ◌<◌, ◌≤◌, Option, Some, None, List, [], ◌∷◌, length, map}
 use Rattle.std.proofs.Common.{arith}
 use Rattle.std.specs.Prelude.{IsCharBoundary}
 use Rattle.std.specs.List.{All}

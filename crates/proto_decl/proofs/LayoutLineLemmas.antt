@@ -1,16 +1,13 @@
 -- Lines of offsets, and what stands in order.
-use Rattle.std.proofs.Common.{◌≡◌, ◌∙◌, sym, subst, ℕ, zero, suc, ◌<◌, ◌≤◌, List, [], ◌∷◌, length, get_or, take, map}
-use Rattle.std.proofs.Common.{true, false, cond, leb, ltb, arith}
+use Rattle.std.proofs.Common.{◌≡◌, ◌∙◌, sym, subst, ℕ, zero, suc, ◌<◌, ◌≤◌, List, [], ◌∷◌, length, get_or, map}
+use Rattle.std.proofs.Common.{true, false, leb, ltb, arith}
 use Rattle.std.specs.Prelude.{◌↔◌, IsTrue}
-use Rattle.std.specs.List.{count_by}
 use Rattle.std.specs.List.Sorted.{IsPartitionPoint}
 use Rattle.std.proofs.lemmas.Bool.Decides.{nat_tests}
-use Rattle.std.proofs.lemmas.List.{take-take, get_or_default}
-use Rattle.std.proofs.lemmas.List.Sums.{sum_by-take-le}
+use Rattle.std.proofs.lemmas.List.{get_or_default}
 use Rattle.std.proofs.lemmas.Bool.{ltb-true, ltb-false, leb-true, leb-false}
 use Rattle.proto_lex.specs.declared.span.Span.{Span}
 use Rattle.proto_lex.specs.Lexed.{AreInOrder}
-use Rattle.proto_lex.specs.Position.{is_line_end, line_of}
 
 -- what tests on numbers say
 pub less-test : (a b : ℕ) → IsTrue (ltb a b) ↔ (a < b)

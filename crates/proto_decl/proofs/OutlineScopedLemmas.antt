@@ -1,6 +1,6 @@
 -- Each declaration has a simple name in a scope of its file.
 use Rattle.std.proofs.Common.{◌≡◌, ◌∙◌, sym, ap, refl, subst, ℕ, ◌==◌, Bool, true, false, not, Option, Some}
-use Rattle.std.proofs.Common.{None, List, [], ◌∷◌, ◌++◌, map, arith, option_to_list}
+use Rattle.std.proofs.Common.{None, List, [], ◌∷◌, map, arith, option_to_list}
 use Rattle.std.specs.List.{All, AllZip, Contains, list_all}
 use Rattle.std.proofs.lemmas.Bool.Decides.{nat_tests}
 use Rattle.std.proofs.lemmas.List.Elements.{All-nil, All-cons, All-head, All-tail, All-contains_itself}

@@ -201,7 +201,7 @@ AreNumberedUpTo files numbers count = (path : List ℕ) (number : ℕ) → (numb
 
 pub numbered_more : {S : Type 0} (files : List File) (old new : HashMap (Bor (List ℕ)) ℕ S) (count : ℕ) (file : File)
     → ((k : ℕ) (x : File) → k < count + 1 → slice_get files k ≡ Some x → x.path ≡ file.path → k ≡ count)
-    → slice_get files are reachable ≡ Some file
+    → slice_get files count ≡ Some file
     → ((path : List ℕ) → number_in new path ≡ cond (bytes_eq file.path path) (Some count) (number_in old path))
     → AreNumberedUpTo files old count → AreNumberedUpTo files new (count + 1)
 numbered_more files old new count file own stands after so_far path number =
@@ -248,7 +248,7 @@ filter_map_step h xs i x old new within is so_far after =
     ∙ sym (ap (filter_map h) one ∙ filter_map-append h (take i xs) (x ∷ [])))
 
 pub steps_more : (number : List ℕ → Option ℕ) (files : List File) (table : List Steps) (count : ℕ) (file : File)
-    (steps : Steps) → length table ≡ count → slice_get files are reachable ≡ Some file
+    (steps : Steps) → length table ≡ count → slice_get files count ≡ Some file
     → AreStepsOf number file steps → AreStepsUpTo number files table count
     → AreStepsUpTo number files (table ++ steps ∷ []) (count + 1)
 steps_more number files table count file steps size stands here each k one its h at there = elim (cases_lt k count) [
@@ -267,19 +267,19 @@ steps_more number files table count file steps size stands here each k one its h
 
 -- no two of the first so many files have one path
 abbrev pub OwnUpTo : List File → (count : ℕ) → Type 0
-OwnUpTo files are reachable = (i j : ℕ) (a b : File) → i < count → j < count → slice_get files i ≡ Some a
+OwnUpTo files count = (i j : ℕ) (a b : File) → i < count → j < count → slice_get files i ≡ Some a
     → slice_get files j ≡ Some b → a.path ≡ b.path → i ≡ j
 
-pub own_all : (files : List File) (count : ℕ) → length files ≤ count → OwnUpTo files are reachable → HaveOwnPaths files
-own_all files are reachable all own i j a b at there same =
+pub own_all : (files : List File) (count : ℕ) → length files ≤ count → OwnUpTo files count → HaveOwnPaths files
+own_all files count all own i j a b at there same =
     let i_within = slice_get_within files i a at in
     let j_within = slice_get_within files j b there in
     own i j a b (omega arith) (omega arith) at there same
 
 -- the path at hand has no number yet
 pub own_more : {S : Type 0} (files : List File) (old : HashMap (Bor (List ℕ)) ℕ S) (count : ℕ) (file : File)
-    → slice_get files are reachable ≡ Some file → number_in old file.path ≡ None
-    → AreNumberedUpTo files old count → OwnUpTo files are reachable → OwnUpTo files (count + 1)
+    → slice_get files count ≡ Some file → number_in old file.path ≡ None
+    → AreNumberedUpTo files old count → OwnUpTo files count → OwnUpTo files (count + 1)
 own_more files old count file stands new numbered own i j a b i_in j_in at there same = elim (cases_lt i count) [
   | inl i_front ↦ elim (cases_lt j count) [
     | inl j_front ↦ own i j a b i_front j_front at there same
@@ -302,7 +302,7 @@ own_more files old count file stands new numbered own i j a b i_in j_in at there
 
 -- the path at hand has a number, of a file before it
 pub not_own : {S : Type 0} (files : List File) (old : HashMap (Bor (List ℕ)) ℕ S) (count : ℕ) (file : File)
-    (first : Option ℕ) → slice_get files are reachable ≡ Some file → first ≡ number_in old file.path
+    (first : Option ℕ) → slice_get files count ≡ Some file → first ≡ number_in old file.path
     → is_some first ≡ true
     → AreNumberedUpTo files old count → HaveOwnPaths files → ⊥
 not_own files old count file None stands is some numbered own = false≢true some

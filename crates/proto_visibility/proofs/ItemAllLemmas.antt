@@ -37,7 +37,7 @@ slice_get_last xs x k is =
     slice_get-get_or (xs ++ x ∷ []) k x (omega (arith, length_push xs x)) ∙ ap Some (get_or_push xs x x k (sym is))
 
 pub prefixes_more : (files : List File) (prefixes : List (List (List ℕ))) (count : ℕ) (file : File)
-    (its : List (List ℕ)) → length prefixes ≡ count → slice_get files are reachable ≡ Some file
+    (its : List (List ℕ)) → length prefixes ≡ count → slice_get files count ≡ Some file
     → ArePrefixes (package_name_of file) its
     → ArePrefixesUpTo files prefixes → ArePrefixesUpTo files (prefixes ++ its ∷ [])
 prefixes_more files prefixes count file its size stands here each number one ones at there =

@@ -161,12 +161,12 @@ declared_in_file number file facts old new known its name one = (
 )
 
 pub declared_by : (files : List File) (count : ℕ) (file : File) (old new : List ℕ → List DeclaredAt)
-    → slice_get files are reachable ≡ Some file
+    → slice_get files count ≡ Some file
     → ((name : List ℕ) (one : DeclaredAt) → Contains (new name) one
     ↔ (Contains (old name) one ⊎ IsDeclaredIn count file name one))
     → (name : List ℕ) (one : DeclaredAt) → Contains (new name) one
-    ↔ (Contains (old name) one ⊎ IsDeclaredBy files are reachable name one)
-declared_by files are reachable file old new stands its name one = (
+    ↔ (Contains (old name) one ⊎ IsDeclaredBy files count name one)
+declared_by files count file old new stands its name one = (
   λ there. elim ((its name one).0 there) [ inl before ↦ inl before | inr here ↦ inr (file, stands, here) ],
   λ those. (its name one).1 (elim those [
     | inl before ↦ inl before

@@ -532,17 +532,17 @@ push_get (z ∷ zs) x y (suc k) e =
     elim (push_get zs x y k e) [ inl prefix ↦ inl prefix | inr last ↦ inr (ap suc last.0, last.1) ]
 
 pub unread_more : (files : List File) (count : ℕ) (omissions : Omissions) (omission : Option FileOmission)
-    → MatchOption omission (IsUnread files are reachable → ⊥) (λ fault. (fault ≡ Broken) × IsUnread files are reachable)
-    → AreUnreadOf files are reachable omissions → AreUnreadOf files (count + 1) (omissions ++ omission ∷ [])
-unread_more files are reachable omissions omission is so_far = record {
+    → MatchOption omission (IsUnread files count → ⊥) (λ fault. (fault ≡ Broken) × IsUnread files count)
+    → AreUnreadOf files count omissions → AreUnreadOf files (count + 1) (omissions ++ omission ∷ [])
+unread_more files count omissions omission is so_far = record {
   one_each = length_push omissions omission ∙ ap (λ n. n + 1) so_far.one_each;
   each = λ number o out. elim (push_get omissions omission o number out) [
     | inl prefix ↦ so_far.each number o prefix
     | inr last ↦ (
         let here : count ≡ number = sym (last.0 ∙ so_far.one_each) in
         subst (λ n. MatchOption o (IsUnread files n → ⊥) (λ fault. (fault ≡ Broken) × IsUnread files n)) here
-        (subst (λ p. MatchOption p (IsUnread files are reachable → ⊥)
-        (λ fault. (fault ≡ Broken) × IsUnread files are reachable))
+        (subst (λ p. MatchOption p (IsUnread files count → ⊥)
+        (λ fault. (fault ≡ Broken) × IsUnread files count))
         last.1 is))
   ];
 }

@@ -57,7 +57,7 @@ begun_none files table found empty number =
     (λ there. absurd (omega (arith, there.1, size)), λ begun. absurd (omega (arith, begun.1)))
 
 pub begun_skip : (files : List File) (table : List Steps) (count : ℕ) (file : File) (found : List ℕ)
-    → slice_get files are reachable ≡ Some file → file.is_included ≡ true → HasBegun files table count found
+    → slice_get files count ≡ Some file → file.is_included ≡ true → HasBegun files table count found
     → HasBegun files table (count + 1) found
 begun_skip files table count file found stands included so_far number = (
   λ there. (let its = (so_far number).0 there in (its.0, omega (arith, its.1), its.2, its.3)),
@@ -72,7 +72,7 @@ begun_skip files table count file found stands included so_far number = (
 )
 
 pub begun_more : (files : List File) (table : List Steps) (count : ℕ) (file : File) (found more : List ℕ)
-    → slice_get files are reachable ≡ Some file → file.is_included ≡ false
+    → slice_get files count ≡ Some file → file.is_included ≡ false
     → ((other : ℕ) → Contains more other ↔ (Contains found other ⊎ IsBegun table count other))
     → HasBegun files table count found → HasBegun files table (count + 1) more
 begun_more files table count file found more stands source adds so_far number = (

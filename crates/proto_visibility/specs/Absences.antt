@@ -1,4 +1,4 @@
--- Imports of files that aren't there, and included files that can't be read.
+-- Missing imports: those of files that aren't there. And reachable files without facts, which couldn't be read.
 use Rattle.std.specs.Prelude.{◌≡◌, ◌<◌, ◌↔◌, ℕ, true, Some, None, List, Contains, AllPairs}
 use Rattle.std.specs.List.{slice_get}
 use Rattle.proto_decl.specs.Facts.{Facts}

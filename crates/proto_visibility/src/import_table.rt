@@ -51,7 +51,7 @@ pub(crate) fn steps_of(
     Ok(table)
 }
 
-/// Whether no two of the files have one path, as `Linker::new` needs it. `Err` if memory was refused.
+/// Whether no two of the files have one path, as `Namespace::new` needs it. `Err` if memory was refused.
 pub fn have_own_paths(alloc: Global, files: &[LinkFile]) -> Result<bool, AllocError>
     ensures { IfOk result (λ own. IsTrue own ↔ HaveOwnPaths files.now) }
 {

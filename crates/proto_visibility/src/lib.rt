@@ -1,7 +1,7 @@
 //! Which files see which, what clashes among their names, and who has which name.
 #![tactic(auto)]
 
-// Files to be linked, what they import, and which files each one sees.
+// Files to be linked, what they import, missing imports, and which files each one sees.
 mod absent;
 mod files;
 mod import_table;

@@ -156,7 +156,7 @@ fn begin_sources(search: &mut Search, files: &[LinkFile], table: &[Steps]) -> Re
     Ok(())
 }
 
-/// The least of the reachable files and have no facts.
+/// The least of the reachable files that have no facts.
 pub(crate) fn first_unread(files: &[LinkFile], reachable: &FileRow) -> Option<usize>
     requires { (number : ℕ) → Contains reachable.now number ↔ IsReachable files.now number }
     ensures { MatchOption result (NoneBroken files.now) (Broken files.now) }

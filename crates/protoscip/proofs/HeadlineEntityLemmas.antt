@@ -194,7 +194,7 @@ module _ (files : List File) (origins : HaveOrigins files) (good : HaveGoodPaths
       inl (record {
         number = number;
         facts = facts;
-        counted = record { counts = counts; known = has.has_facts };
+        counted = record { is_reachable = counts; known = has.has_facts };
         declared = declared;
         listed = contained facts.declarations index declared has.numbered;
         is = refl;
@@ -273,8 +273,8 @@ module _ (files : List File) (origins : HaveOrigins files) (good : HaveGoodPaths
       → declaration_at facts a ≡ declaration_at more b → (number ≡ other) × (index ≡ its)
   own_entity number index other its facts more a b counts also has there same =
       laws.one_name files origins clear number index other its a b
-      (record { facts = facts; counts = counts; known = has.has_facts; stands = has.numbered })
-      (record { facts = more; counts = also; known = there.has_facts; stands = there.numbered })
+      (record { facts = facts; is_reachable = counts; known = has.has_facts; stands = has.numbered })
+      (record { facts = more; is_reachable = also; known = there.has_facts; stands = there.numbered })
       (full_name_is number index facts a has ∙ (ap full_name_in same ∙ sym (full_name_is other its more b there)))
 
   -- ---- an entity has one package

@@ -73,9 +73,8 @@ module _ (faulty : Faulty) (dialect : Dialect) (allows : Seen → Choice → Typ
       record {
         lexed = has.lexed;
         file = has.tree;
-        dialect = dialect;
         is_lexed = has.lexing.is_lexed;
-        derives = has.derives;
+        derives = (dialect, has.derives);
         of_file = subst Of (sym has.of_tree.numbered) has.of_tree;
       }
 

@@ -30,5 +30,5 @@ pub mod DumpLaws
 -- answers to commands about the index of a tree
 pub mod Sessions
 pub mod Conversing
--- what holds of all of these
+-- the headline: the bytes decode to one index, and queries over it are exact
 pub mod Headline

@@ -18,15 +18,17 @@ mod answering;
 mod reading_back;
 mod sessions;
 
-// Why a run stops.
-mod explaining;
+// Why a run stops: the fault, its name, sentence and status (`fault_texts`), and the line that says it.
 mod fault;
 mod fault_lines;
-mod fault_text;
+mod fault_texts;
 mod lines;
+mod statuses;
+
+// What is added to that line if it is to be explained.
+mod explaining;
 mod required;
 mod sentences;
-mod statuses;
 mod tree_counter;
 
 // What an index lacks.
@@ -84,7 +86,7 @@ pub use index_hooks::{
 pub use proto_decl::{DeclView, DeclarationKind};
 
 // threads and streams,
-pub use index_pool::{Gate, NoGate, Workers};
+pub use index_pool::{Gate, MAX_WORKERS, NoGate, Workers};
 pub use streams::{Failed, Feed, Sink, Std};
 
 // and what a fault holds.

@@ -13,7 +13,7 @@ ghost use Rattle.protoscip.specs.FaultLines.{HasFile, HasFilesOf};
 
 use crate::explaining::{head, tail};
 use crate::fault::Fault;
-use crate::fault_text::syntax_text;
+use crate::fault_texts::syntax_text;
 use crate::required::has_required;
 use diagnostics::{is_joined, token_len};
 use proto_link::FilePlace;

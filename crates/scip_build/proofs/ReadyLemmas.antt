@@ -52,9 +52,8 @@ of_text dialect number bytes facts has =
       origin = record {
         lexed = has.lexed;
         file = has.tree;
-        dialect = dialect;
         is_lexed = has.lexing.is_lexed;
-        derives = has.derives;
+        derives = (dialect, has.derives);
         of_file = subst Of (sym has.of_tree.numbered) has.of_tree;
       };
       text_is = has.lexing.of_bytes;

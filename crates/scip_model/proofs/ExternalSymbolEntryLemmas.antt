@@ -8,7 +8,7 @@ use Rattle.std.specs.List.Sorted.{IsSorted, IsPermutation, IsStrictlySortedBy}
 use Rattle.std.proofs.lemmas.Bool.{cases_lt, false≢true}
 use Rattle.std.proofs.lemmas.List.Elements.{All-from_recursion, All-contains, Contains-append_cases}
 use Rattle.std.proofs.lemmas.Option.{same_Some, slice_get_within}
-use Rattle.basics.proofs.ListLemmas.{in_front, behind_it, item_at, only}
+use Rattle.basics.proofs.ListLemmas.{in_front, behind_it, item_at, only, in_nothing}
 use Rattle.index_hooks.specs.declared.choice.Choice.{Choice}
 use Rattle.proto_decl.specs.Facts.{Facts}
 use Rattle.proto_decl.specs.declared.declaration.Declaration.{Declaration}
@@ -32,7 +32,6 @@ use Rattle.scip_model.specs.Entries.{declaration_entry, IsKeptEntry, HasExternal
 use Rattle.scip_model.specs.Tables.ExternalLists.{Pair, pair_cmp, Adds, IsEntryAt, IsEntryOf, IsExternal}
 use Rattle.scip_model.specs.Tables.ExternalLists.{NoneIncluded}
 use Rattle.scip_model.specs.Indexes.{info_cmp, AreExternals}
-use Rattle.scip_symbol.proofs.OneEntityClashLemmas.{in_nothing}
 use Rattle.scip_model.proofs.PackageLemmas.{file_good}
 use Rattle.scip_model.proofs.ExternalSymbolPairLemmas.{pairs_total}
 use Rattle.scip_model.proofs.IndexSortLemmas.{ascending-list, distinct-cons, not-below}

@@ -14,8 +14,7 @@ use Rattle.std.proofs.lemmas.List.Elements.{Contains-push}
 use Rattle.std.proofs.lemmas.List.Sorted.{Contains-permutation, IsPermutation-sym}
 use Rattle.std.proofs.lemmas.Map.Keys.{IsDistinct-head, IsDistinct-tail, IsDistinct-cons, IsDistinct-IsPermutation}
 use Rattle.std.proofs.lemmas.Map.Keys.{apart_from_distinct, sorted_from_all_adjacent}
-use Rattle.basics.proofs.ListLemmas.{only}
-use Rattle.scip_symbol.proofs.OneEntityClashLemmas.{in_nothing}
+use Rattle.basics.proofs.ListLemmas.{only, in_nothing}
 use Rattle.scip_model.specs.Indexes.{IsAscendingListOf}
 
 -- of two orders, each the other turned, the first is Less where the second isn't and they aren't Equal

@@ -6,7 +6,7 @@ use Rattle.std.specs.List.{slice_get, list_any}
 use Rattle.std.specs.Str.{bytes_eq}
 use Rattle.std.proofs.lemmas.List.{map-append}
 use Rattle.std.proofs.lemmas.List.Elements.{All-head, All-tail}
-use Rattle.scip_symbol.proofs.OneEntityLemmas.{entity-symbol as symbol-of-entity, list_in}
+use Rattle.scip_symbol.proofs.OneEntityLemmas.{entity-symbol as symbol-of-entity}
 use Rattle.scip_symbol.specs.Parts.{IsSymbol}
 use Rattle.scip_symbol.specs.Package.{Package, IsPackage}
 use Rattle.scip_symbol.specs.SpellsSymbol.{SpellsSymbol}
@@ -71,6 +71,10 @@ by_its_path files ids path number has =
     ap (package_of_path ids) (sym has.2) ∙ sym (by_path files ids number has.0 has.1)
 
 -- ---- symbols in two packages
+
+list_in : SymbolParts → List Descriptor
+list_in (Local name) = []
+list_in (Global s) = s.descriptors
 
 one-list : (p q : Package) (ds others : List Descriptor) → global_in p ds ≡ global_in q others → ds ≡ others
 unfolding list_in

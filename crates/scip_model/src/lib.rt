@@ -6,7 +6,7 @@ mod document_maker;
 mod known_facts;
 mod packages;
 
-// The document of a source: its plan, with its parts, and how it is made.
+// The document of a source: its plan, with its parts, and how it is made; `occurrences` merges its lists.
 mod document_plan;
 mod source_document;
 

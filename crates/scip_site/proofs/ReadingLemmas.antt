@@ -58,9 +58,9 @@ told_so heard path outcome why old new here after is kept done says =
     by : (d : Result (Unit {0}) ShowFault)
         → SaysLine (line_with path (name_of why)) (writing heard here after) d
         → Keeps path (Err why) old new (writing heard here after) d
-    by (Ok done) said = record { kept = kept; told_is = said }
-    by (Err Write) said = absurd said
-    by (Err Memory) said = said
+    by (Ok done) told = record { kept = kept; told_is = told }
+    by (Err Write) told = absurd told
+    by (Err Memory) told = told
 
 -- what is kept of it
 pub read_so : {M : Type 0} (heard : SinkOf M) (gives : List ℕ → Option (List ℕ) → Type 0)

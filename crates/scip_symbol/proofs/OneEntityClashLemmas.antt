@@ -3,7 +3,7 @@ use Rattle.std.proofs.Common.{◌≡◌, ◌≢◌, ◌⊎◌, ⊎_elim, ℕ, Li
 use Rattle.std.specs.Prelude.{Contains}
 use Rattle.std.proofs.lemmas.List.Elements.{All-contains, Contains-append_left, Contains-append_right}
 use Rattle.std.proofs.lemmas.List.Elements.{Contains-append_cases, Contains-push}
-use Rattle.basics.proofs.ListLemmas.{only}
+use Rattle.basics.proofs.ListLemmas.{only, in_nothing}
 use Rattle.proto_decl.specs.Names.{dotted}
 use Rattle.proto_decl.specs.Laws.{names_of, component_names, AreHeld}
 use Rattle.proto_decl.specs.Facts.{Facts}
@@ -11,7 +11,6 @@ use Rattle.proto_decl.specs.declared.declaration.DeclarationStep.{DeclarationSte
 use Rattle.proto_decl.specs.declared.declaration.Declaration.{Declaration}
 use Rattle.scip_symbol.specs.Entities.{Entity, OfFile, OfPackage, OfDeclaration}
 use Rattle.scip_symbol.specs.OneEntity.{declaration_at, declarations_of, AreWithoutClash, IsWithoutClash}
-pub use Rattle.basics.proofs.StrictOrderLemmas.{in_nothing}
 
 module _ {A B : Type 0} (f : A → B) where
   record From (xs : List A) (y : B) : Type 0 where

@@ -19,8 +19,8 @@ use Rattle.scip_symbol.specs.Entities.{IsEntity}
 use Rattle.proto_decl.specs.Laws.{scoped, names_of}
 use Rattle.scip_symbol.specs.OneEntity.{IsWithoutClash, IsAmong}
 use Rattle.proto_decl.specs.declared.declaration.DeclarationKind.{DeclarationKind}
-use Rattle.proto_decl.specs.declared.declaration.DeclarationKind.TheVariants.{Message, Enum, Service, Field, Oneof, Value}
-use Rattle.proto_decl.specs.declared.declaration.DeclarationKind.TheVariants.{Method}
+use Rattle.proto_decl.specs.declared.declaration.DeclarationKind.TheVariants.{Message, Enum, Service, Field, Oneof}
+use Rattle.proto_decl.specs.declared.declaration.DeclarationKind.TheVariants.{Value, Method}
 use Rattle.proto_decl.specs.declared.declaration.DeclarationStep.{DeclarationStep}
 use Rattle.proto_decl.proofs.LawAncestorLemmas.{heads, tails}
 use Rattle.scip_symbol.specs.declared.symbol.Suffix.TheVariants as suffix

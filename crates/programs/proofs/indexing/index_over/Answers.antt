@@ -1,5 +1,5 @@
 use Rattle.std.proofs.Common.{◌≡◌, map, refl, subst, sym, ℕ, Option, None, Result, Ok, Err}
-use Rattle.std.specs.Prelude.{IfErr, MatchResult}
+use Rattle.std.specs.Prelude.{IfErr, IfOk, List, MatchResult}
 use Rattle.std.specs.Option.{option_map}
 use Rattle.std.specs.String.{string_bytes}
 use Rattle.streams.specs.Writers.{writing}
@@ -7,6 +7,7 @@ use Rattle.proto_parse.specs.dialect.Dialect.{Dialect}
 use Rattle.protoscip.specs.Explanations.{explain_in}
 use Rattle.protoscip.specs.FaultLines.{HasFilesOf}
 use Rattle.protoscip.specs.Indexes.{Indexes, recorded_of}
+use Rattle.protoscip.specs.ToldLines.{IsTextOfAllOmissions}
 use Rattle.protoscip.specs.declared.fault.Fault.{Fault}
 use Rattle.protoscip.specs.declared.indexing.KeptIndex.{KeptIndex}
 use Rattle.protoscip.specs.declared.recorded.Recorded.{Recorded}
@@ -19,7 +20,8 @@ use Rattle.programs.specs.Reporting.{Reports, ran_of, told_by}
 use Rattle.programs.specs.TreeRuns.{Ends}
 use Rattle.programs.proofs.TreeRunOmissionLemmas.{is_success}
 use Rattle.programs.proofs.PlacingLemmas.{fills, forgoes}
-use Rattle.programs.proofs.ReportingLemmas.{finished_files, reported_by, reported_files, settled_files}
+use Rattle.programs.proofs.ReportingLemmas.{finished_files, finished_said, reported_by, reported_files, settled_files}
+use Rattle.programs.proofs.ReportingLemmas.{settled_said}
 use Rattle.programs.proofs.TreeRunLemmas.{part_of, ends_alike}
 use Rattle.programs.proofs.indexing.index_over.Goals as goal
 
@@ -133,3 +135,22 @@ end-status-requires-clause-files g c =
     (settled_files run.tree c.index_and_tell-ran.result reported c.index_and_tell-ran.ensures.files
     (reported_files report c.args.request.now.options.report c.args.request.now.limits allows run.settings
     run.workers run.tree unread (ran_of c.told_in.result.now c.fault_in.result) reported c.report_run-reported.ensures)))
+
+-- and what is said at the end is the text of what was made
+
+pub end-status-requires-clause-said : goal.end-status-requires-clause-said
+end-status-requires-clause-said g c =
+    let run = c.args.run.now in
+    let there = place g.P.OutPlace g.P.Part.Sink c.args.places.now.file c.finish-done.new.out in
+    let ran = c.index_and_tell-ran.result in
+    let SaysWith : List _ → KeptIndex → Type 0 = λ unread kept.
+    IsTextOfAllOmissions c.explain_in.result run.tree (map string_bytes unread) kept.built.told
+    (option_map string_bytes kept.text) in
+    let Says : KeptIndex → Type 0 = SaysWith run.unread.items in
+    let Said : List _ → Type 0 = λ unread. IfOk ran (SaysWith unread) in
+    let Settled : Result KeptIndex Fault → Type 0 = λ r. IfOk r Says in
+    finished_said there c.index_and_tell-ran.new.out Says c.settle-done.result c.broken_limit-broken.result
+    c.finish-done.result c.finish-done.ensures
+    (subst Settled (sym c.settle-done.ensures)
+    (settled_said Says ran c.report_run-reported.result
+    (subst Said c.as_slice.ensures.value c.index_and_tell-ran.ensures.said)))

@@ -47,7 +47,7 @@ loop-item-preserved c =
     let before = subst (λ (os : List Outline). AllZip R os c.loop-item.declared.declarations.items)
     (sym (outlines_are text around (take i items))) c.loop-item.invariant.declarations in
     record {
-      declarations = subst (λ (os : List Outline). AllZip R os _) (outlines_are text around (take (i + 1) items))
+      declarations = subst (λ (os : List Outline). AllZip R os c.push_documented.new.declared.declarations.items) (outlines_are text around (take (i + 1) items))
           (declare_more R declares items i c.item-item.result _ _ c.loop-item-test.true c.item-item.is
           c.in_ok-found.ensures.outlines (c.in_ok-push_documented.ensures (flat_map declares (take i items)) before));
       uses = one_more (uses_in_item text around) items i c.item-item.result _ _ c.loop-item-test.true c.item-item.is

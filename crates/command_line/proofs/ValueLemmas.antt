@@ -7,13 +7,13 @@ use Rattle.std.specs.Option.{option_map}
 use Rattle.clap.specs.Words.{Row, Text, subcommand_rows}
 use Rattle.clap.specs.declared.parser.matches.SubCommand.{SubCommand}
 use Rattle.clap.specs.declared.parser.matches.ArgMatches.TheViews.{out-SubCommand}
-use Rattle.command_line.specs.Asks.{name_of}
+use Rattle.command_line.specs.Asks.{program_name}
 use Rattle.command_line.specs.Options.Include.{folders_in}
 use Rattle.command_line.specs.Values.{rows_in}
 
 -- the program that matches name, by its name, and by its rows
 pub matches_name : {Z : Type 0} (found : Option (Box SubCommand Z))
-    → name_of (subcommand_rows found) ≡ option_map (λ b. (out-SubCommand (box_value b)).name.now) found
+    → program_name (subcommand_rows found) ≡ option_map (λ b. (out-SubCommand (box_value b)).name.now) found
 matches_name None = refl
 matches_name (Some b) = refl
 

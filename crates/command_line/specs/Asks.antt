@@ -4,10 +4,8 @@ use Rattle.std.specs.Prelude.{◌≡◌, ◌≢◌, Bool, true, false, List, [],
 use Rattle.std.specs.Option.{option_map}
 use Rattle.clap.specs.Words.{Kinds, IsAmong, Row, Text, fault_of, subcommand_of}
 use Rattle.clap.specs.declared.error.kind.ErrorKind.{ErrorKind}
-use Rattle.command_line.specs.Options.{AreListed, Carries, CarriesDump, CarriesPages, CarriesSnapshot}
+use Rattle.command_line.specs.Options.{AreListed, Carries, CarriesDump, CarriesIndex, CarriesPages, CarriesSnapshot}
 use Rattle.command_line.specs.Options.Explain.{explains_in}
-use Rattle.command_line.specs.Options.Limits.{limits_of}
-use Rattle.command_line.specs.Options.Quiet.{quiet_in}
 use Rattle.command_line.specs.Options.Report.{lacks_report}
 use Rattle.command_line.specs.Program.{command_line}
 use Rattle.command_line.specs.Requests.{IsRefused, Prints}
@@ -17,31 +15,28 @@ use Rattle.command_line.specs.declared.request.Request.{Request}
 use Rattle.command_line.specs.declared.request.Request.TheVariants as request
 
 -- the name of the program that the words name
-abbrev pub name_of : Option (Text × List Row) → Option Text
-name_of program = option_map (λ p. p.0) program
+abbrev pub program_name : Option (Text × List Row) → Option Text
+program_name program = option_map (λ p. p.0) program
 
 -- the program, with what it is given: `index`, `shell`, `query`, `snapshot`, `pages`, and else
 -- `dump`, the only other one
 abbrev pub Names : Option (Text × List Row) → Request → Type 0
-Names program (request.Index options out quiet limits) = (name_of program ≡ Some (codes "index"))
+Names program (request.Index given) = (program_name program ≡ Some (codes "index"))
+    × CarriesIndex (rows_in program) given
+Names program (request.Shell options) = (program_name program ≡ Some (codes "shell"))
     × Carries (rows_in program) options
-    × (string_bytes out ≡ text_of (codes "OUT") (rows_in program))
-    × (quiet ≡ quiet_in (rows_in program))
-    × (limits ≡ limits_of (rows_in program))
-Names program (request.Shell options) = (name_of program ≡ Some (codes "shell"))
-    × Carries (rows_in program) options
-Names program (request.Query index explain) = (name_of program ≡ Some (codes "query"))
+Names program (request.Query index explain) = (program_name program ≡ Some (codes "query"))
     × (string_bytes index ≡ text_of (codes "INDEX") (rows_in program))
     × (explain ≡ explains_in (rows_in program))
-Names program (request.Snapshot options) = (name_of program ≡ Some (codes "snapshot"))
+Names program (request.Snapshot options) = (program_name program ≡ Some (codes "snapshot"))
     × CarriesSnapshot (rows_in program) options
-Names program (request.Pages options) = (name_of program ≡ Some (codes "pages"))
+Names program (request.Pages options) = (program_name program ≡ Some (codes "pages"))
     × CarriesPages (rows_in program) options
-Names program (request.Dump options) = (name_of program ≢ Some (codes "index"))
-    × (name_of program ≢ Some (codes "shell"))
-    × (name_of program ≢ Some (codes "query"))
-    × (name_of program ≢ Some (codes "snapshot"))
-    × (name_of program ≢ Some (codes "pages"))
+Names program (request.Dump options) = (program_name program ≢ Some (codes "index"))
+    × (program_name program ≢ Some (codes "shell"))
+    × (program_name program ≢ Some (codes "query"))
+    × (program_name program ≢ Some (codes "snapshot"))
+    × (program_name program ≢ Some (codes "pages"))
     × CarriesDump (rows_in program) options
 Names program (request.Print text) = ⊥
 Names program (request.Refuse text) = ⊥

@@ -1,10 +1,10 @@
--- arguments and options of each kind, and what they are given
-pub mod Arguments
-pub mod Values
--- the options, a file for each, and what the programs are told by them
-pub mod Options
--- the programs
-pub mod Program
--- what is asked for
-pub mod Requests
+-- what a command line asks for
 pub mod Asks
+pub mod Requests
+-- the programs, their arguments and options, and what these are given
+pub mod Program
+pub mod Values
+-- what arguments and options of each kind are, as the rules of the crate `clap` see them
+pub mod Arguments
+-- what the programs are told by their options: a file for each, with its words, its rule and what it says
+pub mod Options

@@ -12,19 +12,20 @@ use Rattle.command_line.specs.Options.Explain.{explain_rule, explains_in}
 use Rattle.command_line.specs.Options.Faulty.{faulty_of, faulty_rule, faulty_words}
 use Rattle.command_line.specs.Options.Include.{folder_of, include_of, include_package_rule, include_rule}
 use Rattle.command_line.specs.Options.Include.{package_folders_of}
-use Rattle.command_line.specs.Options.Limits.{max_skipped_rule, min_sources_rule}
+use Rattle.command_line.specs.Options.Limits.{limits_of, max_skipped_rule, min_sources_rule}
 use Rattle.command_line.specs.Options.Links.{links_of, links_rule, links_words}
 use Rattle.command_line.specs.Options.Only.{only_of, only_rule}
 use Rattle.command_line.specs.Options.Package.{manager_of, manager_rule, package_of, package_rule, release_of}
 use Rattle.command_line.specs.Options.Package.{release_rule}
 use Rattle.command_line.specs.Options.Positions.{encoding_of, positions_rule, positions_words}
 use Rattle.command_line.specs.Options.ProjectRoot.{project_root_of, project_root_rule}
-use Rattle.command_line.specs.Options.Quiet.{quiet_rule}
+use Rattle.command_line.specs.Options.Quiet.{quiet_in, quiet_rule}
 use Rattle.command_line.specs.Options.Report.{CarriesReport, format_rule, format_words, report_rule}
 use Rattle.command_line.specs.Options.To.{to_of}
 use Rattle.command_line.specs.Options.Workers.{workers_of, workers_rule}
 use Rattle.command_line.specs.declared.options.DumpOptions.{DumpOptions}
 use Rattle.command_line.specs.declared.options.IndexOptions.{IndexOptions}
+use Rattle.command_line.specs.declared.options.IndexRequest.{IndexRequest}
 use Rattle.command_line.specs.declared.options.PagesOptions.{PagesOptions}
 use Rattle.command_line.specs.declared.options.SnapshotOptions.{SnapshotOptions}
 use Rattle.command_line.specs.declared.options.WordLists.{WordLists}
@@ -83,9 +84,13 @@ reading_rules lists = positions_rule lists.positions
 abbrev pub search_rules : WordLists → List Rule
 search_rules lists = exclude_rule ∷ links_rule lists.links ∷ report_rule ∷ format_rule lists.report_format ∷ []
 
--- all of them
+-- all of these
 abbrev pub tree_rules : WordLists → List Rule
 tree_rules lists = setting_rules ++ (choice_rules lists ++ (reading_rules lists ++ search_rules lists))
+
+-- all options of `index`
+abbrev pub index_option_rules : WordLists → List Rule
+index_option_rules lists = own_rules ++ tree_rules lists
 
 -- ---- what they say
 
@@ -109,7 +114,14 @@ pub record Carries (rows : List Row) (options : IndexOptions) : Type 0 where
   pub links : options.links ≡ links_of rows
   pub report : CarriesReport rows options.report
 
--- and so those of `dump`
+-- and so all that `index` is given
+pub record CarriesIndex (rows : List Row) (given : IndexRequest) : Type 0 where
+  pub options : Carries rows given.options
+  pub out : string_bytes given.out ≡ text_of (codes "OUT") rows
+  pub quiet : given.quiet ≡ quiet_in rows
+  pub limits : given.limits ≡ limits_of rows
+
+-- and so the options of `dump`
 pub record CarriesDump (rows : List Row) (options : DumpOptions) : Type 0 where
   pub dialect : options.dialect ≡ dialect_of rows
   pub explain : options.explain ≡ explains_in rows

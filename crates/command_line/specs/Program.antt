@@ -4,7 +4,7 @@ use Rattle.std.specs.Prelude.{Bool, List, [], ◌∷◌, ◌++◌, true, codes}
 use Rattle.std.specs.List.{list_all}
 use Rattle.clap.specs.Words.{App, Rule, Shape, Text, new_app, with_rule, with_subcommand}
 use Rattle.command_line.specs.Arguments.{required_rule}
-use Rattle.command_line.specs.Options.{own_rules, tree_rules}
+use Rattle.command_line.specs.Options.{index_option_rules, tree_rules}
 use Rattle.command_line.specs.Options.Accept.{accept_rule}
 use Rattle.command_line.specs.Options.CustomOptions.{custom_options_rule}
 use Rattle.command_line.specs.Options.Explain.{explain_rule}
@@ -24,7 +24,7 @@ abbrev pub line_of : Text → List Rule → Shape
 line_of name rules = (with_rules (new_app name) rules).top
 
 abbrev pub index_rules : WordLists → List Rule
-index_rules lists = required_rule (codes "ROOT") ∷ required_rule (codes "OUT") ∷ own_rules ++ tree_rules lists
+index_rules lists = required_rule (codes "ROOT") ∷ required_rule (codes "OUT") ∷ index_option_rules lists
 
 abbrev pub index_line : WordLists → Shape
 index_line lists = line_of (codes "index") (index_rules lists)

@@ -4,7 +4,7 @@ use Rattle.clap.specs.Words.{Text}
 use Rattle.clap.specs.declared.error.kind.ErrorKind.{ErrorKind}
 use Rattle.clap.specs.declared.error.kind.ErrorKind.TheVariants as kind
 use Rattle.command_line.specs.declared.options.IndexOptions.{IndexOptions}
-use Rattle.command_line.specs.declared.options.limits.Limits.{Limits}
+use Rattle.command_line.specs.declared.options.IndexRequest.{IndexRequest}
 use Rattle.command_line.specs.declared.options.SnapshotOptions.{SnapshotOptions}
 use Rattle.command_line.specs.declared.options.PagesOptions.{PagesOptions}
 use Rattle.command_line.specs.declared.options.DumpOptions.{DumpOptions}
@@ -42,20 +42,15 @@ abbrev pub index_path : Request → Option Text
 index_path (request.Query index explain) = Some (string_bytes index)
 index_path _ = None
 
--- the options of the index that is to be written
-abbrev pub index_options : Request → Option IndexOptions
-index_options (request.Index options out quiet limits) = Some options
-index_options _ = None
+-- what the index that is to be written is asked for with
+abbrev pub index_request : Request → Option IndexRequest
+index_request (request.Index given) = Some given
+index_request _ = None
 
 -- the path of the file that it goes to
 abbrev pub out_path : Request → Option Text
-out_path (request.Index options out quiet limits) = Some (string_bytes out)
+out_path (request.Index given) = Some (string_bytes given.out)
 out_path _ = None
-
--- the limits that it has to keep
-abbrev pub index_limits : Request → Option Limits
-index_limits (request.Index options out quiet limits) = Some limits
-index_limits _ = None
 
 -- the options of the index about which commands are to be answered, and which no file holds
 abbrev pub shell_options : Request → Option IndexOptions

@@ -1,24 +1,24 @@
 //! The command line of the program `protoscip`: what it asks for, by the rules of `clap`.
 #![tactic(auto)]
 
-// How arguments and options of each kind are made, and what they are given.
-mod arguments;
-mod values;
-
-// The options, a file for each.
-mod options;
-
-// The programs.
-mod names;
-mod program;
-
-// What is asked for.
+// What a command line asks for.
 mod reading;
 mod request;
 
+// The programs, and the names and words that they take.
+mod names;
+mod program;
+
+// Their arguments and options.
+mod options;
+mod values;
+
+// How arguments and options of each kind are made.
+mod arguments;
+
 pub use options::{
-    DumpOptions, IndexOptions, Limits, Links, PackageFolder, PagesOptions, ReportOptions,
-    SnapshotOptions,
+    DumpOptions, IndexOptions, IndexRequest, Limits, Links, PackageFolder, PagesOptions,
+    ReportOptions, SnapshotOptions,
 };
 pub use reading::{request_of, request_of_process};
 pub use request::Request;

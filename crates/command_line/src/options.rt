@@ -7,9 +7,11 @@ ghost use Rattle.command_line.specs.Options.{
   AreListed,
   Carries,
   CarriesDump,
+  CarriesIndex,
   CarriesPages,
   CarriesSnapshot,
   choice_rules,
+  index_option_rules,
   own_rules,
   reading_rules,
   search_rules,
@@ -24,13 +26,13 @@ mod exclude;
 pub(crate) mod explain;
 mod faulty;
 mod include;
-pub(crate) mod limits;
+mod limits;
 mod links;
 mod only;
 mod package;
 mod positions;
 mod project_root;
-pub(crate) mod quiet;
+mod quiet;
 pub(crate) mod report;
 pub(crate) mod to;
 mod workers;
@@ -41,8 +43,10 @@ use crate::options::doc::doc_of;
 use crate::options::explain::explains_in;
 use crate::options::faulty::faulty_of;
 use crate::options::include::package_folders_of;
+use crate::options::limits::limits_of;
 use crate::options::links::links_of;
 use crate::options::positions::encoding_of;
+use crate::options::quiet::quiet_in;
 use crate::options::report::report_options_of;
 use crate::options::workers::workers_of;
 use crate::values::{optional_text_of, text_of, texts_of};
@@ -127,6 +131,19 @@ pub struct IndexOptions {
     pub report: ReportOptions,
 }
 
+/// What `index` is given: its argument OUT and the options of its own are beside the rest.
+#[derive(Debug, Drop)]
+pub struct IndexRequest {
+    /// What `shell` can be given, too.
+    pub options: IndexOptions,
+    /// The path of the file that the index goes to.
+    pub out: String,
+    /// Whether it isn't shown how far the run is.
+    pub quiet: bool,
+    /// The limits that the index has to keep.
+    pub limits: Limits,
+}
+
 /// What `dump` is given.
 #[derive(Clone, Copy, Debug, PartialEq, Eq)]
 pub struct DumpOptions {
@@ -163,7 +180,7 @@ pub struct PagesOptions {
 }
 
 /// The options of `index` alone.
-pub(crate) fn own_options<'a>(alloc: Global) -> Result<Vec<Arg<'a>>, AllocError>
+fn own_options<'a>(alloc: Global) -> Result<Vec<Arg<'a>>, AllocError>
     ensures { IfOk result (λ args. map rule_of args.items ≡ own_rules) }
 {
     Ok(vec![in alloc;
@@ -238,6 +255,19 @@ pub(crate) fn add_tree_options<'a>(
     Ok(())
 }
 
+/// Adds the options of `index`: its own, and those that the programs about a tree share.
+pub(crate) fn add_index_options<'a>(
+    alloc: Global,
+    args: &mut Vec<Arg<'a>>,
+    lists: WordLists<'a>,
+) -> Result<(), AllocError>
+    ensures { OnOk result (map rule_of args.new.items ≡ map rule_of args.old.items ++ index_option_rules lists.entry) }
+{
+    args.append(&mut own_options(alloc)?)?;
+    add_tree_options(alloc, args, lists)?;
+    Ok(())
+}
+
 /// What a program about a tree is given.
 pub(crate) fn options_of(alloc: Global, given: &ArgMatches<'_>) -> Result<IndexOptions, AllocError>
     ensures { IfOk result (Carries (rows_of (found_of given.now))) }
@@ -260,6 +290,21 @@ pub(crate) fn options_of(alloc: Global, given: &ArgMatches<'_>) -> Result<IndexO
         exclude: texts_of(alloc, given, exclude::NAME)?,
         links: links_of(given),
         report: report_options_of(alloc, given)?,
+    })
+}
+
+/// What `index` is given.
+pub(crate) fn index_request_of(
+    alloc: Global,
+    given: &ArgMatches<'_>,
+) -> Result<IndexRequest, AllocError>
+    ensures { IfOk result (CarriesIndex (rows_of (found_of given.now))) }
+{
+    Ok(IndexRequest {
+        options: options_of(alloc, given)?,
+        out: text_of(alloc, given, OUT)?,
+        quiet: quiet_in(given),
+        limits: limits_of(given),
     })
 }
 

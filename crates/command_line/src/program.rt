@@ -19,11 +19,11 @@ ghost use Rattle.command_line.specs.Program.{
 use crate::arguments::required;
 use crate::names::{DUMP, INDEX, INDEX_FILE, OUT, PAGES, QUERY, ROOT, SHELL, SNAPSHOT};
 use crate::options::{
-    WordLists, accept, add_tree_options, custom_options, explain, own_options, to,
+    WordLists, accept, add_index_options, add_tree_options, custom_options, explain, to,
 };
+use basics::tool::{NAME, VERSION};
 use clap::{Arg, Command};
 use std::alloc::{AllocError, Global};
-use tool::{NAME, VERSION};
 
 const INDEX_EXAMPLE: &str =
     "Example: index the sources below api, with those below vendor for their imports:
@@ -87,8 +87,7 @@ fn index_program<'a>(alloc: Global, lists: WordLists<'a>) -> Result<Command<'a>,
         required(alloc, ROOT, "The folder whose sources are indexed"),
         required(alloc, OUT, "The file to which the index is written"),
     ]?;
-    args.append(&mut own_options(alloc)?)?;
-    add_tree_options(alloc, &mut args, lists)?;
+    add_index_options(alloc, &mut args, lists)?;
     program_of(alloc, INDEX, about, INDEX_EXAMPLE, args)
 }
 

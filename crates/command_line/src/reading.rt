@@ -10,14 +10,13 @@ ghost use Rattle.command_line.specs.Options.Report.{lacks_report};
 ghost use Rattle.command_line.specs.Requests.{IsRefused, Prints};
 ghost use Rattle.command_line.specs.Values.{rows_in};
 
-use crate::names::{INDEX, INDEX_FILE, OUT, PAGES, QUERY, SHELL, SNAPSHOT};
+use crate::names::{INDEX, INDEX_FILE, PAGES, QUERY, SHELL, SNAPSHOT};
 use crate::options::accept::add_what_all_is;
 use crate::options::explain::explains_in;
-use crate::options::limits::limits_of;
-use crate::options::quiet::quiet_in;
 use crate::options::report::{FORM_ALONE, lacks_report};
 use crate::options::{
-    DumpOptions, WordLists, dump_options_of, options_of, pages_options_of, snapshot_options_of,
+    DumpOptions, WordLists, dump_options_of, index_request_of, options_of, pages_options_of,
+    snapshot_options_of,
 };
 use crate::program::program;
 use crate::request::Request;
@@ -61,9 +60,7 @@ fn named(alloc: Global, matches: &ArgMatches<'_>) -> Result<Request, AllocError>
     ensures { IfOk result (Names (subcommand_rows_of matches.now)) }
 {
     if let Some(given) = matches.subcommand_matches(INDEX) {
-        let options = options_of(alloc, given)?;
-        let out = text_of(alloc, given, OUT)?;
-        return Ok(Request::Index(options, out, quiet_in(given), limits_of(given)));
+        return Ok(Request::Index(index_request_of(alloc, given)?));
     }
     if let Some(given) = matches.subcommand_matches(SHELL) {
         return Ok(Request::Shell(options_of(alloc, given)?));

@@ -1,6 +1,6 @@
 //! What a command line asks for.
 
-use crate::options::{DumpOptions, IndexOptions, Limits, PagesOptions, SnapshotOptions};
+use crate::options::{DumpOptions, IndexOptions, IndexRequest, PagesOptions, SnapshotOptions};
 
 /// What a command line asks for.
 #[derive(Debug, Drop)]
@@ -14,9 +14,8 @@ pub enum Request {
     Snapshot(SnapshotOptions),
     /// The program `pages`.
     Pages(PagesOptions),
-    /// The program `index`, whose index goes to the file with this path, whether it doesn't show how far it is, and the
-    /// limits that the index has to keep.
-    Index(IndexOptions, String, bool, Limits),
+    /// The program `index`.
+    Index(IndexRequest),
     /// The program `shell`, about the index of the tree that the options tell.
     Shell(IndexOptions),
     /// A text for standard output: help or the version.

@@ -1,12 +1,17 @@
 //! Help and the version, in the form of `clap` of Rust: no contract says the texts.
 
 use crate::asked::{By, asked, see};
-use crate::options::OPTIONS;
+use crate::options::{OPTIONS, OWN_OPTIONS};
 use std::test::Fail;
 
-/// A command line that asks for help or the version; the text that is printed, or, where `OPTIONS` follow, what is
-/// in front of them; and then what is behind them.
-type Printed = (&'static str, &'static str, Option<&'static str>);
+/// A command line that asks for help or the version; the text that is printed, or, where options of a tree follow, what
+/// is in front of them; those of this program alone; and, where `OPTIONS` follow, what is behind them.
+type Printed = (
+    &'static str,
+    &'static str,
+    &'static str,
+    Option<&'static str>,
+);
 
 // The last row reads: `protoscip --version` prints one line.
 static PRINTED: [Printed; 8] = [
@@ -29,6 +34,7 @@ Options:
   -h, --help     Print help
   -V, --version  Print version
 ",
+        "",
         None,
     ),
     (
@@ -42,13 +48,8 @@ Arguments:
   <OUT>   The file to which the index is written
 
 Options:
-      --quiet
-          Shows no progress; without it, a terminal shows some after a second
-      --max-skipped <N>
-          If --faulty skip leaves out more files than this, OUT stays as it was and the status is 1
-      --min-sources <N>
-          If fewer sources than this are indexed, OUT stays as it was and the status is 1
 ",
+        OWN_OPTIONS,
         Some(
             "
 Example: index the sources below api, with those below vendor for their imports:
@@ -68,6 +69,7 @@ Arguments:
 
 Options:
 ",
+        "",
         Some(
             "
 Example session. The lines that begin with a word are typed; Ctrl-D ends the session:
@@ -99,6 +101,7 @@ Example: list the symbols of a document:
 
   echo 'sym shop/order.proto' | protoscip query api.scip
 ",
+        "",
         None,
     ),
     (
@@ -120,6 +123,7 @@ Example: show the sources below api with what the index says about them:
 
   protoscip snapshot api.scip api
 ",
+        "",
         None,
     ),
     (
@@ -141,6 +145,7 @@ Example: make pages of the sources below api; then open pages/index.html in a br
 
   protoscip pages api.scip api pages
 ",
+        "",
         None,
     ),
     (
@@ -159,14 +164,17 @@ Example: print the occurrences of a source, past its custom options:
 
   protoscip dump --custom-options skip < order.proto
 ",
+        "",
         None,
     ),
-    ("--version", "protoscip 1\n", None),
+    ("--version", "protoscip 1\n", "", None),
 ];
 
-/// Whether a text is this front, and, where there is more, the options and that.
-fn has_parts(text: &str, front: &str, more: Option<&str>) -> bool {
-    let rest = text.strip_prefix(front);
+/// Whether a text is this front, with these options, and, where there is more, the other options and that.
+fn has_parts(text: &str, front: &str, own: &str, more: Option<&str>) -> bool {
+    let rest = text
+        .strip_prefix(front)
+        .and_then(|rest| rest.strip_prefix(own));
     match more {
         Some(more) => rest.and_then(|rest| rest.strip_prefix(OPTIONS)) == Some(more),
         None => rest == Some(""),
@@ -175,9 +183,9 @@ fn has_parts(text: &str, front: &str, more: Option<&str>) -> bool {
 
 #[test]
 fn help_and_version_are_printed(rt: HostRuntime) -> Result<(), Fail> {
-    for (words, front, more) in &PRINTED {
+    for (words, front, own, more) in &PRINTED {
         let text = asked(rt.alloc(), words, By::List)?;
-        see(&rt, has_parts(text.as_str(), front, *more), words);
+        see(&rt, has_parts(text.as_str(), front, own, *more), words);
     }
     Ok(())
 }

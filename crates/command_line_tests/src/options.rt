@@ -5,6 +5,15 @@ use crate::asked::{By, asked, see};
 use crate::refusals::see_refused;
 use std::test::Fail;
 
+/// The options of `index` alone, as its help shows them.
+pub(crate) const OWN_OPTIONS: &str = "      --quiet
+          Shows no progress; without it, a terminal shows some after a second
+      --max-skipped <N>
+          If --faulty skip leaves out more files than this, OUT stays as it was and the status is 1
+      --min-sources <N>
+          If fewer sources than this are indexed, OUT stays as it was and the status is 1
+";
+
 /// The options of `index` and of `shell`, as their help shows them.
 pub(crate) const OPTIONS: &str = "      --workers <N>
           How many threads to use, 1 to 16; the index is the same for any number [default: 4]
@@ -77,11 +86,11 @@ static ASKED: [Asked; 15] = [
     },
     Asked {
         words: "index api out",
-        request: "Index(IndexOptions { root: \"api\", workers: Workers { count: 4 }, project_root: \"file:///\", manager: \"\", package: \"\", release: \"\", only: None, doc: None, include: [], include_packages: [], encoding: Utf8, dialect: Proto3(Refuse), faulty: Refuse, explain: false, exclude: [], links: Ignore, report: ReportOptions { path: None, format: JsonLines } }, \"out\", false, Limits { max_skipped: None, min_sources: None })",
+        request: "Index(IndexRequest { options: IndexOptions { root: \"api\", workers: Workers { count: 4 }, project_root: \"file:///\", manager: \"\", package: \"\", release: \"\", only: None, doc: None, include: [], include_packages: [], encoding: Utf8, dialect: Proto3(Refuse), faulty: Refuse, explain: false, exclude: [], links: Ignore, report: ReportOptions { path: None, format: JsonLines } }, out: \"out\", quiet: false, limits: Limits { max_skipped: None, min_sources: None } })",
     },
     Asked {
         words: "index --workers 2 --quiet --max-skipped 3 --min-sources=812 --report f --report-format sarif --project-root u --manager m --package p --release r --only o --doc both --include j --include i --positions utf16 --accept all --custom-options skip --faulty skip --explain api out",
-        request: "Index(IndexOptions { root: \"api\", workers: Workers { count: 2 }, project_root: \"u\", manager: \"m\", package: \"p\", release: \"r\", only: Some(\"o\"), doc: Some(Both), include: [\"j\", \"i\"], include_packages: [], encoding: Utf16, dialect: All, faulty: Skip, explain: true, exclude: [], links: Ignore, report: ReportOptions { path: Some(\"f\"), format: Sarif } }, \"out\", true, Limits { max_skipped: Some(3), min_sources: Some(812) })",
+        request: "Index(IndexRequest { options: IndexOptions { root: \"api\", workers: Workers { count: 2 }, project_root: \"u\", manager: \"m\", package: \"p\", release: \"r\", only: Some(\"o\"), doc: Some(Both), include: [\"j\", \"i\"], include_packages: [], encoding: Utf16, dialect: All, faulty: Skip, explain: true, exclude: [], links: Ignore, report: ReportOptions { path: Some(\"f\"), format: Sarif } }, out: \"out\", quiet: true, limits: Limits { max_skipped: Some(3), min_sources: Some(812) } })",
     },
     Asked {
         words: "shell --workers 16 --project-root=u --manager=m --package=p --release=r --report=f --report-format=jsonl --only=o --doc=trailing --include=i --positions=utf8 --accept=proto3 --custom-options=refuse --faulty=refuse -- -api",
@@ -89,15 +98,15 @@ static ASKED: [Asked; 15] = [
     },
     Asked {
         words: "index api --include a --include-package m n r d --include b out --include-package '' '' '' e --include c",
-        request: "Index(IndexOptions { root: \"api\", workers: Workers { count: 4 }, project_root: \"file:///\", manager: \"\", package: \"\", release: \"\", only: None, doc: None, include: [\"a\", \"b\", \"c\"], include_packages: [PackageFolder { manager: \"m\", name: \"n\", release: \"r\", folder: \"d\" }, PackageFolder { manager: \"\", name: \"\", release: \"\", folder: \"e\" }], encoding: Utf8, dialect: Proto3(Refuse), faulty: Refuse, explain: false, exclude: [], links: Ignore, report: ReportOptions { path: None, format: JsonLines } }, \"out\", false, Limits { max_skipped: None, min_sources: None })",
+        request: "Index(IndexRequest { options: IndexOptions { root: \"api\", workers: Workers { count: 4 }, project_root: \"file:///\", manager: \"\", package: \"\", release: \"\", only: None, doc: None, include: [\"a\", \"b\", \"c\"], include_packages: [PackageFolder { manager: \"m\", name: \"n\", release: \"r\", folder: \"d\" }, PackageFolder { manager: \"\", name: \"\", release: \"\", folder: \"e\" }], encoding: Utf8, dialect: Proto3(Refuse), faulty: Refuse, explain: false, exclude: [], links: Ignore, report: ReportOptions { path: None, format: JsonLines } }, out: \"out\", quiet: false, limits: Limits { max_skipped: None, min_sources: None } })",
     },
     Asked {
         words: "index api out --max-skipped +0 --min-sources 04294967295 --report f",
-        request: "Index(IndexOptions { root: \"api\", workers: Workers { count: 4 }, project_root: \"file:///\", manager: \"\", package: \"\", release: \"\", only: None, doc: None, include: [], include_packages: [], encoding: Utf8, dialect: Proto3(Refuse), faulty: Refuse, explain: false, exclude: [], links: Ignore, report: ReportOptions { path: Some(\"f\"), format: JsonLines } }, \"out\", false, Limits { max_skipped: Some(0), min_sources: Some(4294967295) })",
+        request: "Index(IndexRequest { options: IndexOptions { root: \"api\", workers: Workers { count: 4 }, project_root: \"file:///\", manager: \"\", package: \"\", release: \"\", only: None, doc: None, include: [], include_packages: [], encoding: Utf8, dialect: Proto3(Refuse), faulty: Refuse, explain: false, exclude: [], links: Ignore, report: ReportOptions { path: Some(\"f\"), format: JsonLines } }, out: \"out\", quiet: false, limits: Limits { max_skipped: Some(0), min_sources: Some(4294967295) } })",
     },
     Asked {
         words: "index api --exclude .git --links follow --exclude=a/**/b out",
-        request: "Index(IndexOptions { root: \"api\", workers: Workers { count: 4 }, project_root: \"file:///\", manager: \"\", package: \"\", release: \"\", only: None, doc: None, include: [], include_packages: [], encoding: Utf8, dialect: Proto3(Refuse), faulty: Refuse, explain: false, exclude: [\".git\", \"a/**/b\"], links: Follow, report: ReportOptions { path: None, format: JsonLines } }, \"out\", false, Limits { max_skipped: None, min_sources: None })",
+        request: "Index(IndexRequest { options: IndexOptions { root: \"api\", workers: Workers { count: 4 }, project_root: \"file:///\", manager: \"\", package: \"\", release: \"\", only: None, doc: None, include: [], include_packages: [], encoding: Utf8, dialect: Proto3(Refuse), faulty: Refuse, explain: false, exclude: [\".git\", \"a/**/b\"], links: Follow, report: ReportOptions { path: None, format: JsonLines } }, out: \"out\", quiet: false, limits: Limits { max_skipped: None, min_sources: None } })",
     },
     Asked {
         words: "snapshot a.scip api",

@@ -1,9 +1,9 @@
 -- What a report tells: one finding for each thing that is wrong with a tree, or that its index lacks.
 use Rattle.std.specs.Prelude.{ℕ, List, Option, codes}
 use Rattle.std.specs.Option.{option_map}
-use Rattle.excerpts.specs.Places.{column, line_number}
+use Rattle.diagnostics.specs.Places.{column, line_number}
 use Rattle.fault_reports.specs.declared.finding.FindingKind.{FindingKind}
-use Rattle.fault_reports.specs.declared.finding.FindingKind.TheVariants.{Fault, Skipped, NoTarget}
+use Rattle.fault_reports.specs.declared.finding.FindingKind.TheVariants.{Fault, Skipped, Unresolved}
 use Rattle.fault_reports.specs.declared.finding.Point.{Point}
 
 -- a file, what it holds, and how many bytes of that come before a place, and before its end, if that is known; without
@@ -46,10 +46,10 @@ column_at place = option_map (λ (point : Point). point.column) (start_of place)
 abbrev pub word_of : FindingKind → List ℕ
 word_of Fault = codes "fault"
 word_of Skipped = codes "skipped"
-word_of NoTarget = codes "no target"
+word_of Unresolved = codes "no target"
 
 -- and the level of a result in SARIF (SARIF 2.1.0, section 3.27.10)
 abbrev pub level_of : FindingKind → List ℕ
 level_of Fault = codes "error"
 level_of Skipped = codes "error"
-level_of NoTarget = codes "warning"
+level_of Unresolved = codes "warning"

@@ -4,7 +4,7 @@ use Rattle.std.specs.Prelude.{ℕ, List, ◌++◌, Option, None, Some, codes}
 use Rattle.std.specs.Str.Lossy.{utf8_lossy}
 use Rattle.std.specs.List.{flat_map}
 use Rattle.std.specs.Option.{option_and_then, option_map}
-use Rattle.excerpts.specs.Literals.{joined}
+use Rattle.diagnostics.specs.Literals.{joined}
 use Rattle.serde_json.specs.Data.{Data, null, number, unsigned, string, object, member, no_members}
 use Rattle.serde_json.specs.Written.{compact_text}
 use Rattle.fault_reports.specs.declared.finding.Counts.{Counts}
@@ -58,5 +58,5 @@ abbrev pub line_of : Data → List ℕ
 line_of value = compact_text value ++ codes "\n"
 
 -- all lines
-abbrev pub lines_of : List Found → Counts → List ℕ
-lines_of findings counts = flat_map (λ found. line_of (value_of found)) findings ++ line_of (counts_value counts)
+abbrev pub report_lines : List Found → Counts → List ℕ
+report_lines findings counts = flat_map (λ found. line_of (value_of found)) findings ++ line_of (counts_value counts)

@@ -12,7 +12,7 @@ ghost use Rattle.fault_reports.specs.Findings.{
   word_of,
 };
 
-use excerpts::LineCounter;
+use diagnostics::LineCounter;
 use std::marker::Model;
 
 /// What a finding is.
@@ -23,7 +23,7 @@ pub enum FindingKind {
     /// A file is left out for it.
     Skipped,
     /// An import or a use names nothing.
-    NoTarget,
+    Unresolved,
 }
 
 /// An offset of a text: how many bytes come before it, its line from 1, and its column from 1 in characters.
@@ -121,7 +121,7 @@ impl FindingKind {
         match self {
             FindingKind::Fault => "fault",
             FindingKind::Skipped => "skipped",
-            FindingKind::NoTarget => "no target",
+            FindingKind::Unresolved => "no target",
         }
     }
 
@@ -131,7 +131,7 @@ impl FindingKind {
     {
         match self {
             FindingKind::Fault | FindingKind::Skipped => "error",
-            FindingKind::NoTarget => "warning",
+            FindingKind::Unresolved => "warning",
         }
     }
 }

@@ -4,7 +4,7 @@ ghost use Rattle.std.specs.Prelude.{◌≡◌, ◌++◌, IfOk, OnOk, false};
 ghost use Rattle.std.specs.Str.Lossy.{utf8_lossy};
 ghost use Rattle.std.specs.List.{flat_map};
 ghost use Rattle.std.specs.Option.{option_map};
-ghost use Rattle.excerpts.specs.Literals.{joined};
+ghost use Rattle.diagnostics.specs.Literals.{joined};
 ghost use Rattle.serde_json.specs.Data.{put as with_member, string};
 ghost use Rattle.serde_json.specs.View.{members_view, view};
 ghost use Rattle.serde_json.specs.Written.{has_float};
@@ -12,14 +12,14 @@ ghost use Rattle.fault_reports.specs.JsonLines.{
   counts_value,
   first_value,
   line_of,
-  lines_of,
+  report_lines,
   text_or_null,
   value_of,
 };
 
 use crate::finding::{Counts, Finding, Place};
 use crate::values::{number_or_null, text_or_null};
-use excerpts::push_joined;
+use diagnostics::push_joined;
 use serde_json::{Map, Value, json, put};
 use std::alloc::{AllocError, Global};
 
@@ -140,12 +140,12 @@ fn push_findings(
 }
 
 /// A line for each finding, in this order, and a last one with the counts.
-pub(crate) fn lines_of(
+pub(crate) fn report_lines(
     alloc: Global,
     findings: &[Finding<'_>],
     counts: &Counts,
 ) -> Result<Vec<u8>, AllocError>
-    ensures { IfOk result (λ bytes. bytes.items ≡ lines_of findings.now counts.now) }
+    ensures { IfOk result (λ bytes. bytes.items ≡ report_lines findings.now counts.now) }
 {
     let mut out = Vec::new(alloc);
     push_findings(alloc, &mut out, findings)?;

@@ -6,7 +6,7 @@ ghost use Rattle.fault_reports.specs.Reports.{report_of};
 ghost use Rattle.fault_reports.specs.Sarif.{log_value};
 
 use crate::finding::{Counts, Finding};
-use crate::json_lines::{lines_of, push_line};
+use crate::json_lines::{push_line, report_lines};
 use crate::sarif::log_value;
 use std::alloc::{AllocError, Global};
 
@@ -39,7 +39,7 @@ pub fn report_bytes(
     ensures { IfOk result (λ bytes. bytes.items ≡ report_of format findings.now counts.now) }
 {
     match format {
-        ReportFormat::JsonLines => lines_of(alloc, findings, counts),
+        ReportFormat::JsonLines => report_lines(alloc, findings, counts),
         ReportFormat::Sarif => log_line(alloc, findings),
     }
 }

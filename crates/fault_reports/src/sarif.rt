@@ -25,10 +25,10 @@ ghost use Rattle.fault_reports.specs.Sarif.{
 };
 
 use crate::finding::{Finding, Place, Point};
+use basics::tool::{NAME, VERSION};
 use percent_encoding::{AsciiSet, NON_ALPHANUMERIC, ascii_set, percent_encode};
 use serde_json::{Value, json};
 use std::alloc::{AllocError, Global};
-use tool::{NAME, VERSION};
 
 /// The bytes of a path that are escaped in a URI: all but letters, digits, `-`, `.`, `_`, `~`, and `/`.
 const ESCAPED: AsciiSet = ascii_set!(

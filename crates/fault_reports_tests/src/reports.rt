@@ -1,6 +1,6 @@
 //! Reports of three findings, in both forms, and of none.
 
-use excerpts::LineCounter;
+use diagnostics::LineCounter;
 use fault_reports::{Counts, Finding, FindingKind, Place, ReportFormat, report_bytes};
 use std::alloc::{AllocError, Global};
 use std::process::Abort;
@@ -79,7 +79,7 @@ fn again() -> Finding<'static> {
 /// An import that names no file.
 fn absent() -> Finding<'static> {
     Finding {
-        kind: FindingKind::NoTarget,
+        kind: FindingKind::Unresolved,
         name: "MissingImport",
         message: "no source",
         place: Some(at(2, None)),

@@ -1,3 +1,6 @@
-mod MatchLemmas
-mod RowLemmas
+-- What a pattern excludes, by whether it has a `/`
 mod ExclusionLemmas
+-- The last piece, and the last byte of a text
+mod PieceMatchLemmas
+-- One byte more of a row, and one piece more
+mod RowLemmas

@@ -6,7 +6,7 @@ use Rattle.std.proofs.lemmas.List.{get_or_append_left, get_or_default, get_or_pu
 use Rattle.globs.specs.declared.piece.Piece.{Piece}
 use Rattle.globs.specs.Pieces.{MayBeEmpty, Begins, GoesOn, Matches, at_end}
 use Rattle.globs.specs.Rows.{IsFront, AreRow}
-use Rattle.globs.proofs.MatchLemmas.{none_of, ends_to, ends_from, empty_to, empty_from}
+use Rattle.globs.proofs.PieceMatchLemmas.{none_of, ends_to, ends_from, empty_to, empty_from}
 use lib.Dec.{ltb}
 
 -- whether the text up to so many bytes matches, at its place in a row

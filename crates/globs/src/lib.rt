@@ -1,9 +1,12 @@
 //! Patterns for the names and paths of files, with `?`, `*` and `**`.
 #![tactic(auto)]
 
-mod exclusion;
+// A pattern: its pieces, and how they are spelled.
 mod piece;
-mod rows;
 mod spelling;
+
+// What it matches, and what is excluded.
+mod exclusion;
+mod rows;
 
 pub use exclusion::is_excluded;

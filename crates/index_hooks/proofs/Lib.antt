@@ -1,8 +1,9 @@
--- hooks that are asked one after the other
-mod AskedLemmas
--- names under one another
+-- Each file is named after the spec or source that it serves.
+-- Names that don't begin with a scope
 mod NameLemmas
--- promises that allow one answer each allow one choice
+-- Hooks whose promises allow one answer each allow one choice
 mod OneChoiceLemmas
--- answers that are the same
-mod SameAnswerLemmas
+-- Hooks that are asked one after the other: those before a place, the one there, and those behind it
+mod RegistryAskedLemmas
+-- Answers that are the same
+mod WithCommentLemmas

@@ -6,7 +6,7 @@ use Rattle.index_hooks.specs.declared.choice.DocChoice.{DocChoice}
 use Rattle.index_hooks.specs.declared.choice.DocChoice.TheVariants.{Pass}
 use Rattle.index_hooks.specs.MayChoose.{FirstOf, MayKeep, MayDocument, MayChoose}
 use Rattle.index_hooks.specs.OneChoice.{AllowsOne, AreExact}
-use Rattle.proto_decl.proofs.AncestorLemmas.{heads, tails}
+use Rattle.proto_decl.proofs.LawAncestorLemmas.{heads, tails}
 
 -- of all hooks, at the first of them or behind it
 all_at : {H : Type 0} (P : H → Type 0) (before : List H) (hook : H) (after : List H) → All P (before ++ hook ∷ after)

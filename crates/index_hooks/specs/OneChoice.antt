@@ -1,6 +1,6 @@
 -- Promises that allow one answer each, and the one choice that they then allow.
 use Rattle.std.specs.Prelude.{◌≡◌, Bool, List, All}
-use Rattle.proto_decl.specs.Seen.{Seen}
+use Rattle.proto_decl.specs.Values.{Seen}
 use Rattle.index_hooks.specs.declared.choice.Choice.{Choice}
 use Rattle.index_hooks.specs.declared.choice.DocChoice.{DocChoice}
 

@@ -1,6 +1,6 @@
 -- Which answers the ready promises allow for a declaration.
 use Rattle.std.specs.Prelude.{⊤, ◌≡◌, ◌≢◌, ◌⊎◌, ◌↔◌, ℕ, Bool, IsTrue, List, [], Contains}
-use Rattle.proto_decl.specs.Seen.{Seen}
+use Rattle.proto_decl.specs.Values.{Seen}
 use Rattle.index_hooks.specs.HasKind.{HasKind}
 use Rattle.index_hooks.specs.IsUnder.{IsUnder}
 use Rattle.index_hooks.specs.declared.choice.DocChoice.{DocChoice}

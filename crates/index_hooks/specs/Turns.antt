@@ -1,7 +1,7 @@
 -- Whose turn it is in a choice: the filters in their order, and then the rules in theirs.
 use Rattle.std.specs.Prelude.{◌≡◌, ℕ, ◌+◌, List, ◌∷◌, ◌++◌, length}
 use Rattle.index_hooks.specs.Adding.{most_hooks}
-use Rattle.index_hooks.specs.declared.turns.Ticket.{Ticket}
+use Rattle.index_hooks.specs.declared.turns.Turn.{Turn}
 use Rattle.index_hooks.specs.declared.turns.Turns.{Turns}
 
 -- those of the most filters and the most rules that a registry has
@@ -12,9 +12,9 @@ most_turns = most_hooks + most_hooks
 abbrev pub taken : Turns → ℕ
 taken turns = turns.taken
 
--- which turn a ticket is for: how many come before it
-abbrev pub place_of : Ticket → ℕ
-place_of ticket = ticket.place
+-- how many turns come before it
+abbrev pub place_of : Turn → ℕ
+place_of turn = turn.place
 
 -- it is the turn of this hook, one of those whose turns begin at a place
 pub record IsTurnOf {H : Type 0} (first : ℕ) (hooks : List H) (hook : H) (place : ℕ) : Type 0 where

@@ -7,7 +7,7 @@ use proto_decl::DeclView;
 
 /// A callback that says of each declaration whether it is kept.
 pub trait FilterCallback {
-    ghost use Rattle.proto_decl.specs.Seen.{Seen};
+    ghost use Rattle.proto_decl.specs.Values.{Seen};
 
     // The answers that it may give, on any call: all, if nothing else is said.
     ghost gives: { Self → Seen → Bool → Type 0 } = { λ _ _ _. Unit {0} };
@@ -19,7 +19,7 @@ pub trait FilterCallback {
 
 /// A callback that says of each declaration which texts document it.
 pub trait DocCallback {
-    ghost use Rattle.proto_decl.specs.Seen.{Seen};
+    ghost use Rattle.proto_decl.specs.Values.{Seen};
     ghost use Rattle.index_hooks.specs.declared.choice.DocChoice.{DocChoice};
 
     // The answers that it may give, on any call: all, if nothing else is said.

@@ -1,12 +1,12 @@
 //! A filter.
 
 ghost use Rattle.std.specs.Prelude.{◌≡◌, Bool};
-ghost use Rattle.proto_decl.specs.Seen.{Seen};
+ghost use Rattle.proto_decl.specs.Values.{Seen};
 
 use crate::callback::FilterCallback;
 use crate::hook::FilterHook;
 use crate::promise::FilterPromise;
-use crate::turns::Ticket;
+use crate::turns::Turn;
 use proto_decl::DeclView;
 use std::marker::Model;
 
@@ -20,7 +20,7 @@ pub struct Filter<P: FilterPromise, C: FilterCallback> {
 
 impl<P: FilterPromise, C: FilterCallback> Model for Filter<P, C> {
     ghost use Rattle.std.specs.Prelude.{Bool};
-    ghost use Rattle.proto_decl.specs.Seen.{Seen};
+    ghost use Rattle.proto_decl.specs.Values.{Seen};
     ghost use Rattle.index_hooks.specs.Promised.{Promised};
 
     ghost Value = { Promised P C };
@@ -45,7 +45,7 @@ impl<P: FilterPromise, C: FilterCallback> FilterHook for Filter<P, C> {
     ghost may = { λ f seen keep. P.may f.promise seen keep };
 
     /// The answer is one that the callback may give, for what is seen here.
-    fn ask(&self, _ticket: Ticket, view: &DeclView<'_>) -> bool
+    fn ask(&self, _turn: Turn, view: &DeclView<'_>) -> bool
         ensures promised { P.may self.now.promise view.now result }
         ensures asked { C.gives self.now.callback view.now result }
     {

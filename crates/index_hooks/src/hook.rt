@@ -3,31 +3,31 @@
 ghost use Rattle.std.specs.Prelude.{Bool};
 
 use crate::choice::DocChoice;
-use crate::turns::Ticket;
+use crate::turns::Turn;
 use proto_decl::DeclView;
 
 /// A callback that says of each declaration whether it is kept, with a promise about its answers.
 pub trait FilterHook {
-    ghost use Rattle.proto_decl.specs.Seen.{Seen};
+    ghost use Rattle.proto_decl.specs.Values.{Seen};
 
     // The answers that its promise allows.
     ghost may: { Self → Seen → Bool → Type 0 };
 
-    /// Asks it, and uses up the ticket. It may answer differently on each call.
-    fn ask(&self, ticket: Ticket, view: &DeclView<'_>) -> bool
+    /// Asks it, and uses up the turn. It may answer differently on each call.
+    fn ask(&self, turn: Turn, view: &DeclView<'_>) -> bool
         ensures { may self.now view.now result };
 }
 
 /// A callback that says of each declaration which texts document it, with a promise about its answers.
 pub trait DocHook {
-    ghost use Rattle.proto_decl.specs.Seen.{Seen};
+    ghost use Rattle.proto_decl.specs.Values.{Seen};
     ghost use Rattle.index_hooks.specs.declared.choice.DocChoice.{DocChoice};
 
     // The answers that its promise allows.
     ghost may: { Self → Seen → DocChoice → Type 0 };
 
-    /// Asks it, and uses up the ticket. It may answer differently on each call.
-    fn ask(&self, ticket: Ticket, view: &DeclView<'_>) -> DocChoice
+    /// Asks it, and uses up the turn. It may answer differently on each call.
+    fn ask(&self, turn: Turn, view: &DeclView<'_>) -> DocChoice
         ensures { may self.now view.now result };
 }
 

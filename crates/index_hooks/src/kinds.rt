@@ -28,7 +28,7 @@ fn is_among(kinds: &[DeclarationKind], kind: DeclarationKind) -> bool
 
 impl Kinds {
     ghost use Rattle.std.specs.Prelude.{◌↔◌, IsTrue, Contains};
-    ghost use Rattle.proto_decl.specs.declared.kind.DeclarationKind.{DeclarationKind};
+    ghost use Rattle.proto_decl.specs.declared.declaration.DeclarationKind.{DeclarationKind};
     ghost use Rattle.index_hooks.specs.HasKind.{HasKind};
 
     /// The set of these kinds. One may be there more than once.

@@ -50,21 +50,30 @@
 //! filter is made it has to be shown that the promise allows that.
 #![tactic(auto)]
 
-mod any_answer;
+// What is asked, and what is chosen.
 mod callback;
 mod choice;
-mod doc_answers;
-mod fault;
+mod turns;
+
+// Callbacks with their promises.
 mod filter;
 mod hook;
-mod kinds;
-mod laws;
-mod names;
 mod promise;
-mod registry;
 mod rule;
-mod turns;
+
+// The registry.
+mod fault;
+mod registry;
+
+// Promises to take.
+mod any_answer;
+mod doc_answers;
+mod kinds;
+mod names;
 mod with_comment;
+
+// The laws.
+mod laws;
 
 pub use any_answer::AnyAnswer;
 pub use callback::{DocCallback, FilterCallback};
@@ -79,5 +88,5 @@ pub use names::NamePrefix;
 pub use promise::{DocPromise, FilterPromise};
 pub use registry::{MAX_HOOKS, Promises, Registry};
 pub use rule::DocRule;
-pub use turns::{Chooses, Ticket, Turns};
+pub use turns::{Chooses, Turn, Turns};
 pub use with_comment::WithComment;

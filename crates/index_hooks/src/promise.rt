@@ -7,7 +7,7 @@ use proto_decl::DeclView;
 
 /// A promise about the answers of a filter: which a declaration may get.
 pub trait FilterPromise {
-    ghost use Rattle.proto_decl.specs.Seen.{Seen};
+    ghost use Rattle.proto_decl.specs.Values.{Seen};
 
     // The answers that the promise allows.
     ghost may: { Self → Seen → Bool → Type 0 };
@@ -19,7 +19,7 @@ pub trait FilterPromise {
 
 /// A promise about the answers of a documentation rule: which a declaration may get.
 pub trait DocPromise {
-    ghost use Rattle.proto_decl.specs.Seen.{Seen};
+    ghost use Rattle.proto_decl.specs.Values.{Seen};
     ghost use Rattle.index_hooks.specs.declared.choice.DocChoice.{DocChoice};
 
     // The answers that the promise allows.

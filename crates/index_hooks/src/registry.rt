@@ -8,9 +8,9 @@ ghost use Rattle.index_hooks.specs.Turns.{IsTurnOf, taken, place_of};
 use crate::choice::{Choice, DocChoice};
 use crate::fault::HookFault;
 use crate::hook::{BoxedFilter, BoxedRule, DocHook, FilterHook};
-use crate::turns::{Chooses, Ticket, Turns};
+use crate::turns::{Chooses, Turn, Turns};
+use basics::Sequence;
 use proto_decl::DeclView;
-use sequences::Sequence;
 use std::alloc::Global;
 
 /// The most filters, and the most documentation rules, of a registry.
@@ -27,7 +27,7 @@ pub struct Registry {
 
 /// What has promises about the answers of its filters and rules, and nothing else is known of these.
 pub trait Promises {
-    ghost use Rattle.proto_decl.specs.Seen.{Seen};
+    ghost use Rattle.proto_decl.specs.Values.{Seen};
 
     // For what is seen of a declaration each promise allows one answer at most.
     ghost are_exact: { Self → Seen → Type 0 };
@@ -49,7 +49,7 @@ fn add<H>(hooks: &mut Sequence<H>, hook: H) -> Result<(), (H, HookFault)>
 
 impl Registry {
     ghost use Rattle.std.specs.Prelude.{◌≡◌, []};
-    ghost use Rattle.proto_decl.specs.Seen.{Seen};
+    ghost use Rattle.proto_decl.specs.Values.{Seen};
     ghost use Rattle.index_hooks.specs.declared.choice.Choice.{Choice};
     ghost use Rattle.index_hooks.specs.Adding.{Adds};
     ghost use Rattle.index_hooks.specs.MayChoose.{IsDefaultChoice};
@@ -102,13 +102,13 @@ impl Registry {
 fn ask_filter(
     filters: &[BoxedFilter],
     filter: &BoxedFilter,
-    ticket: Ticket,
+    turn: Turn,
     view: &DeclView<'_>,
 ) -> bool
-    requires { IsTurnOf 0 filters.now filter.now (place_of ticket) }
+    requires { IsTurnOf 0 filters.now filter.now (place_of turn) }
     ensures { (FilterHook-box filter.now).may filter.now.value view.now result }
 {
-    filter.ask(ticket, view)
+    filter.ask(turn, view)
 }
 
 /// Asks the rule whose turn it is, where the turns of the rules begin at `first`.
@@ -116,13 +116,13 @@ fn ask_rule(
     first: usize,
     rules: &[BoxedRule],
     rule: &BoxedRule,
-    ticket: Ticket,
+    turn: Turn,
     view: &DeclView<'_>,
 ) -> DocChoice
-    requires { IsTurnOf first rules.now rule.now (place_of ticket) }
+    requires { IsTurnOf first rules.now rule.now (place_of turn) }
     ensures { (DocHook-box rule.now).may rule.now.value view.now result }
 {
-    rule.ask(ticket, view)
+    rule.ask(turn, view)
 }
 
 /// Whether all filters answer `true`. The first `false` ends the asking.

@@ -1,14 +1,14 @@
 //! A documentation rule.
 
 ghost use Rattle.std.specs.Prelude.{◌≡◌};
-ghost use Rattle.proto_decl.specs.Seen.{Seen};
+ghost use Rattle.proto_decl.specs.Values.{Seen};
 ghost use Rattle.index_hooks.specs.declared.choice.DocChoice.{DocChoice};
 
 use crate::callback::DocCallback;
 use crate::choice::DocChoice;
 use crate::hook::DocHook;
 use crate::promise::DocPromise;
-use crate::turns::Ticket;
+use crate::turns::Turn;
 use proto_decl::DeclView;
 use std::marker::Model;
 
@@ -21,7 +21,7 @@ pub struct DocRule<P: DocPromise, C: DocCallback> {
 }
 
 impl<P: DocPromise, C: DocCallback> Model for DocRule<P, C> {
-    ghost use Rattle.proto_decl.specs.Seen.{Seen};
+    ghost use Rattle.proto_decl.specs.Values.{Seen};
     ghost use Rattle.index_hooks.specs.Promised.{Promised};
     ghost use Rattle.index_hooks.specs.declared.choice.DocChoice.{DocChoice};
 
@@ -48,7 +48,7 @@ impl<P: DocPromise, C: DocCallback> DocHook for DocRule<P, C> {
     ghost may = { λ r seen answer. P.may r.promise seen answer };
 
     /// The answer is one that the callback may give, for what is seen here.
-    fn ask(&self, _ticket: Ticket, view: &DeclView<'_>) -> DocChoice
+    fn ask(&self, _turn: Turn, view: &DeclView<'_>) -> DocChoice
         ensures promised { P.may self.now.promise view.now result }
         ensures asked { C.gives self.now.callback view.now result }
     {

@@ -6,10 +6,10 @@ ghost use Rattle.index_hooks.specs.Turns.{most_turns, taken};
 use crate::choice::Choice;
 use proto_decl::DeclView;
 
-/// The right to ask one filter or one rule, once. Only `Turns` make tickets. A ticket can't be copied, and `ask`
+/// The right to ask one filter or one rule, once. Only `Turns` make turns. A turn can't be copied, and `ask`
 /// takes it by value.
 #[derive(Debug, Drop)]
-pub struct Ticket {
+pub struct Turn {
     place: usize,
 }
 
@@ -31,15 +31,15 @@ impl Turns {
         Turns { taken: 0 }
     }
 
-    /// The ticket of the next turn.
-    pub fn next(&mut self) -> Ticket
+    /// The next turn.
+    pub fn next(&mut self) -> Turn
         requires { taken self.old < most_turns }
         ensures place { place_of result ≡ taken self.old }
         ensures taken { taken self.new ≡ taken self.old + 1 }
     {
         let place = self.taken;
         self.taken += 1;
-        Ticket { place }
+        Turn { place }
     }
 
     /// Leaves out the turns before this place.
@@ -53,7 +53,7 @@ impl Turns {
 
 /// What chooses for a declaration.
 pub trait Chooses {
-    ghost use Rattle.proto_decl.specs.Seen.{Seen};
+    ghost use Rattle.proto_decl.specs.Values.{Seen};
     ghost use Rattle.index_hooks.specs.declared.choice.Choice.{Choice};
 
     // The choices that may come.

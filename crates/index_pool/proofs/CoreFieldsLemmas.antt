@@ -14,7 +14,7 @@ use Rattle.index_pool.specs.Workers.{most_workers}
 use Rattle.index_pool.specs.CoreMachine.{WorkerState, CoreState, idle, core_start, worker_at, queue_of, IsReady}
 use Rattle.index_pool.specs.CoreMachine.{MayHappen, queued, unqueued, taken, noted, with_worker, after_take}
 use Rattle.index_pool.specs.CoreMachine.{state_after}
-use Rattle.index_pool.specs.CoreFields.{worker_state, rooms, HasRoom, core_state, held, IsSound, IsKept}
+use Rattle.index_pool.specs.CoreFields.{worker_state, rooms, HasRoom, core_state, held, IsSound, IsCoreInvariant}
 use Rattle.index_pool.proofs.OnceLemmas.{weighed_one}
 use Rattle.index_pool.proofs.CoreMachineLemmas.{sound_start, sound_take, sound_after, take_weighs}
 
@@ -42,8 +42,8 @@ pub has_room : (n : ℕ) (ws : List CoreWorker) (i : ℕ) (x : CoreWorker) → A
 has_room n ws i x all within is = subst (HasRoom n) (sym is) (All-get_or (HasRoom n) ws i x within all)
 
 pub kept_change : (inputs seeded seeded' : ℕ) (ws : List CoreWorker) (i : ℕ) (x v : CoreWorker)
-    → IsKept inputs seeded ws → i < length ws → x ≡ get_or ws i x → rooms v ≡ rooms x
-    → IsSound (core_state inputs seeded' (set ws i v)) → IsKept inputs seeded' (set ws i v)
+    → IsCoreInvariant inputs seeded ws → i < length ws → x ≡ get_or ws i x → rooms v ≡ rooms x
+    → IsSound (core_state inputs seeded' (set ws i v)) → IsCoreInvariant inputs seeded' (set ws i v)
 kept_change inputs seeded seeded' ws i x v kept within is same sound =
     let count = length-set ws i v in
     let R : ℕ × ℕ → Type 0 = λ r. (inputs ≤ r.0) × (inputs ≤ r.1) in
@@ -73,7 +73,8 @@ within_fields : (inputs seeded : ℕ) (ws : List CoreWorker) (w : ℕ) → w < l
     → w < length ws
 within_fields inputs seeded ws w within = subst (λ n. w < n) (length-map ws worker_state) within
 
-pub queue_has_room : (inputs seeded : ℕ) (ws : List CoreWorker) (i : ℕ) (x : CoreWorker) → IsKept inputs seeded ws
+pub queue_has_room : (inputs seeded : ℕ) (ws : List CoreWorker) (i : ℕ) (x : CoreWorker)
+    → IsCoreInvariant inputs seeded ws
     → seeded < inputs → i < length ws → x ≡ get_or ws i x → length (worker_state x).queue < (rooms x).0
 queue_has_room inputs seeded ws i x kept below within is =
     let s = core_state inputs seeded ws in
@@ -86,9 +87,9 @@ queue_has_room inputs seeded ws i x kept below within is =
 
 -- the next number is seeded
 seed_keeps_at : (inputs seeded : ℕ) (ws : List CoreWorker) (x v : CoreWorker) (s : CoreState)
-    → core_state inputs seeded ws ≡ s → IsKept inputs seeded ws → seeded < inputs
+    → core_state inputs seeded ws ≡ s → IsCoreInvariant inputs seeded ws → seeded < inputs
     → x ≡ get_or ws (seeded % length ws) x → worker_state v ≡ queued (worker_state x) seeded → rooms v ≡ rooms x
-    → IsKept inputs (seeded + 1) (set ws (seeded % length ws) v)
+    → IsCoreInvariant inputs (seeded + 1) (set ws (seeded % length ws) v)
     × (core_state inputs (seeded + 1) (set ws (seeded % length ws) v) ≡ state_after s (Seed seeded))
 seed_keeps_at inputs seeded ws x v s view kept below is new same =
     let i = seeded % length ws in
@@ -110,14 +111,14 @@ seed_keeps_at inputs seeded ws x v s view kept below is new same =
 
 -- the same where the number and the count of workers were read from the fields
 pub seed_keeps : (inputs seeded : ℕ) (ws : List CoreWorker) (k count : ℕ) (x v : CoreWorker) (s : CoreState)
-    → k ≡ seeded → count ≡ length ws → core_state inputs seeded ws ≡ s → IsKept inputs seeded ws → k < inputs
+    → k ≡ seeded → count ≡ length ws → core_state inputs seeded ws ≡ s → IsCoreInvariant inputs seeded ws → k < inputs
     → x ≡ get_or ws (k % count) x → worker_state v ≡ queued (worker_state x) k → rooms v ≡ rooms x
-    → IsKept inputs (seeded + 1) (set ws (k % count) v)
+    → IsCoreInvariant inputs (seeded + 1) (set ws (k % count) v)
     × (core_state inputs (seeded + 1) (set ws (k % count) v) ≡ state_after s (Seed k)) × MayHappen s (Seed k)
 seed_keeps inputs seeded ws k count x v s is_next is_count view kept below =
     let Keeps : ℕ × ℕ → Type 0 = λ q. x ≡ get_or ws (q.0 % q.1) x → worker_state v ≡ queued (worker_state x) q.0
     → rooms v ≡ rooms x
-    → IsKept inputs (seeded + 1) (set ws (q.0 % q.1) v)
+    → IsCoreInvariant inputs (seeded + 1) (set ws (q.0 % q.1) v)
     × (core_state inputs (seeded + 1) (set ws (q.0 % q.1) v) ≡ state_after s (Seed q.0)) × MayHappen s (Seed q.0) in
     let next : seeded < inputs = omega arith in
     let may : MayHappen s (Seed seeded) = subst (λ t. MayHappen t (Seed seeded)) view (refl, next) in
@@ -128,9 +129,9 @@ seed_keeps inputs seeded ws k count x v s is_next is_count view kept below =
 
 -- a worker notes that its queue is empty
 pub note_keeps : (inputs seeded : ℕ) (ws : List CoreWorker) (i : ℕ) (x v : CoreWorker) (s : CoreState)
-    → core_state inputs seeded ws ≡ s → IsKept inputs seeded ws → IsReady s i → queue_of s i ≡ []
+    → core_state inputs seeded ws ≡ s → IsCoreInvariant inputs seeded ws → IsReady s i → queue_of s i ≡ []
     → x ≡ get_or ws i x → worker_state v ≡ noted (worker_state x) → rooms v ≡ rooms x
-    → IsKept inputs seeded (set ws i v) × (core_state inputs seeded (set ws i v) ≡ state_after s (PopEmpty i))
+    → IsCoreInvariant inputs seeded (set ws i v) × (core_state inputs seeded (set ws i v) ≡ state_after s (PopEmpty i))
 note_keeps inputs seeded ws i x v s view kept ready empty is new same =
     let S = core_state inputs seeded ws in
     let R : CoreState → Type 0 = λ t. IsReady t i × (queue_of t i ≡ []) in
@@ -147,9 +148,10 @@ note_keeps inputs seeded ws i x v s view kept ready empty is new same =
 
 -- a worker is exchanged for one that shows the same
 pub same_keeps : (inputs seeded : ℕ) (ws : List CoreWorker) (i : ℕ) (x v : CoreWorker) (s : CoreState)
-    → core_state inputs seeded ws ≡ s → IsKept inputs seeded ws → i < length s.workers
+    → core_state inputs seeded ws ≡ s → IsCoreInvariant inputs seeded ws → i < length s.workers
     → x ≡ get_or ws i x → worker_state v ≡ worker_state x → rooms v ≡ rooms x
-    → IsKept inputs seeded (set ws i v) × (core_state inputs seeded (set ws i v) ≡ s) × (worker_at s i ≡ worker_state x)
+    → IsCoreInvariant inputs seeded (set ws i v) × (core_state inputs seeded (set ws i v) ≡ s)
+    × (worker_at s i ≡ worker_state x)
 same_keeps inputs seeded ws i x v s view kept in_state is new same =
     let S = core_state inputs seeded ws in
     let within = within_fields inputs seeded ws i (subst (λ t. i < length t.workers) (sym view) in_state) in
@@ -164,7 +166,8 @@ same_keeps inputs seeded ws i x v s view kept in_state is new same =
 
 -- the first number of one queue goes to the end of a worker's takings, which have room for it
 module _ (inputs seeded : ℕ) (ws : List CoreWorker) (from to k : ℕ) (x v y : CoreWorker) (s : CoreState)
-    (view : core_state inputs seeded ws ≡ s) (kept : IsKept inputs seeded ws) (from_in : from < length s.workers)
+    (view : core_state inputs seeded ws ≡ s) (kept : IsCoreInvariant inputs seeded ws)
+    (from_in : from < length s.workers)
     (to_in : to < length s.workers)
     (is : x ≡ get_or ws from x) (some : 0 < length (worker_state x).queue)
     (front : k ≡ slice_index (worker_state x).queue 0) (new : worker_state v ≡ unqueued (worker_state x))
@@ -207,7 +210,7 @@ module _ (inputs seeded : ℕ) (ws : List CoreWorker) (from to k : ℕ) (x v y :
       let h : s.inputs ≡ inputs = ap (λ t. t.inputs) (sym view) in omega arith
 
   pub take_keeps : (u : CoreWorker) → worker_state u ≡ taken (worker_state y) k → rooms u ≡ rooms y
-      → IsKept inputs seeded (set (set ws from v) to u)
+      → IsCoreInvariant inputs seeded (set (set ws from v) to u)
       × (core_state inputs seeded (set (set ws from v) to u) ≡ after_take s from to)
   take_keeps u new_to same_to =
       let mid = core_state inputs seeded (set ws from v) in
@@ -246,7 +249,7 @@ map_idle (w ∷ ws) all =
 
 pub start_kept : (inputs workers : ℕ) (ws : List CoreWorker) → 0 < workers → workers ≤ most_workers
     → inputs ≤ MAX_INPUTS → length ws ≡ workers → All (λ w. worker_state w ≡ idle) ws → All (HasRoom inputs) ws
-    → IsKept inputs 0 ws × (core_state inputs 0 ws ≡ core_start inputs workers)
+    → IsCoreInvariant inputs 0 ws × (core_state inputs 0 ws ≡ core_start inputs workers)
 start_kept inputs workers ws some few few_inputs count idles roomy =
     let all : map worker_state ws ≡ replicate workers idle = map_idle ws idles ∙ ap (λ n. replicate n idle) count in
     let S : List WorkerState → CoreState = λ l. record { inputs = inputs; seeded = 0; workers = l } in

@@ -10,6 +10,7 @@ use Rattle.std.proofs.lemmas.Option.{slice_get_within, get_or_from_slice_get, sl
 use Rattle.std.proofs.lemmas.List.Elements.{All-get_or, All-head, All-tail, Contains-append_left, Contains-push}
 use Rattle.std.proofs.lemmas.List.Sums.{sum_by_push, sum_by-cons}
 use Rattle.std.proofs.lemmas.Bool.Decides.{eqb_tells}
+use Rattle.basics.proofs.ListLemmas.{item_at as slice_get_some}
 use Rattle.index_pool.specs.declared.phase.worker.Ran.{Ran}
 use Rattle.index_pool.specs.declared.phase.fault.PoolFault.{PoolFault}
 use Rattle.index_pool.specs.declared.phase.fault.PoolFault.TheVariants.{Spawn, Memory, Job}
@@ -18,7 +19,7 @@ use Rattle.index_pool.specs.Phase.{AnswersEach, MayRefuse, EachIsRun}
 use Rattle.index_pool.specs.Tables.PhaseSteps.{weight, numbers_of, AllGiven, RanEach, IsAmong, IsFilled, IsFull}
 use Rattle.index_pool.specs.Tables.PhaseSteps.{HasResult}
 use Rattle.index_pool.proofs.OnceLemmas.{only_at, only_at_other, one_below}
-use Rattle.index_pool.proofs.ResultsLemmas.{once_weighs}
+use Rattle.index_pool.proofs.PhaseStepResultLemmas.{once_weighs}
 
 some_none : {A : Type 0} (a : A) → ◌≡◌ {A = Option A} (Some a) None → ⊥
 some_none a e = cc
@@ -56,11 +57,6 @@ slice_get_push [] y (suc k) z e = cc
 slice_get_push (x ∷ xs) y zero z e = inl e
 slice_get_push (x ∷ xs) y (suc k) z e =
     ⊎_elim inl (λ (p : (k ≡ length xs) × (y ≡ z)). inr (ap suc p.0, p.1)) (slice_get_push xs y k z e)
-
-slice_get_some : {X : Type 0} (xs : List X) (k : ℕ) → k < length xs → (x : X) × (slice_get xs k ≡ Some x)
-slice_get_some [] k within = absurd (omega arith)
-slice_get_some (x ∷ xs) zero within = (x, refl)
-slice_get_some (x ∷ xs) (suc k) within = slice_get_some xs k (omega arith)
 
 cons_parts : {X : Type 0} (a b : X) (xs ys : List X) → a ∷ xs ≡ b ∷ ys → (a ≡ b) × (xs ≡ ys)
 cons_parts a b xs ys e = (cc, cc)

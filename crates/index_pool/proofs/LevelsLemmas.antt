@@ -19,7 +19,7 @@ use Rattle.index_pool.specs.Lane.{lane_numbers, lane_view}
 use Rattle.index_pool.specs.LaneEnds.{owner_view, owner_deque, thief_view, thief_deque}
 use Rattle.index_pool.specs.Tables.PhaseSteps.{AllBelow, FreshPost, FreshLane, AllGiven, weight, Worked, Gathers}
 use Rattle.index_pool.specs.Tables.PhaseSteps.{Settles, RanEach, MayStop, MayEnd}
-use Rattle.index_pool.proofs.ResultsLemmas.{weight_append, each_once}
+use Rattle.index_pool.proofs.PhaseStepResultLemmas.{weight_append, each_once}
 use Rattle.index_pool.proofs.LaneEndsLemmas.{popped_given, popped_below}
 
 -- what a lane was given is what was popped and stolen, however it is weighed

@@ -35,7 +35,7 @@ pub record IsSound (s : CoreState) : Type 0 where
   pub noted : All (NotesTruly s) s.workers
   pub within : s.seeded ≤ s.inputs
 
-pub record IsKept (inputs seeded : ℕ) (workers : List CoreWorker) : Type 0 where
+pub record IsCoreInvariant (inputs seeded : ℕ) (workers : List CoreWorker) : Type 0 where
   pub some_worker : 0 < length workers
   pub few_workers : length workers ≤ most_workers
   pub few_inputs : inputs ≤ MAX_INPUTS

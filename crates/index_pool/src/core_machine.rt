@@ -78,13 +78,13 @@ pub struct Core {
 
 impl Model for Core {
     ghost use Rattle.index_pool.specs.CoreMachine.{CoreState};
-    ghost use Rattle.index_pool.specs.CoreFields.{core_state, IsKept};
+    ghost use Rattle.index_pool.specs.CoreFields.{core_state, IsCoreInvariant};
 
     ghost Value = { CoreState };
 
     ghost view = { λ c. core_state c.inputs c.seeded c.workers.items };
 
-    ghost invariant = { λ c. IsKept c.inputs c.seeded c.workers.items };
+    ghost invariant = { λ c. IsCoreInvariant c.inputs c.seeded c.workers.items };
 }
 
 impl Core {

@@ -1,6 +1,6 @@
-//! What is called round each run of an input.
+//! The observer of a phase.
 
-/// Two calls round each run of an input, by the thread that runs it: a place for tests and for
+/// The observer of a phase: two calls round each run of an input, by the thread that runs it, for tests and for
 /// those who watch a phase. What it does has no effect on the phase's answer.
 ///
 /// What the first call gives can't be copied or dropped by the phase: it is used up by the second call.
@@ -16,7 +16,7 @@ pub trait Gate: Sync {
     fn after(&self, number: usize, entry: Self::Entry);
 }
 
-/// The gate that does nothing.
+/// The observer that does nothing.
 #[derive(Clone, Copy, Debug, Default)]
 pub struct NoGate;
 

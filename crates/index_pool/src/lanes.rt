@@ -54,7 +54,7 @@ use crate::workers::{MAX_INPUTS, Workers};
 use crossbeam_deque::Steal;
 use ends::{LaneWorker, MAX_TRIES};
 pub use ends::{LaneOwner, LaneThief};
-use rule::{Ends, Gives, Pops, Steals};
+use rule::{Ends, Pops, Pushes, Steals};
 use std::alloc::{AllocError, Global};
 pub use stolen::Stolen;
 pub use ticket::Ticket;
@@ -124,7 +124,7 @@ fn give(deque: &mut LaneWorker, number: usize)
     ensures same { SameWorker deque.old deque.new × (worker_index deque.new ≡ worker_index deque.old + 1) }
     ensures view { worker_view deque.new ≡ more_given (worker_view deque.old) (number ∷ []) }
 {
-    match deque.push_as::<Gives>(number) {
+    match deque.push_as::<Pushes>(number) {
         Ok(()) => {}
         Err(_) => unreachable!(),
     }

@@ -1,13 +1,20 @@
 //! Phases: the inputs of a job, run on workers who take their numbers from deques.
 #![tactic(auto)]
 
-mod core_machine;
+// What a phase runs, and on how many workers; its observer.
 mod gate;
 mod job;
-mod lanes;
-mod laws;
-mod phase;
 mod workers;
+
+// How it runs: the deques of the workers, and the threads.
+mod lanes;
+mod phase;
+
+// The same without threads.
+mod core_machine;
+
+// The laws.
+mod laws;
 
 pub use core_machine::{Core, Event, NotPossible};
 pub use gate::{Gate, NoGate};

@@ -10,6 +10,7 @@ use Rattle.std.proofs.lemmas.List.{append-nil, append_assoc, take-append-drop, m
 use Rattle.std.proofs.lemmas.List.Elements.{All-nil, All-cons, All-head, All-tail, All-push}
 use Rattle.std.proofs.lemmas.List.Folds.{list_any-append}
 use Rattle.std.proofs.lemmas.Slice.Eq.{bytes_eq-Decides}
+use Rattle.basics.proofs.ListLemmas.{zip_append as zip-append}
 use Rattle.scip_symbol.specs.Package.{Package, IsPackage}
 use Rattle.scip_model.specs.Packages.{Root, Packages, ArePackages, with_path, package_among, package_of_path}
 use Rattle.command_line.specs.declared.options.IndexOptions.{IndexOptions}
@@ -17,15 +18,17 @@ use Rattle.command_line.specs.declared.options.include.PackageFolder.{PackageFol
 use Rattle.source_tree.specs.Files.{TreeFile, paths_of}
 use Rattle.source_files.specs.Listings.{Listing}
 use Rattle.source_files.specs.Roots.{AreFilesBelow, FilesBelow}
-use Rattle.source_files.specs.Loads.{IsTreeBelow}
+use Rattle.source_files.specs.Loads.{IsTreeBelow, MayNotLoad}
+use Rattle.source_files.specs.declared.load_fault.LoadFault.{LoadFault}
 use Rattle.programs.specs.Settings.{leaves_out, package_in}
-use Rattle.programs.specs.Folders.{AddsRoots, AreByFolder, AreFolders, IsRootOf, folder_package, included_packages, packages_in}
-use Rattle.programs.specs.Folders.{HasBadFolder, included_in, roots_of}
-use Rattle.programs.specs.Starting.{HasNoPackage, IsBadFolder}
+use Rattle.programs.specs.Folders.{AddsRoots, AreByFolder, AreFolders, IsRootOf, folder_package, included_packages}
+use Rattle.programs.specs.Folders.{HasBadFolder, NamePackages, included_in, packages_in, roots_of}
+use Rattle.programs.specs.Starting.{HasNoPackage, IsBadFolder, MayNotStart}
+use Rattle.programs.specs.Starting.MayNotStart.{no_tree}
+use Rattle.programs.specs.Starting.HasNoPackage.{first_is_unnamed, folders_lack_memory}
+use Rattle.programs.specs.Starting.IsBadFolder.{folder_is_unnamed, folder_lacks_memory}
 use Rattle.programs.specs.declared.start_fault.StartFault.{StartFault}
-use Rattle.programs.specs.declared.start_fault.StartFault.TheVariants.{BadPart, BadFolder, Load, IsSource, ReportIsSource}
-use Rattle.programs.specs.declared.start_fault.StartFault.TheVariants.{ReportIsOut}
-use Rattle.source_files.specs.declared.load_fault.LoadFault.TheVariants as load
+use Rattle.programs.specs.declared.start_fault.StartFault.TheVariants.{Load}
 
 -- ---- the paths of one folder
 
@@ -65,13 +68,6 @@ one_path_more id before x old new is same more = record {
 }
 
 -- ---- folders one after another
-
-zip-append : {A B : Type 0} (R : A → B → Type 0) (xs us : List A) (ys vs : List B) → AllZip R xs ys → AllZip R us vs
-    → AllZip R (xs ++ us) (ys ++ vs)
-zip-append R [] us [] vs all more = more
-zip-append R [] us (y ∷ ys) vs all more = absurd all
-zip-append R (x ∷ xs) us [] vs all more = absurd all
-zip-append R (x ∷ xs) us (y ∷ ys) vs all more = (all.0, zip-append R xs us ys vs all.1 more)
 
 -- one folder
 pub one_root : (wanted root : Root) (before after : Packages) → IsRootOf wanted root → after.run ≡ before.run
@@ -256,17 +252,9 @@ parted xs number x below is =
 bad_one : (folders before : List PackageFolder) (folder : PackageFolder) (behind : List PackageFolder)
     (fault : StartFault) → folders ≡ before ++ folder ∷ behind
     → All (λ earlier. IsPackage (folder_package earlier)) before → IsBadFolder folder fault → HasNoPackage folders fault
-bad_one folders before folder behind BadPart split good bad = absurd bad
-bad_one folders before folder behind (BadFolder path) split good bad =
-    bad_folder before folder behind folders (string_bytes path) split good bad.0 bad.1
-bad_one folders before folder behind (Load load.Memory) split good bad = tt
-bad_one folders before folder behind (Load (load.Unreadable name)) split good bad = absurd bad
-bad_one folders before folder behind (Load load.TooMany) split good bad = absurd bad
-bad_one folders before folder behind (Load (load.BadPath path)) split good bad = absurd bad
-bad_one folders before folder behind (Load (load.SamePath path)) split good bad = absurd bad
-bad_one folders before folder behind (IsSource path) split good bad = absurd bad
-bad_one folders before folder behind (ReportIsSource path) split good bad = absurd bad
-bad_one folders before folder behind (ReportIsOut path) split good bad = absurd bad
+bad_one folders before folder behind _ split good (folder_is_unnamed bad is) =
+    first_is_unnamed (bad_folder before folder behind folders _ split good bad is)
+bad_one folders before folder behind _ split good folder_lacks_memory = folders_lack_memory
 
 pub bad_at : (folders : List PackageFolder) (number : ℕ) (folder : PackageFolder) (fault : StartFault)
     → number < length folders → folder ≡ get_or folders number folder
@@ -277,6 +265,21 @@ bad_at folders number folder fault below is good bad =
     (parted folders number folder below is) good bad
 
 -- ---- the tree of the files below folders
+
+-- where no folder has a package of its own, and there is no tree
+pub unloaded_of_run : (lists : List ℕ → List ℕ → Option Listing → Type 0)
+    (gives : List ℕ → Option (List ℕ) → Type 0) (options : IndexOptions) (fault : LoadFault)
+    → options.include_packages.items ≡ [] → NamePackages options
+    → MayNotLoad lists gives (leaves_out options.faulty) (string_bytes options.root)
+    (map string_bytes options.include.items) fault
+    → MayNotStart lists gives options (Load fault)
+unloaded_of_run lists gives options fault none named may =
+    let roots : included_in options ≡ map string_bytes options.include.items =
+    ap (λ (folders : List PackageFolder). map string_bytes options.include.items
+    ++ map (λ folder. string_bytes folder.folder) folders) none ∙ append-nil (map string_bytes options.include.items) in
+    let May : List (List ℕ) → Type 0 = λ roots. MayNotLoad lists gives (leaves_out options.faulty)
+    (string_bytes options.root) roots fault in
+    no_tree named (subst May (sym roots) may)
 
 -- where no folder has a package of its own
 pub folders_of_run : (lists : List ℕ → List ℕ → Option Listing → Type 0)

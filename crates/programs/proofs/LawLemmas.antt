@@ -2,7 +2,7 @@
 use Rattle.std.specs.Prelude.{ℕ, List, Option}
 use Rattle.protoscip.specs.NameLaws.{LawsOfNames}
 use Rattle.protoscip.proofs.HeadlineLemmas.{headline}
-use Rattle.protoscip.proofs.TreeLemmas.{tree_of_files}
+use Rattle.protoscip.proofs.HeadlineTreeLemmas.{tree_of_files}
 use Rattle.command_line.specs.declared.options.IndexOptions.{IndexOptions}
 use Rattle.programs.specs.OptionLaws.{HeadlineOfFiles}
 use Rattle.programs.specs.Settings.{allowed_by, settings_in}

@@ -1,15 +1,35 @@
-mod MoveLemmas
-mod MessageLemmas
+-- Each file is named after the spec or source that it serves.
+-- Lines that say why the system refused what it was asked for
 mod CauseLemmas
+-- How a dump ends
+mod DumpingEndLemmas
+-- The packages of files, by the folders that they are read from
 mod FolderLemmas
-mod LackLemmas
-mod NoSourceLemmas
-mod TreeRunLemmas
-mod DumpEndLemmas
-mod QueryLemmas
-mod LawLemmas
-mod PlacingLemmas
+-- What becomes of the places of folders, by what was answered of the pages made in one
 mod FolderPlaceLemmas
-mod ReportLemmas
+-- The headline, of the tree of the files that options name
+mod LawLemmas
+-- What is said of a line that is there, or isn't
+mod MessageLemmas
+-- What is said of a tree without sources
+mod NoSourceLemmas
+-- What becomes of a place, by what a run answered that wrote to a part of it
+mod PlacingLemmas
+-- Why no part is begun, and no report is made, and what becomes of a place
+mod PlacingRules
+-- What the program `query` answers of an index's bytes
+mod QueryLemmas
+-- What is read from a file that may hold an index
+mod QueryRules
+-- What is reported of a run, by what it answers, and where the report goes
+mod ReportingLemmas
+-- A run about a tree that ends with the status 0 made an index that navigates the tree
+mod ServingNavigableLemmas
+-- What is reported of a run that doesn't start
 mod StartReportLemmas
-mod NavigableLemmas
+-- Why a program about a tree doesn't start
+mod StartingRules
+-- A run over a tree that hands out more than what is recorded
+mod TreeRunLemmas
+-- What is said of an index, by what it lacks
+mod TreeRunOmissionLemmas

@@ -1,9 +1,8 @@
 -- What is said of a line that is there, or isn't.
 use Rattle.std.proofs.Common.{◌≡◌, ◌⊎◌, inl, inr, ℕ, Bool, true, false, List, Ok, Err, subst}
 use Rattle.std.specs.Prelude.{Option, Result, IfErr, IfOk, MatchResult, OnOk}
-use Rattle.streams.specs.WholeWrites.{IsWritten, IsCutOff}
-use Rattle.streams.specs.declared.sink.CutOff.{CutOff}
-use Rattle.scip_snapshot.specs.Showing.{Writer}
+use Rattle.streams.specs.Writers.{IsCutOff, IsWritten, SinkOf, Writer, writing}
+use Rattle.streams.specs.declared.whole_writes.CutOff.{CutOff}
 use Rattle.programs.specs.Messages.{IsSilent, Says, Tells, TellsOne, memory_line, memory_status}
 use Rattle.programs.specs.Printing.{EndsCut}
 
@@ -54,10 +53,10 @@ tells_other messages status due Due Other holds (inl one) = inl (one.0, holds on
 tells_other messages status due Due Other holds (inr said) = inr said
 
 -- a text is written, all of it or a first part
-pub written_or_cut : {W : Type 0} (contents : W → Option (List ℕ)) (failures : W → ℕ) (text : List ℕ) (before after : W)
-    (done : Result (Unit {0}) CutOff) → OnOk done (IsWritten contents failures before after text)
-    → IfErr done (λ (e : CutOff). IsCutOff contents failures before after text e.written)
-    → IsWritten contents failures before after text
-    ⊎ ((count : ℕ) × IsCutOff contents failures before after text count)
-written_or_cut contents failures text before after (Ok done) ok err = inl ok
-written_or_cut contents failures text before after (Err e) ok err = inr (e.written, err)
+pub written_or_cut : {W : Type 0} (sink : SinkOf W) (text : List ℕ) (before after : W)
+    (done : Result (Unit {0}) CutOff) → OnOk done (IsWritten (writing sink before after) text)
+    → IfErr done (λ (e : CutOff). IsCutOff (writing sink before after) text e.written)
+    → IsWritten (writing sink before after) text
+    ⊎ ((count : ℕ) × IsCutOff (writing sink before after) text count)
+written_or_cut sink text before after (Ok done) ok err = inl ok
+written_or_cut sink text before after (Err e) ok err = inr (e.written, err)

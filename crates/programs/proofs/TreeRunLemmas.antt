@@ -2,21 +2,21 @@
 use Rattle.std.proofs.Common.{◌≡◌, ℕ, List, Option, Result, Ok, Err}
 use Rattle.std.specs.Prelude.{MatchResult}
 use Rattle.std.specs.Result.{result_map_both}
-use Rattle.proto_parse.specs.tree.Dialect.{Dialect}
+use Rattle.streams.specs.Writers.{Writer}
+use Rattle.proto_parse.specs.dialect.Dialect.{Dialect}
 use Rattle.source_tree.specs.Files.{TreeFile}
-use Rattle.scip_build.specs.declared.fault.BuildFault.{BuildFault}
-use Rattle.scip_snapshot.specs.Showing.{Writer}
+use Rattle.scip_build.specs.declared.omission.Omission.{Omission}
 use Rattle.protoscip.specs.declared.fault.Fault.{Fault}
-use Rattle.proto_decl.specs.Seen.{Seen}
+use Rattle.proto_decl.specs.Values.{Seen}
 use Rattle.index_hooks.specs.declared.choice.Choice.{Choice}
 use Rattle.scip_build.specs.declared.settings.Settings.{Settings}
+use Rattle.command_line.specs.declared.options.IndexRequest.{IndexRequest}
 use Rattle.protoscip.specs.Explanations.{explain_in}
-use Rattle.programs.specs.Asked.{Asked}
 use Rattle.programs.specs.Indexing.{IndexesInto, not_begun, into_part, too_poor}
 use Rattle.programs.specs.Messages.{SaysOfSuccess}
 use Rattle.programs.specs.Placing.{Place}
 use Rattle.programs.specs.TreeRuns.{Ends}
-use Rattle.programs.proofs.LackLemmas.{ends_of, lacks_of}
+use Rattle.programs.proofs.TreeRunOmissionLemmas.{ends_of, omissions_said}
 
 -- the part of what is handed out, or the fault
 abbrev pub part_of : {A B E : Type 0} → (A → B) → Result A E → Result B E
@@ -29,7 +29,7 @@ holds_of_part f P (Ok a) holds = holds
 holds_of_part f P (Err e) holds = holds
 
 -- a run ends alike, if what is told is of the part
-pub ends_alike : {M A B : Type 0} (f : A → B) (told_of : B → List BuildFault)
+pub ends_alike : {M A B : Type 0} (f : A → B) (told_of : B → List Omission)
     (says : (List ℕ → Type 0) → Writer M → (status : ℕ) → Type 0) (none_found : Option (List ℕ) → Type 0)
     (explain : Option Dialect) (tree : List TreeFile) (unread : List (List ℕ)) (done : Result A Fault)
     (messages : Writer M) (status : ℕ)
@@ -39,7 +39,7 @@ ends_alike f told_of says none_found explain tree unread (Ok a) messages status 
 ends_alike f told_of says none_found explain tree unread (Err e) messages status ends = ends
 
 -- a tree is indexed alike, if the line of none found is one of which `none_found` holds
-pub into_of : {P W Q V M : Type 0} (none_found : List TreeFile → Option (List ℕ) → Type 0) (asked : Asked)
+pub into_of : {P W Q V M : Type 0} (none_found : List TreeFile → Option (List ℕ) → Type 0) (asked : IndexRequest)
     (allows : Seen → Choice → Type 0) (settings : Settings) (workers : ℕ) (tree : List TreeFile)
     (unread : List (List ℕ)) (at : Place P W)
     (report : Place Q V) (messages : Writer M) (status : ℕ) (line : Option (List ℕ)) → none_found tree line
@@ -56,7 +56,7 @@ into_of none_found asked allows settings workers tree unread at report messages 
     (too_poor recorded fault apart forgoes breaks ends) =
     too_poor recorded fault apart forgoes breaks (
       ends.0,
-      lacks_of SaysOfSuccess (none_found tree) (explain_in asked.options.explain settings.dialect) tree
+      omissions_said SaysOfSuccess (none_found tree) (explain_in asked.options.explain settings.dialect) tree
           (record messages { after = ends.0 }) 0 line found unread recorded.told ends.1,
       ends.2,
     )

@@ -1,6 +1,6 @@
 -- What the program `query` says.
 use Rattle.std.specs.Prelude.{ℕ, Bool, List, Option, Result, Ok, Err}
-use Rattle.scip_snapshot.specs.Showing.{Writer}
+use Rattle.streams.specs.Writers.{Writer}
 use Rattle.programs.specs.declared.query_fault.QueryFault.{QueryFault}
 use Rattle.programs.specs.Messages.{IsSilent, TellsOne}
 use Rattle.programs.specs.QueryExplanations.{IsTold}

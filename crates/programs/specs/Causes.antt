@@ -4,9 +4,9 @@ use Rattle.std.specs.Prelude.{◌≡◌, ◌<◌, ℕ, Bool, true, false, List, 
 use Rattle.std.specs.Prelude.{codes, string_bytes}
 use Rattle.std.specs.Option.{option_map, unwrap_or}
 use Rattle.std.specs.declared.alloc.AllocError.{AllocError}
+use Rattle.streams.specs.Writers.{AreTold, IsUntouched, Writer}
 use Rattle.source_files.specs.Causes.{words_of}
 use Rattle.source_files.specs.declared.cause.Cause.{Cause}
-use Rattle.scip_snapshot.specs.Showing.{Writer, AreTold, IsUntouched}
 use Rattle.command_line.specs.declared.request.Request.{Request}
 use Rattle.command_line.specs.declared.request.Request.TheVariants.{Dump, Query, Snapshot, Pages, Index, Shell, Print}
 use Rattle.command_line.specs.declared.request.Request.TheVariants.{Refuse}
@@ -35,7 +35,7 @@ is_explained (Ok (Dump options)) = options.explain
 is_explained (Ok (Query index explain)) = explain
 is_explained (Ok (Snapshot options)) = options.explain
 is_explained (Ok (Pages options)) = options.explain
-is_explained (Ok (Index options path quiet limits)) = options.explain
+is_explained (Ok (Index given)) = given.options.explain
 is_explained (Ok (Shell options)) = options.explain
 is_explained (Ok (Print text)) = false
 is_explained (Ok (Refuse text)) = false
@@ -47,7 +47,7 @@ made_name (Ok (Dump options)) = []
 made_name (Ok (Query index explain)) = []
 made_name (Ok (Snapshot options)) = unwrap_or (option_map string_bytes options.to) []
 made_name (Ok (Pages options)) = string_bytes options.out
-made_name (Ok (Index options path quiet limits)) = string_bytes path
+made_name (Ok (Index given)) = string_bytes given.out
 made_name (Ok (Shell options)) = []
 made_name (Ok (Print text)) = []
 made_name (Ok (Refuse text)) = []

@@ -2,20 +2,20 @@
 -- `lists` and `gives` are what the system of files gives, and `blames` what may be said of why a path can't be read;
 -- `at` is the place of the index, and `report` that of its report. `none_found` says which line, if any, is said of a
 -- tree whose index lacks nothing.
-use Rattle.std.specs.Prelude.{◌≡◌, ℕ, Bool, List, Option, None, Some, Result}
-use Rattle.proto_decl.specs.Seen.{Seen}
+use Rattle.std.specs.Prelude.{◌≡◌, ℕ, Bool, List, Option, None, Some, Result, string_bytes}
+use Rattle.streams.specs.Writers.{Writer, writing}
+use Rattle.proto_decl.specs.Values.{Seen}
 use Rattle.index_hooks.specs.declared.choice.Choice.{Choice}
 use Rattle.source_tree.specs.Files.{TreeFile}
 use Rattle.source_files.specs.Listings.{Listing}
 use Rattle.scip_model.specs.Packages.{Packages}
 use Rattle.scip_build.specs.declared.settings.Settings.{Settings}
-use Rattle.scip_snapshot.specs.Showing.{Writer}
 use Rattle.protoscip.specs.Explanations.{explain_in}
 use Rattle.protoscip.specs.Indexes.{Indexes}
 use Rattle.protoscip.specs.declared.fault.Fault.{Fault}
 use Rattle.protoscip.specs.declared.recorded.Recorded.{Recorded}
 use Rattle.command_line.specs.declared.options.IndexOptions.{IndexOptions}
-use Rattle.programs.specs.Asked.{Asked}
+use Rattle.command_line.specs.declared.options.IndexRequest.{IndexRequest}
 use Rattle.programs.specs.declared.limits.LimitFault.{LimitFault}
 use Rattle.programs.specs.declared.start_fault.StartFault.{StartFault}
 use Rattle.programs.specs.Folders.{AreFolders, NamePackages}
@@ -33,7 +33,7 @@ use Rattle.programs.specs.TreeRuns.{AreNavigable, Ends}
 -- Over a tree, without what couldn't be read: it is said why nothing is written, and the places are as they were; or
 -- none of the files that were read is said to be the one at a place, the tree is indexed into a part of `at`, its
 -- report goes where it is asked for, and the run ends; or its index breaks a limit, and the part is given up.
-pub data IndexesInto {P W Q V M : Type 0} (none_found : List TreeFile → Option (List ℕ) → Type 0) (asked : Asked)
+pub data IndexesInto {P W Q V M : Type 0} (none_found : List TreeFile → Option (List ℕ) → Type 0) (asked : IndexRequest)
     (allows : Seen → Choice → Type 0) (settings : Settings) (workers : ℕ) (tree : List TreeFile)
     (unread : List (List ℕ)) (at : Place P W) (report : Place Q V) (messages : Writer M) (status : ℕ) : Type 0 where
   not_begun : (fault : StartFault) → MayNotBegin at report asked tree fault → IsLeft at → IsLeft report
@@ -41,13 +41,13 @@ pub data IndexesInto {P W Q V M : Type 0} (none_found : List TreeFile → Option
       → IndexesInto none_found asked allows settings workers tree unread at report messages status
   into_part : (done : Result Recorded Fault) → AreApart at report asked tree
       → Fills at (λ recorded. Breaks asked.limits tree unread recorded.told None)
-      (λ begun written ran. Indexes at.contents at.failures allows settings tree workers begun written ran)
+      (λ begun written ran. Indexes allows settings tree workers (writing at.sink begun written) ran)
       (λ ran. Reports report asked.options.report asked.limits allows settings workers tree unread (told_by ran)) done
       → Ends SaysOfSuccess (none_found tree) (explain_in asked.options.explain settings.dialect) tree
       unread (λ recorded. recorded.told) done messages status
       → IndexesInto none_found asked allows settings workers tree unread at report messages status
   too_poor : (recorded : Recorded) (fault : LimitFault) → AreApart at report asked tree
-      → Forgoes at (λ begun written ran. Indexes at.contents at.failures allows settings tree workers begun written ran)
+      → Forgoes at (λ begun written ran. Indexes allows settings tree workers (writing at.sink begun written) ran)
       (λ ran. Reports report asked.options.report asked.limits allows settings workers tree unread (told_by ran))
       recorded
       → Breaks asked.limits tree unread recorded.told (Some fault)
@@ -60,10 +60,10 @@ pub data IndexesInto {P W Q V M : Type 0} (none_found : List TreeFile → Option
 -- the report.
 pub data Indexed {P W Q V M : Type 0} (lists : List ℕ → List ℕ → Option Listing → Type 0)
     (gives blames : List ℕ → Option (List ℕ) → Type 0) (none_found : List TreeFile → Option (List ℕ) → Type 0)
-    (suspects : Bool → Type 0) (asked : Asked) (at : Place P W) (report : Place Q V) (messages : Writer M)
+    (suspects : Bool → Type 0) (asked : IndexRequest) (at : Place P W) (report : Place Q V) (messages : Writer M)
     (status : ℕ) : Type 0 where
   not_started : (fault said : StartFault) (is_out : Bool) → MayNotStart lists gives asked.options fault → IsLeft at
-      → IsOut (at.same at.before) asked.path asked.options.report is_out
+      → IsOut (at.same at.before) (string_bytes asked.out) asked.options.report is_out
       → EndsUnstarted report suspects is_out asked.options.report fault said
       → TellsOne (IsStartTold blames asked.options.explain said) (start_status said) messages status
       → Indexed lists gives blames none_found suspects asked at report messages status

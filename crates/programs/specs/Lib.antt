@@ -1,6 +1,5 @@
--- what a call does with a reader and with a writer
-pub mod Streams
 -- what is printed and said, and the exit status
+pub mod FaultTexts
 pub mod Messages
 pub mod Printing
 -- why the system refuses

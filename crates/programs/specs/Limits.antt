@@ -5,11 +5,11 @@ use Rattle.std.specs.Prelude.{codes, if◌then◌else◌, nat_lt}
 use Rattle.std.specs.Fmt.{decimal}
 use Rattle.std.specs.List.{count_by}
 use Rattle.std.specs.Option.{option_or}
-use Rattle.proto_parse.specs.tree.Dialect.{Dialect}
+use Rattle.streams.specs.Writers.{Writer}
+use Rattle.proto_parse.specs.dialect.Dialect.{Dialect}
 use Rattle.source_tree.specs.Files.{TreeFile}
 use Rattle.source_tree.specs.Trees.{IsSourceCount}
-use Rattle.scip_build.specs.declared.fault.BuildFault.{BuildFault}
-use Rattle.scip_snapshot.specs.Showing.{Writer}
+use Rattle.scip_build.specs.declared.omission.Omission.{Omission}
 use Rattle.command_line.specs.declared.options.limits.Limits.{Limits}
 use Rattle.protoscip.specs.Lines.{plain_line}
 use Rattle.protoscip.specs.declared.fault.Fault.{Fault}
@@ -19,7 +19,7 @@ use Rattle.programs.specs.declared.limits.TheConstants.{NO_LIMITS}
 use Rattle.programs.specs.declared.limits.LimitFault.{LimitFault}
 use Rattle.programs.specs.declared.limits.LimitFault.TheVariants.{TooManySkipped, TooFewSources}
 use Rattle.programs.specs.Messages.{SaysOfSuccess, Tells}
-use Rattle.programs.specs.TreeRuns.{Lacks}
+use Rattle.programs.specs.TreeRuns.{SaysOmissions}
 
 -- ---- which limit is broken
 
@@ -35,18 +35,18 @@ too_few (Some least) indexed = if nat_lt indexed least then Some (TooFewSources 
 
 -- The limit that an index breaks which lacks this, of a tree with this many sources, without what couldn't be read:
 -- that of what is left out, or else the other one. Both count as the line with the numbers does.
-abbrev pub broken_by : Limits → (sources : ℕ) → (unread : List (List ℕ)) → List BuildFault → Option LimitFault
+abbrev pub broken_by : Limits → (sources : ℕ) → (unread : List (List ℕ)) → List Omission → Option LimitFault
 broken_by limits sources unread told =
     option_or (too_many limits.max_skipped (left_out unread told))
     (too_few limits.min_sources (sources - count_by (is_skipped_source sources) told))
 
 -- the limit that an index of a tree breaks which lacks this, if it breaks one
-abbrev pub Breaks : Limits → List TreeFile → (unread : List (List ℕ)) → List BuildFault → Option LimitFault → Type 0
+abbrev pub Breaks : Limits → List TreeFile → (unread : List (List ℕ)) → List Omission → Option LimitFault → Type 0
 Breaks limits tree unread told broken =
     (sources : ℕ) × IsSourceCount tree sources × (broken ≡ broken_by limits sources unread told)
 
 -- the limit that the index of a run breaks; without an index it breaks none
-abbrev pub IsBrokenBy : Limits → List TreeFile → (unread : List (List ℕ)) → (ran : Result (List BuildFault) Fault)
+abbrev pub IsBrokenBy : Limits → List TreeFile → (unread : List (List ℕ)) → (ran : Result (List Omission) Fault)
     → Option LimitFault → Type 0
 IsBrokenBy limits tree unread (Ok told) broken = Breaks limits tree unread told broken
 IsBrokenBy limits tree unread (Err fault) broken = broken ≡ None
@@ -56,22 +56,31 @@ no_limits = NO_LIMITS
 
 -- ---- what is said of it
 
-abbrev pub name_of : LimitFault → List ℕ
-name_of (TooManySkipped skipped most) = codes "TooManySkipped"
-name_of (TooFewSources indexed least) = codes "TooFewSources"
+-- the name in its line; and what explains it, by how many there are, words, and how many there may be, or have to be
+pub record LimitSaid : Type 0 where
+  pub name : List ℕ
+  pub counted : ℕ
+  pub words : List ℕ
+  pub limit : ℕ
+
+abbrev pub said : (name : List ℕ) → (counted : ℕ) → (words : List ℕ) → (limit : ℕ) → LimitSaid
+said name counted words limit = record { name = name; counted = counted; words = words; limit = limit }
+
+abbrev pub said_of : LimitFault → LimitSaid
+said_of (TooManySkipped skipped most) =
+    said (codes "TooManySkipped") skipped (codes " files are left out, and --max-skipped allows ") most
+said_of (TooFewSources indexed least) =
+    said (codes "TooFewSources") indexed (codes " sources are indexed, and --min-sources wants ") least
 
 abbrev pub sentence_with : (first : ℕ) → (words : List ℕ) → (second : ℕ) → List ℕ
 sentence_with first words second = codes "\n" ++ decimal first ++ words ++ decimal second
 
 abbrev pub sentence_of : LimitFault → List ℕ
-sentence_of (TooManySkipped skipped most) =
-    sentence_with skipped (codes " files are left out, and --max-skipped allows ") most
-sentence_of (TooFewSources indexed least) =
-    sentence_with indexed (codes " sources are indexed, and --min-sources wants ") least
+sentence_of fault = sentence_with (said_of fault).counted (said_of fault).words (said_of fault).limit
 
 abbrev pub told : (explain : Bool) → LimitFault → List ℕ
 told explain fault =
-    if explain then plain_line (name_of fault) ++ sentence_of fault else plain_line (name_of fault)
+    if explain then plain_line (said_of fault).name ++ sentence_of fault else plain_line (said_of fault).name
 
 -- the exit status
 abbrev pub limit_status : ℕ
@@ -80,8 +89,8 @@ limit_status = SOURCES_STATUS
 -- the end of a run whose index lacks this and breaks a limit: what it lacks is said as after a success, and then the
 -- limit; `dialect` is the one with which the former is explained
 abbrev pub EndsShort : {M : Type 0} → (none_found : Option (List ℕ) → Type 0) → (explain : Bool)
-    → (dialect : Option Dialect) → List TreeFile → (unread : List (List ℕ)) → List BuildFault → LimitFault → Writer M
+    → (dialect : Option Dialect) → List TreeFile → (unread : List (List ℕ)) → List Omission → LimitFault → Writer M
     → (status : ℕ) → Type 0
 EndsShort {M} none_found explain dialect tree unread lacks fault messages status =
-    (said : M) × Lacks SaysOfSuccess none_found dialect tree unread lacks (record messages { after = said }) 0
+    (said : M) × SaysOmissions SaysOfSuccess none_found dialect tree unread lacks (record messages { after = said }) 0
     × Tells (told explain fault) limit_status (record messages { before = said }) status

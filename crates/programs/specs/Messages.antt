@@ -1,6 +1,6 @@
 -- What a program says on standard error, and the status that it ends with.
 use Rattle.std.specs.Prelude.{◌≡◌, ◌⊎◌, ℕ, List, Option, Some, None, codes}
-use Rattle.scip_snapshot.specs.Showing.{Writer, IsSaid, IsUntouched}
+use Rattle.streams.specs.Writers.{IsSaid, IsUntouched, Writer}
 use Rattle.protoscip.specs.Lines.{plain_line}
 use Rattle.protoscip.specs.declared.statuses.TheConstants.{MEMORY_STATUS}
 
@@ -8,7 +8,7 @@ use Rattle.protoscip.specs.declared.statuses.TheConstants.{MEMORY_STATUS}
 -- that fails; and the status is the one that is due
 abbrev pub Says : {M : Type 0} → (line : List ℕ) → (due : ℕ) → Writer M → (status : ℕ) → Type 0
 Says line due messages status =
-    (status ≡ due) × IsSaid messages.contents messages.failures line messages.before messages.after
+    (status ≡ due) × IsSaid messages line
 
 -- what is said if there is no memory for a line, and its status
 abbrev pub memory_line : List ℕ

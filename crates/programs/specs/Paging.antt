@@ -3,11 +3,13 @@
 -- be said of why it can't be read, and `messages` the stream of messages.
 use Rattle.std.specs.Prelude.{◌≡◌, ◌++◌, ℕ, Bool, true, false, List, [], Option, Result, Ok, Err, codes, string_bytes}
 use Rattle.std.specs.Prelude.{if◌then◌else◌}
+use Rattle.source_files.specs.Makers.{MakeFilesOf, making}
+use Rattle.source_files.specs.declared.folder_place.FolderPlace.{Ghosts as FolderPlaceOf}
+use Rattle.streams.specs.Writers.{IsUntouched, Writer, writing}
 use Rattle.scip_records.specs.declared.records.Index.{Index}
 use Rattle.source_files.specs.FolderPlaces.{IsEmpty}
 use Rattle.source_files.specs.Made.{Made, MadeFile}
-use Rattle.scip_snapshot.specs.Showing.{Writer, writer, maker, IsUntouched}
-use Rattle.scip_snapshot.specs.declared.show_fault.ShowFault.TheVariants.{Write, Memory}
+use Rattle.scip_site.specs.declared.show_fault.ShowFault.TheVariants.{Write, Memory}
 use Rattle.scip_site.specs.Making.{MakesSite}
 use Rattle.scip_site.specs.declared.site_fault.SiteFault.{SiteFault}
 use Rattle.scip_site.specs.declared.site_fault.SiteFault.TheVariants.{Show}
@@ -29,24 +31,24 @@ taken_told explain out =
 
 -- ---- the place of the pages
 
--- places of folders around a call, and what their trait says: what files the folder with a path has; what is known of
--- a folder that a place refuses, and of one that is told to be given up; and of a folder, which is put at its place
--- when it is whole, what files are made in it
+-- places of folders before and after a call, and what their trait says of them: what files the folder with a path has;
+-- what is known of a folder that a place refuses, and of one that is told to be given up; and what the trait of a
+-- folder
+-- says, which is put at its place when it is whole
 pub record FolderPlaces (P F : Type 0) : Type 1 where
   pub filed : P → List ℕ → Option (List MadeFile)
   pub refuses : P → List ℕ → F → Type 0
   pub gives_up : P → F → Type 0
-  pub made : F → Made
+  pub files : MakeFilesOf F
   pub before : P
   pub after : P
 
-abbrev pub folder_places : {P F : Type 0} → (filed : P → List ℕ → Option (List MadeFile))
-    → (refuses : P → List ℕ → F → Type 0) → (gives_up : P → F → Type 0) → (made : F → Made) → P → P → FolderPlaces P F
-folder_places filed refuses gives_up made before after = record {
-  filed = filed;
-  refuses = refuses;
-  gives_up = gives_up;
-  made = made;
+abbrev pub folder_places : {P F : Type 0} → FolderPlaceOf P F → MakeFilesOf F → (before after : P) → FolderPlaces P F
+folder_places place files before after = record {
+  filed = place.filed;
+  refuses = place.refuses_folder;
+  gives_up = place.gives_up_folder;
+  files = files;
   before = before;
   after = after;
 }
@@ -57,7 +59,7 @@ AreLeft places = places.after ≡ places.before
 
 -- the folder at a path has the files that were made in a folder, and no others
 abbrev pub IsFilled : {P F : Type 0} → FolderPlaces P F → (out : List ℕ) → (whole : F) → Type 0
-IsFilled places out whole = places.filed places.after out ≡ (places.made whole).files
+IsFilled places out whole = places.filed places.after out ≡ (places.files.made whole).files
 
 -- the place with a path was to take a folder, and refused that; all are as they were
 abbrev pub IsRefused : {P F : Type 0} → FolderPlaces P F → (out : List ℕ) → (whole : F) → Type 0
@@ -71,8 +73,8 @@ IsGivenUp places left = places.gives_up places.before left × AreLeft places
 pub record MakesIn {P F M : Type 0} (gives : List ℕ → Option (List ℕ) → Type 0) (root : List ℕ) (index : Index)
     (places : FolderPlaces P F) (begun whole : F) (messages : Writer M) (made : Result (Unit {0}) SiteFault) : Type 0
   where
-    pub nothing : IsEmpty (places.made begun)
-    pub makes : MakesSite gives root [] index (maker places.made begun whole) messages made
+    pub nothing : IsEmpty (places.files.made begun)
+    pub makes : MakesSite gives root [] index (making places.files begun whole) messages made
 
 -- That folder is put at its place if all pages are made, or the place refuses it; else it is given up. After every
 -- fault all places are as they were.
@@ -88,12 +90,13 @@ pub data Fills {P F M : Type 0} (gives : List ℕ → Option (List ℕ) → Type
 
 -- what becomes of the places by the folder `whole`, in which pages were made, with the answer `made`; `done` is what is
 -- answered in the end
-abbrev pub Finishes : {P F : Type 0} → FolderPlaces P F → (out : List ℕ) → (whole : F)
-    → (made done : Result (Unit {0}) SiteFault) → Type 0
-Finishes places out whole (Ok made) (Ok done) = IsFilled places out whole
-Finishes places out whole (Ok made) (Err fault) = (fault ≡ Show Write) × IsRefused places out whole
-Finishes places out whole (Err fault) (Ok done) = ⊥
-Finishes places out whole (Err fault) (Err other) = (other ≡ fault) × IsGivenUp places whole
+pub data Finishes {P F : Type 0} (places : FolderPlaces P F) (out : List ℕ) (whole : F)
+    : (made done : Result (Unit {0}) SiteFault) → Type 0 where
+  folder_is_put : {made done : Unit {0}} → IsFilled places out whole
+      → Finishes places out whole (Ok made) (Ok done)
+  folder_is_refused : {made : Unit {0}} → IsRefused places out whole
+      → Finishes places out whole (Ok made) (Err (Show Write))
+  folder_is_unmade : {fault : SiteFault} → IsGivenUp places whole → Finishes places out whole (Err fault) (Err fault)
 
 -- ---- the program
 
@@ -108,8 +111,8 @@ pub record MakesAndEnds {P F M : Type 0} (gives : List ℕ → Option (List ℕ)
   pub now : M
   pub done : Result (Unit {0}) SiteFault
   pub fills : Fills gives (string_bytes options.root) (string_bytes options.out) index places
-      (writer messages.contents messages.failures messages.before now) done
-  pub ends : EndsPaged options.explain done (writer messages.contents messages.failures now messages.after) status
+      (writing messages.sink messages.before now) done
+  pub ends : EndsPaged options.explain done (writing messages.sink now messages.after) status
 
 -- the index of the file with a path can't be read, and nothing is made; or it is read, and pages are made
 pub data ReadsAndMakes {P F M : Type 0} (gives blames : List ℕ → Option (List ℕ) → Type 0) (options : PagesOptions)

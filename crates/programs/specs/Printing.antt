@@ -1,9 +1,8 @@
 -- Printing a text, and how a program ends whose output is cut off.
 use Rattle.std.specs.Prelude.{◌≡◌, ℕ, ◌⊎◌, Bool, true, false, List, Option, Some, codes}
+use Rattle.streams.specs.Writers.{IsCutOff, IsWritten, Writer}
 use Rattle.source_files.specs.declared.cause.Cause.{Cause}
 use Rattle.source_files.specs.declared.cause.Cause.TheVariants.{ClosedPipe}
-use Rattle.streams.specs.WholeWrites.{IsWritten, IsCutOff}
-use Rattle.scip_snapshot.specs.Showing.{Writer}
 use Rattle.programs.specs.Messages.{IsSilent, Tells}
 use Rattle.protoscip.specs.Lines.{plain_line}
 use Rattle.programs.specs.declared.statuses.TheConstants.{COMMAND_LINE_STATUS}
@@ -25,8 +24,8 @@ EndsCut false due messages status = due
 abbrev pub Prints : {W M : Type 0} → (cause : W → Option Cause) → (text : List ℕ) → Writer W → Writer M
     → (status : ℕ) → Type 0
 Prints cause text out messages status =
-    (IsWritten out.contents out.failures out.before out.after text × IsSilent messages status)
-    ⊎ ((count : ℕ) × IsCutOff out.contents out.failures out.before out.after text count
+    (IsWritten out text × IsSilent messages status)
+    ⊎ ((count : ℕ) × IsCutOff out text count
     × EndsCut (is_closed (cause out.after)) (Tells (plain_line (codes "Write")) STREAM_STATUS messages status) messages
     status)
 
@@ -34,5 +33,5 @@ Prints cause text out messages status =
 abbrev pub Refuses : {M : Type 0} → (text : List ℕ) → Writer M → (status : ℕ) → Type 0
 Refuses text messages status =
     (status ≡ COMMAND_LINE_STATUS)
-    × (IsWritten messages.contents messages.failures messages.before messages.after text
-    ⊎ ((count : ℕ) × IsCutOff messages.contents messages.failures messages.before messages.after text count))
+    × (IsWritten messages text
+    ⊎ ((count : ℕ) × IsCutOff messages text count))

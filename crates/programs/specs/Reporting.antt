@@ -5,20 +5,20 @@ use Rattle.std.specs.Prelude.{◌≡◌, ℕ, Bool, true, false, List, [], Optio
 use Rattle.std.specs.Prelude.{string_bytes}
 use Rattle.std.specs.Option.{option_map}
 use Rattle.std.specs.Result.{result_map_both}
-use Rattle.streams.specs.WholeWrites.{IsCutOff, IsWritten}
-use Rattle.proto_decl.specs.Seen.{Seen}
+use Rattle.streams.specs.Writers.{IsCutOff, IsWritten, writing}
+use Rattle.proto_decl.specs.Values.{Seen}
 use Rattle.index_hooks.specs.declared.choice.Choice.{Choice}
 use Rattle.source_tree.specs.Files.{TreeFile}
 use Rattle.source_tree.specs.Trees.{IsSourceCount}
 use Rattle.source_files.specs.Places.{IsBegun}
-use Rattle.scip_build.specs.declared.fault.BuildFault.{BuildFault}
+use Rattle.scip_build.specs.declared.omission.Omission.{Omission}
 use Rattle.scip_build.specs.declared.settings.Settings.{Settings}
 use Rattle.fault_reports.specs.Findings.{Found}
 use Rattle.fault_reports.specs.Reports.{report_of}
 use Rattle.fault_reports.specs.declared.report.ReportFormat.{ReportFormat}
 use Rattle.protoscip.specs.Findings.{all_findings, counts_with, refused_findings}
 use Rattle.protoscip.specs.ToldTrees.{IsToldOf, MayNotTell}
-use Rattle.protoscip.specs.Statuses.{status_of}
+use Rattle.protoscip.specs.FaultTexts.{status_of}
 use Rattle.protoscip.specs.declared.recorded.Recorded.{Recorded}
 use Rattle.protoscip.specs.declared.fault.Fault.{Fault}
 use Rattle.protoscip.specs.declared.fault.Fault.TheVariants.{Spawn, Memory, Lex, Syntax, Duplicate, MissingImport}
@@ -30,11 +30,11 @@ use Rattle.programs.specs.Placing.{Place, IsGivenUp, IsLeft, IsPut, IsRefused}
 use Rattle.programs.specs.declared.limits.LimitFault.{LimitFault}
 
 -- what a run answers, but for all that it records beside
-abbrev pub told_by : Result Recorded Fault → Result (List BuildFault) Fault
+abbrev pub told_by : Result Recorded Fault → Result (List Omission) Fault
 told_by ran = result_map_both (λ recorded. recorded.told) (λ fault. fault) ran
 
 -- the answer of a run that lacks this, or has a fault
-abbrev pub ran_of : (told : List BuildFault) → Option Fault → Result (List BuildFault) Fault
+abbrev pub ran_of : (told : List Omission) → Option Fault → Result (List Omission) Fault
 ran_of told None = Ok told
 ran_of told (Some fault) = Err fault
 
@@ -56,7 +56,7 @@ is_of_files (Answer count) = false
 
 -- what is told beside a fault: if it is of the files, all that would be told if what has a fault were left out
 abbrev pub IsToldBeside : (allows : Seen → Choice → Type 0) → Settings → List TreeFile → Fault
-    → (told : List BuildFault) → Type 0
+    → (told : List Omission) → Type 0
 IsToldBeside allows settings tree fault told =
     (is_of_files fault ≡ true → IsToldOf allows settings.dialect tree told) × (is_of_files fault ≡ false → told ≡ [])
 
@@ -65,32 +65,32 @@ IsToldBeside allows settings tree fault told =
 -- the run leaves it out, and tells its fault alone.
 pub data Finds (allows : Seen → Choice → Type 0) (settings : Settings) (tree : List TreeFile)
     (unread : List (List ℕ))
-    : (ran : Result (List BuildFault) Fault) → List Found → (skipped : List (List ℕ)) → (told : List BuildFault)
+    : (ran : Result (List Omission) Fault) → List Found → (skipped : List (List ℕ)) → (told : List Omission)
     → Type 0 where
-  of_index : {told : List BuildFault}
+  of_index : {told : List Omission}
       → Finds allows settings tree unread (Ok told) (all_findings tree unread told) unread told
-  of_fault : {fault : Fault} {told : List BuildFault} → IsToldBeside allows settings tree fault told
+  of_fault : {fault : Fault} {told : List Omission} → IsToldBeside allows settings tree fault told
       → Finds allows settings tree unread (Err fault) (refused_findings tree fault told) [] told
 
 -- so many sources its counts begin with: without an index, none is indexed
-abbrev pub AreCounted : List TreeFile → (ran : Result (List BuildFault) Fault) → (sources : ℕ) → Type 0
+abbrev pub AreCounted : List TreeFile → (ran : Result (List Omission) Fault) → (sources : ℕ) → Type 0
 AreCounted tree (Ok told) sources = IsSourceCount tree sources
 AreCounted tree (Err fault) sources = sources ≡ 0
 
 -- the bytes of a report of a run that is to end with a status
 pub record IsReport (allows : Seen → Choice → Type 0) (settings : Settings) (tree : List TreeFile)
-    (unread : List (List ℕ)) (format : ReportFormat) (ran : Result (List BuildFault) Fault) (status : ℕ)
+    (unread : List (List ℕ)) (format : ReportFormat) (ran : Result (List Omission) Fault) (status : ℕ)
     (bytes : List ℕ) : Type 0 where
   pub findings : List Found
   pub skipped : List (List ℕ)
-  pub told : List BuildFault
+  pub told : List Omission
   pub sources : ℕ
   pub found : Finds allows settings tree unread ran findings skipped told
   pub sources_are : AreCounted tree ran sources
   pub bytes_are : bytes ≡ report_of format findings (counts_with sources skipped told status)
 
 -- the status that a run is to end with, if its place takes the index
-abbrev pub due_status : (ran : Result (List BuildFault) Fault) → (broken : Option LimitFault) → ℕ
+abbrev pub due_status : (ran : Result (List Omission) Fault) → (broken : Option LimitFault) → ℕ
 due_status (Ok told) None = 0
 due_status (Ok told) (Some limit) = limit_status
 due_status (Err fault) broken = status_of fault
@@ -102,11 +102,11 @@ due_status (Err fault) broken = status_of fault
 pub data GoesTo {Q V : Type 0} (at : Place Q V) (Is : List ℕ → Type 0) (workers : ℕ)
     : Result (Unit {0}) Fault → Type 0 where
   put : {bytes : List ℕ} → Is bytes → IsPut at bytes → GoesTo at Is workers (Ok tt)
-  cut_off : {bytes : List ℕ} {count : ℕ} (begun left : V) → Is bytes → IsBegun at.contents at.failures begun
-      → IsCutOff at.contents at.failures begun left bytes count → IsGivenUp at left
+  cut_off : {bytes : List ℕ} {count : ℕ} (begun left : V) → Is bytes → IsBegun at.sink.contents at.sink.failures begun
+      → IsCutOff (writing at.sink begun left) bytes count → IsGivenUp at left
       → GoesTo at Is workers (Err (Write count))
-  refused : {bytes : List ℕ} {count : ℕ} (begun whole : V) → Is bytes → IsBegun at.contents at.failures begun
-      → IsWritten at.contents at.failures begun whole bytes → IsRefused at whole
+  refused : {bytes : List ℕ} {count : ℕ} (begun whole : V) → Is bytes → IsBegun at.sink.contents at.sink.failures begun
+      → IsWritten (writing at.sink begun whole) bytes → IsRefused at whole
       → GoesTo at Is workers (Err (Write count))
   unmade : {fault : Fault} → MayNotTell workers fault → IsLeft at → GoesTo at Is workers (Err fault)
 
@@ -121,7 +121,7 @@ path_asked options = option_map string_bytes options.path
 
 -- what becomes of the report of a run whose index has to keep limits
 abbrev pub Reports : {Q V : Type 0} → Place Q V → ReportOptions → Limits → (allows : Seen → Choice → Type 0)
-    → Settings → (workers : ℕ) → List TreeFile → (unread : List (List ℕ)) → (ran : Result (List BuildFault) Fault)
+    → Settings → (workers : ℕ) → List TreeFile → (unread : List (List ℕ)) → (ran : Result (List Omission) Fault)
     → (reported : Result (Unit {0}) Fault) → Type 0
 Reports at options limits allows settings workers tree unread ran reported =
     (broken : Option LimitFault) × IsBrokenBy limits tree unread ran broken

@@ -2,6 +2,8 @@
 -- `lists` and `gives` are what the system of files gives, and `blames` what may be said of why a path can't be read;
 -- `none_found` says which line, if any, is said of a tree whose index lacks nothing; `report` is the place of a report.
 use Rattle.std.specs.Prelude.{◌≡◌, ℕ, Bool, List, Option, Result, Ok, false, IfSome}
+use Rattle.streams.specs.Readers.{Reader}
+use Rattle.streams.specs.Writers.{Writer}
 use Rattle.source_tree.specs.Files.{TreeFile}
 use Rattle.scip_model.specs.Packages.{Packages}
 use Rattle.protoscip.specs.Explanations.{explain_in}
@@ -20,16 +22,14 @@ use Rattle.programs.specs.StartExplanations.{IsTold as IsStartTold, told as star
 use Rattle.programs.specs.StartFaults.{status_of as start_status}
 use Rattle.programs.specs.StartReports.{EndsUnstarted}
 use Rattle.programs.specs.Starting.{MayNotStart}
-use Rattle.programs.specs.Streams.{Reader}
 use Rattle.programs.specs.declared.start_fault.StartFault.{StartFault}
-use Rattle.scip_snapshot.specs.Showing.{Writer}
 use Rattle.programs.specs.TreeRuns.{AreNavigable, Ends}
 use Rattle.source_files.specs.Listings.{Listing}
 
 -- neither commands nor answers are touched, nor the place of the report
 abbrev pub IsUnserved : {Q V R W : Type 0} → Place Q V → Reader R → Writer W → Type 0
 IsUnserved report commands answers =
-    AreUntouched commands.before commands.after answers.before answers.after × IsLeft report
+    AreUntouched commands answers × IsLeft report
 
 -- It doesn't start, no command is read, and the report, if one is asked for, tells why; or the report can't go to its
 -- place, and nothing is read or written; or none of the files that were read is said to be the one at that place,
@@ -40,7 +40,7 @@ pub data Served {Q V R W M : Type 0} (lists : List ℕ → List ℕ → Option L
     (suspects : Bool → Type 0) (options : IndexOptions) (report : Place Q V) (commands : Reader R) (answers : Writer W)
     (messages : Writer M) (status : ℕ) : Type 0 where
   not_started : (fault said : StartFault) → MayNotStart lists gives options fault
-      → AreUntouched commands.before commands.after answers.before answers.after
+      → AreUntouched commands answers
       → EndsUnstarted report suspects false options.report fault said
       → TellsOne (IsStartTold blames options.explain said) (start_status said) messages status
       → Served lists gives blames none_found suspects options report commands answers messages status
@@ -53,9 +53,7 @@ pub data Served {Q V R W M : Type 0} (lists : List ℕ → List ℕ → Option L
   over_tree : (tree : List TreeFile) (unread : List (List ℕ)) (ids : Packages) (ran : Result Recorded Fault)
       (reported : Result (Unit {0}) Fault) → NamePackages options → AreFolders lists gives options tree unread ids
       → IfSome options.report.path (λ _. IsRead report options tree false)
-      → Serves commands.remaining commands.failures commands.reads commands.ends answers.contents answers.failures
-      (allowed_by options) (settings_in options ids) tree options.workers commands.before commands.after
-      answers.before answers.after ran
+      → Serves commands answers (allowed_by options) (settings_in options ids) tree options.workers ran
       → Reports report options.report no_limits (allowed_by options) (settings_in options ids) options.workers tree
       unread (told_by ran) reported
       → Ends TellsOfSuccess (none_found tree) (explain_in options.explain (settings_in options ids).dialect) tree
@@ -69,5 +67,4 @@ abbrev pub AnswersNavigable : {R W : Type 0} → (lists : List ℕ → List ℕ 
 AnswersNavigable lists gives options commands answers status =
     status ≡ 0
     → AreNavigable lists gives options
-    (λ _ index. AreAnswered commands.remaining commands.failures commands.reads commands.ends answers.contents
-    answers.failures index commands.before commands.after answers.before answers.after (Ok tt))
+    (λ _ index. AreAnswered commands answers index (Ok tt))

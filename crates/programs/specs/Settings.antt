@@ -1,7 +1,7 @@
 -- What the options of `index` and `shell` say about the run.
 use Rattle.std.specs.Prelude.{Bool, true, false, string_bytes}
 use Rattle.std.specs.Option.{option_map}
-use Rattle.proto_decl.specs.Seen.{Seen}
+use Rattle.proto_decl.specs.Values.{Seen}
 use Rattle.index_hooks.specs.declared.choice.Choice.{Choice}
 use Rattle.scip_symbol.specs.Package.{Package}
 use Rattle.scip_build.specs.declared.faulty.Faulty.{Faulty}

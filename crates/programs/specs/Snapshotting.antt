@@ -3,10 +3,12 @@
 -- write failed, and `messages` the stream of messages.
 use Rattle.std.specs.Prelude.{◌≡◌, ◌&&◌, ℕ, Bool, true, false, List, Option, None, Some, Result, Ok, Err, string_bytes}
 use Rattle.std.specs.Option.{option_map}
+use Rattle.streams.specs.Writers.{Writer, writing}
+use Rattle.source_files.specs.Makers.{Maker}
 use Rattle.scip_records.specs.declared.records.Index.{Index}
-use Rattle.scip_snapshot.specs.Showing.{Writer, writer, Maker, ArePrinted, AreCutOff, AreFiled, AreFiledButOne, Shows}
-use Rattle.scip_snapshot.specs.declared.show_fault.ShowFault.{ShowFault}
-use Rattle.scip_snapshot.specs.declared.show_fault.ShowFault.TheVariants.{Write}
+use Rattle.scip_site.specs.Showing.{ArePrinted, AreCutOff, AreFiled, AreFiledButOne, Shows}
+use Rattle.scip_site.specs.declared.show_fault.ShowFault.{ShowFault}
+use Rattle.scip_site.specs.declared.show_fault.ShowFault.TheVariants.{Write}
 use Rattle.source_files.specs.declared.cause.Cause.{Cause}
 use Rattle.command_line.specs.declared.options.SnapshotOptions.{SnapshotOptions}
 use Rattle.programs.specs.declared.query_fault.QueryFault.{QueryFault}
@@ -50,9 +52,9 @@ pub record ShowsAndEnds {W O M : Type 0} (gives : List ℕ → Option (List ℕ)
   pub now : M
   pub done : Result (Unit {0}) ShowFault
   pub shows : ShowsTo gives (string_bytes options.root) (option_map string_bytes options.to) index out files
-      (writer messages.contents messages.failures messages.before now) done
+      (writing messages.sink messages.before now) done
   pub ends : EndsTo options.explain (option_map string_bytes options.to) (is_closed (cause out.after)) done
-      (writer messages.contents messages.failures now messages.after) status
+      (writing messages.sink now messages.after) status
 
 -- the index of the file with a path can't be read, and nothing is printed or made; or it is read, and its documents are
 -- shown

@@ -1,27 +1,13 @@
 -- What is added to the line of why a program about a tree doesn't start, if that is to be explained. (The texts are
 -- this project's own.)
 use Rattle.std.specs.Prelude.{Bool, true, ℕ, List, [], ◌++◌, Option, None, Some, codes, string_bytes, if◌then◌else◌}
-use Rattle.source_files.specs.declared.load_fault.LoadFault.TheVariants.{Unreadable, TooMany, BadPath, SamePath, Memory}
+use Rattle.source_files.specs.declared.load_fault.LoadFault.TheVariants.{Unreadable, Memory}
 use Rattle.programs.specs.declared.start_fault.StartFault.{StartFault}
-use Rattle.programs.specs.declared.start_fault.StartFault.TheVariants.{BadPart, BadFolder, Load, IsSource}
-use Rattle.programs.specs.declared.start_fault.StartFault.TheVariants.{ReportIsSource, ReportIsOut}
+use Rattle.programs.specs.declared.start_fault.StartFault.TheVariants.{BadPart, BadFolder, Load}
 use Rattle.programs.specs.Causes.{IsReasoned}
-use Rattle.programs.specs.StartFaults.{line_of}
+use Rattle.programs.specs.StartFaults.{line_of, sentence_of}
 
--- a sentence about it
-abbrev pub sentence_of : StartFault → List ℕ
-sentence_of BadPart = codes "a part of the package begins with a space or is `.`"
-sentence_of (BadFolder path) = codes "a part of the package of this folder begins with a space or is `.`"
-sentence_of (Load (Unreadable name)) = codes "it isn't there, or can't be read, or an entry's name isn't UTF-8"
-sentence_of (Load TooMany) = codes "the sources and the included files are at most 65536"
-sentence_of (Load (BadPath path)) = codes "a path has at most 4096 bytes, and no character below U+0020"
-sentence_of (Load (SamePath path)) = codes "two sources have this path"
-sentence_of (Load Memory) = codes "memory ran out"
-sentence_of (IsSource path) = codes "it is a source that was read, or a link to one; the index would replace it"
-sentence_of (ReportIsSource path) = codes "it is a source that was read, or a link to one; the report would replace it"
-sentence_of (ReportIsOut path) = codes "the index goes there, so its report can't"
-
--- it is said behind a line end; but not of a fault of the command line, nor of lack of memory
+-- the sentence about it is said behind a line end; but not of a fault of the command line, nor of lack of memory
 abbrev pub explanation_of : StartFault → List ℕ
 explanation_of BadPart = []
 explanation_of (BadFolder path) = []

@@ -1,5 +1,6 @@
--- Why a program about a tree doesn't start: what is said about it, and the exit status.
-use Rattle.std.specs.Prelude.{ℕ, List, codes, string_bytes}
+-- Why a program about a tree doesn't start: what is said about it, and the exit status. (The texts and the statuses are
+-- this project's own.)
+use Rattle.std.specs.Prelude.{ℕ, List, Option, None, Some, codes, string_bytes}
 use Rattle.source_files.specs.LoadFaults.{name_of as load_name}
 use Rattle.source_files.specs.declared.load_fault.LoadFault.TheVariants.{Unreadable, TooMany, BadPath, SamePath, Memory}
 use Rattle.programs.specs.declared.start_fault.StartFault.{StartFault}
@@ -9,35 +10,59 @@ use Rattle.programs.specs.declared.statuses.TheConstants.{COMMAND_LINE_STATUS}
 use Rattle.protoscip.specs.Lines.{path_line, plain_line}
 use Rattle.protoscip.specs.declared.statuses.TheConstants.{MEMORY_STATUS, SOURCES_STATUS, STREAM_STATUS}
 
--- the name in its line: the package of a folder is refused as that of the run is
-abbrev pub name_of : StartFault → List ℕ
-name_of BadPart = codes "BadPart"
-name_of (BadFolder path) = codes "BadPart"
-name_of (Load fault) = load_name fault
-name_of (IsSource path) = codes "IsSource"
-name_of (ReportIsSource path) = codes "IsSource"
-name_of (ReportIsOut path) = codes "IsOut"
+-- the name in its line, and the path, if it names one; a sentence about it; and the exit status
+pub record StartSaid : Type 0 where
+  pub name : List ℕ
+  pub path : Option (List ℕ)
+  pub sentence : List ℕ
+  pub status : ℕ
 
-abbrev pub line_of : StartFault → List ℕ
-line_of BadPart = plain_line (name_of BadPart)
-line_of (BadFolder path) = path_line (string_bytes path) (name_of (BadFolder path))
-line_of (Load (Unreadable name)) = path_line (string_bytes name) (load_name (Unreadable name))
-line_of (Load TooMany) = plain_line (load_name TooMany)
-line_of (Load (BadPath path)) = path_line (string_bytes path) (load_name (BadPath path))
-line_of (Load (SamePath path)) = path_line (string_bytes path) (load_name (SamePath path))
-line_of (Load Memory) = plain_line (load_name Memory)
-line_of (IsSource path) = path_line (string_bytes path) (name_of (IsSource path))
-line_of (ReportIsSource path) = path_line (string_bytes path) (name_of (ReportIsSource path))
-line_of (ReportIsOut path) = path_line (string_bytes path) (name_of (ReportIsOut path))
+abbrev pub said : (name : List ℕ) → (path : Option (List ℕ)) → (sentence : List ℕ) → (status : ℕ) → StartSaid
+said name path sentence status = record { name = name; path = path; sentence = sentence; status = status }
+
+-- the package of a folder is refused as that of the run is
+abbrev pub said_of : StartFault → StartSaid
+said_of BadPart =
+    said (codes "BadPart") None (codes "a part of the package begins with a space or is `.`") COMMAND_LINE_STATUS
+said_of (BadFolder path) =
+    said (codes "BadPart") (Some (string_bytes path))
+    (codes "a part of the package of this folder begins with a space or is `.`") COMMAND_LINE_STATUS
+said_of (Load (Unreadable path)) =
+    said (load_name (Unreadable path)) (Some (string_bytes path))
+    (codes "it isn't there, or can't be read, or an entry's name isn't UTF-8") STREAM_STATUS
+said_of (Load TooMany) =
+    said (load_name TooMany) None (codes "the sources and the included files are at most 65536") SOURCES_STATUS
+said_of (Load (BadPath path)) =
+    said (load_name (BadPath path)) (Some (string_bytes path))
+    (codes "a path has at most 4096 bytes, and no character below U+0020") SOURCES_STATUS
+said_of (Load (SamePath path)) =
+    said (load_name (SamePath path)) (Some (string_bytes path)) (codes "two sources have this path") SOURCES_STATUS
+said_of (Load Memory) = said (load_name Memory) None (codes "memory ran out") MEMORY_STATUS
+said_of (IsSource path) =
+    said (codes "IsSource") (Some (string_bytes path))
+    (codes "it is a source that was read, or a link to one; the index would replace it") STREAM_STATUS
+said_of (ReportIsSource path) =
+    said (codes "IsSource") (Some (string_bytes path))
+    (codes "it is a source that was read, or a link to one; the report would replace it") STREAM_STATUS
+said_of (ReportIsOut path) =
+    said (codes "IsOut") (Some (string_bytes path)) (codes "the index goes there, so its report can't") STREAM_STATUS
+
+abbrev pub name_of : StartFault → List ℕ
+name_of fault = (said_of fault).name
+
+abbrev pub path_of : StartFault → Option (List ℕ)
+path_of fault = (said_of fault).path
+
+abbrev pub sentence_of : StartFault → List ℕ
+sentence_of fault = (said_of fault).sentence
 
 abbrev pub status_of : StartFault → ℕ
-status_of BadPart = COMMAND_LINE_STATUS
-status_of (BadFolder path) = COMMAND_LINE_STATUS
-status_of (Load (Unreadable name)) = STREAM_STATUS
-status_of (Load TooMany) = SOURCES_STATUS
-status_of (Load (BadPath path)) = SOURCES_STATUS
-status_of (Load (SamePath path)) = SOURCES_STATUS
-status_of (Load Memory) = MEMORY_STATUS
-status_of (IsSource path) = STREAM_STATUS
-status_of (ReportIsSource path) = STREAM_STATUS
-status_of (ReportIsOut path) = STREAM_STATUS
+status_of fault = (said_of fault).status
+
+-- a line with a path, if there is one
+abbrev pub line_with : Option (List ℕ) → (name : List ℕ) → List ℕ
+line_with None name = plain_line name
+line_with (Some path) name = path_line path name
+
+abbrev pub line_of : StartFault → List ℕ
+line_of fault = line_with (path_of fault) (name_of fault)

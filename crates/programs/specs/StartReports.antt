@@ -13,26 +13,11 @@ use Rattle.protoscip.specs.declared.fault.Fault.{Fault}
 use Rattle.protoscip.specs.declared.fault.Fault.TheVariants.{Write}
 use Rattle.programs.specs.Placing.{IsAt, IsLeft, Place}
 use Rattle.programs.specs.Reporting.{GoesTo}
-use Rattle.programs.specs.StartExplanations.{sentence_of}
-use Rattle.programs.specs.StartFaults.{name_of, status_of}
+use Rattle.programs.specs.StartFaults.{name_of, path_of, sentence_of, status_of}
 use Rattle.programs.specs.declared.start_fault.StartFault.{StartFault}
-use Rattle.programs.specs.declared.start_fault.StartFault.TheVariants.{BadPart, BadFolder, Load, IsSource}
-use Rattle.programs.specs.declared.start_fault.StartFault.TheVariants.{ReportIsSource, ReportIsOut}
+use Rattle.programs.specs.declared.start_fault.StartFault.TheVariants.{Load}
 
 -- ---- what it tells
-
--- the path that a fault names
-abbrev pub path_of : StartFault → Option (List ℕ)
-path_of BadPart = None
-path_of (BadFolder path) = Some (string_bytes path)
-path_of (Load (load.Unreadable name)) = Some (string_bytes name)
-path_of (Load load.TooMany) = None
-path_of (Load (load.BadPath path)) = Some (string_bytes path)
-path_of (Load (load.SamePath path)) = Some (string_bytes path)
-path_of (Load load.Memory) = None
-path_of (IsSource path) = Some (string_bytes path)
-path_of (ReportIsSource path) = Some (string_bytes path)
-path_of (ReportIsOut path) = Some (string_bytes path)
 
 -- a file, as a whole
 abbrev pub whole_file : (path : List ℕ) → FoundPlace

@@ -2,18 +2,18 @@
 -- `lists` and `gives` are what the system of files gives, and `messages` is the stream of messages. `none_found` says
 -- which line, if any, is said of a tree whose index lacks nothing: that it has no source.
 use Rattle.std.specs.Prelude.{ℕ, List, [], ◌∷◌, Option, Result, Ok, Err}
-use Rattle.proto_parse.specs.tree.Dialect.{Dialect}
+use Rattle.streams.specs.Writers.{Writer}
+use Rattle.proto_parse.specs.dialect.Dialect.{Dialect}
 use Rattle.source_tree.specs.Files.{TreeFile}
 use Rattle.source_tree.specs.Trees.{IsSourceCount}
 use Rattle.scip_model.specs.Packages.{Packages}
-use Rattle.scip_build.specs.declared.fault.BuildFault.{BuildFault}
+use Rattle.scip_build.specs.declared.omission.Omission.{Omission}
 use Rattle.scip_records.specs.declared.records.Index.{Index}
-use Rattle.scip_snapshot.specs.Showing.{Writer}
 use Rattle.protoscip.specs.declared.fault.Fault.{Fault}
 use Rattle.protoscip.specs.declared.recorded.Recorded.{Recorded}
 use Rattle.protoscip.specs.Explanations.{IsFaultText}
 use Rattle.protoscip.specs.Headline.{IsNavigable}
-use Rattle.protoscip.specs.Statuses.{status_of}
+use Rattle.protoscip.specs.FaultTexts.{status_of}
 use Rattle.protoscip.specs.ToldLines.{IsToldTextWith}
 use Rattle.command_line.specs.declared.options.IndexOptions.{IndexOptions}
 use Rattle.programs.specs.Messages.{SaysIfAny, TellsOne}
@@ -24,7 +24,7 @@ use Rattle.source_files.specs.Listings.{Listing}
 -- `says` says how a text with a property is written after a success: here a line for each thing that couldn't be read
 -- or that an index lacks, and then their numbers
 abbrev pub SaysAll : {M : Type 0} → (says : (List ℕ → Type 0) → Writer M → (status : ℕ) → Type 0)
-    → (explain : Option Dialect) → List TreeFile → (unread : List (List ℕ)) → List BuildFault → Writer M
+    → (explain : Option Dialect) → List TreeFile → (unread : List (List ℕ)) → List Omission → Writer M
     → (status : ℕ) → Type 0
 SaysAll says explain tree unread told messages status =
     (sources : ℕ) × IsSourceCount tree sources
@@ -32,23 +32,23 @@ SaysAll says explain tree unread told messages status =
 
 -- the end of a run that made an index which lacks this, of a tree without what couldn't be read. If nothing is lacking,
 -- the line of none found is said, if there is one; else all that is
-abbrev pub Lacks : {M : Type 0} → (says : (List ℕ → Type 0) → Writer M → (status : ℕ) → Type 0)
+abbrev pub SaysOmissions : {M : Type 0} → (says : (List ℕ → Type 0) → Writer M → (status : ℕ) → Type 0)
     → (none_found : Option (List ℕ) → Type 0) → (explain : Option Dialect) → List TreeFile
-    → (unread : List (List ℕ)) → List BuildFault → Writer M → (status : ℕ) → Type 0
-Lacks says none_found explain tree [] [] messages status =
+    → (unread : List (List ℕ)) → List Omission → Writer M → (status : ℕ) → Type 0
+SaysOmissions says none_found explain tree [] [] messages status =
     (line : Option (List ℕ)) × none_found line × SaysIfAny line messages status
-Lacks says none_found explain tree [] (first ∷ others) messages status =
+SaysOmissions says none_found explain tree [] (first ∷ others) messages status =
     SaysAll says explain tree [] (first ∷ others) messages status
-Lacks says none_found explain tree (path ∷ unread) told messages status =
+SaysOmissions says none_found explain tree (path ∷ unread) told messages status =
     SaysAll says explain tree (path ∷ unread) told messages status
 
 -- the end of a run over a tree: after a success, what is told of it is said; after a fault, the line of the fault
 -- alone, explained if that is asked for, with its status
 abbrev pub Ends : {M A : Type 0} → (says : (List ℕ → Type 0) → Writer M → (status : ℕ) → Type 0)
     → (none_found : Option (List ℕ) → Type 0) → (explain : Option Dialect) → List TreeFile
-    → (unread : List (List ℕ)) → (A → List BuildFault) → Result A Fault → Writer M → (status : ℕ) → Type 0
+    → (unread : List (List ℕ)) → (A → List Omission) → Result A Fault → Writer M → (status : ℕ) → Type 0
 Ends says none_found explain tree unread told_of (Ok done) messages status =
-    Lacks says none_found explain tree unread (told_of done) messages status
+    SaysOmissions says none_found explain tree unread (told_of done) messages status
 Ends says none_found explain tree unread told_of (Err fault) messages status =
     TellsOne (IsFaultText explain tree fault) (status_of fault) messages status
 

@@ -2,13 +2,13 @@
 
 ghost use Rattle.std.specs.Prelude.{◌≡◌, ◌++◌, IfOk, codes, string_bytes};
 ghost use Rattle.std.specs.Option.{option_map};
-ghost use Rattle.scip_snapshot.specs.Showing.{AreTold, IsSaid, writer};
+ghost use Rattle.streams.specs.Writers.{AreTold, IsSaid, writer};
 ghost use Rattle.programs.specs.Causes.{ExplainsFailure, behind, cause_lines, is_explained, made_name, report_name};
 
 use crate::places::Places;
 use crate::running::report_path;
 use command_line::Request;
-use scip_snapshot::say;
+use scip_site::say;
 use source_files::{Blamed, Cause, Caused};
 use std::alloc::AllocError;
 use streams::{Sink, write_all};
@@ -35,7 +35,7 @@ fn is_explained(asked: &Result<Request, AllocError>) -> bool
             Request::Query(_, explain) => *explain,
             Request::Snapshot(options) => options.explain,
             Request::Pages(options) => options.explain,
-            Request::Index(options, _, _, _) => options.explain,
+            Request::Index(given) => given.options.explain,
             Request::Shell(options) => options.explain,
             Request::Print(_) | Request::Refuse(_) => false,
         },
@@ -49,7 +49,7 @@ fn made_path(asked: &Result<Request, AllocError>) -> &str
 {
     match asked {
         Ok(request) => match request {
-            Request::Index(_, path, _, _) => path.as_str(),
+            Request::Index(given) => given.out.as_str(),
             Request::Pages(options) => options.out.as_str(),
             Request::Snapshot(options) => match &options.to {
                 Some(to) => to.as_str(),
@@ -74,7 +74,7 @@ fn path_of_report(asked: &Result<Request, AllocError>) -> &str
 
 /// Says a line of a colon, a space and these words. Behind a write that fails the rest is lost.
 fn say_words<M: Sink>(words: &str, messages: &mut M)
-    ensures { IsSaid M.contents M.failures (codes ": " ++ words.now) messages.old messages.new }
+    ensures { IsSaid (writer M.Sink messages) (codes ": " ++ words.now) }
 {
     match write_all(messages, b": ") {
         Ok(()) => say(messages, words),
@@ -84,7 +84,7 @@ fn say_words<M: Sink>(words: &str, messages: &mut M)
 
 /// The same behind a name.
 fn say_of<M: Sink>(name: &str, words: &str, messages: &mut M)
-    ensures { IsSaid M.contents M.failures (name.now ++ codes ": " ++ words.now) messages.old messages.new }
+    ensures { IsSaid (writer M.Sink messages) (name.now ++ codes ": " ++ words.now) }
 {
     match write_all(messages, name.as_bytes()) {
         Ok(()) => say_words(words, messages),
@@ -94,7 +94,7 @@ fn say_of<M: Sink>(name: &str, words: &str, messages: &mut M)
 
 /// Says why a call failed of what has this name, if there is a cause. It takes no memory.
 fn say_cause<M: Sink>(name: &str, cause: Option<Cause>, messages: &mut M)
-    ensures { AreTold (writer M.contents M.failures messages.old messages.new) (cause_lines name.now cause) }
+    ensures { AreTold (writer M.Sink messages) (cause_lines name.now cause) }
 {
     match cause {
         Some(cause) => say_of(name, cause.words(), messages),
@@ -113,7 +113,7 @@ pub fn explain_failure<O: Blamed, Q: Blamed, W: Caused, M: Sink>(
     messages: &mut M,
 )
     ensures { ExplainsFailure (O.reasons places.now.file) (Q.reasons places.now.report) (W.cause out.now) asked.now
-        status (writer M.contents M.failures messages.old messages.new) }
+        status (writer M.Sink messages) }
 {
     if status == 0 {
         return;

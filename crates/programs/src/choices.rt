@@ -7,8 +7,8 @@ ghost use Rattle.index_hooks.specs.Turns.{place_of};
 ghost use Rattle.programs.specs.Choices.{IsKeptBy, documented_by};
 
 use index_hooks::{
-    Choice, Chooses, DocAlways, DocChoice, DocHook, DocRule, Filter, FilterHook, NamePrefix,
-    Ticket, Turns,
+    Choice, Chooses, DocAlways, DocChoice, DocHook, DocRule, Filter, FilterHook, NamePrefix, Turn,
+    Turns,
 };
 use proto_decl::DeclView;
 use std::alloc::{AllocError, Global};
@@ -63,23 +63,23 @@ impl OptionChoices {
     }
 
     /// Whether a declaration is kept. The filter has the first turn.
-    fn keeps(&self, ticket: Ticket, view: &DeclView<'_>) -> bool
-        requires { place_of ticket ≡ 0 }
+    fn keeps(&self, turn: Turn, view: &DeclView<'_>) -> bool
+        requires { place_of turn ≡ 0 }
         ensures { IsKeptBy (option_map (λ f. string_bytes f.promise.0) self.now.filter) view.now result }
     {
         match &self.filter {
-            Some(filter) => filter.ask(ticket, view),
+            Some(filter) => filter.ask(turn, view),
             None => true,
         }
     }
 
     /// Which texts document a declaration. The rule has the second turn.
-    fn documents(&self, ticket: Ticket, view: &DeclView<'_>) -> DocChoice
-        requires { place_of ticket ≡ 1 }
+    fn documents(&self, turn: Turn, view: &DeclView<'_>) -> DocChoice
+        requires { place_of turn ≡ 1 }
         ensures { result ≡ documented_by (option_map (λ r. r.promise.0) self.now.rule) }
     {
         match &self.rule {
-            Some(rule) => match rule.ask(ticket, view) {
+            Some(rule) => match rule.ask(turn, view) {
                 DocChoice::Pass => DocChoice::Leading,
                 answer => answer,
             },

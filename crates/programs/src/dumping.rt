@@ -1,13 +1,13 @@
 //! The program `dump`.
 
 ghost use Rattle.std.specs.Prelude.{◌≡◌, ◌&&◌, Result};
-ghost use Rattle.streams.specs.WholeReads.{IsReadBriefly};
-ghost use Rattle.scip_snapshot.specs.Showing.{writer};
+ghost use Rattle.streams.specs.Readers.{IsReadBriefly, reader};
+ghost use Rattle.streams.specs.Writers.{writer};
 ghost use Rattle.protoscip.specs.declared.fault.Fault.{Fault};
 ghost use Rattle.protoscip.specs.Dump.{IsDumped, LeavesReader};
 ghost use Rattle.protoscip.specs.Explanations.{IsFaultText, explain_in};
 ghost use Rattle.protoscip.specs.FaultLines.{HasFilesOf};
-ghost use Rattle.protoscip.specs.Statuses.{status_of};
+ghost use Rattle.protoscip.specs.FaultTexts.{status_of};
 ghost use Rattle.programs.specs.Dumping.{EndsDump, is_write};
 ghost use Rattle.programs.specs.Messages.{TellsOne};
 ghost use Rattle.programs.specs.Printing.{EndsCut, is_closed};
@@ -63,8 +63,8 @@ fn stop_listing<W: Caused, M: Sink>(
 ) -> u8
     requires { HasFilesOf tree.now fault.now }
     ensures { EndsCut (is_write fault.now && is_closed (W.cause out.now)) (TellsOne (IsFaultText explain tree.now
-        fault.now) (status_of fault.now) (writer M.contents M.failures messages.old messages.new) result)
-        (writer M.contents M.failures messages.old messages.new) result }
+        fault.now) (status_of fault.now) (writer M.Sink messages) result)
+        (writer M.Sink messages) result }
 {
     if is_dropped(fault, out) {
         return 0;
@@ -83,13 +83,13 @@ pub(crate) fn dump_source<R: Threads + Wait, F, I: Feed, W: Sink + Caused, M: Si
     messages: &mut M,
 ) -> u8
     ensures { (done : Result (Unit {0}) Fault)
-        × IsDumped I.remaining W.contents W.failures options.now.dialect input.old out.old out.new done
-        × LeavesReader I.failures I.reads I.ends input.old input.new done
-        × IsReadBriefly I.reads input.old input.new
-        × EndsDump I.remaining
-        (explain_in options.now.explain options.now.dialect)
-        (is_closed (W.cause out.new)) input.old done
-        (writer M.contents M.failures messages.old messages.new) result }
+        × IsDumped options.now.dialect
+        (reader I.Feed input) (writer W.Sink out) done
+        × LeavesReader (reader I.Feed input) done
+        × IsReadBriefly (reader I.Feed input)
+        × EndsDump (explain_in options.now.explain options.now.dialect)
+        (is_closed (W.cause out.new)) (reader I.Feed input) done
+        (writer M.Sink messages) result }
 {
     let dialect = options.dialect;
     let mut tree = match dump_tree(host.alloc, Vec::new(host.alloc)) {

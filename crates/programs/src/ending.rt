@@ -2,19 +2,19 @@
 
 ghost use Rattle.std.specs.Prelude.{◌≡◌, map, string_bytes};
 ghost use Rattle.std.specs.Option.{option_map};
+ghost use Rattle.streams.specs.Writers.{writer};
 ghost use Rattle.protoscip.specs.Explanations.{IsFaultText};
 ghost use Rattle.protoscip.specs.FaultLines.{HasFilesOf, HaveFilesOf};
-ghost use Rattle.protoscip.specs.Statuses.{status_of};
-ghost use Rattle.scip_snapshot.specs.Showing.{writer};
+ghost use Rattle.protoscip.specs.FaultTexts.{status_of};
 ghost use Rattle.programs.specs.Messages.{SaysIfAny, TellsOfSuccess, TellsOne};
-ghost use Rattle.programs.specs.TreeRuns.{Lacks};
+ghost use Rattle.programs.specs.TreeRuns.{SaysOmissions};
 
 use crate::messages::report;
 use crate::starting::TreeRun;
 use proto_parse::Dialect;
-use protoscip::{Fault, Telling, fault_text, lacks_nothing, told_text_with};
-use scip_build::BuildFault;
-use scip_snapshot::say;
+use protoscip::{Fault, Telling, fault_text, omits_nothing, told_text_with};
+use scip_build::Omission;
+use scip_site::say;
 use source_tree::Tree;
 use std::alloc::Global;
 use streams::Sink;
@@ -24,20 +24,21 @@ use streams::Sink;
 pub(crate) fn tell<M: Sink>(
     alloc: Global,
     run: &TreeRun,
-    told: &[BuildFault],
+    told: &[Omission],
     explain: Option<Dialect>,
     messages: &mut M,
 ) -> u8
     requires { HaveFilesOf run.now.tree told.now }
-    ensures { Lacks TellsOfSuccess (λ line. line ≡ option_map string_bytes run.now.none_found) explain run.now.tree
+    ensures { SaysOmissions TellsOfSuccess (λ line. line ≡ option_map string_bytes run.now.none_found)
+        explain run.now.tree
         (map string_bytes run.now.unread.items) told.now
-        (writer M.contents M.failures messages.old messages.new) result }
+        (writer M.Sink messages) result }
 {
     let telling = Telling {
         unread: run.unread.as_slice(),
         explain,
     };
-    if lacks_nothing(telling.unread, told) {
+    if omits_nothing(telling.unread, told) {
         return say_line(&run.none_found, messages);
     }
     report(
@@ -49,7 +50,7 @@ pub(crate) fn tell<M: Sink>(
 
 /// Says a line of a success, if there is one, and gives the exit status.
 pub(crate) fn say_line<M: Sink>(line: &Option<String>, messages: &mut M) -> u8
-    ensures { SaysIfAny (option_map string_bytes line.now) (writer M.contents M.failures messages.old messages.new)
+    ensures { SaysIfAny (option_map string_bytes line.now) (writer M.Sink messages)
         result }
 {
     if let Some(line) = line {
@@ -68,7 +69,7 @@ pub(crate) fn stop<M: Sink>(
 ) -> u8
     requires { HasFilesOf tree.now fault.now }
     ensures { TellsOne (IsFaultText explain tree.now fault.now) (status_of fault.now)
-        (writer M.contents M.failures messages.old messages.new) result }
+        (writer M.Sink messages) result }
 {
     let text = fault_text(alloc, tree, fault, explain);
     report(text, fault.status(), messages)

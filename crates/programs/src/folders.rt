@@ -29,6 +29,7 @@ use std::sync::Wait;
 use std::thread::Threads;
 
 /// The package of a folder.
+#[tactic(auto, using(crate::proofs::StartingRules::of_folder))]
 fn package_of_folder(alloc: Global, folder: &PackageFolder) -> Result<PackageId, StartFault>
     ensures named { IfOk result (λ id. (id ≡ folder_package folder.now) × IsPackage (folder_package folder.now)) }
     ensures bad { IfErr result (IsBadFolder folder.now) }
@@ -54,6 +55,7 @@ fn push_package(ids: &mut Vec<PackageId>, id: PackageId) -> Result<(), AllocErro
 }
 
 /// The packages of folders, in order. `BadFolder` names the first that has none.
+#[tactic(auto, using(crate::proofs::StartingRules::of_folders))]
 fn packages_of_folders(
     alloc: Global,
     folders: &[PackageFolder],
@@ -70,6 +72,7 @@ fn packages_of_folders(
 }
 
 /// The packages of the included folders, in order: of those without one of their own that of the run.
+#[tactic(auto, using(crate::proofs::StartingRules::of_run))]
 fn packages_of_included(
     alloc: Global,
     options: &IndexOptions,
@@ -157,6 +160,7 @@ pub(crate) struct Folders {
 
 /// The packages of files, by the folders that they were read from: of the paths of the sources, of those of
 /// the files below each included folder, and the packages of those that have one of their own.
+#[tactic(auto, using(crate::proofs::StartingRules::of_run))]
 fn packages_by(
     alloc: Global,
     options: &IndexOptions,
@@ -183,6 +187,7 @@ fn packages_by(
 ///
 /// `BadPart`, of the run, or `BadFolder`, of the first folder whose package has a bad part; then the faults of
 /// `load_tree`.
+#[tactic(auto, using(crate::proofs::StartingRules::of_start))]
 pub(crate) fn load_folders<R: Threads + Wait, G: Gate, F: ReadFiles + Sync>(
     readers: &Readers<'_, R, G, F>,
     options: &IndexOptions,

@@ -1,11 +1,11 @@
 //! The program `index`.
 
-ghost use Rattle.std.specs.Prelude.{◌≡◌, None, Some, [], false, IfErr, IfOk, IfSome, MatchResult, map, string_bytes};
+ghost use Rattle.std.specs.Prelude.{◌≡◌, None, [], false, IfErr, IfOk, IfSome, MatchResult, map, string_bytes};
 ghost use Rattle.std.specs.Option.{option_map};
+ghost use Rattle.streams.specs.Writers.{writer};
 ghost use Rattle.protoscip.specs.FaultLines.{HasFilesOf};
-ghost use Rattle.protoscip.specs.ToldLines.{IsTextOfAllLacks};
+ghost use Rattle.protoscip.specs.ToldLines.{IsTextOfAllOmissions};
 ghost use Rattle.source_files.specs.Places.{IsBegun};
-ghost use Rattle.programs.specs.Asked.{asked_by};
 ghost use Rattle.programs.specs.Choices.{IsChosenBy};
 ghost use Rattle.programs.specs.Indexing.{Indexed, IndexesInto, WritesNavigable};
 ghost use Rattle.programs.specs.Limits.{Breaks};
@@ -13,7 +13,6 @@ ghost use Rattle.programs.specs.Messages.{Says, SaysIfAny, SaysOfSuccess};
 ghost use Rattle.programs.specs.NoSources.{NoneFoundBy};
 ghost use Rattle.programs.specs.Searches.{blamed_by, searched_by};
 ghost use Rattle.programs.specs.Placing.{AreApart, Finishes, IsOneFile, MayNotBegin, place};
-ghost use Rattle.scip_snapshot.specs.Showing.{writer};
 ghost use Rattle.programs.specs.StartReports.{IsOut};
 ghost use Rattle.programs.specs.TreeRuns.{Ends};
 
@@ -30,10 +29,10 @@ use crate::start_explanations::{report_start, report_unstarted};
 use crate::start_fault::StartFault;
 use crate::start_reports::put_start_report;
 use crate::starting::{TreeRun, start};
-use command_line::{IndexOptions, Limits};
+use command_line::{IndexRequest, Limits};
 use proto_parse::Dialect;
 use protoscip::{Fault, KeptIndex, Telling, explain_in, index_and_tell};
-use scip_build::BuildFault;
+use scip_build::Omission;
 use source_files::{Excluding, LookAgain, OutPlace, ReadFiles, is_read_from};
 use source_tree::Tree;
 use std::alloc::Global;
@@ -42,19 +41,6 @@ use std::sync::Wait;
 use std::thread::Threads;
 use std::time::{Clock, Instant};
 use streams::{Failed, Sink};
-
-/// What `index` is asked for.
-#[derive(Clone, Copy)]
-pub(crate) struct IndexRequest<'a> {
-    /// What its options say.
-    pub(crate) options: &'a IndexOptions,
-    /// The path of the file that the index goes to.
-    pub(crate) path: &'a str,
-    /// Whether it isn't to be shown how far the run is.
-    pub(crate) quiet: bool,
-    /// The limits that the index has to keep.
-    pub(crate) limits: Limits,
-}
 
 /// Says what couldn't be read, and what an index that is written lacks, or that there are no sources, or why there is
 /// no index, and gives the exit status. It is said once the line of the progress is wiped. The memory of what was made
@@ -68,11 +54,10 @@ fn end<M: Sink>(
     messages: &mut M,
 ) -> u8
     requires files { IfErr done (HasFilesOf run.now.tree) }
-    requires said { IfOk done (λ kept. IsTextOfAllLacks explain run.now.tree (map string_bytes run.now.unread.items)
+    requires said { IfOk done (λ kept. IsTextOfAllOmissions explain run.now.tree (map string_bytes run.now.unread.items)
         kept.built.told (option_map string_bytes kept.text)) }
     ensures { Ends SaysOfSuccess (λ line. line ≡ option_map string_bytes run.now.none_found) explain run.now.tree
-        (map string_bytes run.now.unread.items) (λ kept. kept.built.told) done.entry
-        (writer M.contents M.failures messages.old messages.new) result }
+        (map string_bytes run.now.unread.items) (λ kept. kept.built.told) done.entry (writer M.Sink messages) result }
 {
     match done {
         Ok(kept) => {
@@ -87,10 +72,8 @@ fn end<M: Sink>(
 
 /// Says a text of a success, if there is one, and else a line, if there is one; and gives the exit status.
 fn say_end<M: Sink>(text: Option<String>, line: &Option<String>, messages: &mut M) -> u8
-    ensures text { IfSome text (λ text. Says (string_bytes text) 0 (writer M.contents M.failures messages.old
-        messages.new) result) }
-    ensures line { text ≡ None → SaysIfAny (option_map string_bytes line.now) (writer M.contents M.failures
-        messages.old messages.new) result }
+    ensures text { IfSome text (λ text. Says (string_bytes text) 0 (writer M.Sink messages) result) }
+    ensures line { text ≡ None → SaysIfAny (option_map string_bytes line.now) (writer M.Sink messages) result }
 {
     match text {
         Some(text) => report(Ok(text), 0, messages),
@@ -107,21 +90,21 @@ fn beginning<R: Clock, F>(host: &Host<'_, R, F>, quiet: bool) -> Option<Instant>
 }
 
 /// Whether the report, if one is asked for, would go to the place of the index.
-fn is_out<P: OutPlace>(request: &IndexRequest<'_>, at: &P) -> bool
-    ensures { IsOut (P.same at.now) request.now.path.now request.now.options.now.report result }
+fn is_out<P: OutPlace>(request: &IndexRequest, at: &P) -> bool
+    ensures { IsOut (P.same at.now) (string_bytes request.now.out) request.now.options.report result }
 {
     match &request.options.report.path {
-        Some(path) => path.as_str() == request.path || at.is_file(path.as_str()),
+        Some(path) => path.as_str() == request.out.as_str() || at.is_file(path.as_str()),
         None => false,
     }
 }
 
 /// Sees, if a report is asked for, that it doesn't go to the place of the index. `ReportIsOut`: it does.
-fn see_two<P: OutPlace>(alloc: Global, request: &IndexRequest<'_>, at: &P) -> Result<(), StartFault>
+#[tactic(auto, using(crate::proofs::PlacingRules::of_two))]
+fn see_two<P: OutPlace>(alloc: Global, request: &IndexRequest, at: &P) -> Result<(), StartFault>
     ensures two { IfOk result (λ _.
-        IsOut (P.same at.now) request.now.path.now request.now.options.now.report false) }
-    ensures stops { IfErr result (IsOneFile (P.same at.now)
-        (asked_by request.now.options.now request.now.path.now request.now.limits)) }
+        IsOut (P.same at.now) (string_bytes request.now.out) request.now.options.report false) }
+    ensures stops { IfErr result (IsOneFile (P.same at.now) request.now) }
 {
     let Some(path) = &request.options.report.path else {
         return Ok(());
@@ -135,29 +118,26 @@ fn see_two<P: OutPlace>(alloc: Global, request: &IndexRequest<'_>, at: &P) -> Re
 
 /// Begins the part that the index goes to. `IsSource`: one of the files that were read is the one at its place;
 /// `ReportIsOut`, `ReportIsSource`: the report can't go to its own.
+#[tactic(auto, using(crate::proofs::PlacingRules::of_beginning))]
 fn begin<P: OutPlace, Q: OutPlace>(
     alloc: Global,
-    request: &IndexRequest<'_>,
+    request: &IndexRequest,
     tree: &Tree,
     places: &Places<P, Q>,
 ) -> Result<P::Part, StartFault>
     ensures begun { IfOk result (IsBegun P.Part.contents P.Part.failures) }
-    ensures apart { IfOk result (λ _. AreApart (place P.holds P.same P.refuses P.gives_up P.Part.contents
-        P.Part.failures places.now.file places.now.file) (place Q.holds Q.same Q.refuses Q.gives_up Q.Part.contents
-        Q.Part.failures places.now.report places.now.report)
-        (asked_by request.now.options.now request.now.path.now request.now.limits) tree.now) }
-    ensures stops { IfErr result (MayNotBegin (place P.holds P.same P.refuses P.gives_up P.Part.contents
-        P.Part.failures places.now.file places.now.file) (place Q.holds Q.same Q.refuses Q.gives_up Q.Part.contents
-        Q.Part.failures places.now.report places.now.report)
-        (asked_by request.now.options.now request.now.path.now request.now.limits) tree.now) }
+    ensures apart { IfOk result (λ _. AreApart (place P.OutPlace P.Part.Sink places.now.file places.now.file)
+        (place Q.OutPlace Q.Part.Sink places.now.report places.now.report) request.now tree.now) }
+    ensures stops { IfErr result (MayNotBegin (place P.OutPlace P.Part.Sink places.now.file places.now.file)
+        (place Q.OutPlace Q.Part.Sink places.now.report places.now.report) request.now tree.now) }
 {
-    let folders = folders_read(alloc, request.options)?;
+    let folders = folders_read(alloc, &request.options)?;
     if is_read_from(alloc, &places.file, &folders, tree)? {
-        let path = String::from_str(alloc, request.path)?;
+        let path = String::from_str(alloc, request.out.as_str())?;
         return Err(StartFault::IsSource(path));
     }
     see_two(alloc, request, &places.file)?;
-    see_report(alloc, request.options, tree, &places.report)?;
+    see_report(alloc, &request.options, tree, &places.report)?;
     Ok(places.file.begin(alloc)?)
 }
 
@@ -183,7 +163,7 @@ fn broken_limit(
 }
 
 /// What an index lacks; nothing if there is none.
-fn told_in<'a>(ran: &'a Result<KeptIndex<'_>, Fault>) -> &'a [BuildFault]
+fn told_in<'a>(ran: &'a Result<KeptIndex<'_>, Fault>) -> &'a [Omission]
     ensures { MatchResult ran.now (λ kept. result.now ≡ kept.built.told) (λ _. result.now ≡ []) }
 {
     match ran {
@@ -194,13 +174,14 @@ fn told_in<'a>(ran: &'a Result<KeptIndex<'_>, Fault>) -> &'a [BuildFault]
 
 /// Puts what was written at its place, if it is a whole index that breaks no limit, and else gives it up. `Write`: the
 /// place refuses it.
+#[tactic(auto, using(crate::proofs::PlacingRules::of_parts))]
 fn finish<'a, P: OutPlace>(
     done: Result<KeptIndex<'a>, Fault>,
     broken: Option<LimitFault>,
     part: P::Part,
     out: &mut P,
 ) -> Result<KeptIndex<'a>, Fault>
-    ensures { Finishes (place P.holds P.same P.refuses P.gives_up P.Part.contents P.Part.failures out.old out.new) part
+    ensures { Finishes (place P.OutPlace P.Part.Sink out.old out.new) part
         done.entry broken result }
 {
     let is_kept = done.is_ok() && broken.is_none();
@@ -222,7 +203,7 @@ fn finish<'a, P: OutPlace>(
 /// whose report can't be written isn't put there, nor one that breaks a limit; the limit is said, too.
 fn index_over<R, F, P: OutPlace, Q: OutPlace, M: Sink>(
     host: &Host<'_, R, F>,
-    request: &IndexRequest<'_>,
+    request: &IndexRequest,
     begun: Option<Instant>,
     run: &TreeRun,
     places: &mut Places<P, Q>,
@@ -230,13 +211,12 @@ fn index_over<R, F, P: OutPlace, Q: OutPlace, M: Sink>(
 ) -> u8
 where
     R: Threads + Wait + Clock + Eprint + Sync,
-    ensures { IndexesInto (λ _ line. line ≡ option_map string_bytes run.now.none_found)
-        (asked_by request.now.options.now request.now.path.now request.now.limits)
+    ensures { IndexesInto (λ _ line. line ≡ option_map string_bytes run.now.none_found) request.now
         (IsChosenBy (option_map (λ f. string_bytes f.promise.0) run.now.choices.filter) (option_map (λ r. r.promise.0)
         run.now.choices.rule)) run.now.settings run.now.workers run.now.tree (map string_bytes run.now.unread.items)
-        (place P.holds P.same P.refuses P.gives_up P.Part.contents P.Part.failures places.old.file places.new.file)
-        (place Q.holds Q.same Q.refuses Q.gives_up Q.Part.contents Q.Part.failures places.old.report
-        places.new.report) (writer M.contents M.failures messages.old messages.new) result }
+        (place P.OutPlace P.Part.Sink places.old.file places.new.file)
+        (place Q.OutPlace Q.Part.Sink places.old.report
+        places.new.report) (writer M.Sink messages) result }
 {
     let explain = request.options.explain;
     let mut part = match begin(host.alloc, request, &run.tree, places) {
@@ -286,26 +266,22 @@ where
 /// run is; it is wiped before anything is said.
 fn index<R, F: ReadFiles + LookAgain + Sync, P: OutPlace, Q: OutPlace, M: Sink>(
     host: &Host<'_, R, F>,
-    request: &IndexRequest<'_>,
+    request: &IndexRequest,
     places: &mut Places<P, Q>,
     messages: &mut M,
 ) -> u8
 where
     R: Threads + Wait + Clock + Eprint + Sync,
     ensures indexed { Indexed (F.lists host.now.files.now) (F.gives host.now.files.now)
-        (blamed_by request.now.options.now (F.blames host.now.files.now))
-        (NoneFoundBy (F.passes host.now.files.now) host.now.is_watched request.now.options.now)
-        (Q.suspects places.old.report)
-        (asked_by request.now.options.now request.now.path.now request.now.limits)
-        (place P.holds P.same P.refuses P.gives_up P.Part.contents P.Part.failures places.old.file places.new.file)
-        (place Q.holds Q.same Q.refuses Q.gives_up Q.Part.contents Q.Part.failures places.old.report
-        places.new.report) (writer M.contents M.failures messages.old messages.new) result }
-    ensures navigable { WritesNavigable (F.lists host.now.files.now) (F.gives host.now.files.now)
-        request.now.options.now
-        (place P.holds P.same P.refuses P.gives_up P.Part.contents P.Part.failures places.old.file places.new.file)
-        result }
+        (blamed_by request.now.options (F.blames host.now.files.now))
+        (NoneFoundBy (F.passes host.now.files.now) host.now.is_watched request.now.options)
+        (Q.suspects places.old.report) request.now
+        (place P.OutPlace P.Part.Sink places.old.file places.new.file)
+        (place Q.OutPlace Q.Part.Sink places.old.report places.new.report) (writer M.Sink messages) result }
+    ensures navigable { WritesNavigable (F.lists host.now.files.now) (F.gives host.now.files.now) request.now.options
+        (place P.OutPlace P.Part.Sink places.old.file places.new.file) result }
 {
-    let options = request.options;
+    let options = &request.options;
     headline_of_options(host.files, options);
     let begun = beginning(host, request.quiet);
     let run = match start(host, options) {
@@ -325,23 +301,21 @@ where
 /// The same of the files that the options don't exclude.
 pub(crate) fn index_searched<R, F: ReadFiles + LookAgain + Sync, P: OutPlace, Q: OutPlace, M: Sink>(
     host: &Host<'_, R, F>,
-    request: &IndexRequest<'_>,
+    request: &IndexRequest,
     places: &mut Places<P, Q>,
     messages: &mut M,
 ) -> u8
 where
     R: Threads + Wait + Clock + Eprint + Sync,
-    ensures indexed { Indexed (searched_by request.now.options.now (F.lists host.now.files.now))
-        (F.gives host.now.files.now) (blamed_by request.now.options.now (F.blames host.now.files.now))
-        (NoneFoundBy (F.passes host.now.files.now) host.now.is_watched request.now.options.now)
-        (Q.suspects places.old.report)
-        (asked_by request.now.options.now request.now.path.now request.now.limits)
-        (place P.holds P.same P.refuses P.gives_up P.Part.contents P.Part.failures places.old.file places.new.file)
-        (place Q.holds Q.same Q.refuses Q.gives_up Q.Part.contents Q.Part.failures places.old.report
-        places.new.report) (writer M.contents M.failures messages.old messages.new) result }
-    ensures navigable { WritesNavigable (searched_by request.now.options.now (F.lists host.now.files.now))
-        (F.gives host.now.files.now) request.now.options.now
-        (place P.holds P.same P.refuses P.gives_up P.Part.contents P.Part.failures places.old.file places.new.file)
+    ensures indexed { Indexed (searched_by request.now.options (F.lists host.now.files.now))
+        (F.gives host.now.files.now) (blamed_by request.now.options (F.blames host.now.files.now))
+        (NoneFoundBy (F.passes host.now.files.now) host.now.is_watched request.now.options)
+        (Q.suspects places.old.report) request.now
+        (place P.OutPlace P.Part.Sink places.old.file places.new.file)
+        (place Q.OutPlace Q.Part.Sink places.old.report places.new.report) (writer M.Sink messages) result }
+    ensures navigable { WritesNavigable (searched_by request.now.options (F.lists host.now.files.now))
+        (F.gives host.now.files.now) request.now.options
+        (place P.OutPlace P.Part.Sink places.old.file places.new.file)
         result }
 {
     let files = Excluding {

@@ -49,6 +49,7 @@ mod laws;
 
 // What is printed and said, and the exit status.
 mod causes;
+mod fault_texts;
 mod messages;
 mod output;
 mod statuses;

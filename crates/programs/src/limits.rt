@@ -1,23 +1,14 @@
 //! The limits that an index has to keep.
 
 ghost use Rattle.std.specs.Prelude.{◌≡◌, IfOk, map, string_bytes};
-ghost use Rattle.scip_snapshot.specs.Showing.{writer};
-ghost use Rattle.programs.specs.Limits.{
-  broken_by,
-  limit_status,
-  name_of,
-  sentence_of,
-  sentence_with,
-  told,
-  too_few,
-  too_many,
-};
+ghost use Rattle.streams.specs.Writers.{writer};
+ghost use Rattle.programs.specs.Limits.{broken_by, limit_status, said_of, sentence_with, told, too_few, too_many};
 ghost use Rattle.programs.specs.Messages.{Tells};
 
 use crate::messages::report;
 use command_line::Limits;
 use protoscip::{SOURCES_STATUS, count_left_out, count_skipped_sources, plain_line};
-use scip_build::BuildFault;
+use scip_build::Omission;
 use std::alloc::{AllocError, Global};
 use streams::Sink;
 
@@ -48,38 +39,40 @@ fn sentence_with(
     format!(in alloc; "\n{first}{words}{second}")
 }
 
-impl LimitFault {
+/// What is said of the limit that an index breaks.
+#[derive(Clone, Copy)]
+struct LimitSaid {
     /// The name in its line.
-    fn name(&self) -> &'static str
-        ensures { result.now ≡ name_of self.now }
-    {
-        match self {
-            LimitFault::TooManySkipped(..) => "TooManySkipped",
-            LimitFault::TooFewSources(..) => "TooFewSources",
-        }
-    }
+    name: &'static str,
+    /// How many files are left out, or how many sources are indexed.
+    counted: usize,
+    /// The words between the two numbers.
+    words: &'static str,
+    /// How many there may be, or have to be.
+    limit: usize,
+}
 
-    /// A sentence with both numbers, after a line end.
-    fn sentence(&self, alloc: Global) -> Result<String, AllocError>
-        ensures { IfOk result (λ text. string_bytes text ≡ sentence_of self.now) }
+impl LimitFault {
+    /// What is said of it.
+    fn said(&self) -> LimitSaid
+        ensures name { result.name.now ≡ (said_of self.now).name }
+        ensures counted { result.counted ≡ (said_of self.now).counted }
+        ensures words { result.words.now ≡ (said_of self.now).words }
+        ensures limit { result.limit ≡ (said_of self.now).limit }
     {
-        match self {
-            LimitFault::TooManySkipped(skipped, most) => {
-                sentence_with(
-                    alloc,
-                    *skipped,
-                    " files are left out, and --max-skipped allows ",
-                    *most,
-                )
-            }
-            LimitFault::TooFewSources(indexed, least) => {
-                sentence_with(
-                    alloc,
-                    *indexed,
-                    " sources are indexed, and --min-sources wants ",
-                    *least,
-                )
-            }
+        match *self {
+            LimitFault::TooManySkipped(skipped, most) => LimitSaid {
+                name: "TooManySkipped",
+                counted: skipped,
+                words: " files are left out, and --max-skipped allows ",
+                limit: most,
+            },
+            LimitFault::TooFewSources(indexed, least) => LimitSaid {
+                name: "TooFewSources",
+                counted: indexed,
+                words: " sources are indexed, and --min-sources wants ",
+                limit: least,
+            },
         }
     }
 
@@ -87,11 +80,12 @@ impl LimitFault {
     fn text(&self, alloc: Global, explain: bool) -> Result<String, AllocError>
         ensures { IfOk result (λ text. string_bytes text ≡ told explain self.now) }
     {
-        let mut text = plain_line(alloc, self.name())?;
+        let said = self.said();
+        let mut text = plain_line(alloc, said.name)?;
         if !explain {
             return Ok(text);
         }
-        let sentence = self.sentence(alloc)?;
+        let sentence = sentence_with(alloc, said.counted, said.words, said.limit)?;
         text.push_str(sentence.as_str())?;
         Ok(text)
     }
@@ -123,7 +117,7 @@ pub(crate) fn broken_by(
     limits: Limits,
     sources: usize,
     unread: &[String],
-    told: &[BuildFault],
+    told: &[Omission],
 ) -> Option<LimitFault>
     ensures { result ≡ broken_by limits sources (map string_bytes unread.now) told.now }
 {
@@ -139,7 +133,7 @@ pub(crate) fn report_limit<M: Sink>(
     explain: bool,
     messages: &mut M,
 ) -> u8
-    ensures { Tells (told explain fault) limit_status (writer M.contents M.failures messages.old messages.new) result }
+    ensures { Tells (told explain fault) limit_status (writer M.Sink messages) result }
 {
     report(fault.text(alloc, explain), SOURCES_STATUS, messages)
 }

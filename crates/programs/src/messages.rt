@@ -1,11 +1,11 @@
 //! What is said on the stream of messages.
 
 ghost use Rattle.std.specs.Prelude.{MatchResult, string_bytes};
-ghost use Rattle.scip_snapshot.specs.Showing.{writer};
+ghost use Rattle.streams.specs.Writers.{writer};
 ghost use Rattle.programs.specs.Messages.{Says, memory_line, memory_status};
 
 use protoscip::MEMORY_STATUS;
-use scip_snapshot::say;
+use scip_site::say;
 use std::alloc::AllocError;
 use streams::Sink;
 
@@ -14,8 +14,8 @@ use streams::Sink;
 /// follows it.
 pub fn report<M: Sink>(line: Result<String, AllocError>, status: u8, messages: &mut M) -> u8
     ensures { MatchResult line
-        (λ text. Says (string_bytes text) status (writer M.contents M.failures messages.old messages.new) result)
-        (λ _. Says memory_line memory_status (writer M.contents M.failures messages.old messages.new) result) }
+        (λ text. Says (string_bytes text) status (writer M.Sink messages) result)
+        (λ _. Says memory_line memory_status (writer M.Sink messages) result) }
 {
     match line {
         Ok(line) => {

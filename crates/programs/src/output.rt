@@ -1,7 +1,7 @@
 //! What is printed.
 
 ghost use Rattle.std.specs.Prelude.{◌≡◌};
-ghost use Rattle.scip_snapshot.specs.Showing.{writer};
+ghost use Rattle.streams.specs.Writers.{writer};
 ghost use Rattle.programs.specs.Printing.{Prints, is_closed};
 
 use crate::messages::report;
@@ -28,8 +28,8 @@ pub(crate) fn print<W: Sink + Caused, M: Sink>(
     out: &mut W,
     messages: &mut M,
 ) -> u8
-    ensures { Prints W.cause text.now (writer W.contents W.failures out.old out.new)
-        (writer M.contents M.failures messages.old messages.new) result }
+    ensures { Prints W.cause text.now (writer W.Sink out)
+        (writer M.Sink messages) result }
 {
     match write_all(out, text.as_bytes()) {
         Ok(()) => 0,

@@ -11,6 +11,7 @@ use scip_symbol::PackageId;
 use std::alloc::Global;
 
 /// The package that options name.
+#[tactic(auto, using(crate::proofs::StartingRules::of_run))]
 pub(crate) fn package_of(alloc: Global, options: &IndexOptions) -> Result<PackageId, StartFault>
     ensures named { IfOk result (λ id. (id ≡ package_in options.now) × IsPackage (package_in options.now)) }
     ensures bad { IfErr result (NamesNone options.now) }

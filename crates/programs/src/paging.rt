@@ -1,7 +1,7 @@
 //! The program `pages`: pages of the sources of an index, to be read in a browser.
 
 ghost use Rattle.std.specs.Prelude.{◌≡◌, [], IfOk, string_bytes};
-ghost use Rattle.scip_snapshot.specs.Showing.{writer};
+ghost use Rattle.streams.specs.Writers.{writer};
 ghost use Rattle.programs.specs.Paging.{
   EndsPaged,
   Fills,
@@ -21,8 +21,7 @@ use crate::snapshotting::queries_of;
 use command_line::PagesOptions;
 use protoscip::{MEMORY_STATUS, STREAM_STATUS, path_line};
 use scip_query::Queries;
-use scip_site::{SiteFault, make_pages};
-use scip_snapshot::{Folders, ShowFault};
+use scip_site::{Folders, ShowFault, SiteFault, make_pages};
 use source_files::{EmptyFolders, FolderPlace, LookAgain, ReadFiles};
 use std::alloc::{AllocError, Global};
 use streams::{Failed, Sink};
@@ -40,13 +39,14 @@ fn taken_text(alloc: Global, out: &str, explain: bool) -> Result<String, AllocEr
 }
 
 /// Puts a folder at its place if all pages are made in it, and else gives it up. `Write`: the place refuses it.
+#[tactic(auto, using(crate::proofs::PlacingRules::of_folders))]
 fn finish<P: FolderPlace>(
     done: Result<(), SiteFault>,
     out: &str,
     folder: P::Folder,
     places: &mut P,
 ) -> Result<(), SiteFault>
-    ensures { Finishes (folder_places P.filed P.refuses_folder P.gives_up_folder P.Folder.made places.old places.new)
+    ensures { Finishes (folder_places P.FolderPlace P.Folder.MakeFiles places.old places.new)
         out.now folder done result }
 {
     match done {
@@ -71,8 +71,8 @@ fn fill<R, F: ReadFiles, P: FolderPlace, M: Sink>(
 ) -> Result<(), SiteFault>
     ensures { Fills (F.gives host.now.files.now) (string_bytes options.now.root) (string_bytes options.now.out)
         queries.now
-        (folder_places P.filed P.refuses_folder P.gives_up_folder P.Folder.made places.old places.new)
-        (writer M.contents M.failures messages.old messages.new) result }
+        (folder_places P.FolderPlace P.Folder.MakeFiles places.old places.new)
+        (writer M.Sink messages) result }
 {
     let out = options.out.as_str();
     let mut folder = places.begin_folder(host.alloc, out)?;
@@ -93,7 +93,7 @@ fn fill<R, F: ReadFiles, P: FolderPlace, M: Sink>(
 
 /// Gives the exit status. Why the pages aren't all made, if they aren't, is said.
 fn end<M: Sink>(alloc: Global, explain: bool, done: Result<(), SiteFault>, messages: &mut M) -> u8
-    ensures { EndsPaged explain done (writer M.contents M.failures messages.old messages.new) result }
+    ensures { EndsPaged explain done (writer M.Sink messages) result }
 {
     match done {
         Ok(()) => 0,
@@ -114,8 +114,8 @@ fn make<R, F: ReadFiles, P: FolderPlace, M: Sink>(
     messages: &mut M,
 ) -> u8
     ensures { MakesAndEnds (F.gives host.now.files.now) options.now queries.now
-        (folder_places P.filed P.refuses_folder P.gives_up_folder P.Folder.made places.old places.new)
-        (writer M.contents M.failures messages.old messages.new) result }
+        (folder_places P.FolderPlace P.Folder.MakeFiles places.old places.new)
+        (writer M.Sink messages) result }
 {
     let done = fill(host, options, queries, places, messages);
     end(host.alloc, options.explain, done, messages)
@@ -130,8 +130,8 @@ fn read_and_make<R, F: ReadFiles + LookAgain, P: FolderPlace, M: Sink>(
     messages: &mut M,
 ) -> u8
     ensures { ReadsAndMakes (F.gives host.now.files.now) (F.blames host.now.files.now [] []) options.now
-        (folder_places P.filed P.refuses_folder P.gives_up_folder P.Folder.made places.old places.new)
-        (writer M.contents M.failures messages.old messages.new) result }
+        (folder_places P.FolderPlace P.Folder.MakeFiles places.old places.new)
+        (writer M.Sink messages) result }
 {
     let path = options.index.as_str();
     match queries_of(host.alloc, host.files, path) {
@@ -151,8 +151,8 @@ pub(crate) fn pages<R, F: ReadFiles + EmptyFolders + LookAgain, P: FolderPlace, 
 ) -> u8
     ensures { RunsPages (F.frees host.now.files.now) (F.gives host.now.files.now)
         (F.blames host.now.files.now [] []) options.now
-        (folder_places P.filed P.refuses_folder P.gives_up_folder P.Folder.made places.old places.new)
-        (writer M.contents M.failures messages.old messages.new) result }
+        (folder_places P.FolderPlace P.Folder.MakeFiles places.old places.new)
+        (writer M.Sink messages) result }
 {
     let out = options.out.as_str();
     match host.files.is_free(out) {

@@ -1,7 +1,16 @@
 //! Why commands about the index of a file aren't answered.
 
 ghost use Rattle.std.specs.Prelude.{◌≡◌, IfOk, string_bytes};
-ghost use Rattle.programs.specs.QueryFaults.{line_of, name_of, status_of};
+ghost use Rattle.programs.specs.QueryFaults.{
+  answer_said,
+  line_of,
+  line_with,
+  no_index,
+  nowhere,
+  said_of,
+  status_of,
+  wire_said,
+};
 
 use crate::statuses::INDEX_STATUS;
 use protoscip::{MEMORY_STATUS, STREAM_STATUS, path_line, placed_line, plain_line};
@@ -45,15 +54,156 @@ impl From<WireFault> for QueryFault {
     }
 }
 
-impl QueryFault {
+/// Where in the index's file the line of a fault says that it is.
+#[derive(Clone, Copy)]
+pub(crate) enum QueryPlace {
+    /// Nowhere in it.
+    Nowhere,
+    /// In all of it.
+    WholeFile,
+    /// At an offset in bytes.
+    Offset(usize),
+}
+
+/// What is said of why commands aren't answered.
+#[derive(Clone, Copy)]
+pub(crate) struct QuerySaid {
     /// The name in its line: the variant's, or that of what it holds.
-    fn name(&self) -> &'static str
-        ensures { result.now ≡ name_of self.now }
+    pub(crate) name: &'static str,
+    /// Where its line says that it is.
+    pub(crate) place: QueryPlace,
+    /// A sentence after a line end; nothing for lack of memory.
+    pub(crate) explanation: &'static str,
+    /// The exit status.
+    pub(crate) status: u8,
+}
+
+/// What is said of a fault that is nowhere in the file.
+fn nowhere(name: &'static str, explanation: &'static str, status: u8) -> QuerySaid
+    ensures name { result.name.now ≡ (nowhere name.now explanation.now status).name }
+    ensures place { result.place ≡ (nowhere name.now explanation.now status).place }
+    ensures explanation { result.explanation.now ≡ (nowhere name.now explanation.now status).explanation }
+    ensures status { result.status ≡ (nowhere name.now explanation.now status).status }
+{
+    QuerySaid {
+        name,
+        place: QueryPlace::Nowhere,
+        explanation,
+        status,
+    }
+}
+
+/// What is said of bytes that decode to no index, at the offset of the record that can't be read.
+fn no_index(name: &'static str, offset: usize, explanation: &'static str) -> QuerySaid
+    ensures name { result.name.now ≡ (no_index name.now offset explanation.now).name }
+    ensures place { result.place ≡ (no_index name.now offset explanation.now).place }
+    ensures explanation { result.explanation.now ≡ (no_index name.now offset explanation.now).explanation }
+    ensures status { result.status ≡ (no_index name.now offset explanation.now).status }
+{
+    QuerySaid {
+        name,
+        place: QueryPlace::Offset(offset),
+        explanation,
+        status: INDEX_STATUS,
+    }
+}
+
+/// What is said of bytes that decode to no index, and of lack of memory for it.
+fn wire_said(fault: WireFault) -> QuerySaid
+    ensures name { result.name.now ≡ (wire_said fault).name }
+    ensures place { result.place ≡ (wire_said fault).place }
+    ensures explanation { result.explanation.now ≡ (wire_said fault).explanation }
+    ensures status { result.status ≡ (wire_said fault).status }
+{
+    let name = fault.name();
+    match fault {
+        WireFault::Truncated(at) => {
+            let explanation =
+                "\nthis file is no SCIP index, or was cut off: the record here runs past the end";
+            no_index(name, at, explanation)
+        }
+        WireFault::Varint(at) => {
+            let explanation = "\nthis file is no SCIP index: the number here is too large";
+            no_index(name, at, explanation)
+        }
+        WireFault::FieldZero(at) => {
+            let explanation = "\nthis file is no SCIP index: no field has the number 0";
+            no_index(name, at, explanation)
+        }
+        WireFault::Group(at) => {
+            let explanation = "\nthis file is no SCIP index: the record here is a group";
+            no_index(name, at, explanation)
+        }
+        WireFault::WireType(at) => {
+            let explanation = "\nthis file is no SCIP index: no record has this wire type";
+            no_index(name, at, explanation)
+        }
+        WireFault::Repeated(at) => {
+            let explanation = "\nthis file is no SCIP index: the record here may come only once";
+            no_index(name, at, explanation)
+        }
+        WireFault::Utf8(at) => {
+            let explanation = "\nthis file is no SCIP index: the text here isn't UTF-8";
+            no_index(name, at, explanation)
+        }
+        WireFault::BadRange(at) => {
+            let explanation =
+                "\nthis file is no SCIP index: a range has three or four numbers, none of them negative";
+            no_index(name, at, explanation)
+        }
+        WireFault::Memory => nowhere(name, "", MEMORY_STATUS),
+    }
+}
+
+/// What is said of commands that can't be read, and of answers that can't be written.
+fn answer_said(fault: AnswerFault) -> QuerySaid
+    ensures name { result.name.now ≡ (answer_said fault).name }
+    ensures place { result.place ≡ (answer_said fault).place }
+    ensures explanation { result.explanation.now ≡ (answer_said fault).explanation }
+    ensures status { result.status ≡ (answer_said fault).status }
+{
+    let name = fault.name();
+    match fault {
+        AnswerFault::Read => {
+            let explanation = "\nstandard input couldn't be read to its end";
+            nowhere(name, explanation, STREAM_STATUS)
+        }
+        AnswerFault::Write(_) => {
+            let explanation = "\nthe output can't be made, or its disk is full, or nobody reads it";
+            nowhere(name, explanation, STREAM_STATUS)
+        }
+        AnswerFault::Memory => nowhere(name, "", MEMORY_STATUS),
+    }
+}
+
+/// The line, without its end, that says where it is in the file with this path.
+fn line_with(alloc: Global, path: &str, place: QueryPlace, name: &str) -> Result<String, AllocError>
+    ensures { IfOk result (λ line. string_bytes line ≡ line_with path.now place name.now) }
+{
+    match place {
+        QueryPlace::Nowhere => plain_line(alloc, name),
+        QueryPlace::WholeFile => path_line(alloc, path, name),
+        QueryPlace::Offset(offset) => placed_line(alloc, path, Some(offset), name),
+    }
+}
+
+impl QueryFault {
+    /// What is said of it.
+    pub(crate) fn said(&self) -> QuerySaid
+        ensures name { result.name.now ≡ (said_of self.now).name }
+        ensures place { result.place ≡ (said_of self.now).place }
+        ensures explanation { result.explanation.now ≡ (said_of self.now).explanation }
+        ensures status { result.status ≡ (said_of self.now).status }
     {
-        match self {
-            QueryFault::Unreadable => "Unreadable",
-            QueryFault::Wire(fault) => fault.name(),
-            QueryFault::Answers(fault) => fault.name(),
+        match *self {
+            QueryFault::Unreadable => QuerySaid {
+                name: "Unreadable",
+                place: QueryPlace::WholeFile,
+                explanation: "\nit isn't there, or is a folder, or can't be read",
+                status: STREAM_STATUS,
+            },
+            QueryFault::Wire(fault) => wire_said(fault),
+            QueryFault::Answers(fault) => answer_said(fault),
         }
     }
 
@@ -61,23 +211,14 @@ impl QueryFault {
     pub(crate) fn line(&self, alloc: Global, path: &str) -> Result<String, AllocError>
         ensures { IfOk result (λ line. string_bytes line ≡ line_of path.now self.now) }
     {
-        let name = self.name();
-        match self {
-            QueryFault::Unreadable => path_line(alloc, path, name),
-            QueryFault::Wire(fault) => placed_line(alloc, path, fault.offset(), name),
-            QueryFault::Answers(_) => plain_line(alloc, name),
-        }
+        let said = self.said();
+        line_with(alloc, path, said.place, said.name)
     }
 
     /// The exit status.
     pub(crate) fn status(&self) -> u8
         ensures { result ≡ status_of self.now }
     {
-        match self {
-            QueryFault::Wire(WireFault::Memory) | QueryFault::Answers(AnswerFault::Memory) =>
-                MEMORY_STATUS,
-            QueryFault::Wire(_) => INDEX_STATUS,
-            QueryFault::Unreadable | QueryFault::Answers(_) => STREAM_STATUS,
-        }
+        self.said().status
     }
 }

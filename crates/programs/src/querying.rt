@@ -1,8 +1,8 @@
 //! Answers to commands about the index that a file holds.
 
+ghost use Rattle.streams.specs.Readers.{reader};
+ghost use Rattle.streams.specs.Writers.{writer};
 ghost use Rattle.programs.specs.Queries.{IsReadFrom, Queried};
-ghost use Rattle.programs.specs.Streams.{reader};
-ghost use Rattle.scip_snapshot.specs.Showing.{writer};
 
 use crate::query_fault::QueryFault;
 use protoscip::answer_commands;
@@ -13,6 +13,7 @@ use std::alloc::Global;
 use streams::{Feed, Sink};
 
 /// The index that a file holds. Nothing of the file's bytes is kept beside it.
+#[tactic(auto, using(crate::proofs::QueryRules::of_index))]
 pub(crate) fn index_of_file<F: ReadFiles>(
     alloc: Global,
     files: &F,
@@ -41,8 +42,7 @@ pub(crate) fn query<F: ReadFiles, R: Feed, W: Sink>(
     commands: &mut R,
     answers: &mut W,
 ) -> Result<(), QueryFault>
-    ensures { Queried (F.gives files.now path.now) (reader R.remaining R.failures R.reads R.ends commands.old
-        commands.new) (writer W.contents W.failures answers.old answers.new) result }
+    ensures { Queried (F.gives files.now path.now) (reader R.Feed commands) (writer W.Sink answers) result }
 {
     let index = index_of_file(alloc, files, path)?;
     match answer_commands(alloc, index, commands, answers) {

@@ -6,7 +6,7 @@ ghost use Rattle.source_tree.specs.Trees.{IsSourceCount};
 ghost use Rattle.fault_reports.specs.Reports.{report_of};
 ghost use Rattle.protoscip.specs.FaultLines.{HasFilesOf, HaveFilesOf};
 ghost use Rattle.protoscip.specs.Findings.{all_findings, counts_of, counts_with, refused_findings};
-ghost use Rattle.protoscip.specs.Statuses.{status_of};
+ghost use Rattle.protoscip.specs.FaultTexts.{status_of};
 ghost use Rattle.protoscip.specs.ToldTrees.{MayNotTell};
 ghost use Rattle.programs.specs.Choices.{IsChosenBy};
 ghost use Rattle.programs.specs.Limits.{IsBrokenBy};
@@ -26,14 +26,14 @@ use crate::folders::folders_read;
 use crate::limits::{LimitFault, broken_by};
 use crate::start_fault::StartFault;
 use crate::starting::TreeRun;
+use basics::Sequence;
 use command_line::{IndexOptions, Limits, ReportOptions};
 use fault_reports::{ReportFormat, report_bytes};
 use index_pool::NoGate;
 use protoscip::{
     Fault, SOURCES_STATUS, all_findings, counts_of, counts_with, refused_findings, told_of_tree,
 };
-use scip_build::BuildFault;
-use sequences::Sequence;
+use scip_build::Omission;
 use source_files::{OutPlace, is_read_from};
 use source_tree::Tree;
 use std::alloc::{AllocError, Global};
@@ -59,17 +59,16 @@ pub(crate) struct Reporter<'a, R> {
 
 /// Sees, if a report is asked for, that none of the files that were read is the one at its place. `ReportIsSource`: one
 /// is.
+#[tactic(auto, using(crate::proofs::PlacingRules::of_report))]
 pub(crate) fn see_report<Q: OutPlace>(
     alloc: Global,
     options: &IndexOptions,
     tree: &Tree,
     at: &Q,
 ) -> Result<(), StartFault>
-    ensures apart { IfOk result (λ _. IfSome options.now.report.path (λ _.
-        IsRead (place Q.holds Q.same Q.refuses Q.gives_up Q.Part.contents Q.Part.failures at.now at.now) options.now
-        tree.now false)) }
-    ensures stops { IfErr result (MayNotReport (place Q.holds Q.same Q.refuses Q.gives_up Q.Part.contents
-        Q.Part.failures at.now at.now) options.now tree.now) }
+    ensures apart { IfOk result (λ _. IfSome options.now.report.path
+        (λ _. IsRead (place Q.OutPlace Q.Part.Sink at.now at.now) options.now tree.now false)) }
+    ensures stops { IfErr result (MayNotReport (place Q.OutPlace Q.Part.Sink at.now at.now) options.now tree.now) }
 {
     let Some(path) = &options.report.path else {
         return Ok(());
@@ -102,7 +101,7 @@ fn is_of_files(fault: &Fault) -> bool
 }
 
 /// The status that a run is to end with whose index lacks this, and breaks a limit or none; or which has this fault.
-fn due_status(fault: Option<Fault>, broken: Option<LimitFault>, told: &[BuildFault]) -> u8
+fn due_status(fault: Option<Fault>, broken: Option<LimitFault>, told: &[Omission]) -> u8
     ensures { result ≡ due_status (ran_of told.now fault) broken }
 {
     match (fault, broken) {
@@ -117,7 +116,7 @@ fn limit_broken(
     limits: Limits,
     run: &TreeRun,
     fault: Option<Fault>,
-    told: &[BuildFault],
+    told: &[Omission],
 ) -> Option<LimitFault>
     ensures { IsBrokenBy limits run.now.tree (map string_bytes run.now.unread.items) (ran_of told.now fault) result }
 {
@@ -132,7 +131,7 @@ fn report_of_index(
     alloc: Global,
     format: ReportFormat,
     run: &TreeRun,
-    told: &[BuildFault],
+    told: &[Omission],
     status: u8,
 ) -> Result<Vec<u8>, AllocError>
     requires { HaveFilesOf run.now.tree told.now }
@@ -152,7 +151,7 @@ fn report_of_fault(
     format: ReportFormat,
     tree: &Tree,
     fault: &Fault,
-    told: &[BuildFault],
+    told: &[Omission],
 ) -> Result<Vec<u8>, AllocError>
     requires fault { HasFilesOf tree.now fault.now }
     requires told { HaveFilesOf tree.now told.now }
@@ -167,7 +166,7 @@ fn report_of_fault(
 impl<R: Threads + Wait> Reporter<'_, R> {
     /// What is told beside a fault: if it is of the files of the tree, all that would be told if what has a fault were
     /// left out. `Spawn`, `Memory`: that can't be had.
-    fn told_beside(&self, fault: &Fault) -> Result<Sequence<BuildFault>, Fault>
+    fn told_beside(&self, fault: &Fault) -> Result<Sequence<Omission>, Fault>
         ensures told { IfOk result (λ told. IsToldBeside (IsChosenBy (option_map (λ f. string_bytes f.promise.0)
             self.now.run.now.choices.filter) (option_map (λ r. r.promise.0) self.now.run.now.choices.rule))
             self.now.run.now.settings self.now.run.now.tree fault.now told) }
@@ -187,12 +186,8 @@ impl<R: Threads + Wait> Reporter<'_, R> {
     }
 
     /// The bytes of the report of a run that has a fault, or whose index lacks this; it is to end with this status.
-    fn report(
-        &self,
-        told: &[BuildFault],
-        fault: Option<Fault>,
-        status: u8,
-    ) -> Result<Vec<u8>, Fault>
+    #[tactic(auto, using(crate::proofs::PlacingRules::of_telling))]
+    fn report(&self, told: &[Omission], fault: Option<Fault>, status: u8) -> Result<Vec<u8>, Fault>
         requires fault { IfSome fault (HasFilesOf self.now.run.now.tree) }
         requires told { HaveFilesOf self.now.run.now.tree told.now }
         requires status { IfSome fault (λ fault. status ≡ status_of fault) }
@@ -216,8 +211,8 @@ impl<R: Threads + Wait> Reporter<'_, R> {
 
 /// Writes bytes to a part of a place, and puts it there. `Write`: a write fails, or the place refuses the part.
 pub(crate) fn put_bytes<Q: OutPlace>(alloc: Global, at: &mut Q, bytes: &[u8]) -> Result<(), Fault>
-    ensures { (workers : ℕ) → GoesTo (place Q.holds Q.same Q.refuses Q.gives_up Q.Part.contents Q.Part.failures
-        at.old at.new) (λ all. all ≡ bytes.now) workers result }
+    ensures { (workers : ℕ) → GoesTo (place Q.OutPlace Q.Part.Sink at.old at.new) (λ all. all ≡ bytes.now) workers
+        result }
 {
     let mut part = at.begin(alloc)?;
     match write_all(&mut part, bytes) {
@@ -236,13 +231,13 @@ pub(crate) fn put_bytes<Q: OutPlace>(alloc: Global, at: &mut Q, bytes: &[u8]) ->
 /// `Write`: it can't be written; `Spawn`, `Memory`: it can't be made.
 pub(crate) fn report_run<R: Threads + Wait, Q: OutPlace>(
     reporter: &Reporter<'_, R>,
-    told: &[BuildFault],
+    told: &[Omission],
     fault: Option<Fault>,
     at: &mut Q,
 ) -> Result<(), Fault>
     requires fault { IfSome fault (HasFilesOf reporter.now.run.now.tree) }
     requires told { HaveFilesOf reporter.now.run.now.tree told.now }
-    ensures { Reports (place Q.holds Q.same Q.refuses Q.gives_up Q.Part.contents Q.Part.failures at.old at.new)
+    ensures { Reports (place Q.OutPlace Q.Part.Sink at.old at.new)
         reporter.now.options.now reporter.now.limits (IsChosenBy (option_map (λ f. string_bytes f.promise.0)
         reporter.now.run.now.choices.filter) (option_map (λ r. r.promise.0) reporter.now.run.now.choices.rule))
         reporter.now.run.now.settings reporter.now.run.now.workers reporter.now.run.now.tree

@@ -1,12 +1,14 @@
 //! What the program does with its files and streams, and the exit status that it ends with.
 
 ghost use Rattle.std.specs.Prelude.{◌≡◌, [], None, Result, IfSome, IfOk, IfErr, string_bytes};
-ghost use Rattle.scip_snapshot.specs.Showing.{maker, writer};
+ghost use Rattle.streams.specs.Readers.{IsReadBriefly, reader};
+ghost use Rattle.streams.specs.Writers.{writer};
+ghost use Rattle.source_files.specs.Makers.{making};
 ghost use Rattle.command_line.specs.Requests.{
   dump_options,
   explains,
-  index_options,
   index_path,
+  index_request,
   out_path,
   pages_options,
   printed_text,
@@ -14,13 +16,12 @@ ghost use Rattle.command_line.specs.Requests.{
   shell_options,
   snapshot_options,
 };
-ghost use Rattle.streams.specs.WholeReads.{IsReadBriefly};
 ghost use Rattle.protoscip.specs.declared.fault.Fault.{Fault};
 ghost use Rattle.protoscip.specs.Dump.{IsDumped, LeavesReader};
 ghost use Rattle.protoscip.specs.Explanations.{explain_in};
 ghost use Rattle.programs.specs.declared.query_fault.QueryFault.{QueryFault};
 ghost use Rattle.programs.specs.Answering.{Answers};
-ghost use Rattle.programs.specs.Asked.{asked_of, report_path};
+ghost use Rattle.programs.specs.Asked.{report_path};
 ghost use Rattle.programs.specs.Dumping.{EndsDump};
 ghost use Rattle.programs.specs.Indexing.{Indexed, WritesNavigable};
 ghost use Rattle.programs.specs.Messages.{Tells, memory_line, memory_status};
@@ -32,11 +33,10 @@ ghost use Rattle.programs.specs.Queries.{Queried};
 ghost use Rattle.programs.specs.Searches.{blamed_by, links_followed, searched_by};
 ghost use Rattle.programs.specs.Serving.{AnswersNavigable, Served};
 ghost use Rattle.programs.specs.Snapshotting.{RunsSnapshot};
-ghost use Rattle.programs.specs.Streams.{reader};
 
 use crate::dumping::dump_source;
 use crate::host::Host;
-use crate::indexing::{IndexRequest, index_searched};
+use crate::indexing::index_searched;
 use crate::messages::report;
 use crate::output::print;
 use crate::paging::pages;
@@ -57,7 +57,7 @@ use streams::{Feed, Sink, write_all};
 
 /// Says why a command line is refused. What the stream of messages doesn't take is lost.
 fn refuse<M: Sink>(text: &str, messages: &mut M) -> u8
-    ensures { Refuses text.now (writer M.contents M.failures messages.old messages.new) result }
+    ensures { Refuses text.now (writer M.Sink messages) result }
 {
     let _ = write_all(messages, text.as_bytes());
     COMMAND_LINE_STATUS
@@ -74,10 +74,8 @@ fn answer<R, F: ReadFiles + LookAgain, I: Feed, W: Sink, M: Sink>(
     messages: &mut M,
 ) -> u8
     ensures { (done : Result (Unit {0}) QueryFault)
-        × Queried (F.gives host.now.files.now path.now) (reader I.remaining I.failures I.reads I.ends input.old
-        input.new) (writer W.contents W.failures out.old out.new) done
-        × Answers (F.blames host.now.files.now [] []) explain path.now done
-        (writer M.contents M.failures messages.old messages.new) result }
+        × Queried (F.gives host.now.files.now path.now) (reader I.Feed input) (writer W.Sink out) done
+        × Answers (F.blames host.now.files.now [] []) explain path.now done (writer M.Sink messages) result }
 {
     match query(host.alloc, host.files, path, input, out) {
         Ok(()) => 0,
@@ -92,7 +90,7 @@ pub fn out_path(asked: &Result<Request, AllocError>) -> &str
     ensures unread { IfErr asked.now (λ _. result.now ≡ []) }
 {
     match asked {
-        Ok(Request::Index(_, path, _, _)) => path.as_str(),
+        Ok(Request::Index(given)) => given.out.as_str(),
         _ => "",
     }
 }
@@ -115,7 +113,7 @@ pub fn report_path(asked: &Result<Request, AllocError>) -> &str
     ensures unread { IfErr asked.now (λ _. result.now ≡ []) }
 {
     match asked {
-        Ok(Request::Index(options, _, _, _)) => path_of(&options.report),
+        Ok(Request::Index(given)) => path_of(&given.options.report),
         Ok(Request::Shell(options)) => path_of(&options.report),
         _ => "",
     }
@@ -126,7 +124,7 @@ pub fn links_followed(asked: &Result<Request, AllocError>) -> bool
     ensures { result ≡ links_followed asked.now }
 {
     match asked {
-        Ok(Request::Index(options, _, _, _)) => matches!(options.links, Links::Follow),
+        Ok(Request::Index(given)) => matches!(given.options.links, Links::Follow),
         Ok(Request::Shell(options)) => matches!(options.links, Links::Follow),
         _ => false,
     }
@@ -150,74 +148,62 @@ where
     // Help and the version are printed. Where the pipe is closed, nothing is said of this; nor of a listing, nor of
     // snapshots.
     ensures printed { IfOk asked.now (λ request. IfSome (printed_text request) (λ text.
-        Prints W.cause text (writer W.contents W.failures out.old out.new)
-        (writer M.contents M.failures messages.old messages.new) result
+        Prints W.cause text (writer W.Sink out) (writer M.Sink messages) result
         × (input.new ≡ input.old) × (places.new ≡ places.old))) }
     // It says why a command line is refused.
     ensures refused { IfOk asked.now (λ request. IfSome (refused_text request) (λ text.
-        Refuses text (writer M.contents M.failures messages.old messages.new) result
+        Refuses text (writer M.Sink messages) result
         × (input.new ≡ input.old) × (out.new ≡ out.old) × (places.new ≡ places.old))) }
     // What `dump` promises of its answer, and what becomes of that.
     ensures dumped { IfOk asked.now (λ request. IfSome (dump_options request) (λ options.
         ((done : Result (Unit {0}) Fault)
-        × IsDumped I.remaining W.contents W.failures options.dialect input.old out.old out.new done
-        × LeavesReader I.failures I.reads I.ends input.old input.new done
-        × IsReadBriefly I.reads input.old input.new
-        × EndsDump I.remaining (explain_in options.explain options.dialect)
-        (is_closed (W.cause out.new)) input.old done (writer M.contents M.failures messages.old messages.new) result)
+        × IsDumped options.dialect (reader I.Feed input) (writer W.Sink out) done
+        × LeavesReader (reader I.Feed input) done × IsReadBriefly (reader I.Feed input)
+        × EndsDump (explain_in options.explain options.dialect)
+        (is_closed (W.cause out.new)) (reader I.Feed input) done (writer M.Sink messages) result)
         × (places.new ≡ places.old))) }
     // What `query` promises of its answers, and what becomes of that.
-    ensures queried { IfOk asked.now (λ request. IfSome (index_path request) (λ path. ((done : Result (Unit {0})
-        QueryFault)
-        × Queried (F.gives host.now.files.now path) (reader I.remaining I.failures I.reads I.ends input.old input.new)
-        (writer W.contents W.failures out.old out.new) done
-        × Answers (F.blames host.now.files.now [] []) (explains request) path done
-        (writer M.contents M.failures messages.old messages.new) result)
+    ensures queried { IfOk asked.now (λ request. IfSome (index_path request) (λ path.
+        ((done : Result (Unit {0}) QueryFault)
+        × Queried (F.gives host.now.files.now path) (reader I.Feed input) (writer W.Sink out) done
+        × Answers (F.blames host.now.files.now [] []) (explains request) path done (writer M.Sink messages) result)
         × (places.new ≡ places.old))) }
     // What `index` does.
-    ensures indexed { IfOk asked.now (λ request. IfSome (asked_of request) (λ asked.
-        Indexed (searched_by asked.options (F.lists host.now.files.now)) (F.gives host.now.files.now)
-        (blamed_by asked.options (F.blames host.now.files.now))
-        (NoneFoundBy (F.passes host.now.files.now) host.now.is_watched asked.options)
-        (Q.suspects places.old.report) asked
-        (place O.holds O.same O.refuses O.gives_up O.Part.contents O.Part.failures places.old.file places.new.file)
-        (place Q.holds Q.same Q.refuses Q.gives_up Q.Part.contents Q.Part.failures places.old.report places.new.report)
-        (writer M.contents M.failures messages.old messages.new) result
+    ensures indexed { IfOk asked.now (λ request. IfSome (index_request request) (λ given.
+        Indexed (searched_by given.options (F.lists host.now.files.now)) (F.gives host.now.files.now)
+        (blamed_by given.options (F.blames host.now.files.now))
+        (NoneFoundBy (F.passes host.now.files.now) host.now.is_watched given.options)
+        (Q.suspects places.old.report) given (place O.OutPlace O.Part.Sink places.old.file places.new.file)
+        (place Q.OutPlace Q.Part.Sink places.old.report places.new.report) (writer M.Sink messages) result
         × (input.new ≡ input.old) × (out.new ≡ out.old))) }
     // What `shell` does.
     ensures served { IfOk asked.now (λ request. IfSome (shell_options request) (λ options.
         Served (searched_by options (F.lists host.now.files.now)) (F.gives host.now.files.now)
         (blamed_by options (F.blames host.now.files.now))
         (NoneFoundBy (F.passes host.now.files.now) host.now.is_watched options)
-        (Q.suspects places.old.report) options
-        (place Q.holds Q.same Q.refuses Q.gives_up Q.Part.contents Q.Part.failures places.old.report places.new.report)
-        (reader I.remaining I.failures I.reads I.ends input.old input.new)
-        (writer W.contents W.failures out.old out.new) (writer M.contents M.failures messages.old messages.new) result
+        (Q.suspects places.old.report) options (place Q.OutPlace Q.Part.Sink places.old.report places.new.report)
+        (reader I.Feed input) (writer W.Sink out) (writer M.Sink messages) result
         × (places.new.file ≡ places.old.file))) }
     // After a success of either, queries over what is written, or answered from, are exact.
-    ensures navigable { IfOk asked.now (λ request. IfSome (index_options request) (λ options.
-        WritesNavigable (searched_by options (F.lists host.now.files.now)) (F.gives host.now.files.now) options
-        (place O.holds O.same O.refuses O.gives_up O.Part.contents O.Part.failures places.old.file places.new.file)
-        result)
+    ensures navigable { IfOk asked.now (λ request. IfSome (index_request request) (λ given.
+        WritesNavigable (searched_by given.options (F.lists host.now.files.now)) (F.gives host.now.files.now)
+        given.options
+        (place O.OutPlace O.Part.Sink places.old.file places.new.file) result)
         × IfSome (shell_options request) (λ options.
         AnswersNavigable (searched_by options (F.lists host.now.files.now)) (F.gives host.now.files.now) options
-        (reader I.remaining I.failures I.reads I.ends input.old input.new)
-        (writer W.contents W.failures out.old out.new) result)) }
+        (reader I.Feed input) (writer W.Sink out) result)) }
     // What `snapshot` does.
     ensures snapshotted { IfOk asked.now (λ request. IfSome (snapshot_options request) (λ options.
         RunsSnapshot (F.gives host.now.files.now) (F.blames host.now.files.now [] []) W.cause options
-        (writer W.contents W.failures out.old out.new)
-        (maker O.made places.old.file places.new.file) (writer M.contents M.failures messages.old messages.new) result
+        (writer W.Sink out) (making O.MakeFiles places.old.file places.new.file) (writer M.Sink messages) result
         × (input.new ≡ input.old) × (places.new.report ≡ places.old.report))) }
     // What `pages` does.
     ensures paged { IfOk asked.now (λ request. IfSome (pages_options request) (λ options.
         RunsPages (F.frees host.now.files.now) (F.gives host.now.files.now) (F.blames host.now.files.now [] []) options
-        (folder_places O.filed O.refuses_folder O.gives_up_folder O.Folder.made places.old.file places.new.file)
-        (writer M.contents M.failures messages.old messages.new) result
+        (folder_places O.FolderPlace O.Folder.MakeFiles places.old.file places.new.file) (writer M.Sink messages) result
         × (input.new ≡ input.old) × (out.new ≡ out.old) × (places.new.report ≡ places.old.report))) }
     // Nothing was asked for, since memory ran out, and that is said.
-    ensures unknown { IfErr asked.now (λ _.
-        Tells memory_line memory_status (writer M.contents M.failures messages.old messages.new) result
+    ensures unknown { IfErr asked.now (λ _. Tells memory_line memory_status (writer M.Sink messages) result
         × (input.new ≡ input.old) × (out.new ≡ out.old) × (places.new ≡ places.old)) }
 {
     match asked {
@@ -230,15 +216,7 @@ where
                 snapshot(host, options, out, &mut places.file, messages)
             }
             Request::Pages(options) => pages(host, options, &mut places.file, messages),
-            Request::Index(options, path, quiet, limits) => {
-                let index_request = IndexRequest {
-                    options,
-                    path: path.as_str(),
-                    quiet: *quiet,
-                    limits: *limits,
-                };
-                index_searched(host, &index_request, places, messages)
-            }
+            Request::Index(given) => index_searched(host, given, places, messages),
             Request::Shell(options) => {
                 shell_searched(host, options, input, out, &mut places.report, messages)
             }

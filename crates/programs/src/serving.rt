@@ -1,15 +1,15 @@
 //! The program `shell`.
 
-ghost use Rattle.std.specs.Prelude.{◌≡◌, [], None, Some, IfErr, IfOk, MatchResult, map, string_bytes};
+ghost use Rattle.std.specs.Prelude.{◌≡◌, [], IfErr, IfOk, MatchResult, map, string_bytes};
 ghost use Rattle.std.specs.Option.{option_map};
+ghost use Rattle.streams.specs.Readers.{reader};
+ghost use Rattle.streams.specs.Writers.{writer};
 ghost use Rattle.protoscip.specs.FaultLines.{HasFilesOf, HaveFilesOf};
 ghost use Rattle.programs.specs.Messages.{TellsOfSuccess};
 ghost use Rattle.programs.specs.NoSources.{NoneFoundBy};
 ghost use Rattle.programs.specs.Placing.{place};
 ghost use Rattle.programs.specs.Searches.{blamed_by, searched_by};
 ghost use Rattle.programs.specs.Serving.{AnswersNavigable, Served};
-ghost use Rattle.programs.specs.Streams.{reader};
-ghost use Rattle.scip_snapshot.specs.Showing.{writer};
 ghost use Rattle.programs.specs.TreeRuns.{Ends};
 
 use crate::ending::{stop, tell};
@@ -24,7 +24,7 @@ use command_line::IndexOptions;
 use index_pool::NoGate;
 use proto_parse::Dialect;
 use protoscip::{Fault, Recorded, explain_in, session};
-use scip_build::BuildFault;
+use scip_build::Omission;
 use source_files::{Excluding, LookAgain, OutPlace, ReadFiles};
 use std::alloc::Global;
 use std::sync::Wait;
@@ -44,7 +44,7 @@ fn end<M: Sink>(
     requires told { IfOk done.now (λ recorded. HaveFilesOf run.now.tree recorded.told) }
     ensures { Ends TellsOfSuccess (λ line. line ≡ option_map string_bytes run.now.none_found) explain run.now.tree
         (map string_bytes run.now.unread.items) (λ recorded. recorded.told) done.now
-        (writer M.contents M.failures messages.old messages.new) result }
+        (writer M.Sink messages) result }
 {
     match done {
         Ok(recorded) => tell(alloc, run, recorded.told.as_slice(), explain, messages),
@@ -53,7 +53,7 @@ fn end<M: Sink>(
 }
 
 /// What an index lacked; nothing if there was none.
-fn told_in(ran: &Result<Recorded, Fault>) -> &[BuildFault]
+fn told_in(ran: &Result<Recorded, Fault>) -> &[Omission]
     ensures { MatchResult ran.now (λ recorded. result.now ≡ recorded.told) (λ _. result.now ≡ []) }
 {
     match ran {
@@ -89,14 +89,13 @@ fn shell<
         (blamed_by options.now (F.blames host.now.files.now))
         (NoneFoundBy (F.passes host.now.files.now) host.now.is_watched options.now)
         (Q.suspects report.old) options.now
-        (place Q.holds Q.same Q.refuses Q.gives_up Q.Part.contents Q.Part.failures report.old report.new)
-        (reader I.remaining I.failures I.reads I.ends commands.old commands.new)
-        (writer W.contents W.failures answers.old answers.new)
-        (writer M.contents M.failures messages.old messages.new) result }
+        (place Q.OutPlace Q.Part.Sink report.old report.new)
+        (reader I.Feed commands)
+        (writer W.Sink answers)
+        (writer M.Sink messages) result }
     ensures navigable { AnswersNavigable (F.lists host.now.files.now) (F.gives host.now.files.now)
         options.now
-        (reader I.remaining I.failures I.reads I.ends commands.old commands.new) (writer W.contents W.failures
-        answers.old answers.new) result }
+        (reader I.Feed commands) (writer W.Sink answers) result }
 {
     headline_of_options(host.files, options);
     let run = match start(host, options) {
@@ -143,14 +142,13 @@ where
         (blamed_by options.now (F.blames host.now.files.now))
         (NoneFoundBy (F.passes host.now.files.now) host.now.is_watched options.now)
         (Q.suspects report.old) options.now
-        (place Q.holds Q.same Q.refuses Q.gives_up Q.Part.contents Q.Part.failures report.old report.new)
-        (reader I.remaining I.failures I.reads I.ends commands.old commands.new)
-        (writer W.contents W.failures answers.old answers.new)
-        (writer M.contents M.failures messages.old messages.new) result }
+        (place Q.OutPlace Q.Part.Sink report.old report.new)
+        (reader I.Feed commands)
+        (writer W.Sink answers)
+        (writer M.Sink messages) result }
     ensures navigable { AnswersNavigable (searched_by options.now (F.lists host.now.files.now))
         (F.gives host.now.files.now) options.now
-        (reader I.remaining I.failures I.reads I.ends commands.old commands.new) (writer W.contents W.failures
-        answers.old answers.new) result }
+        (reader I.Feed commands) (writer W.Sink answers) result }
 {
     let files = Excluding {
         files: host.files,

@@ -5,10 +5,10 @@ ghost use Rattle.std.specs.Option.{option_map};
 ghost use Rattle.std.specs.String.{string_bytes};
 ghost use Rattle.programs.specs.Settings.{leaves_out, settings_in};
 
+use basics::OwnedText;
 use command_line::IndexOptions;
 use scip_build::{Faulty, Settings};
 use scip_model::FilePackages;
-use sequences::OwnedText;
 use std::alloc::{AllocError, Global};
 
 /// Whether what can't be read below the folders is left out.

@@ -1,19 +1,23 @@
 //! What is said where the documents of an index aren't all shown.
 
 ghost use Rattle.std.specs.Prelude.{◌≡◌, IfOk, string_bytes};
-ghost use Rattle.programs.specs.ShowFaults.{explanation_of, status_of, told};
+ghost use Rattle.programs.specs.ShowFaults.{status_of, text_of, told};
 
-use protoscip::{MEMORY_STATUS, STREAM_STATUS, plain_line};
-use scip_snapshot::ShowFault;
+use crate::fault_texts::{FaultText, said, told};
+use protoscip::{MEMORY_STATUS, STREAM_STATUS};
+use scip_site::ShowFault;
 use std::alloc::{AllocError, Global};
 
-/// A sentence after a line end; nothing for lack of memory.
-pub(crate) fn explanation_of(fault: ShowFault) -> &'static str
-    ensures { result.now ≡ explanation_of fault }
+/// What is said of it.
+pub(crate) fn text_of(fault: ShowFault) -> FaultText
+    ensures name { result.name.now ≡ (text_of fault).name }
+    ensures explanation { result.explanation.now ≡ (text_of fault).explanation }
+    ensures status { result.status ≡ (text_of fault).status }
 {
+    let name = fault.name();
     match fault {
-        ShowFault::Write => "\nonly a first part could be written",
-        ShowFault::Memory => "",
+        ShowFault::Write => said(name, "\nonly a first part could be written", STREAM_STATUS),
+        ShowFault::Memory => said(name, "", MEMORY_STATUS),
     }
 }
 
@@ -25,19 +29,12 @@ pub(crate) fn show_text(
 ) -> Result<String, AllocError>
     ensures { IfOk result (λ text. string_bytes text ≡ told explain fault) }
 {
-    let mut text = plain_line(alloc, fault.name())?;
-    if explain {
-        text.push_str(explanation_of(fault))?;
-    }
-    Ok(text)
+    told(alloc, text_of(fault), explain)
 }
 
 /// The exit status.
 pub(crate) fn show_status(fault: ShowFault) -> u8
     ensures { result ≡ status_of fault }
 {
-    match fault {
-        ShowFault::Write => STREAM_STATUS,
-        ShowFault::Memory => MEMORY_STATUS,
-    }
+    text_of(fault).status
 }

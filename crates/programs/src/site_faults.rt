@@ -1,20 +1,26 @@
 //! What is said where the pages of an index aren't all made.
 
 ghost use Rattle.std.specs.Prelude.{◌≡◌, IfOk, string_bytes};
-ghost use Rattle.programs.specs.SiteFaults.{explanation_of, status_of, told};
+ghost use Rattle.programs.specs.SiteFaults.{status_of, text_of, told};
 
+use crate::fault_texts::{FaultText, said, told};
 use crate::show_faults;
-use protoscip::{STREAM_STATUS, plain_line};
+use protoscip::STREAM_STATUS;
 use scip_site::SiteFault;
 use std::alloc::{AllocError, Global};
 
-/// A sentence after a line end; nothing for lack of memory.
-fn explanation_of(fault: SiteFault) -> &'static str
-    ensures { result.now ≡ explanation_of fault }
+/// What is said of it.
+fn text_of(fault: SiteFault) -> FaultText
+    ensures name { result.name.now ≡ (text_of fault).name }
+    ensures explanation { result.explanation.now ≡ (text_of fault).explanation }
+    ensures status { result.status ≡ (text_of fault).status }
 {
     match fault {
-        SiteFault::Show(fault) => show_faults::explanation_of(fault),
-        SiteFault::NothingThere => "\nno document has its source below ROOT",
+        SiteFault::Show(fault) => show_faults::text_of(fault),
+        SiteFault::NothingThere => {
+            let explanation = "\nno document has its source below ROOT";
+            said(fault.name(), explanation, STREAM_STATUS)
+        }
     }
 }
 
@@ -26,19 +32,12 @@ pub(crate) fn site_text(
 ) -> Result<String, AllocError>
     ensures { IfOk result (λ text. string_bytes text ≡ told explain fault) }
 {
-    let mut text = plain_line(alloc, fault.name())?;
-    if explain {
-        text.push_str(explanation_of(fault))?;
-    }
-    Ok(text)
+    told(alloc, text_of(fault), explain)
 }
 
 /// The exit status.
 pub(crate) fn site_status(fault: SiteFault) -> u8
     ensures { result ≡ status_of fault }
 {
-    match fault {
-        SiteFault::Show(fault) => show_faults::show_status(fault),
-        SiteFault::NothingThere => STREAM_STATUS,
-    }
+    text_of(fault).status
 }

@@ -1,7 +1,8 @@
 //! The program `snapshot`: the sources of an index, and below each line what the index says about it.
 
 ghost use Rattle.std.specs.Prelude.{◌≡◌, ◌&&◌, []};
-ghost use Rattle.scip_snapshot.specs.Showing.{maker, writer};
+ghost use Rattle.streams.specs.Writers.{writer};
+ghost use Rattle.source_files.specs.Makers.{maker};
 ghost use Rattle.programs.specs.Queries.{IsReadFrom};
 ghost use Rattle.programs.specs.Printing.{EndsCut, is_closed};
 ghost use Rattle.programs.specs.Snapshotting.{EndsShown, RunsSnapshot, ShowsAndEnds, is_write};
@@ -15,12 +16,13 @@ use crate::querying::index_of_file;
 use crate::show_faults::{show_status, show_text};
 use command_line::SnapshotOptions;
 use scip_query::{AnswerFault, Queries};
-use scip_snapshot::{Folders, ShowFault, file_all, print_all};
+use scip_site::{Folders, ShowFault, file_all, print_all};
 use source_files::{Caused, LookAgain, MakeFiles, ReadFiles};
 use std::alloc::Global;
 use streams::Sink;
 
 /// The index that the file with a path holds, with its tables.
+#[tactic(auto, using(crate::proofs::QueryRules::of_index))]
 pub(crate) fn queries_of<F: ReadFiles>(
     alloc: Global,
     files: &F,
@@ -37,7 +39,7 @@ pub(crate) fn queries_of<F: ReadFiles>(
 
 /// Gives the exit status. Why the documents aren't all shown, if they aren't, is said.
 fn end<M: Sink>(alloc: Global, explain: bool, done: Result<(), ShowFault>, messages: &mut M) -> u8
-    ensures { EndsShown explain done (writer M.contents M.failures messages.old messages.new) result }
+    ensures { EndsShown explain done (writer M.Sink messages) result }
 {
     match done {
         Ok(()) => 0,
@@ -76,8 +78,8 @@ fn end_printed<W: Caused, M: Sink>(
     messages: &mut M,
 ) -> u8
     ensures { EndsCut (is_write done && is_closed (W.cause out.now)) (EndsShown explain done
-        (writer M.contents M.failures messages.old messages.new) result)
-        (writer M.contents M.failures messages.old messages.new) result }
+        (writer M.Sink messages) result)
+        (writer M.Sink messages) result }
 {
     if is_dropped(&done, out) {
         return 0;
@@ -95,9 +97,8 @@ fn show<R, F: ReadFiles, W: Sink + Caused, O: MakeFiles, M: Sink>(
     made: &mut O,
     messages: &mut M,
 ) -> u8
-    ensures { ShowsAndEnds (F.gives host.now.files.now) W.cause options.now queries.now
-        (writer W.contents W.failures out.old out.new) (maker O.made made.old made.new)
-        (writer M.contents M.failures messages.old messages.new) result }
+    ensures { ShowsAndEnds (F.gives host.now.files.now) W.cause options.now queries.now (writer W.Sink out)
+        (maker O.MakeFiles made) (writer M.Sink messages) result }
 {
     let root = options.root.as_str();
     match &options.to {
@@ -127,8 +128,7 @@ pub(crate) fn snapshot<R, F: ReadFiles + LookAgain, W: Sink + Caused, O: MakeFil
     messages: &mut M,
 ) -> u8
     ensures { RunsSnapshot (F.gives host.now.files.now) (F.blames host.now.files.now [] []) W.cause options.now
-        (writer W.contents W.failures out.old out.new) (maker O.made made.old made.new)
-        (writer M.contents M.failures messages.old messages.new) result }
+        (writer W.Sink out) (maker O.MakeFiles made) (writer M.Sink messages) result }
 {
     let path = options.index.as_str();
     match queries_of(host.alloc, host.files, path) {

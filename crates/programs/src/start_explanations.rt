@@ -2,10 +2,10 @@
 
 ghost use Rattle.std.specs.Prelude.{◌≡◌, ◌++◌, IfOk, OnOk, string_bytes};
 ghost use Rattle.std.specs.Option.{option_map};
-ghost use Rattle.scip_snapshot.specs.Showing.{writer};
+ghost use Rattle.streams.specs.Writers.{writer};
 ghost use Rattle.programs.specs.Messages.{Tells, TellsOne};
 ghost use Rattle.programs.specs.Searches.{blamed_by};
-ghost use Rattle.programs.specs.StartExplanations.{IsTold, explanation_of, sentence_of, told, unread_path};
+ghost use Rattle.programs.specs.StartExplanations.{IsTold, explanation_of, told, unread_path};
 ghost use Rattle.programs.specs.StartFaults.{status_of};
 
 use crate::causes::with_reason;
@@ -15,42 +15,10 @@ use crate::messages::report;
 use crate::start_fault::StartFault;
 use command_line::IndexOptions;
 use source_files::{LoadFault, LookAgain};
-use source_tree::MAX_FILES;
 use std::alloc::{AllocError, Global};
 use streams::Sink;
 
-// The number in the sentence is the limit.
-const _: () = prove!(MAX_FILES == 65_536);
-
-/// A sentence about it.
-pub(crate) fn sentence_of(fault: &StartFault) -> &'static str
-    ensures { result.now ≡ sentence_of fault.now }
-{
-    match fault {
-        StartFault::BadPart => "a part of the package begins with a space or is `.`",
-        StartFault::BadFolder(_) => {
-            "a part of the package of this folder begins with a space or is `.`"
-        }
-        StartFault::Load(fault) => match fault {
-            LoadFault::Unreadable(_) => {
-                "it isn't there, or can't be read, or an entry's name isn't UTF-8"
-            }
-            LoadFault::TooMany => "the sources and the included files are at most 65536",
-            LoadFault::BadPath(_) => "a path has at most 4096 bytes, and no character below U+0020",
-            LoadFault::SamePath(_) => "two sources have this path",
-            LoadFault::Memory => "memory ran out",
-        },
-        StartFault::IsSource(_) => {
-            "it is a source that was read, or a link to one; the index would replace it"
-        }
-        StartFault::ReportIsSource(_) => {
-            "it is a source that was read, or a link to one; the report would replace it"
-        }
-        StartFault::ReportIsOut(_) => "the index goes there, so its report can't",
-    }
-}
-
-/// Appends that behind a line end; but nothing for a fault of the command line, and for lack of memory.
+/// Appends the sentence about it behind a line end; but nothing for a fault of the command line, and for lack of memory.
 fn push_explanation(out: &mut String, fault: &StartFault) -> Result<(), AllocError>
     ensures { OnOk result (string_bytes out.new ≡ string_bytes out.old ++ explanation_of fault.now) }
 {
@@ -68,7 +36,7 @@ fn push_explanation(out: &mut String, fault: &StartFault) -> Result<(), AllocErr
         | StartFault::ReportIsSource(_)
         | StartFault::ReportIsOut(_) => {
             out.push_str("\n")?;
-            out.push_str(sentence_of(fault))
+            out.push_str(fault.said().sentence)
         }
     }
 }
@@ -92,7 +60,7 @@ pub(crate) fn report_start<M: Sink>(
     messages: &mut M,
 ) -> u8
     ensures { Tells (told explain fault.now) (status_of fault.now)
-        (writer M.contents M.failures messages.old messages.new) result }
+        (writer M.Sink messages) result }
 {
     let text = start_text(alloc, fault, explain);
     report(text, fault.status(), messages)
@@ -151,7 +119,7 @@ pub(crate) fn report_unstarted<R, F: LookAgain, M: Sink>(
     messages: &mut M,
 ) -> u8
     ensures { TellsOne (IsTold (blamed_by options.now (F.blames host.now.files.now)) options.now.explain fault.now)
-        (status_of fault.now) (writer M.contents M.failures messages.old messages.new) result }
+        (status_of fault.now) (writer M.Sink messages) result }
 {
     let text = unstarted_text(host, options, fault);
     report(text, fault.status(), messages)

@@ -3,43 +3,16 @@
 ghost use Rattle.std.specs.Prelude.{◌≡◌, IfOk};
 ghost use Rattle.std.specs.Option.{option_map};
 ghost use Rattle.programs.specs.Placing.{place};
-ghost use Rattle.programs.specs.StartReports.{
-  EndsUnstarted,
-  finding_of,
-  is_tried,
-  path_of,
-  report_of_start,
-  whole_file,
-};
+ghost use Rattle.programs.specs.StartReports.{EndsUnstarted, finding_of, is_tried, report_of_start, whole_file};
 
 use crate::reporting::put_bytes;
-use crate::start_explanations::sentence_of;
 use crate::start_fault::StartFault;
 use command_line::ReportOptions;
-use excerpts::LineCounter;
+use diagnostics::LineCounter;
 use fault_reports::{Finding, FindingKind, Place, ReportFormat, report_bytes};
 use protoscip::{Fault, counts_of};
 use source_files::{LoadFault, OutPlace};
 use std::alloc::{AllocError, Global};
-
-/// The path that a fault names, if it names one.
-fn path_of(fault: &StartFault) -> Option<&str>
-    ensures { option_map (λ path. path.now) result ≡ path_of fault.now }
-{
-    match fault {
-        StartFault::BadPart => None,
-        StartFault::BadFolder(path) => Some(path.as_str()),
-        StartFault::Load(fault) => match fault {
-            LoadFault::Unreadable(path) => Some(path.as_str()),
-            LoadFault::BadPath(path) => Some(path.as_str()),
-            LoadFault::SamePath(path) => Some(path.as_str()),
-            LoadFault::TooMany | LoadFault::Memory => None,
-        },
-        StartFault::IsSource(path) => Some(path.as_str()),
-        StartFault::ReportIsSource(path) => Some(path.as_str()),
-        StartFault::ReportIsOut(path) => Some(path.as_str()),
-    }
-}
 
 /// The whole file with a path, if there is a path. What it holds isn't told.
 fn whole_file(path: Option<&str>) -> Option<Place<'_>>
@@ -55,11 +28,12 @@ fn whole_file(path: Option<&str>) -> Option<Place<'_>>
 fn finding_of(fault: &StartFault) -> Finding<'_>
     ensures { result ≡ finding_of fault.now }
 {
+    let said = fault.said();
     Finding {
         kind: FindingKind::Fault,
-        name: fault.name(),
-        message: sentence_of(fault),
-        place: whole_file(path_of(fault)),
+        name: said.name,
+        message: said.sentence,
+        place: whole_file(said.path),
         first: None,
         import: None,
     }
@@ -101,7 +75,7 @@ pub(crate) fn put_start_report<Q: OutPlace>(
     fault: StartFault,
     at: &mut Q,
 ) -> StartFault
-    ensures { EndsUnstarted (place Q.holds Q.same Q.refuses Q.gives_up Q.Part.contents Q.Part.failures at.old at.new)
+    ensures { EndsUnstarted (place Q.OutPlace Q.Part.Sink at.old at.new)
         (Q.suspects at.old) is_out options.now fault result }
 {
     match &options.path {

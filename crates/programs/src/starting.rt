@@ -66,6 +66,7 @@ fn is_told<R, F>(host: &Host<'_, R, F>, options: &IndexOptions) -> bool
 /// The tree of the sources below the root of the options and of the files below their included roots, and what the
 /// options say about the run over it. It has a line that says that there are no sources, if there are none and somebody
 /// is told.
+#[tactic(auto, using(crate::proofs::StartingRules::of_start))]
 pub(crate) fn start<R: Threads + Wait, F: ReadFiles + LookAgain + Sync>(
     host: &Host<'_, R, F>,
     options: &IndexOptions,

@@ -9,8 +9,8 @@ use std::test::Fail;
 
 /// Whether an index is asked for that goes to `out`.
 fn is_named(alloc: Global, asked: &Result<Request, AllocError>) -> bool {
-    if let Ok(Request::Index(options, _, _, _)) = asked {
-        headline_of_options(&Files { alloc }, options);
+    if let Ok(Request::Index(given)) = asked {
+        headline_of_options(&Files { alloc }, &given.options);
     }
     out_path(asked) == "out"
 }

@@ -1,28 +1,19 @@
 -- A file's declarations, one for each outline.
 use Rattle.std.proofs.Common.{◌≡◌, ◌∙◌, ap, refl, subst, ℕ, List, [], ◌∷◌, ◌++◌, map, Option, Some, None}
-use Rattle.std.specs.List.{AllZip, flat_map}
-use Rattle.std.proofs.lemmas.Grind.{flat_map-append}
+use Rattle.std.specs.List.{AllZip}
 use Rattle.proto_lex.specs.declared.span.Span.{Span}
 use Rattle.proto_lex.specs.Lexed.{Lexed, AreInOrder}
 use Rattle.proto_parse.specs.Lexeme.{Lexeme}
-use Rattle.proto_parse.specs.Walk.{Mark, MarksAreInOrder, Among, names_marks, item_marks, PackageIsAmongItems}
+use Rattle.proto_parse.specs.Walk.{Mark, MarksAreInOrder, Among, names_marks, marks_in, PackageIsAmongItems}
 use Rattle.proto_parse.specs.tree.FileItem.{FileItem}
 use Rattle.proto_parse.specs.tree.File.{File}
-use Rattle.proto_decl.specs.Outlines.{in_item, file_surrounding, outlines_of, package_spans}
-use Rattle.proto_decl.specs.Declares.{IsDeclaration}
+use Rattle.proto_decl.specs.Declares.{file_surrounding, outlines_in, outlines_of, package_spans, IsDeclaration}
 use Rattle.proto_decl.specs.Facts.{Facts, AreFactsOf, name_spans, component_spans, PackageInOrder}
 use Rattle.proto_decl.specs.declared.declaration.Declaration.{Declaration}
 use Rattle.proto_decl.specs.declared.declaration.Outline.{Outline}
-use Rattle.proto_decl.proofs.PickLemmas.{heading_names, spans_of_components}
-use Rattle.proto_decl.proofs.OrderLemmas.{package_in_order}
-
--- one more of each
-pub AllZip-push : {A B : Type 0} (R : A → B → Type 0) (xs : List A) (ys : List B) (x : A) (y : B) → AllZip R xs ys
-    → R x y → AllZip R (xs ++ x ∷ []) (ys ++ y ∷ [])
-AllZip-push R [] [] x y all r = (r, tt)
-AllZip-push R [] (b ∷ ys) x y all r = absurd all
-AllZip-push R (a ∷ xs) [] x y all r = absurd all
-AllZip-push R (a ∷ xs) (b ∷ ys) x y all r = (all.0, AllZip-push R xs ys x y all.1 r)
+use Rattle.proto_decl.proofs.OutlinePickLemmas.{heading_names, spans_of_components}
+use Rattle.proto_decl.proofs.WalkedLemmas.{outlines-append}
+use Rattle.proto_decl.proofs.OutlineOrderLemmas.{package_in_order}
 
 -- declarations stand at the names of their outlines
 pub same_names : (lexed : Lexed) (outlines : List Outline) (declarations : List Declaration)
@@ -59,15 +50,15 @@ parts R (x ∷ xs) ys (z ∷ zs) all =
 
 module _ (number : ℕ) (lexed : Lexed) (file : File) (facts : Facts) (is : AreFactsOf number lexed file facts) where
   abbrev outlines : List FileItem → List Outline
-  outlines items = flat_map (in_item lexed.text (file_surrounding lexed.text file)) items
+  outlines items = outlines_in lexed.text (file_surrounding lexed.text file) items
 
   among_items : (before behind : List FileItem) (components : List Span) → file.items ≡ before ++ behind
       → package_spans file.package_name ≡ components
-      → MarksAreInOrder 0 (flat_map item_marks before ++ (names_marks components ++ flat_map item_marks behind))
+      → MarksAreInOrder 0 (marks_in before ++ (names_marks components ++ marks_in behind))
       → PackageInOrder facts
   among_items before behind components items name m =
       let both : outlines_of lexed.text file ≡ outlines before ++ outlines behind =
-      ap outlines items ∙ flat_map-append (in_item lexed.text (file_surrounding lexed.text file)) before behind in
+      ap outlines items ∙ outlines-append lexed.text (file_surrounding lexed.text file) before behind in
       let two = parts (IsDeclaration lexed) (outlines before) (outlines behind) facts.declarations
       (subst (λ (os : List Outline). AllZip (IsDeclaration lexed) os facts.declarations) both is.declarations) in
       let spans : component_spans facts.package_name ≡ components =

@@ -9,16 +9,15 @@ use Rattle.std.proofs.Math.Seq.{take-length}
 use Rattle.std.specs.Bool.{nat_eq, IsTrue}
 use Rattle.std.specs.Cmp.Lexicographic.{pointwise, bytes_decides}
 use Rattle.std.specs.Str.{bytes_eq}
-use Rattle.proto_decl.specs.Names.{qualified}
-use Rattle.proto_decl.specs.FullNames.{mix, mixed_on, mixed, mixed_front}
+use Rattle.proto_decl.specs.Names.{qualified, hash64_byte, hash64_on, hash64, hash64_front}
 use Rattle.proto_parse.proofs.RefusedLemmas.{heads, tails}
 
 -- ---- what they are hashed by
 
 -- a scope's bytes, a dot, and a name's
-pub mixed_behind : (scope name : List ℕ) → mixed_on (mixed_front scope) name ≡ mixed (qualified scope name)
-mixed_behind [] name = refl
-mixed_behind (byte ∷ scope) name = sym (fold-append mix 0 (byte ∷ scope) (46 ∷ name))
+pub hash64_behind : (scope name : List ℕ) → hash64_on (hash64_front scope) name ≡ hash64 (qualified scope name)
+hash64_behind [] name = refl
+hash64_behind (byte ∷ scope) name = sym (fold-append hash64_byte 0 (byte ∷ scope) (46 ∷ name))
 
 -- ---- which are the same
 

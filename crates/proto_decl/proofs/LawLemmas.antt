@@ -7,13 +7,12 @@ use Rattle.proto_parse.specs.tree.File.{File}
 use Rattle.proto_decl.specs.Comments.{first_line, text_of, IsLeadingText, IsTrailingText}
 use Rattle.proto_decl.specs.Comments.IsLeadingText.{leading, not_first}
 use Rattle.proto_decl.specs.Comments.IsTrailingText.{trailing, none}
-use Rattle.proto_decl.specs.Outlines.{outlines_of}
-use Rattle.proto_decl.specs.Declares.{IsDeclaration}
+use Rattle.proto_decl.specs.Declares.{outlines_of, IsDeclaration}
 use Rattle.proto_decl.specs.Facts.{Facts, AreFactsOf}
 use Rattle.proto_decl.specs.declared.declaration.Declaration.{Declaration}
 use Rattle.proto_decl.specs.declared.declaration.Outline.{Outline}
-use Rattle.proto_decl.proofs.LeadingLemmas.{CommentsInOrder, one_longest}
-use Rattle.proto_decl.proofs.TrailingLemmas.{one_trailing}
+use Rattle.proto_decl.proofs.CommentLeadingLemmas.{CommentsInOrder, one_longest}
+use Rattle.proto_decl.proofs.CommentTrailingLemmas.{one_trailing}
 
 module _ (lexed : Lexed) (ordered : CommentsInOrder lexed.comments) where
   pub one_leading_text : (first : Span) {text other : List ℕ} → IsLeadingText lexed first text

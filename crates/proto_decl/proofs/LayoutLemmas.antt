@@ -4,14 +4,15 @@ use Rattle.std.proofs.Common.{IsTrue, ◌↔◌}
 use Rattle.std.specs.Prelude.{◌↔◌, ◌⊎◌, IsTrue}
 use Rattle.std.specs.List.{All}
 use Rattle.std.specs.List.Sorted.{IsPartitionPoint}
+use Rattle.proto_lex.proofs.PositionLineStartLemmas.{more_lines as lines_rise}
 use Rattle.proto_lex.specs.declared.span.Span.{Span}
 use Rattle.proto_lex.specs.declared.token.Token.{Token}
 use Rattle.proto_lex.specs.Position.{line_of}
 use Rattle.proto_lex.specs.Lexed.{Lexed, AreInOrder, AreApart}
 use Rattle.proto_lex.specs.CommentTexts.{Touches, StandsAlone, NoneBetween}
 use Rattle.proto_decl.specs.Comments.{IsFirstOnLine, first_line, last_line}
-use Rattle.proto_decl.proofs.LineLemmas.{lines_rise, behind_place, starts_rise, ends_rise, IsAt, held, at_any, at_index}
-use Rattle.proto_decl.proofs.LineLemmas.{no_more-test}
+use Rattle.proto_decl.proofs.LayoutLineLemmas.{behind_place, starts_rise, ends_rise, IsAt, held, at_any, at_index}
+use Rattle.proto_decl.proofs.LayoutLineLemmas.{no_more-test}
 
 -- so many tokens begin before an offset, or end by it
 abbrev pub HaveBegun : List Token → (offset count : ℕ) → Type 0

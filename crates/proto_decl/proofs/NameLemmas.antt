@@ -1,39 +1,34 @@
 -- Declared names are spelled as they stand, but for those of groups' fields, and aren't empty.
-use Rattle.std.proofs.Common.{◌≡◌, ◌≢◌, ◌∙◌, sym, ap, refl, ℕ, ◌-◌, ◌<◌, ◌≤◌, List, [], ◌∷◌, ◌++◌, length, drop, map}
+use Rattle.std.proofs.Common.{◌≡◌, ◌≢◌, ◌∙◌, sym, ap, refl, ℕ, ◌-◌, ◌<◌, ◌≤◌, List, [], ◌∷◌, ◌++◌, length, drop}
 use Rattle.std.proofs.Common.{arith, length-append}
 use Rattle.std.specs.Char.{to_ascii_lowercase}
-use Rattle.std.specs.List.{All, AllZip, Contains, flat_map}
+use Rattle.std.specs.List.{All, AllZip, Contains}
 use Rattle.std.proofs.lemmas.List.{length-take-le, length-drop, length-map}
-use Rattle.std.proofs.lemmas.List.Elements.{All-nil, All-cons, All-head, All-tail, All-append, All-contains_itself}
+use Rattle.std.proofs.lemmas.List.Elements.{All-nil, All-cons, All-head, All-tail, All-contains_itself}
 use Rattle.proto_lex.specs.declared.span.Span.{Span}
 use Rattle.proto_lex.specs.Lexed.{Lexed, IsPart, part_of}
 use Rattle.proto_parse.specs.tree.Heading.{Heading}
 use Rattle.proto_parse.specs.tree.Head.{Head}
 use Rattle.proto_parse.specs.tree.Head.TheVariants as head
-use Rattle.proto_parse.specs.tree.Method.{Method}
-use Rattle.proto_parse.specs.tree.Enum.{Enum}
-use Rattle.proto_parse.specs.tree.Leaf.{Leaf}
-use Rattle.proto_parse.specs.tree.Leaf.TheVariants as leaf
 use Rattle.proto_parse.specs.tree.FileItem.{FileItem}
-use Rattle.proto_parse.specs.tree.FileItem.TheVariants as item
 use Rattle.proto_parse.specs.tree.File.{File}
-use Rattle.proto_parse.specs.Tree.{Body}
-use Rattle.proto_parse.specs.Tree.Body.{NoMore, LeafThen, BlockThen}
+use Rattle.proto_parse.specs.Parts.{Part, Placed, placed_parts, parts_in, parts_of}
+use Rattle.proto_parse.specs.Parts.Part.{BlockPart, EnumPart, ValuePart, FieldPart, MapFieldPart, ServicePart}
+use Rattle.proto_parse.specs.Parts.Part.{MethodPart}
+use Rattle.proto_parse.proofs.PartLemmas.{flat-all, placed-all}
 use Rattle.proto_decl.specs.Names.{qualified, small_letters}
-use Rattle.proto_decl.specs.Spans.{OfHeading, OfHead, OfEnum, OfMethod, OfLeaf, OfBody, OfItem}
-use Rattle.proto_decl.specs.Outlines.{name_of, step_named, step_to, outline_at, group_field, inside, beside, within}
-use Rattle.proto_decl.specs.Outlines.{scope_heading, in_enum, in_head, in_leaf, in_body, in_item, file_surrounding}
-use Rattle.proto_decl.specs.Outlines.{outlines_of}
+use Rattle.proto_decl.specs.Spans.{OfHeading, OfHead, OfPart}
+use Rattle.proto_decl.specs.Declares.{heading_name, step_named, step_to, outline_at, group_field, in_head, inside_part}
+use Rattle.proto_decl.specs.Declares.{declared_by, file_surrounding, outlines_in, outlines_of}
 use Rattle.proto_decl.specs.Declares.{IsDeclaration, simple_name}
 use Rattle.proto_decl.specs.Laws.{AreOfGroup, IsSpelled, IsNamedAt}
 use Rattle.proto_decl.specs.Laws.IsSpelled.{as_it_stands, as_its_group}
-use Rattle.proto_decl.specs.declared.kind.DeclarationKind.{DeclarationKind}
-use Rattle.proto_decl.specs.declared.kind.DeclarationKind.TheVariants as kind
+use Rattle.proto_decl.specs.declared.declaration.DeclarationKind.{DeclarationKind}
+use Rattle.proto_decl.specs.declared.declaration.DeclarationKind.TheVariants as kind
 use Rattle.proto_decl.specs.declared.declaration.DeclarationStep.{DeclarationStep}
 use Rattle.proto_decl.specs.declared.declaration.Declaration.{Declaration}
 use Rattle.proto_decl.specs.declared.declaration.Outline.{Outline}
 use Rattle.proto_decl.specs.declared.surrounding.Surrounding.{Surrounding}
-use Rattle.proto_decl.proofs.SplitLemmas.{all_left, all_right}
 
 pub simple_name-push : (path : List DeclarationStep) (step : DeclarationStep)
     → simple_name (path ++ step ∷ []) ≡ step.name
@@ -75,32 +70,11 @@ module _ (text : List ℕ) (K : Outline → Type 0) where
         full = ap (qualified surrounding.scope) (sym simple);
       }
 
-  each_named : {A : Type 0} (surrounding : Surrounding) (kind : DeclarationKind) (heading : A → Heading)
-      (Q : A → Type 0) → ((x : A) → Q x → OfHeading (IsPart text) (heading x))
-      → (xs : List A) → All Q xs → Named (map (λ x. outline_at text surrounding kind (heading x)) xs)
-  each_named surrounding kind heading Q has [] all = All-nil (IsNamed text K)
-  each_named surrounding kind heading Q has (x ∷ xs) all =
-      All-cons (IsNamed text K) _ _ (named surrounding kind (heading x) (has x (All-head Q x xs all)))
-      (each_named surrounding kind heading Q has xs (All-tail Q x xs all))
-
-  enum_named : (surrounding : Surrounding) (enum : Enum) → OfEnum (IsPart text) enum
-      → Named (in_enum text surrounding enum)
-  enum_named surrounding enum spans =
-      All-cons (IsNamed text K) _ _ (named surrounding kind.Enum enum.heading spans.0)
-      (each_named (beside text surrounding kind.Enum enum.heading) kind.Value (λ (value : Heading). value)
-      (OfHeading (IsPart text)) (λ value has. has) enum.values spans.1)
-
   alone : (surrounding : Surrounding) (kind : DeclarationKind) (heading : Heading) → OfHeading (IsPart text) heading
       → Named (outline_at text surrounding kind heading ∷ [])
   alone surrounding kind heading spans =
       All-cons (IsNamed text K) (outline_at text surrounding kind heading) [] (named surrounding kind heading spans)
       (All-nil (IsNamed text K))
-
-  leaf_named : (surrounding : Surrounding) (leaf : Leaf) → OfLeaf (IsPart text) leaf
-      → Named (in_leaf text surrounding leaf)
-  leaf_named surrounding (leaf.Enum enum) spans = enum_named surrounding enum spans
-  leaf_named surrounding (leaf.Field field) spans = alone surrounding kind.Field field.heading spans.0
-  leaf_named surrounding (leaf.MapField field) spans = alone surrounding kind.Field field.heading spans.0
 
   head_named : (surrounding : Surrounding) (head : Head) → All K (in_head text surrounding head)
       → OfHead (IsPart text) head → Named (in_head text surrounding head)
@@ -108,7 +82,7 @@ module _ (text : List ℕ) (K : Outline → Type 0) where
   head_named surrounding (head.Group group) known spans =
       let field = group_field text surrounding group in
       let self = outline_at text surrounding kind.Message group.heading in
-      let small = small_letters (name_of text group.heading) in
+      let small = small_letters (heading_name text group.heading) in
       All-cons (IsNamed text K) field (self ∷ [])
       (record {
         place = spans.1;
@@ -122,50 +96,24 @@ module _ (text : List ℕ) (K : Outline → Type 0) where
   head_named surrounding (head.Oneof heading) known spans = alone surrounding kind.Oneof heading spans
   head_named surrounding (head.Extend type) known spans = All-nil (IsNamed text K)
 
-  body_named : (surrounding : Surrounding) (body : Body) → All K (in_body text surrounding body)
-      → OfBody (IsPart text) body → Named (in_body text surrounding body)
-  body_named surrounding NoMore known spans = All-nil (IsNamed text K)
-  body_named surrounding (LeafThen leaf others) known spans =
-      let here = in_leaf text surrounding leaf in
-      let later = in_body text surrounding others in
-      All-append (IsNamed text K) here later (leaf_named surrounding leaf spans.0)
-      (body_named surrounding others (all_right K here later known) spans.1)
-  body_named surrounding (BlockThen head inner others) known spans =
-      let around = within text surrounding (scope_heading head) in
-      let here = in_head text surrounding head in
-      let below = in_body text around inner in
-      let later = in_body text surrounding others in
-      let behind = all_right K here (below ++ later) known in
-      All-append (IsNamed text K) here (below ++ later)
-      (head_named surrounding head (all_left K here (below ++ later) known) spans.0)
-      (All-append (IsNamed text K) below later (body_named around inner (all_left K below later behind) spans.1)
-      (body_named surrounding others (all_right K below later behind) spans.2))
+  part_named : (surrounding : Surrounding) (part : Part) → OfPart (IsPart text) part
+      → All K (declared_by text surrounding part) → Named (declared_by text surrounding part)
+  part_named surrounding (BlockPart head) spans known = head_named surrounding head known spans
+  part_named surrounding (EnumPart heading) spans known = alone surrounding kind.Enum heading spans
+  part_named surrounding (ValuePart heading) spans known = alone surrounding kind.Value heading spans
+  part_named surrounding (FieldPart field) spans known = alone surrounding kind.Field field.heading spans.0
+  part_named surrounding (MapFieldPart field) spans known = alone surrounding kind.Field field.heading spans.0
+  part_named surrounding (ServicePart heading) spans known = alone surrounding kind.Service heading spans
+  part_named surrounding (MethodPart method) spans known = alone surrounding kind.Method method.heading spans.0
 
-  item_named : (surrounding : Surrounding) (item : FileItem) → All K (in_item text surrounding item)
-      → OfItem (IsPart text) item → Named (in_item text surrounding item)
-  item_named surrounding (item.Block block) known spans =
-      let around = within text surrounding (scope_heading block.head) in
-      let here = in_head text surrounding block.head in
-      let below = in_body text around block.body in
-      All-append (IsNamed text K) here below
-      (head_named surrounding block.head (all_left K here below known) spans.0)
-      (body_named around block.body (all_right K here below known) spans.1)
-  item_named surrounding (item.Enum enum) known spans = enum_named surrounding enum spans
-  item_named surrounding (item.Service service) known spans =
-      All-cons (IsNamed text K) _ _ (named surrounding kind.Service service.heading spans.0)
-      (each_named (inside text surrounding kind.Service service.heading) kind.Method
-      (λ (method : Method). method.heading) (OfMethod (IsPart text)) (λ method has. has.0) service.methods spans.1)
-
-  items_named : (surrounding : Surrounding) (items : List FileItem)
-      → All K (flat_map (in_item text surrounding) items) → All (OfItem (IsPart text)) items
-      → Named (flat_map (in_item text surrounding) items)
-  items_named surrounding [] known spans = All-nil (IsNamed text K)
-  items_named surrounding (item ∷ items) known spans =
-      let here = in_item text surrounding item in
-      let later = flat_map (in_item text surrounding) items in
-      All-append (IsNamed text K) here later
-      (item_named surrounding item (all_left K here later known) (All-head (OfItem (IsPart text)) item items spans))
-      (items_named surrounding items (all_right K here later known) (All-tail (OfItem (IsPart text)) item items spans))
+  items_named : (surrounding : Surrounding) (items : List FileItem) → All (OfPart (IsPart text)) (parts_in items)
+      → All K (outlines_in text surrounding items) → Named (outlines_in text surrounding items)
+  items_named surrounding items spans known =
+      flat-all (λ (p : Placed Surrounding). declared_by text p.around p.part)
+      (λ (p : Placed Surrounding). OfPart (IsPart text) p.part) K (IsNamed text K)
+      (λ p of_part known. part_named p.around p.part of_part known)
+      (placed_parts (inside_part text) surrounding items)
+      (placed-all (inside_part text) (OfPart (IsPart text)) surrounding items spans) known
 
 -- from outlines to declarations
 module _ (lexed : Lexed) (declarations : List Declaration) where
@@ -224,12 +172,12 @@ module _ (lexed : Lexed) (declarations : List Declaration) where
       (all_named os ds all.1 (All-tail (IsNamed lexed.text IsDeclared) o os names))
 
 pub declarations_named : (lexed : Lexed) (file : File) (ds : List Declaration)
-    → All (OfItem (IsPart lexed.text)) file.items
+    → All (OfPart (IsPart lexed.text)) (parts_of file)
     → AllZip (IsDeclaration lexed) (outlines_of lexed.text file) ds → All (IsNamedAt lexed.text ds) ds
 declarations_named lexed file ds spans all =
     let known = all_declared lexed ds (outlines_of lexed.text file) ds all (All-contains_itself ds) in
     all_named lexed ds (outlines_of lexed.text file) ds all
-    (items_named lexed.text (IsDeclared lexed ds) (file_surrounding lexed.text file) file.items known spans)
+    (items_named lexed.text (IsDeclared lexed ds) (file_surrounding lexed.text file) file.items spans known)
 
 -- a name in a scope is no shorter than the name
 qualified-length : (scope name : List ℕ) → length name ≤ length (qualified scope name)

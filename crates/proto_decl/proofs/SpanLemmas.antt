@@ -12,29 +12,23 @@ use Rattle.proto_parse.specs.tree.FieldType.{FieldType}
 use Rattle.proto_parse.specs.tree.FieldType.TheVariants.{Scalar, Named}
 use Rattle.proto_parse.specs.tree.Field.{Field}
 use Rattle.proto_parse.specs.tree.MapField.{MapField}
-use Rattle.proto_parse.specs.tree.Enum.{Enum}
 use Rattle.proto_parse.specs.tree.Head.{Head}
 use Rattle.proto_parse.specs.tree.Head.TheVariants as head
-use Rattle.proto_parse.specs.tree.Leaf.{Leaf}
-use Rattle.proto_parse.specs.tree.Leaf.TheVariants as leaf
 use Rattle.proto_parse.specs.tree.Method.{Method}
-use Rattle.proto_parse.specs.tree.Service.{Service}
-use Rattle.proto_parse.specs.tree.FileItem.{FileItem}
-use Rattle.proto_parse.specs.tree.FileItem.TheVariants as item
 use Rattle.proto_parse.specs.tree.Import.{Import}
 use Rattle.proto_parse.specs.tree.File.{File}
 use Rattle.proto_parse.specs.Lexeme.{Lexeme, lexemes_of}
-use Rattle.proto_parse.specs.Tree.{Body, BlockTree}
-use Rattle.proto_parse.specs.Tree.Body.{NoMore, LeafThen, BlockThen}
+use Rattle.proto_parse.specs.Parts.{Part, parts_of}
+use Rattle.proto_parse.specs.Parts.Part.{BlockPart, EnumPart, ValuePart, FieldPart, MapFieldPart, ServicePart}
+use Rattle.proto_parse.specs.Parts.Part.{MethodPart}
 use Rattle.proto_parse.specs.Walk.{Role, Mark, Among, marks_of_items, marks_of_imports, marks_of_package}
 use Rattle.proto_parse.specs.Walk.{Role as role}
 use Rattle.proto_parse.specs.Walk.Among.{none as no_marks, skip, token}
 use Rattle.proto_parse.proofs.Walk.Then.{Name, Other, each_then, name_then, names_then, literal_then, dot_then}
 use Rattle.proto_parse.proofs.Walk.Then.{type_name_then, type_then, heading_then, field_then, map_field_then}
-use Rattle.proto_parse.proofs.Walk.Then.{enum_then, head_then, leaf_then, body_then, block_then, method_then}
-use Rattle.proto_parse.proofs.Walk.Then.{service_then, item_then, import_then, items_are, imports_are, package_is}
-use Rattle.proto_decl.specs.Spans.{OfHeading, OfSome, OfTypeName, OfType, OfField, OfMapField, OfEnum, OfHead}
-use Rattle.proto_decl.specs.Spans.{OfMethod, OfService, OfLeaf, OfBody, OfBlock, OfItem, OfPackage}
+use Rattle.proto_parse.proofs.Walk.Then.{head_then, method_then, part_then, import_then, parts_are, imports_are}
+use Rattle.proto_parse.proofs.Walk.Then.{package_is}
+use Rattle.proto_decl.specs.Spans.{OfHeading, OfSome, OfTypeName, OfType, OfHead, OfMethod, OfPart, OfPackage}
 
 -- P holds of the marks' spans, and Q of those of literals
 abbrev pub OfMark : (P Q : Span → Type 0) → Role → Span → Type 0
@@ -105,52 +99,22 @@ module _ (P Q : Span → Type 0) where
   type_of (Named name) marks h = type_name_of name marks h
 
   field_of : (field : Field) (marks : List Mark) → OfMarks P Q (field_then field marks)
-      → OfField P field × OfMarks P Q marks
+      → OfPart P (FieldPart field) × OfMarks P Q marks
   field_of field marks h =
       let type = type_of field.field_type (Name field.heading.name ∷ (Other field.heading.closing ∷ marks)) h.1 in
       (((h.0, type.1.0, type.1.1.0), type.0), type.1.1.1)
 
   map_field_of : (field : MapField) (marks : List Mark) → OfMarks P Q (map_field_then field marks)
-      → OfMapField P field × OfMarks P Q marks
+      → OfPart P (MapFieldPart field) × OfMarks P Q marks
   map_field_of field marks h =
       let value = type_of field.value (Name field.heading.name ∷ (Other field.heading.closing ∷ marks)) h.1.1 in
       (((h.0, value.1.0, value.1.1.0), value.0), value.1.1.1)
-
-  enum_of : (enum : Enum) (marks : List Mark) → OfMarks P Q (enum_then enum marks) → OfEnum P enum × OfMarks P Q marks
-  enum_of enum marks h =
-      let heading = heading_of enum.heading (each_then heading_then enum.values marks) h in
-      let values = each_of heading_then (OfHeading P) heading_of enum.values marks heading.1 in
-      ((heading.0, values.0), values.1)
 
   head_of : (head : Head) (marks : List Mark) → OfMarks P Q (head_then head marks) → OfHead P head × OfMarks P Q marks
   head_of (head.Message heading) marks h = heading_of heading marks h
   head_of (head.Group group) marks h = (((h.0, h.1.1.0, h.1.1.1.0), h.1.0), h.1.1.1.1)
   head_of (head.Oneof heading) marks h = heading_of heading marks h
   head_of (head.Extend type) marks h = type_name_of type marks h
-
-  leaf_of : (leaf : Leaf) (marks : List Mark) → OfMarks P Q (leaf_then leaf marks) → OfLeaf P leaf × OfMarks P Q marks
-  leaf_of (leaf.Enum enum) marks h = enum_of enum marks h
-  leaf_of (leaf.Field field) marks h = field_of field marks h
-  leaf_of (leaf.MapField field) marks h = map_field_of field marks h
-
-  body_of : (body : Body) (marks : List Mark) → OfMarks P Q (body_then body marks) → OfBody P body × OfMarks P Q marks
-  body_of NoMore marks h = (tt, h)
-  body_of (LeafThen leaf others) marks h =
-      let first = leaf_of leaf (body_then others marks) h in
-      let rest = body_of others marks first.1 in
-      ((first.0, rest.0), rest.1)
-  body_of (BlockThen head inner others) marks h =
-      let first = head_of head (body_then inner (body_then others marks)) h in
-      let within = body_of inner (body_then others marks) first.1 in
-      let rest = body_of others marks within.1 in
-      ((first.0, within.0, rest.0), rest.1)
-
-  block_of : (block : BlockTree) (marks : List Mark) → OfMarks P Q (block_then block marks)
-      → OfBlock P block × OfMarks P Q marks
-  block_of block marks h =
-      let head = head_of block.head (body_then block.body marks) h in
-      let body = body_of block.body marks head.1 in
-      ((head.0, body.0), body.1)
 
   method_of : (method : Method) (marks : List Mark) → OfMarks P Q (method_then method marks)
       → OfMethod P method × OfMarks P Q marks
@@ -160,18 +124,14 @@ module _ (P Q : Span → Type 0) where
       let output = type_name_of method.output (Other method.heading.closing ∷ marks) input.1 in
       (((h.0, h.1.0, output.1.0), input.0, output.0), output.1.1)
 
-  service_of : (service : Service) (marks : List Mark) → OfMarks P Q (service_then service marks)
-      → OfService P service × OfMarks P Q marks
-  service_of service marks h =
-      let heading = heading_of service.heading (each_then method_then service.methods marks) h in
-      let methods = each_of method_then (OfMethod P) method_of service.methods marks heading.1 in
-      ((heading.0, methods.0), methods.1)
-
-  item_of : (item : FileItem) (marks : List Mark) → OfMarks P Q (item_then item marks)
-      → OfItem P item × OfMarks P Q marks
-  item_of (item.Block block) marks h = block_of block marks h
-  item_of (item.Enum enum) marks h = enum_of enum marks h
-  item_of (item.Service service) marks h = service_of service marks h
+  part_of : (part : Part) (marks : List Mark) → OfMarks P Q (part_then part marks) → OfPart P part × OfMarks P Q marks
+  part_of (BlockPart head) marks h = head_of head marks h
+  part_of (EnumPart heading) marks h = heading_of heading marks h
+  part_of (ValuePart heading) marks h = heading_of heading marks h
+  part_of (FieldPart field) marks h = field_of field marks h
+  part_of (MapFieldPart field) marks h = map_field_of field marks h
+  part_of (ServicePart heading) marks h = heading_of heading marks h
+  part_of (MethodPart method) marks h = method_of method marks h
 
   import_of : (import : Import) (marks : List Mark) → OfMarks P Q (import_then import marks)
       → All Q import.literals × OfMarks P Q marks
@@ -184,9 +144,9 @@ module _ (P Q : Span → Type 0) where
 
   -- what holds of the tokens' spans holds of those of the tree
   module _ (text : List ℕ) (tokens : List Token) (file : File) (all : All (λ t. OfToken t.kind t.span) tokens) where
-    pub items_hold : Among (marks_of_items file) (lexemes_of text tokens) → All (OfItem P) file.items
-    items_hold among = (each_of item_then (OfItem P) item_of file.items []
-        (subst (OfMarks P Q) (sym (items_are file.items)) (of_marks among (of_lexemes text tokens all)))).0
+    pub parts_hold : Among (marks_of_items file) (lexemes_of text tokens) → All (OfPart P) (parts_of file)
+    parts_hold among = (each_of part_then (OfPart P) part_of (parts_of file) []
+        (subst (OfMarks P Q) (sym (parts_are file.items)) (of_marks among (of_lexemes text tokens all)))).0
 
     pub imports_hold : Among (marks_of_imports file) (lexemes_of text tokens)
         → All (λ import. All Q import.literals) file.imports

@@ -3,17 +3,15 @@ use Rattle.std.specs.Prelude.{ℕ, ◌≡◌, ◌<◌, List, ◌++◌, length, m
 use Rattle.std.specs.List.{flat_map}
 use Rattle.proto_lex.specs.declared.span.Span.{Span}
 use Rattle.proto_lex.specs.Lexed.{Lexed, IsLexed, AreInOrder}
-use Rattle.proto_parse.specs.tree.Dialect.{Dialect}
 use Rattle.proto_parse.specs.tree.File.{File}
-use Rattle.proto_parse.specs.Derives.{Derives}
+use Rattle.proto_parse.specs.Derives.{DerivesBySome}
 use Rattle.proto_decl.specs.Names.{components_at}
 use Rattle.proto_decl.specs.Imports.{imports_of}
-use Rattle.proto_decl.specs.Outlines.{package_spans}
-use Rattle.proto_decl.specs.Declares.{Declares}
+use Rattle.proto_decl.specs.Declares.{package_spans, Declares}
 use Rattle.proto_decl.specs.Uses.{uses_of}
-use Rattle.proto_decl.specs.declared.type_use.Component.{Component}
-use Rattle.proto_decl.specs.declared.type_use.Use.{Use}
-use Rattle.proto_decl.specs.declared.imported.Imported.{Imported}
+use Rattle.proto_decl.specs.declared.uses.Component.{Component}
+use Rattle.proto_decl.specs.declared.uses.Use.{Use}
+use Rattle.proto_decl.specs.declared.imports.Imported.{Imported}
 use Rattle.proto_decl.specs.declared.declaration.Declaration.{Declaration}
 
 -- The package's name has no components if the file has no package.
@@ -36,9 +34,8 @@ pub record AreFactsOf (number : ℕ) (lexed : Lexed) (file : File) (facts : Fact
 pub record AreOfSomeFile (facts : Facts) : Type 0 where
   pub lexed : Lexed
   pub file : File
-  pub dialect : Dialect
   pub is_lexed : IsLexed lexed.text lexed.tokens lexed.comments
-  pub derives : Derives dialect lexed.text lexed.tokens file
+  pub derives : DerivesBySome lexed.text lexed.tokens file
   pub of_file : AreFactsOf facts.number lexed file facts
 
 -- Where declared names are.

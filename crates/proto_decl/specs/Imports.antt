@@ -7,7 +7,7 @@ use Rattle.proto_lex.specs.Lexed.{IsPart, part_of}
 use Rattle.proto_lex.specs.Lexes.{Spells}
 use Rattle.proto_parse.specs.tree.Import.{Import}
 use Rattle.proto_parse.specs.Terminal.{between_quotes}
-use Rattle.proto_decl.specs.declared.imported.Imported.{Imported}
+use Rattle.proto_decl.specs.declared.imports.Imported.{Imported}
 
 -- A string literal of the text is at the span.
 pub record IsLiteral (text : List ℕ) (span : Span) : Type 0 where

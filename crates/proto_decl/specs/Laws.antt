@@ -1,20 +1,23 @@
 -- Laws of facts, comment texts and scopes.
-use Rattle.std.specs.Prelude.{ℕ, ◌≡◌, ◌<◌, ◌≤◌, List, [], ◌∷◌, ◌++◌, length, map, All, Contains}
+use Rattle.std.specs.Prelude.{ℕ, ◌≡◌, ◌<◌, ◌≤◌, List, [], ◌∷◌, ◌++◌, length, map, All, Contains, ◌≢◌}
 use Rattle.proto_lex.specs.declared.span.Span.{Span}
-use Rattle.proto_lex.specs.Lexed.{Lexed, IsLexed, IsPart, part_of}
-use Rattle.proto_parse.specs.tree.Dialect.{Dialect}
+use Rattle.proto_lex.specs.Lexed.{Lexed, IsLexed, IsPart, part_of, AreApart}
+use Rattle.proto_lex.specs.Lexes.{Spells}
+use Rattle.proto_lex.specs.declared.token.TokenKind.TheVariants.{Identifier}
 use Rattle.proto_parse.specs.tree.File.{File}
-use Rattle.proto_parse.specs.Derives.{Derives}
+use Rattle.proto_parse.specs.Derives.{DerivesBySome}
 use Rattle.proto_decl.specs.Names.{qualified, IsSimple, small_letters, dotted, components_of, package_of, prefix_of}
-use Rattle.proto_decl.specs.Names.{scopes_of}
-use Rattle.proto_decl.specs.Outlines.{step_named}
+use Rattle.proto_decl.specs.Names.{IsAround}
+use Rattle.proto_decl.specs.Declares.{step_named, simple_name}
 use Rattle.proto_decl.specs.Comments.{IsLeadingText, IsTrailingText}
-use Rattle.proto_decl.specs.Declares.{simple_name}
 use Rattle.proto_decl.specs.Facts.{Facts, AreFactsOf, AreOfSomeFile, component_spans, name_spans, use_spans}
-use Rattle.proto_decl.specs.declared.kind.DeclarationKind.TheVariants.{Message, Field}
+use Rattle.proto_decl.specs.declared.declaration.DeclarationKind.TheVariants.{Message, Field, Enum, Service, Oneof, Value}
+use Rattle.proto_decl.specs.declared.declaration.DeclarationKind.TheVariants.{Method}
 use Rattle.proto_decl.specs.declared.declaration.DeclarationStep.{DeclarationStep}
 use Rattle.proto_decl.specs.declared.declaration.Declaration.{Declaration}
-use Rattle.proto_decl.specs.declared.imported.Imported.{Imported}
+use Rattle.proto_decl.specs.declared.imports.Imported.{Imported}
+use Rattle.proto_decl.specs.declared.declaration.DeclarationKind.{DeclarationKind}
+use Rattle.proto_decl.specs.declared.uses.Component.{Component}
 
 -- A token leads one text and trails one, in a text with the tokens and comments of its lexing.
 abbrev pub OneLeadingText : Type 0
@@ -55,9 +58,9 @@ pub record IsNamedAt (text : List ℕ) (declarations : List Declaration) (declar
   pub full : declaration.full_name ≡ qualified scope (simple_name declaration.path)
 
 abbrev pub NamesAreSpelled : Type 0
-NamesAreSpelled = (dialect : Dialect) (number : ℕ) (lexed : Lexed) (file : File) (facts : Facts)
+NamesAreSpelled = (number : ℕ) (lexed : Lexed) (file : File) (facts : Facts)
     → IsLexed lexed.text lexed.tokens lexed.comments
-    → Derives dialect lexed.text lexed.tokens file → AreFactsOf number lexed file facts
+    → DerivesBySome lexed.text lexed.tokens file → AreFactsOf number lexed file facts
     → All (IsNamedAt lexed.text facts.declarations) facts.declarations
 
 -- The full name of a scope of a file: of its package, which is the root's if it has none, or of a declaration.
@@ -88,10 +91,13 @@ PrefixesAreEntities facts =
     All (λ declaration. (count : ℕ) → 0 < count → count ≤ length (components_of declaration.full_name)
     → IsEntity facts (prefix_of declaration.full_name count)) facts.declarations
 
--- The scopes of a full name are that name and the scopes of the scope around it.
+-- Around the full name of a simple name in a scope is that scope.
 abbrev pub ScopesNest : Type 0
-ScopesNest = (scope name : List ℕ) → IsSimple name
-    → scopes_of (qualified scope name) ≡ qualified scope name ∷ scopes_of scope
+ScopesNest = (scope name : List ℕ) → IsSimple name → IsAround (qualified scope name) scope
+
+-- One scope at most is around each.
+abbrev pub OneAround : Type 0
+OneAround = (scope outer other : List ℕ) → IsAround scope outer → IsAround scope other → outer ≡ other
 
 -- The components of the package's name and of uses, the imports and the declared names are parts of the text.
 pub record StandInText (text : List ℕ) (facts : Facts) : Type 0 where
@@ -102,3 +108,52 @@ pub record StandInText (text : List ℕ) (facts : Facts) : Type 0 where
 
 abbrev pub FactsStandInText : Type 0
 FactsStandInText = (facts : Facts) → (origin : AreOfSomeFile facts) → StandInText origin.lexed.text facts
+
+-- ---- the ancestors of declarations: by the names on its path a full name is made, and what is on it is declared
+
+-- The names of the scopes that a declaration is in and its own: a message or a service is a scope, and an enum is
+-- none, so that a value is a sibling of its enum (proto3 language guide, Enumerations).
+abbrev pub scoped : DeclarationKind → (name : List ℕ) → (inner : List (List ℕ)) → List (List ℕ)
+scoped Enum name inner = inner
+scoped Message name inner = name ∷ inner
+scoped Service name inner = name ∷ inner
+scoped Field name inner = name ∷ inner
+scoped Oneof name inner = name ∷ inner
+scoped Value name inner = name ∷ inner
+scoped Method name inner = name ∷ inner
+
+abbrev pub names_of : List DeclarationStep → List (List ℕ)
+names_of [] = []
+names_of (step ∷ []) = step.name ∷ []
+names_of (step ∷ (next ∷ others)) = scoped step.kind step.name (names_of (next ∷ others))
+
+-- the components of a package's name, without their places
+abbrev pub component_names : List Component → List (List ℕ)
+component_names = map (λ c. c.name)
+
+-- the names of the package's components and on the paths are identifiers
+pub record AreNamed (components : List Component) (declarations : List Declaration) : Type 0 where
+  pub of_components : All (Spells Identifier) (component_names components)
+  pub of_steps : All (λ d. All (λ step. Spells Identifier step.name) d.path) declarations
+
+-- Each prefix of a path leads to a declaration, and the names of the package's components and those on the path,
+-- joined by dots, are the full name.
+pub record AreHeld (components : List Component) (declarations : List Declaration) : Type 0 where
+  pub holder : (d : Declaration) (outer inner : List DeclarationStep) → Contains declarations d
+      → d.path ≡ outer ++ inner → outer ≢ []
+      → (other : Declaration) × Contains declarations other × (other.path ≡ outer)
+  pub full_names : All (λ d. d.full_name ≡ dotted (component_names components ++ names_of d.path)) declarations
+
+-- ---- each fact has places of its own in the text
+
+-- where the declared names and the components of the package's name are
+abbrev pub named_spans : Facts → List Span
+named_spans facts = name_spans facts.declarations ++ component_spans facts.package_name
+
+-- The components of uses are apart from these, and an import begins where none of all those does.
+pub record StandApart (facts : Facts) : Type 0 where
+  pub uses : (used named : Span) → Contains (use_spans facts.uses) used → Contains (named_spans facts) named
+      → AreApart used named
+  pub imports : (imported : Imported) (named : Span) → Contains facts.imports imported
+      → Contains (named_spans facts ++ use_spans facts.uses) named
+      → imported.span.start ≢ named.start

@@ -1,22 +1,26 @@
--- Names and scopes (proto3 specification, "Identifiers"; proto3 language guide, "Packages and Name Resolution").
-use Rattle.std.specs.Prelude.{ℕ, zero, suc, ◌≡◌, ◌<◌, ◌==◌, Bool, not, true, false, List, [], ◌∷◌, ◌++◌, length, take}
-use Rattle.std.specs.Prelude.{map}
+-- Names and scopes (proto3 specification, "Identifiers"; proto3 language guide, "Packages and Name Resolution"),
+-- and the numbers that full names are hashed by.
+use Rattle.std.specs.Prelude.{ℕ, ◌≡◌, ◌<◌, ◌==◌, not, true, List, [], ◌∷◌, ◌++◌, length, take, map, ◌+◌, ◌*◌, ◌%◌, ◌^◌}
 use Rattle.std.specs.Char.{to_ascii_lowercase}
-use Rattle.std.specs.List.{filter, join_with_byte, list_all, slice_split}
+use Rattle.std.specs.List.{join_with_byte, list_all, slice_split, fold}
 use Rattle.proto_lex.specs.declared.span.Span.{Span}
-use Rattle.proto_lex.specs.Ascii as ascii
 use Rattle.proto_lex.specs.Lexed.{part_of}
-use Rattle.proto_decl.specs.declared.type_use.Component.{Component}
+use Rattle.proto_lex.specs.Ascii as ascii
+use Rattle.proto_decl.specs.declared.uses.Component.{Component}
 
 -- The full name of a name in the scope with this full name. The root's is empty.
 abbrev pub qualified : (scope name : List ℕ) → List ℕ
 qualified [] name = name
 qualified (byte ∷ scope) name = (byte ∷ scope) ++ ascii.dot ∷ name
 
+-- No byte is a dot.
+abbrev pub HasNoDot : (name : List ℕ) → Type 0
+HasNoDot name = list_all (λ byte. not (byte == ascii.dot)) name ≡ true
+
 -- A simple name has bytes, of which none is a dot.
 pub record IsSimple (name : List ℕ) : Type 0 where
   pub some : 0 < length name
-  pub no_dot : list_all (λ byte. not (byte == ascii.dot)) name ≡ true
+  pub no_dot : HasNoDot name
 
 -- The name with small letters for its capitals A to Z.
 abbrev pub small_letters : (name : List ℕ) → List ℕ
@@ -44,18 +48,25 @@ component_at text span = record { name = part_of text span; span = span }
 abbrev pub components_at : (text : List ℕ) → List Span → List Component
 components_at text spans = map (component_at text) spans
 
--- a count, and each lower one down to 1
-abbrev pub down_from : (count : ℕ) → List ℕ
-down_from zero = []
-down_from (suc count) = suc count ∷ down_from count
+-- The scope around the one with this full name (proto3 language guide, "Packages and Name Resolution"): of a message or
+-- a service the next message out or the package, of a package its parent package. Its full name is what is before the
+-- last dot; where there is no dot it is that of the root, which has none around it.
+pub data IsAround : (scope outer : List ℕ) → Type 0 where
+  before_dot : {outer : List ℕ} (name : List ℕ) → HasNoDot name → IsAround (outer ++ ascii.dot ∷ name) outer
+  root : {byte : ℕ} {name : List ℕ} → HasNoDot (byte ∷ name) → IsAround (byte ∷ name) []
 
--- every name but the root's
-abbrev pub has_bytes : (name : List ℕ) → Bool
-has_bytes [] = false
-has_bytes (_ ∷ _) = true
+-- ---- the number of a full name: its bytes are mixed in one by one, so that it is the same however the name is parted
 
--- The scope with this full name and those around it, innermost first: the enclosing messages or the service, the
--- package, each parent package, and the root. The names of all but the root are what the first components make: all of
--- them, then one fewer each time. The root's is empty, and comes last.
-abbrev pub scopes_of : List ℕ → List (List ℕ)
-scopes_of scope = filter has_bytes (map (prefix_of scope) (down_from (length (components_of scope)))) ++ [] ∷ []
+abbrev pub hash64_byte : (hash64 byte : ℕ) → ℕ
+hash64_byte hash64 byte = (hash64 * 1099511628211 % 2 ^ 64 + byte) % 2 ^ 64
+
+abbrev pub hash64_on : (hash64 : ℕ) → List ℕ → ℕ
+hash64_on hash64 bytes = fold hash64_byte hash64 bytes
+
+abbrev pub hash64 : List ℕ → ℕ
+hash64 name = hash64_on 0 name
+
+-- that of a scope's full name with what comes before a name in the scope
+abbrev pub hash64_front : (scope : List ℕ) → ℕ
+hash64_front [] = 0
+hash64_front (byte ∷ scope) = hash64_byte (hash64 (byte ∷ scope)) ascii.dot

@@ -1,38 +1,26 @@
-//! Which comments document a declaration.
+//! Which comments document a declaration, and their texts.
 
-ghost use Rattle.std.specs.Prelude.{
-  ℕ,
-  ◌≡◌,
-  ◌+◌,
-  ◌<◌,
-  ◌≤◌,
-  ◌↔◌,
-  ◌∷◌,
-  ◌++◌,
-  map,
-  string_bytes,
-  All,
-  IsTrue,
-  IfOk,
-  OnOk,
-  IfSome,
-};
-ghost use Rattle.std.specs.Prelude.{MatchOption};
+ghost use Rattle.std.specs.Prelude.{ℕ, ◌≡◌, ◌+◌, ◌<◌, ◌≤◌, ◌↔◌, ◌∷◌, ◌++◌, map, string_bytes, All, IsTrue, IfOk, OnOk};
+ghost use Rattle.std.specs.Prelude.{IfSome, MatchOption};
 ghost use Rattle.std.specs.List.{join_with_byte};
-ghost use Rattle.proto_lex.specs.Ascii as ascii;
+ghost use Rattle.std.specs.Io.BufRead.{strip_last};
 ghost use Rattle.proto_lex.specs.Position.{line_of};
 ghost use Rattle.proto_lex.specs.Lexed.{AreApart};
 ghost use Rattle.proto_lex.specs.CommentTexts.{StandsAlone, NoneBetween};
 ghost use Rattle.proto_lex.specs.declared.token.Comment.{Comment};
-ghost use Rattle.proto_decl.specs.Comments as spec;
+ghost use Rattle.proto_lex.specs.Ascii as ascii;
+ghost use Rattle.proto_lex.specs.CommentTexts as texts;
 ghost use Rattle.proto_decl.specs.Layout.{AreBegun, IsFreeFrom};
+ghost use Rattle.proto_decl.specs.Comments.{StandsIn, text_of};
+ghost use Rattle.proto_decl.specs.Comments as spec;
 
-use crate::comment_text::text_of;
-use crate::layout::{Begun, comments_above, comments_begun, free_from, is_none_between};
-use crate::lines::{is_adjoining, is_on_later_line};
-use lent_texts::{KeptText, LentText};
-use proto_lex::{Comment, Span, Tokens};
-use sequences::OwnedText;
+use crate::layout::{
+    Begun, comments_above, comments_begun, free_from, is_adjoining, is_none_between,
+    is_on_later_line,
+};
+use crate::names::spelling_at;
+use basics::{KeptText, OwnedText, TextRef};
+use proto_lex::{Comment, CommentKind, Span, Tokens};
 use std::alloc::{AllocError, Global};
 
 /// Whether the comment at this span, which ends above a token, can lead what begins at `next`: it stands alone, and at
@@ -128,8 +116,8 @@ fn texts_of<'t>(
     ensures { IfOk result (λ text. text ≡ join_with_byte ascii.line_feed (map (spec.text_of lexed.now) comments.now)) }
 {
     match comments {
-        [] => Ok(KeptText::lent("")),
-        [comment] => Ok(KeptText::lent(text_of(lexed, *comment))),
+        [] => Ok(KeptText::borrowed("")),
+        [comment] => Ok(KeptText::borrowed(text_of(lexed, *comment))),
         [first, others @ ..] => {
             let joined = joined_texts(alloc, lexed, *first, others)?;
             KeptText::owned(alloc, joined)
@@ -153,7 +141,7 @@ pub(crate) fn leading_text<'t>(
             lexed,
             leading_comments(lexed, begun, from, first.start as usize),
         ),
-        None => Ok(KeptText::lent("")),
+        None => Ok(KeptText::borrowed("")),
     }
 }
 
@@ -189,11 +177,45 @@ fn trailing_comment(lexed: &Tokens<'_, '_>, near: usize, closing: Span) -> Optio
 }
 
 /// The trailing text of a declaration with this closing token, looked for from the comment with the index `near` on.
-pub(crate) fn trailing_text<'t>(lexed: &Tokens<'_, 't>, near: usize, closing: Span) -> LentText<'t>
+pub(crate) fn trailing_text<'t>(lexed: &Tokens<'_, 't>, near: usize, closing: Span) -> TextRef<'t>
     ensures { spec.IsTrailingText lexed.now closing result }
 {
     match trailing_comment(lexed, near, closing) {
-        Some(comment) => LentText::new(text_of(lexed, comment)),
-        None => LentText::new(""),
+        Some(comment) => TextRef::new(text_of(lexed, comment)),
+        None => TextRef::new(""),
+    }
+}
+
+/// A text without one `\r` at its end.
+fn without_return(text: &str) -> &str
+    ensures { result.now ≡ strip_last ascii.carriage_return text.now }
+{
+    if text.ends_with('\r') {
+        &text[..text.len() - 1]
+    } else {
+        text
+    }
+}
+
+/// A text without one space at its start.
+fn without_first_space(text: &str) -> &str
+    ensures { result.now ≡ texts.without_first_space text.now }
+{
+    if text.starts_with(' ') {
+        &text[1..]
+    } else {
+        text
+    }
+}
+
+/// The text of a comment.
+fn text_of<'t>(lexed: &Tokens<'_, 't>, comment: Comment) -> &'t str
+    requires { StandsIn lexed.now comment }
+    ensures { result.now ≡ text_of lexed.now comment }
+{
+    let spelling = spelling_at(lexed.text().as_str(), comment.span);
+    match comment.kind {
+        CommentKind::Line => without_first_space(without_return(&spelling[2..])),
+        CommentKind::Block => &spelling[2..spelling.len() - 2],
     }
 }

@@ -1,19 +1,70 @@
-//! Declarations.
+//! Declarations: what is declared, and on which path.
 
 ghost use Rattle.std.specs.Prelude.{◌≡◌, ◌++◌, ◌∷◌, [], IfOk};
 ghost use Rattle.proto_decl.specs.Names.{qualified};
 ghost use Rattle.proto_decl.specs.Declares.{simple_name};
 
 use crate::full_name::FullName;
-use crate::kind::DeclarationKind;
-use crate::named_declaration::NamedDeclaration;
-use crate::path::DeclarationPath;
 use crate::surrounding::Surrounding;
-use lent_texts::{KeptText, LentText};
+use crate::view::NamedDeclaration;
+use basics::{KeptText, TextRef};
 use proto_lex::Span;
 use proto_parse::Heading;
 use std::alloc::{AllocError, Global};
 use std::marker::Model;
+
+/// What is declared (proto3 specification, "Top Level definitions" and "Message definition"; proto2
+/// specification, "Group field" and "Extend").
+#[derive(Clone, Copy, Debug, PartialEq, Eq)]
+pub enum DeclarationKind {
+    Message,
+    Enum,
+    Service,
+    /// A field of a message, of a oneof, of an `extend` or of the type `map`, or that of a group.
+    Field,
+    Oneof,
+    /// A value of an enum.
+    Value,
+    /// A method of a service.
+    Method,
+}
+
+/// The path from the package to a declaration, outermost first. Something else owns the steps.
+///
+/// Contracts see the list of the steps, of which the last is the declaration itself.
+#[derive(Debug, Drop)]
+pub struct DeclarationPath<'a, 't> {
+    outer: &'a [DeclarationStep<'t>],
+    last: &'a DeclarationStep<'t>,
+}
+
+impl<'a, 't> Model for DeclarationPath<'a, 't> {
+    ghost use Rattle.std.specs.Prelude.{List, ◌++◌, ◌∷◌, []};
+    ghost use Rattle.proto_decl.specs.declared.declaration.DeclarationStep.{DeclarationStep};
+
+    ghost Value = { List DeclarationStep };
+
+    ghost view = { λ path. path.outer.now ++ path.last.now ∷ [] };
+}
+
+impl<'a, 't> DeclarationPath<'a, 't> {
+    /// These steps, and then this one. Takes no memory.
+    pub fn new(
+        outer: &'a [DeclarationStep<'t>],
+        last: &'a DeclarationStep<'t>,
+    ) -> DeclarationPath<'a, 't>
+        ensures { result ≡ outer.now ++ last.now ∷ [] }
+    {
+        DeclarationPath { outer, last }
+    }
+
+    /// The steps to what the declaration stands in, outermost first, and the one to the declaration.
+    pub fn parts(&self) -> (&'a [DeclarationStep<'t>], &'a DeclarationStep<'t>)
+        ensures { self.now ≡ result.0.now ++ result.1.now ∷ [] }
+    {
+        (self.outer, self.last)
+    }
+}
 
 /// A step of the path to a declaration: a declaration's kind and its simple name.
 #[derive(Debug, Drop)]
@@ -33,7 +84,7 @@ pub struct Declaration<'t> {
     last: DeclarationStep<'t>,
     name: Span,
     leading: KeptText<'t>,
-    trailing: LentText<'t>,
+    trailing: TextRef<'t>,
 }
 
 impl<'t> Model for Declaration<'t> {
@@ -59,7 +110,7 @@ impl<'t> Declaration<'t> {
     pub(crate) fn new(
         outline: Outline<'t>,
         leading: KeptText<'t>,
-        trailing: LentText<'t>,
+        trailing: TextRef<'t>,
     ) -> Declaration<'t>
         ensures { result ≡ record {
           kind = outline.entry.kind;

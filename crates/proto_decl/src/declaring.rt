@@ -1,15 +1,14 @@
 //! From tokens and their tree to a file's facts.
 
 ghost use Rattle.std.specs.Prelude.{◌≡◌, ◌++◌, [], List, All, IfOk, OnOk};
-ghost use Rattle.std.specs.List.{AllZip, flat_map};
+ghost use Rattle.std.specs.List.{AllZip};
 ghost use Rattle.proto_lex.specs.Lexed.{IsPart, IsLexed};
-ghost use Rattle.proto_parse.specs.Derives.{Derives};
-ghost use Rattle.proto_parse.specs.tree.Dialect.{Dialect};
-ghost use Rattle.proto_decl.specs.Spans.{OfItem, OfPackage};
+ghost use Rattle.proto_parse.specs.Derives.{DerivesBySome};
+ghost use Rattle.proto_decl.specs.Spans.{OfParts, OfPackage};
 ghost use Rattle.proto_decl.specs.Imports.{IsLiteral};
-ghost use Rattle.proto_decl.specs.Declares.{IsDeclaration};
-ghost use Rattle.proto_decl.specs.Outlines.{in_item};
-ghost use Rattle.proto_decl.specs.Uses.{uses_in_item};
+ghost use Rattle.proto_decl.specs.Declares.{IsDeclaration, outlines_in};
+ghost use Rattle.proto_decl.specs.Uses.{uses_in};
+ghost use Rattle.proto_decl.specs.Walked.{parts_in_item};
 ghost use Rattle.proto_decl.specs.declared.declaration.Outline.{Outline};
 ghost use Rattle.proto_decl.specs.Layout.{AreBegun};
 ghost use Rattle.proto_decl.specs.Facts.{AreFactsOf};
@@ -21,12 +20,11 @@ use crate::imports::imports_of;
 use crate::layout::{Begun, begun_before};
 use crate::package::{package_scope, package_spans};
 use crate::surrounding::Surrounding;
-use crate::type_use::Use;
-use crate::type_uses::components_at;
+use crate::uses::{Use, components_at};
 use crate::walk::walk_last;
+use basics::{OwnedText, Sequence};
 use proto_lex::Tokens;
 use proto_parse::{File, FileItem, spans_of_tokens};
-use sequences::{OwnedText, Sequence};
 use std::alloc::{AllocError, Global};
 
 /// What a file declares so far, and how many tokens and comments begin before the last declaration's first token.
@@ -40,16 +38,17 @@ struct Declared<'t> {
 fn are_lexed(lexed: &Tokens<'_, '_>)
     ensures { IsLexed lexed.now.text lexed.now.tokens lexed.now.comments }
 {
+    // From here on it is known that these are the tokens and comments of the text.
     lexed.tokens();
     lexed.comments();
 }
 
 /// What is known of the spans of a tree that these tokens derive.
 fn spans_of_tree(lexed: &Tokens<'_, '_>, file: &File)
-    requires { (dialect : Dialect) × Derives dialect lexed.now.text lexed.now.tokens file.now }
+    requires { DerivesBySome lexed.now.text lexed.now.tokens file.now }
     ensures package_name { OfPackage (IsPart lexed.now.text) file.now.package_name }
     ensures imports { All (λ import. All (IsLiteral lexed.now.text) import.literals) file.now.imports }
-    ensures items { All (OfItem (IsPart lexed.now.text)) file.now.items }
+    ensures items { All (λ item. OfParts (IsPart lexed.now.text) (parts_in_item item)) file.now.items }
 {
     are_lexed(lexed);
     spans_of_tokens();
@@ -104,11 +103,10 @@ fn declared_at<'t>(
     surrounding: &Surrounding<'t>,
     items: &[FileItem],
 ) -> Result<(Vec<Declaration<'t>>, Vec<Use<'t>>), AllocError>
-    requires { All (OfItem (IsPart text.now)) items.now }
+    requires { All (λ item. OfParts (IsPart text.now) (parts_in_item item)) items.now }
     ensures declarations { IfOk result (λ made. AllZip (IsDeclaration lexed.now)
-        (flat_map (in_item text.now surrounding.now) items.now) made.0.items) }
-    ensures uses { IfOk result (λ made. made.1.items
-        ≡ flat_map (uses_in_item text.now surrounding.now.scope) items.now) }
+        (outlines_in text.now surrounding.now items.now) made.0.items) }
+    ensures uses { IfOk result (λ made. made.1.items ≡ uses_in text.now surrounding.now items.now) }
 {
     let mut uses = Vec::new(alloc);
     let mut declared = Declared {
@@ -134,17 +132,17 @@ fn declared_in<'t>(
     scope: OwnedText,
     items: &[FileItem],
 ) -> Result<(Vec<Declaration<'t>>, Vec<Use<'t>>), AllocError>
-    requires { All (OfItem (IsPart text.now)) items.now }
+    requires { All (λ item. OfParts (IsPart text.now) (parts_in_item item)) items.now }
     ensures declarations { IfOk result (λ made. AllZip (IsDeclaration lexed.now)
-        (flat_map (in_item text.now (record { scope = scope; path = [] })) items.now) made.0.items) }
+        (outlines_in text.now (record { scope = scope; path = [] }) items.now) made.0.items) }
     ensures uses { IfOk result (λ made. made.1.items
-        ≡ flat_map (uses_in_item text.now scope) items.now) }
+        ≡ uses_in text.now (record { scope = scope; path = [] }) items.now) }
 {
     let surrounding = Surrounding::new(alloc, scope, Sequence::new(alloc))?;
     declared_at(alloc, lexed, text, &surrounding, items)
 }
 
-/// The facts of the file with this number, whose tree these tokens derive by some dialect.
+/// The facts of the file with this number, whose tree these tokens derive.
 ///
 /// The tree must be that of these tokens: its spans are read off their text, of which the names of the
 /// facts are parts. It is refused only for want of memory. The facts hold nothing of the tree.
@@ -154,7 +152,7 @@ pub fn declare<'t>(
     lexed: &Tokens<'_, 't>,
     file: &File,
 ) -> Result<FileFacts<'t>, AllocError>
-    requires { (dialect : Dialect) × Derives dialect lexed.now.text lexed.now.tokens file.now }
+    requires { DerivesBySome lexed.now.text lexed.now.tokens file.now }
     ensures { IfOk result (AreFactsOf number lexed.now file.now) }
 {
     are_lexed(lexed);

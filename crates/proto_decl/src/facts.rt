@@ -4,9 +4,9 @@ ghost use Rattle.std.specs.Prelude.{◌≡◌};
 ghost use Rattle.proto_decl.specs.Facts.{AreOfSomeFile};
 
 use crate::declaration::Declaration;
-use crate::imported::Imported;
-use crate::type_use::{Component, Use};
-use sequences::Sequence;
+use crate::imports::Imported;
+use crate::uses::{Component, Use};
+use basics::Sequence;
 use std::marker::Model;
 
 /// What a file declares, uses and imports, which is all that is linked, named and written of it. Its names

@@ -1,33 +1,18 @@
-//! Full names.
+//! Full names, and the numbers that they are hashed by.
 
-ghost use Rattle.std.specs.Prelude.{
-  ℕ,
-  List,
-  ◌≡◌,
-  ◌<◌,
-  ◌↔◌,
-  ◌++◌,
-  ◌∷◌,
-  ◌&&◌,
-  bytes_eq,
-  length,
-  nat_eq,
-  IsTrue,
-  IfOk,
-  MatchOption,
-};
+ghost use Rattle.std.specs.Prelude.{ℕ, List, ◌≡◌, ◌<◌, ◌↔◌, ◌++◌, ◌∷◌, ◌&&◌, bytes_eq, length, nat_eq, IsTrue, IfOk};
+ghost use Rattle.std.specs.Prelude.{MatchOption};
 ghost use Rattle.std.specs.Cmp.{partial_equiv_from_equiv};
 ghost use Rattle.std.specs.Cmp.Lexicographic.{pointwise, bytes_decides, nat_list_eq_equiv};
-ghost use Rattle.std.specs.Hash as fed;
 ghost use Rattle.std.proofs.Common.{ap};
+ghost use Rattle.std.specs.Hash as fed;
 ghost use Rattle.proto_lex.specs.Ascii as ascii;
 ghost use Rattle.proto_decl.specs.Names.{qualified};
-ghost use Rattle.proto_decl.specs.FullNames as spec;
+ghost use Rattle.proto_decl.specs.Names as spec;
 
-use crate::mixing::mixed_on;
 use crate::names::qualified;
 use crate::surrounding::Surrounding;
-use sequences::OwnedText;
+use basics::OwnedText;
 use std::alloc::{AllocError, Global};
 use std::hash::{Hash, Hasher};
 use std::marker::Model;
@@ -39,20 +24,19 @@ use std::marker::Model;
 #[derive(Debug, Drop)]
 pub struct FullName<'a> {
     scope: &'a str,
-    mixed: u64,
+    hash64: u64,
     name: &'a str,
 }
 
 impl<'a> Model for FullName<'a> {
     ghost use Rattle.std.specs.Prelude.{◌≡◌, List, ℕ};
-    ghost use Rattle.proto_decl.specs.Names.{qualified};
-    ghost use Rattle.proto_decl.specs.FullNames.{mixed_front};
+    ghost use Rattle.proto_decl.specs.Names.{qualified, hash64_front};
 
     ghost Value = { List ℕ };
 
     ghost view = { λ full. qualified full.scope.now full.name.now };
 
-    ghost invariant = { λ full. full.mixed ≡ mixed_front full.scope.now };
+    ghost invariant = { λ full. full.hash64 ≡ hash64_front full.scope.now };
 }
 
 impl<'a> FullName<'a> {
@@ -62,7 +46,7 @@ impl<'a> FullName<'a> {
     {
         FullName {
             scope: surrounding.scope(),
-            mixed: surrounding.mixed(),
+            hash64: surrounding.hash64(),
             name,
         }
     }
@@ -73,7 +57,7 @@ impl<'a> FullName<'a> {
     {
         FullName {
             scope: "",
-            mixed: 0,
+            hash64: 0,
             name,
         }
     }
@@ -84,7 +68,7 @@ impl<'a> FullName<'a> {
     {
         FullName {
             scope: self.scope,
-            mixed: self.mixed,
+            hash64: self.hash64,
             name: self.name,
         }
     }
@@ -105,10 +89,10 @@ impl<'a> FullName<'a> {
 
     /// The number that it is hashed by. It depends on the full name alone, however that is parted; other names may have
     /// it too. Takes no memory.
-    pub fn mixed(&self) -> u64
-        ensures { result ≡ spec.mixed self.now }
+    pub fn hash64(&self) -> u64
+        ensures { result ≡ spec.hash64 self.now }
     {
-        mixed_on(self.mixed, self.name)
+        hash64_on(self.hash64, self.name)
     }
 }
 
@@ -127,12 +111,12 @@ impl<'a> Eq for FullName<'a> {
 }
 
 impl<'a> Hash for FullName<'a> {
-    ghost hash_input = { λ name. fed.u64 (spec.mixed name) };
+    ghost hash_input = { λ name. fed.u64 (spec.hash64 name) };
 
-    ghost respects_eq = { λ a b same. ap (λ name. fed.u64 (spec.mixed name)) ((bytes_decides a b).0 same) };
+    ghost respects_eq = { λ a b same. ap (λ name. fed.u64 (spec.hash64 name)) ((bytes_decides a b).0 same) };
 
     fn hash<H: Hasher>(&self, state: &mut H) {
-        state.write_u64(self.mixed());
+        state.write_u64(self.hash64());
     }
 }
 
@@ -193,4 +177,35 @@ fn are_same(scope: &str, name: &str, other_scope: &str, other_name: &str) -> boo
         return is_same_outside(scope, name, other_scope, other_name);
     }
     is_same_outside(other_scope, other_name, scope, name)
+}
+
+/// What a number is multiplied by before a byte is mixed in: a prime, as of the hash FNV-1 of 64 bits.
+const MULTIPLIER: u64 = 1_099_511_628_211;
+
+/// The hash of what has one, with a byte behind it.
+fn hash64_byte(hash64: u64, byte: u8) -> u64
+    ensures { result ≡ spec.hash64_byte hash64 byte }
+{
+    hash64.wrapping_mul(MULTIPLIER).wrapping_add(byte as u64)
+}
+
+/// The hash of what has one, with a text behind it.
+fn hash64_on(hash64: u64, text: &str) -> u64
+    ensures { result ≡ spec.hash64_on hash64 text.now }
+{
+    let mut more = hash64;
+    for byte in text.as_bytes() {
+        more = hash64_byte(more, *byte);
+    }
+    more
+}
+
+/// The hash of a scope's full name in front of a name in it.
+pub(crate) fn hash64_front(scope: &str) -> u64
+    ensures { result ≡ spec.hash64_front scope.now }
+{
+    if scope.is_empty() {
+        return 0;
+    }
+    hash64_byte(hash64_on(0, scope), b'.')
 }

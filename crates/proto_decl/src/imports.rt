@@ -5,13 +5,21 @@ ghost use Rattle.proto_lex.specs.Lexed.{part_of};
 ghost use Rattle.proto_parse.specs.Terminal.{between_quotes};
 ghost use Rattle.proto_decl.specs.Imports as spec;
 
-use crate::imported::Imported;
 use crate::names::spelling_at;
-use lent_texts::KeptText;
+use basics::{KeptText, OwnedText, Sequence};
 use proto_lex::Span;
-use proto_parse::Import;
-use sequences::{OwnedText, Sequence};
+use proto_parse::{Import, ImportKind};
 use std::alloc::{AllocError, Global};
+
+/// An import of a file.
+#[derive(Debug, Drop)]
+pub struct Imported<'t> {
+    /// What the literals spell when joined, without their quotes.
+    pub path: KeptText<'t>,
+    pub kind: ImportKind,
+    /// From the start of the first literal to the end of the last one.
+    pub span: Span,
+}
 
 /// Where the last of the spans ends.
 pub(crate) fn end_of(spans: &[Span]) -> u32
@@ -35,7 +43,7 @@ pub(crate) fn start_of(spans: &[Span]) -> u32
 }
 
 /// From the start of the first span to the end of the last one.
-pub(crate) fn whole_span(spans: &[Span]) -> Span
+fn whole_span(spans: &[Span]) -> Span
     ensures { result ≡ spec.whole_span spans.now }
 {
     Span {
@@ -71,7 +79,7 @@ fn path_of<'t>(alloc: Global, text: &'t str, literals: &[Span]) -> Result<KeptTe
     ensures { IfOk result (λ path. path ≡ spec.joined_literals text.now literals.now) }
 {
     match literals {
-        [literal] => Ok(KeptText::lent(between_quotes(text, *literal))),
+        [literal] => Ok(KeptText::borrowed(between_quotes(text, *literal))),
         _ => KeptText::owned(alloc, joined_literals(alloc, text, literals)?),
     }
 }

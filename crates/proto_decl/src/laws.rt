@@ -1,12 +1,15 @@
 //! Laws: what the definitions say about facts, whatever the code does.
 
-ghost use Rattle.std.specs.Prelude.{All};
+ghost use Rattle.std.specs.Prelude.{All, ℕ, ◌≢◌, []};
+ghost use Rattle.proto_lex.specs.Lexed.{Lexed};
+ghost use Rattle.proto_parse.specs.tree.File.{File};
 ghost use Rattle.proto_decl.specs.Facts.{Facts, AreOfSomeFile, NamesInOrder, UsesInOrder, ImportsInOrder};
-ghost use Rattle.proto_decl.specs.Facts.{PackageInOrder, NamesAreFilled, UsesAreFilled};
+ghost use Rattle.proto_decl.specs.Facts.{PackageInOrder, NamesAreFilled, UsesAreFilled, AreFactsOf};
 ghost use Rattle.proto_decl.specs.Names.{IsSimple};
-ghost use Rattle.proto_decl.specs.Places.{StandApart};
+ghost use Rattle.proto_decl.specs.Laws.{StandApart};
 ghost use Rattle.proto_decl.specs.Laws.{OneLeadingText, OneTrailingText, OneFacts, NamesAreSpelled, StandsInScope};
-ghost use Rattle.proto_decl.specs.Laws.{PrefixesAreEntities, FactsStandInText, ScopesNest};
+ghost use Rattle.proto_decl.specs.Laws.{PrefixesAreEntities, FactsStandInText, ScopesNest, OneAround};
+ghost use Rattle.proto_decl.specs.Laws.{AreNamed, AreHeld};
 
 use proto_parse::{names_have_components, spans_in_order, spans_of_tokens};
 
@@ -89,7 +92,28 @@ pub fn prefixes_are_entities()
     facts_are_filled();
 }
 
-/// The scopes of a name are its own and those of the scope around it.
+/// Around the full name of a simple name in a scope is that scope, and no other.
 pub fn scopes_nest()
-    ensures { ScopesNest }
+    ensures nest { ScopesNest }
+    ensures one { OneAround }
 {}
+
+/// What holds a declaration of a file is declared there too, and the full name of each is that of its
+/// package, of the scopes on the path to it and its own name, joined by dots.
+pub fn declarations_stand_in_declarations()
+    ensures { (number : ℕ) (lexed : Lexed) (file : File) (facts : Facts) → AreFactsOf number lexed file facts
+        → AreNamed facts.package_name facts.declarations → AreHeld facts.package_name facts.declarations }
+{}
+
+/// The names of a file's package and of its declarations are identifiers, each path has a step, and
+/// what holds a declaration is declared there too.
+pub fn names_are_identifiers()
+    ensures named { (facts : Facts) → AreOfSomeFile facts → AreNamed facts.package_name facts.declarations }
+    ensures paths { (facts : Facts) → AreOfSomeFile facts
+        → All (λ declaration. declaration.path ≢ []) facts.declarations }
+    ensures held { (facts : Facts) → AreOfSomeFile facts → AreHeld facts.package_name facts.declarations }
+{
+    spans_of_tokens();
+    names_are_spelled();
+    declarations_stand_in_declarations();
+}

@@ -1,48 +1,46 @@
 //! What the syntax tree of a source declares and uses, and the comments that document it.
 #![tactic(auto)]
 
-mod ancestors;
-mod around;
-mod comment_text;
-mod comments;
-mod declaration;
+// From tokens and their tree to a file's facts.
 mod declaring;
 mod facts;
-mod full_name;
-mod imported;
-mod imports;
-mod kind;
-mod laws;
-mod layout;
-mod lines;
-mod mixing;
-mod named_declaration;
-mod names;
-mod outlines;
-mod package;
-mod path;
-mod scope_name;
-mod scopes;
-mod surrounding;
-mod type_use;
-mod type_uses;
-mod view;
 mod walk;
 
-pub use ancestors::{declarations_stand_in_declarations, names_are_identifiers};
-pub use declaration::{Declaration, DeclarationStep};
+// What a file declares, and what a callback sees of it.
+mod declaration;
+mod outlines;
+mod view;
+
+// Its names: simple ones, full ones, its package's, and those of scopes.
+mod full_name;
+mod names;
+mod package;
+mod scopes;
+
+// Where declarations are.
+mod surrounding;
+
+// What it imports, and which types it uses.
+mod imports;
+mod uses;
+
+// Which comments document a declaration.
+mod comments;
+mod layout;
+
+// The laws.
+mod laws;
+
+pub use declaration::{Declaration, DeclarationKind, DeclarationPath, DeclarationStep};
 pub use declaring::declare;
 pub use facts::FileFacts;
 pub use full_name::FullName;
-pub use imported::Imported;
-pub use kind::DeclarationKind;
+pub use imports::Imported;
 pub use laws::{
-    facts_are_filled, facts_in_order, facts_stand_apart, facts_stand_in_text, names_are_spelled,
-    one_comment_text, one_list_of_facts, prefixes_are_entities, scopes_are_known, scopes_nest,
+    declarations_stand_in_declarations, facts_are_filled, facts_in_order, facts_stand_apart,
+    facts_stand_in_text, names_are_identifiers, names_are_spelled, one_comment_text,
+    one_list_of_facts, prefixes_are_entities, scopes_are_known, scopes_nest,
 };
-pub use named_declaration::NamedDeclaration;
-pub use path::DeclarationPath;
-pub use scope_name::ScopeName;
-pub use scopes::scope_around;
-pub use type_use::{Component, Use};
-pub use view::DeclView;
+pub use scopes::{ScopeName, scope_around};
+pub use uses::{Component, Use};
+pub use view::{DeclView, NamedDeclaration};

@@ -4,8 +4,8 @@ ghost use Rattle.std.specs.Prelude.{◌≡◌, IfOk};
 ghost use Rattle.proto_lex.specs.Lexed.{IsPart, part_of};
 ghost use Rattle.proto_decl.specs.Names.{qualified, small_letters};
 
+use basics::OwnedText;
 use proto_lex::Span;
-use sequences::OwnedText;
 use std::alloc::{AllocError, Global};
 
 /// What is at a span of a text.

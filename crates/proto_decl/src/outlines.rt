@@ -1,16 +1,18 @@
 //! What a file declares, before the comments are looked for.
 
-ghost use Rattle.std.specs.Prelude.{◌≡◌, ◌++◌, map, All, IfOk, OnOk};
+ghost use Rattle.std.specs.Prelude.{◌≡◌, ◌++◌, All, IfOk, OnOk};
+ghost use Rattle.std.specs.List.{flat_map};
 ghost use Rattle.proto_lex.specs.Lexed.{IsPart};
 ghost use Rattle.proto_parse.specs.tree.Head.TheVariants as Head;
-ghost use Rattle.proto_decl.specs.Spans.{OfHeading, OfGroup, OfHead, OfMethod, OfLeaf, OfEnum};
-ghost use Rattle.proto_decl.specs.Outlines as spec;
+ghost use Rattle.proto_decl.specs.Spans.{OfHeading, OfGroup, OfHead, OfMethod, OfParts};
+ghost use Rattle.proto_parse.specs.Parts.Part.{ValuePart, MethodPart};
+ghost use Rattle.proto_decl.specs.Declares as spec;
+ghost use Rattle.proto_decl.specs.Walked as walked;
 
-use crate::declaration::{DeclarationStep, Outline};
-use crate::kind::DeclarationKind;
+use crate::declaration::{DeclarationKind, DeclarationStep, Outline};
 use crate::names::{small_letters, spelling_at};
 use crate::surrounding::{Surrounding, beside};
-use lent_texts::KeptText;
+use basics::KeptText;
 use proto_parse::{Enum, Group, Head, Heading, Leaf, Method};
 use std::alloc::{AllocError, Global};
 
@@ -37,7 +39,7 @@ pub(crate) fn outline_at<'t>(
     requires { OfHeading (IsPart text.now) heading }
     ensures { IfOk result (λ outline. outline ≡ spec.outline_at text.now surrounding.now kind heading) }
 {
-    let name = KeptText::lent(spelling_at(text, heading.name));
+    let name = KeptText::borrowed(spelling_at(text, heading.name));
     outline_named(surrounding, kind, name, heading)
 }
 
@@ -49,9 +51,9 @@ pub(crate) fn outline_enum<'t>(
     declared: &Enum,
     outlines: &mut Vec<Outline<'t>>,
 ) -> Result<(), AllocError>
-    requires { OfEnum (IsPart text.now) declared.now }
+    requires { OfParts (IsPart text.now) (walked.parts_in_enum declared.now) }
     ensures { OnOk result (outlines.new.items
-        ≡ outlines.old.items ++ spec.in_enum text.now surrounding.now declared.now) }
+        ≡ outlines.old.items ++ walked.in_enum text.now surrounding.now declared.now) }
 {
     let heading = declared.heading;
     outlines.push(outline_at(text, surrounding, DeclarationKind::Enum, heading)?)?;
@@ -68,7 +70,8 @@ fn outline_values<'t>(
 ) -> Result<(), AllocError>
     requires { All (OfHeading (IsPart text.now)) values.now }
     ensures { OnOk result (outlines.new.items
-        ≡ outlines.old.items ++ map (spec.outline_at text.now surrounding.now DeclarationKind.Value) values.now) }
+        ≡ outlines.old.items ++ flat_map (λ value. spec.declared_by text.now surrounding.now (ValuePart value))
+        values.now) }
 {
     for value in values {
         outlines.push(outline_at(text, surrounding, DeclarationKind::Value, *value)?)?;
@@ -85,8 +88,8 @@ pub(crate) fn outline_methods<'t>(
 ) -> Result<(), AllocError>
     requires { All (OfMethod (IsPart text.now)) methods.now }
     ensures { OnOk result (outlines.new.items
-        ≡ outlines.old.items
-        ++ map (λ method. spec.outline_at text.now surrounding.now DeclarationKind.Method method.heading) methods.now) }
+        ≡ outlines.old.items ++ flat_map (λ method. spec.declared_by text.now surrounding.now (MethodPart method))
+        methods.now) }
 {
     for method in methods {
         outlines.push(outline_at(text, surrounding, DeclarationKind::Method, method.heading)?)?;
@@ -102,8 +105,9 @@ pub(crate) fn outline_leaf<'t>(
     leaf: &Leaf,
     outlines: &mut Vec<Outline<'t>>,
 ) -> Result<(), AllocError>
-    requires { OfLeaf (IsPart text.now) leaf.now }
-    ensures { OnOk result (outlines.new.items ≡ outlines.old.items ++ spec.in_leaf text.now surrounding.now leaf.now) }
+    requires { OfParts (IsPart text.now) (walked.parts_in_leaf leaf.now) }
+    ensures { OnOk result (outlines.new.items
+        ≡ outlines.old.items ++ walked.in_leaf text.now surrounding.now leaf.now) }
 {
     let heading = match leaf {
         Leaf::Enum(declared) => return outline_enum(alloc, text, surrounding, declared, outlines),

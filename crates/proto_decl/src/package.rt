@@ -3,12 +3,12 @@
 ghost use Rattle.std.specs.Prelude.{◌≡◌, ◌∷◌, map, All, IfOk};
 ghost use Rattle.proto_lex.specs.Lexed.{IsPart, part_of};
 ghost use Rattle.proto_decl.specs.Names.{dotted};
-ghost use Rattle.proto_decl.specs.Outlines as spec;
+ghost use Rattle.proto_decl.specs.Declares as spec;
 
 use crate::names::spelling_at;
+use basics::OwnedText;
 use proto_lex::Span;
 use proto_parse::File;
-use sequences::OwnedText;
 use std::alloc::{AllocError, Global};
 
 /// The spans of the components of a file's package; none if it has none.

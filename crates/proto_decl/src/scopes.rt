@@ -1,8 +1,46 @@
 //! Scopes, by their full names.
 
-ghost use Rattle.std.specs.Prelude.{◌≡◌, ◌≢◌, ◌<◌, ◌∷◌, [], ℕ, length, get_or, IfSome, MatchOption, IsCharBoundary};
+ghost use Rattle.std.specs.Prelude.{◌≡◌, IfOk, ◌≢◌, ◌<◌, [], ℕ, length, get_or, IfSome, MatchOption, IsCharBoundary};
 ghost use Rattle.proto_lex.specs.Ascii as ascii;
-ghost use Rattle.proto_decl.specs.Names.{scopes_of};
+ghost use Rattle.proto_decl.specs.Names.{IsAround};
+
+use crate::surrounding::Surrounding;
+use std::alloc::AllocError;
+use std::marker::Model;
+
+/// The full name of the scope of a use. All that is directly in the same file, message or service shares it.
+///
+/// Contracts see the list of its bytes.
+#[derive(Debug, Drop)]
+pub struct ScopeName<'t> {
+    surrounding: Surrounding<'t>,
+}
+
+impl<'t> Model for ScopeName<'t> {
+    ghost use Rattle.std.specs.Prelude.{List, ℕ};
+
+    ghost Value = { List ℕ };
+
+    ghost view = { λ name. name.surrounding.scope };
+}
+
+impl<'t> ScopeName<'t> {
+    /// The full name of a surrounding's scope, with one owner more. Nothing is copied.
+    pub(crate) fn of(surrounding: &Surrounding<'t>) -> Result<ScopeName<'t>, AllocError>
+        ensures { IfOk result (λ scope. scope ≡ surrounding.now.scope) }
+    {
+        Ok(ScopeName {
+            surrounding: surrounding.share()?,
+        })
+    }
+
+    /// The full name; the root's is empty.
+    pub fn as_str(&self) -> &str
+        ensures { result.now ≡ self.now }
+    {
+        self.surrounding.scope()
+    }
+}
 
 /// Where the last dot of a name is.
 #[tactic(auto, using(crate::proofs::ScopeLemmas::found_dot))]
@@ -22,7 +60,7 @@ fn last_dot(name: &str) -> Option<usize>
 #[tactic(auto, using(crate::proofs::ScopeLemmas::around_dot, crate::proofs::ScopeLemmas::around_none))]
 pub fn scope_around(scope: &str) -> Option<&str>
     ensures around { MatchOption result (scope.now ≡ [])
-        (λ outer. scopes_of scope.now ≡ scope.now ∷ scopes_of outer.now) }
+        (λ outer. IsAround scope.now outer.now) }
     ensures shorter { IfSome result (λ outer. length outer.now < length scope.now) }
 {
     if scope.is_empty() {

@@ -1,20 +1,75 @@
-//! Where declarations are.
+//! Where declarations are: what is around those of one file, message, service or enum.
 
 ghost use Rattle.std.specs.Prelude.{◌≡◌, ◌++◌, ◌∷◌, [], IfOk};
 ghost use Rattle.proto_lex.specs.Lexed.{IsPart};
-ghost use Rattle.proto_decl.specs.FullNames.{mixed_front};
-ghost use Rattle.proto_decl.specs.Outlines.{scope_heading, step_to, inside, beside};
+ghost use Rattle.proto_decl.specs.Names.{hash64_front};
+ghost use Rattle.proto_decl.specs.Declares.{scope_heading, step_to, inside, beside};
 
-use crate::around::Around;
-use crate::declaration::DeclarationStep;
-use crate::kind::DeclarationKind;
+use crate::declaration::{DeclarationKind, DeclarationStep};
+use crate::full_name::hash64_front;
 use crate::names::{qualified, spelling_at};
-use lent_texts::KeptText;
+use basics::{KeptText, OwnedText, Sequence};
 use proto_parse::{Head, Heading};
-use sequences::{OwnedText, Sequence};
 use std::alloc::{AllocError, Global};
 use std::marker::Model;
 use std::sync::Arc;
+
+/// The full name of a scope, its hash in front of a name in it, and the path to what declarations are in.
+///
+/// Contracts see the list of the full name's bytes, and the path.
+#[derive(Debug, Drop)]
+pub(crate) struct Around<'t> {
+    scope: OwnedText,
+    hash64: u64,
+    path: Sequence<DeclarationStep<'t>>,
+}
+
+impl<'t> Model for Around<'t> {
+    ghost use Rattle.std.specs.Prelude.{◌≡◌};
+    ghost use Rattle.proto_decl.specs.Values.{Surrounding};
+    ghost use Rattle.proto_decl.specs.Names.{hash64_front};
+
+    ghost Value = { Surrounding };
+
+    ghost view = { λ inside. record { scope = inside.scope; path = inside.path } };
+
+    ghost invariant = { λ inside. inside.hash64 ≡ hash64_front inside.scope };
+}
+
+impl<'t> Around<'t> {
+    /// The scope with this full name, and this path.
+    pub(crate) fn new(scope: OwnedText, path: Sequence<DeclarationStep<'t>>) -> Around<'t>
+        ensures { result ≡ record { scope = scope; path = path.entry } }
+    {
+        let hash64 = hash64_front(scope.as_str());
+        Around {
+            scope,
+            hash64,
+            path,
+        }
+    }
+
+    /// The full name.
+    pub(crate) fn scope(&self) -> &str
+        ensures { result.now ≡ self.now.scope }
+    {
+        self.scope.as_str()
+    }
+
+    /// The hash of the full name in front of a name.
+    pub(crate) fn hash64(&self) -> u64
+        ensures { result ≡ hash64_front self.now.scope }
+    {
+        self.hash64
+    }
+
+    /// The path.
+    pub(crate) fn path(&self) -> &[DeclarationStep<'t>]
+        ensures { result.now ≡ self.now.path }
+    {
+        self.path.as_slice()
+    }
+}
 
 /// What is around a declaration. All that is directly in the same file, message, service or enum shares it.
 ///
@@ -63,11 +118,11 @@ impl<'t> Surrounding<'t> {
         self.around.scope()
     }
 
-    /// What the full name of the scope is mixed to in front of a name.
-    pub(crate) fn mixed(&self) -> u64
-        ensures { result ≡ mixed_front self.now.scope }
+    /// The hash of the full name of the scope in front of a name.
+    pub(crate) fn hash64(&self) -> u64
+        ensures { result ≡ hash64_front self.now.scope }
     {
-        self.around.mixed()
+        self.around.hash64()
     }
 
     /// The path to what the declaration is in, outermost first.
@@ -123,7 +178,7 @@ fn step_to<'t>(text: &'t str, kind: DeclarationKind, heading: Heading) -> Declar
 {
     DeclarationStep {
         kind,
-        name: KeptText::lent(spelling_at(text, heading.name)),
+        name: KeptText::borrowed(spelling_at(text, heading.name)),
     }
 }
 

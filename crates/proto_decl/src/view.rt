@@ -1,8 +1,10 @@
 //! What a callback sees of a declaration.
 
 ghost use Rattle.std.specs.Prelude.{◌≡◌};
+ghost use Rattle.proto_decl.specs.Declares.{simple_name};
 
-use crate::kind::DeclarationKind;
+use crate::declaration::{Declaration, DeclarationKind};
+use basics::OwnedText;
 use std::marker::Model;
 
 /// What is said of a declaration: its kind, its names and its comment texts, all borrowed.
@@ -18,7 +20,7 @@ pub struct DeclView<'a> {
 }
 
 impl<'a> Model for DeclView<'a> {
-    ghost use Rattle.proto_decl.specs.Seen.{Seen};
+    ghost use Rattle.proto_decl.specs.Values.{Seen};
 
     ghost Value = { Seen };
 
@@ -91,5 +93,65 @@ impl<'a> DeclView<'a> {
         ensures { result.now ≡ self.now.trailing }
     {
         self.trailing
+    }
+}
+
+/// A declaration with the text of its full name, which it hasn't by itself.
+///
+/// Contracts see the declaration.
+#[derive(Drop)]
+pub struct NamedDeclaration<'a, 't> {
+    declaration: &'a Declaration<'t>,
+    full_name: OwnedText,
+}
+
+impl<'a, 't> Model for NamedDeclaration<'a, 't> {
+    ghost use Rattle.proto_decl.specs.Values.{Declaration};
+
+    ghost Value = { Declaration };
+
+    ghost view = { λ named. record {
+      kind = named.declaration.now.kind;
+      full_name = named.full_name;
+      path = named.declaration.now.path;
+      name = named.declaration.now.name;
+      leading = named.declaration.now.leading;
+      trailing = named.declaration.now.trailing;
+    } };
+}
+
+impl<'a, 't> NamedDeclaration<'a, 't> {
+    /// The declaration, of which this is the full name.
+    pub(crate) fn new(
+        declaration: &'a Declaration<'t>,
+        full_name: OwnedText,
+    ) -> NamedDeclaration<'a, 't>
+        requires { full_name ≡ declaration.now.full_name }
+        ensures { result ≡ declaration.now }
+    {
+        NamedDeclaration {
+            declaration,
+            full_name,
+        }
+    }
+
+    /// What a callback sees of it. Takes no memory.
+    pub fn view(&self) -> DeclView<'_>
+        ensures { result ≡ record {
+          kind = self.now.kind;
+          name = simple_name self.now.path;
+          full_name = self.now.full_name;
+          leading = self.now.leading;
+          trailing = self.now.trailing;
+        } }
+    {
+        let declaration = self.declaration;
+        DeclView::new(
+            declaration.kind(),
+            declaration.simple_name(),
+            self.full_name.as_str(),
+            declaration.leading(),
+            declaration.trailing(),
+        )
     }
 }

@@ -1,19 +1,19 @@
 //! The walk over a tree, which finds what a file declares and which types it uses.
 
-ghost use Rattle.std.specs.Prelude.{◌≡◌, ◌++◌, IfOk, OnOk};
+ghost use Rattle.std.specs.Prelude.{◌≡◌, ◌++◌, All, IfOk, OnOk};
 ghost use Rattle.proto_lex.specs.Lexed.{IsPart};
 ghost use Rattle.proto_parse.specs.Items.{body_of};
-ghost use Rattle.proto_decl.specs.Spans.{OfHead, OfLeaf, OfBody, OfBlock, OfService, OfItem};
-ghost use Rattle.proto_decl.specs.Outlines.{in_leaf, in_head, in_block, in_body, in_service, in_item};
-ghost use Rattle.proto_decl.specs.Uses.{uses_in_leaf, uses_in_head, uses_in_block, uses_in_body, uses_in_service};
-ghost use Rattle.proto_decl.specs.Uses.{uses_in_item};
+ghost use Rattle.proto_decl.specs.Spans.{OfHead, OfParts};
+ghost use Rattle.proto_decl.specs.Declares.{in_head};
+ghost use Rattle.proto_decl.specs.Walked.{in_leaf, in_block, in_body, in_service, in_item, uses_of_head};
+ghost use Rattle.proto_decl.specs.Walked.{uses_in_leaf, uses_in_block, uses_in_body, uses_in_service, uses_in_item};
+ghost use Rattle.proto_decl.specs.Walked.{parts_in_leaf, parts_in_block, parts_in_service, parts_in_item};
+ghost use Rattle.proto_decl.specs.Walked.{parts_of_inner};
 
-use crate::declaration::Outline;
-use crate::kind::DeclarationKind;
+use crate::declaration::{DeclarationKind, Outline};
 use crate::outlines::{outline_at, outline_enum, outline_head, outline_leaf, outline_methods};
 use crate::surrounding::{Surrounding, inside, scope_heading};
-use crate::type_use::Use;
-use crate::type_uses::{use_head, use_leaf, use_methods};
+use crate::uses::{Use, use_head, use_leaf, use_methods};
 use proto_parse::{Block, FileItem, Head, Item, Leaf, Service};
 use std::alloc::{AllocError, Global};
 
@@ -32,11 +32,11 @@ fn walk_leaf<'t>(
     leaf: &Leaf,
     found: &mut Found<'t>,
 ) -> Result<(), AllocError>
-    requires { OfLeaf (IsPart text.now) leaf.now }
+    requires { OfParts (IsPart text.now) (parts_in_leaf leaf.now) }
     ensures outlines { OnOk result (found.new.outlines.items
         ≡ found.old.outlines.items ++ in_leaf text.now surrounding.now leaf.now) }
     ensures uses { OnOk result (found.new.uses.items
-        ≡ found.old.uses.items ++ uses_in_leaf text.now surrounding.now.scope leaf.now) }
+        ≡ found.old.uses.items ++ uses_in_leaf text.now surrounding.now leaf.now) }
 {
     outline_leaf(alloc, text, surrounding, leaf, &mut found.outlines)?;
     use_leaf(alloc, text, surrounding, leaf, &mut found.uses)
@@ -54,7 +54,7 @@ fn walk_head<'t>(
     ensures outlines { OnOk result (found.new.outlines.items
         ≡ found.old.outlines.items ++ in_head text.now surrounding.now head.now) }
     ensures uses { OnOk result (found.new.uses.items
-        ≡ found.old.uses.items ++ uses_in_head text.now surrounding.now.scope head.now) }
+        ≡ found.old.uses.items ++ uses_of_head text.now surrounding.now head.now) }
 {
     outline_head(alloc, text, surrounding, head, &mut found.outlines)?;
     use_head(alloc, text, surrounding, head, &mut found.uses)
@@ -69,11 +69,11 @@ fn walk_block<'t>(
     block: &Block,
     found: &mut Found<'t>,
 ) -> Result<(), AllocError>
-    requires { OfBlock (IsPart text.now) block.now }
+    requires { OfParts (IsPart text.now) (parts_in_block block.now) }
     ensures outlines { OnOk result (found.new.outlines.items
         ≡ found.old.outlines.items ++ in_block text.now surrounding.now block.now) }
     ensures uses { OnOk result (found.new.uses.items
-        ≡ found.old.uses.items ++ uses_in_block text.now surrounding.now.scope block.now) }
+        ≡ found.old.uses.items ++ uses_in_block text.now surrounding.now block.now) }
 {
     walk_head(alloc, text, surrounding, &block.head, found)?;
     match scope_heading(&block.head) {
@@ -94,11 +94,11 @@ fn walk_items<'t>(
     items: &[Item],
     found: &mut Found<'t>,
 ) -> Result<(), AllocError>
-    requires { OfBody (IsPart text.now) (body_of items.now) }
+    requires { All (λ item. OfParts (IsPart text.now) (parts_of_inner item)) items.now }
     ensures outlines { OnOk result (found.new.outlines.items
         ≡ found.old.outlines.items ++ in_body text.now surrounding.now (body_of items.now)) }
     ensures uses { OnOk result (found.new.uses.items
-        ≡ found.old.uses.items ++ uses_in_body text.now surrounding.now.scope (body_of items.now)) }
+        ≡ found.old.uses.items ++ uses_in_body text.now surrounding.now (body_of items.now)) }
 {
     for item in items {
         match item {
@@ -121,11 +121,11 @@ fn walk_service<'t>(
     service: &Service,
     found: &mut Found<'t>,
 ) -> Result<(), AllocError>
-    requires { OfService (IsPart text.now) service.now }
+    requires { OfParts (IsPart text.now) (parts_in_service service.now) }
     ensures outlines { OnOk result (found.new.outlines.items
         ≡ found.old.outlines.items ++ in_service text.now surrounding.now service.now) }
     ensures uses { OnOk result (found.new.uses.items
-        ≡ found.old.uses.items ++ uses_in_service text.now surrounding.now.scope service.now) }
+        ≡ found.old.uses.items ++ uses_in_service text.now surrounding.now service.now) }
 {
     let kind = DeclarationKind::Service;
     let outline = outline_at(text, surrounding, kind, service.heading)?;
@@ -137,6 +137,7 @@ fn walk_service<'t>(
 }
 
 /// Adds what stands in a file.
+#[tactic(auto, using(crate::proofs::WalkedLemmas::enum_uses_none))]
 fn walk_item<'t>(
     alloc: Global,
     text: &'t str,
@@ -144,11 +145,11 @@ fn walk_item<'t>(
     item: &FileItem,
     found: &mut Found<'t>,
 ) -> Result<(), AllocError>
-    requires { OfItem (IsPart text.now) item.now }
+    requires { OfParts (IsPart text.now) (parts_in_item item.now) }
     ensures outlines { OnOk result (found.new.outlines.items
         ≡ found.old.outlines.items ++ in_item text.now surrounding.now item.now) }
     ensures uses { OnOk result (found.new.uses.items
-        ≡ found.old.uses.items ++ uses_in_item text.now surrounding.now.scope item.now) }
+        ≡ found.old.uses.items ++ uses_in_item text.now surrounding.now item.now) }
 {
     match item {
         FileItem::Block(block) => walk_block(alloc, text, surrounding, block, found),
@@ -167,10 +168,10 @@ pub(crate) fn walk_last<'t>(
     item: &FileItem,
     uses: Vec<Use<'t>>,
 ) -> Result<Found<'t>, AllocError>
-    requires { OfItem (IsPart text.now) item.now }
+    requires { OfParts (IsPart text.now) (parts_in_item item.now) }
     ensures outlines { IfOk result (λ found. found.outlines.items ≡ in_item text.now surrounding.now item.now) }
     ensures uses { IfOk result (λ found. found.uses.items
-        ≡ uses.entry.items ++ uses_in_item text.now surrounding.now.scope item.now) }
+        ≡ uses.entry.items ++ uses_in_item text.now surrounding.now item.now) }
 {
     let mut found = Found {
         outlines: Vec::new(alloc),

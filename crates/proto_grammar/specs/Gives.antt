@@ -1,24 +1,18 @@
 -- What a step of the parser gives, beside what can be read from the tokens.
 use Rattle.std.specs.Prelude.{◌≡◌, Result, Ok, Err}
-use Rattle.proto_grammar.specs.declared.tree.CustomOptions.{CustomOptions}
-use Rattle.proto_grammar.specs.declared.tree.CustomOptions.TheVariants.{Refuse}
+use Rattle.proto_grammar.specs.declared.dialect.CustomOptions.{CustomOptions}
+use Rattle.proto_grammar.specs.declared.dialect.CustomOptions.TheVariants.{Refuse}
 use Rattle.proto_grammar.specs.declared.fault.SyntaxFault.{SyntaxFault}
-use Rattle.proto_grammar.specs.declared.fault.SyntaxFault.TheVariants.{NotProto3, CustomOption, Aggregate, Extend}
-use Rattle.proto_grammar.specs.declared.fault.SyntaxFault.TheVariants.{TwoPackages, ImportEscape, TooDeep, Grammar}
-use Rattle.proto_grammar.specs.declared.fault.SyntaxFault.TheVariants.{Memory}
+use Rattle.proto_grammar.specs.declared.fault.SyntaxFault.TheVariants.{CustomOption, Aggregate, Extend, Memory}
 
 -- A fault is the one that reading meets, and one of custom options only if they are refused. Lack of memory says
 -- nothing about the text.
 abbrev pub Fails : {Y : Type 0} → CustomOptions → SyntaxFault → Result Y SyntaxFault → Type 0
-Fails custom (NotProto3 offset) read = read ≡ Err (NotProto3 offset)
 Fails custom (CustomOption offset) read = (custom ≡ Refuse) × (read ≡ Err (CustomOption offset))
 Fails custom (Aggregate offset) read = (custom ≡ Refuse) × (read ≡ Err (Aggregate offset))
 Fails custom (Extend offset) read = (custom ≡ Refuse) × (read ≡ Err (Extend offset))
-Fails custom (TwoPackages offset) read = read ≡ Err (TwoPackages offset)
-Fails custom (ImportEscape offset) read = read ≡ Err (ImportEscape offset)
-Fails custom (TooDeep offset) read = read ≡ Err (TooDeep offset)
-Fails custom (Grammar offset) read = read ≡ Err (Grammar offset)
 Fails custom Memory read = Unit {0}
+Fails custom fault read = read ≡ Err fault
 
 -- The result shows what is read, and the place behind it. A step that has no choice of what is done with custom
 -- options gives what it gives if they are read past.

@@ -2,13 +2,14 @@
 
 ghost use Rattle.std.specs.Prelude.{◌≡◌};
 ghost use Rattle.proto_grammar.specs.Gives.{Gives};
-ghost use Rattle.proto_grammar.specs.declared.tree.CustomOptions.TheVariants.{Skip};
+ghost use Rattle.proto_grammar.specs.declared.dialect.CustomOptions.TheVariants.{Skip};
 ghost use Rattle.proto_grammar.specs.Reading.Fields.{numbered_at, typed_at, required_at, label_at};
 ghost use Rattle.proto_grammar.specs.Reading.Fields.{pass_field_at, group_head_at, map_field_at};
 
+use crate::dialect::{CustomOptions, Syntax};
 use crate::fault::SyntaxFault;
 use crate::parser::Parser;
-use crate::tree::{CustomOptions, Field, Group, Heading, Label, MapField, Syntax};
+use crate::tree::{Field, Group, Heading, Label, MapField};
 use proto_lex::{Span, TokenKind};
 use std::alloc::Global;
 

@@ -2,7 +2,7 @@
 
 ghost use Rattle.std.specs.Prelude.{◌≡◌, ◌++◌, OnOk, option_to_list};
 
-use sequences::Sequence;
+use basics::Sequence;
 use std::alloc::AllocError;
 
 /// Puts the item at the end of the list, if there is one.

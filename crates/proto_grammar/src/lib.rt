@@ -5,19 +5,28 @@
 //! gives the fault that it meets.
 #![tactic(auto)]
 
+// The tree, and why there is none.
 mod fault;
-mod fields;
-mod kept;
-mod names;
-mod options;
-mod parser;
-mod reserved;
 mod tree;
 
+// The parser's place among the tokens.
+mod kept;
+mod parser;
+
+// What is inside statements.
+mod fields;
+mod names;
+mod options;
+mod reserved;
+
+// Which sources are accepted, and the grammar of one file.
+mod dialect;
+
+pub use dialect::{CustomOptions, Dialect, Syntax};
 pub use fault::SyntaxFault;
 pub use kept::keep;
 pub use parser::{Lexeme, Parser};
 pub use tree::{
-    Block, CustomOptions, Dialect, Enum, Field, FieldType, File, FileItem, Group, Head, Heading,
-    Import, ImportKind, Item, Label, Leaf, MapField, Method, Service, Syntax, TypeName,
+    Block, Enum, Field, FieldType, File, FileItem, Group, Head, Heading, Import, ImportKind, Item,
+    Label, Leaf, MapField, Method, Service, TypeName,
 };

@@ -2,7 +2,7 @@
 
 ghost use Rattle.std.specs.Prelude.{◌≡◌};
 ghost use Rattle.proto_grammar.specs.Gives.{Gives};
-ghost use Rattle.proto_grammar.specs.declared.tree.CustomOptions.TheVariants.{Skip};
+ghost use Rattle.proto_grammar.specs.declared.dialect.CustomOptions.TheVariants.{Skip};
 ghost use Rattle.proto_grammar.specs.Reading.Names.{dot_name_at, dot_names_at, name_at, pass_dot_name_at, pass_name_at};
 ghost use Rattle.proto_grammar.specs.Reading.Names.{pass_dot_names_at, leading_dot_at, type_name_at, pass_type_name_at};
 ghost use Rattle.proto_grammar.specs.Reading.Names.{named_type_at, type_at};
@@ -11,8 +11,8 @@ use crate::fault::SyntaxFault;
 use crate::kept::keep;
 use crate::parser::Parser;
 use crate::tree::{FieldType, TypeName};
+use basics::Sequence;
 use proto_lex::{Span, TokenKind};
-use sequences::Sequence;
 use std::alloc::Global;
 
 impl<'t> Parser<'t> {

@@ -2,16 +2,16 @@
 
 ghost use Rattle.std.specs.Prelude.{◌≡◌, ◌+◌, ◌<◌, ◌≤◌, length};
 ghost use Rattle.proto_grammar.specs.Gives.{Gives};
-ghost use Rattle.proto_grammar.specs.declared.tree.CustomOptions.TheVariants.{Skip};
+ghost use Rattle.proto_grammar.specs.declared.dialect.CustomOptions.TheVariants.{Skip};
 ghost use Rattle.proto_grammar.specs.Reading.Options.{extension_at, part_at, dot_part_at, dot_parts_at, option_name_at};
 ghost use Rattle.proto_grammar.specs.Reading.Options.{literal_at, literals_at, strings_at, deeper_at, closed_at};
 ghost use Rattle.proto_grammar.specs.Reading.Options.{aggregate_at, signed_at, constant_at, setting_at};
 ghost use Rattle.proto_grammar.specs.Reading.Options.{comma_setting_at, comma_settings_at, option_at, bracketed_at};
 ghost use Rattle.proto_grammar.specs.Reading.Options.{options_at};
 
+use crate::dialect::CustomOptions;
 use crate::fault::SyntaxFault;
 use crate::parser::Parser;
-use crate::tree::CustomOptions;
 use proto_lex::TokenKind;
 
 impl<'t> Parser<'t> {

@@ -5,7 +5,7 @@ ghost use Rattle.std.specs.List.{list_any};
 ghost use Rattle.std.specs.Option.{option_map_or};
 ghost use Rattle.proto_lex.specs.Ascii as ascii;
 ghost use Rattle.proto_grammar.specs.Gives.{Gives};
-ghost use Rattle.proto_grammar.specs.declared.tree.CustomOptions.TheVariants.{Skip};
+ghost use Rattle.proto_grammar.specs.declared.dialect.CustomOptions.TheVariants.{Skip};
 ghost use Rattle.proto_grammar.specs.Terminal.{first, others, first_is, of_kind, is_word, key_words, scalar_words};
 ghost use Rattle.proto_grammar.specs.Terminal.{is_scalar, is_key, is_sign, is_numeral, is_number, is_plain_literal};
 ghost use Rattle.proto_grammar.specs.Terminal.{between_quotes, begins_scalar, begins_group, is_capitalized};
@@ -206,7 +206,7 @@ impl<'t> Parser<'t> {
     }
 
     /// Moves past the next token, if there is one.
-    #[tactic(auto, using(crate::proofs::Places::others_drop))]
+    #[tactic(auto, using(crate::proofs::TerminalPlaceLemmas::others_drop))]
     pub fn advance(&mut self)
         ensures { self.new ≡ behind self.old }
     {

@@ -2,14 +2,14 @@
 
 ghost use Rattle.std.specs.Prelude.{◌≡◌};
 ghost use Rattle.proto_grammar.specs.Gives.{Gives};
-ghost use Rattle.proto_grammar.specs.declared.tree.CustomOptions.TheVariants.{Skip};
+ghost use Rattle.proto_grammar.specs.declared.dialect.CustomOptions.TheVariants.{Skip};
 ghost use Rattle.proto_grammar.specs.Reading.Reserved.{plain_integer_at, integer_at, range_end_at, range_at};
 ghost use Rattle.proto_grammar.specs.Reading.Reserved.{reserved_item_at, comma_item_at, comma_items_at, reserved_at};
 ghost use Rattle.proto_grammar.specs.Reading.Reserved.{extensions_at};
 
+use crate::dialect::CustomOptions;
 use crate::fault::SyntaxFault;
 use crate::parser::Parser;
-use crate::tree::CustomOptions;
 use proto_lex::TokenKind;
 
 impl<'t> Parser<'t> {

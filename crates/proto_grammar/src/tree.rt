@@ -2,76 +2,9 @@
 //!
 //! Options, reserved statements, `extensions`, numbers and lone `;` are checked, and aren't in the tree.
 
-ghost use Rattle.std.specs.Prelude.{◌≡◌};
-ghost use Rattle.proto_grammar.specs.Syntax.{custom_of, is_all, is_proto2};
-
+use basics::Sequence;
 use proto_lex::Span;
-use sequences::Sequence;
 use std::marker::Model;
-
-/// What is done with custom options: option names with a part in parentheses, and aggregate values. The tree never
-/// holds them. If only proto3 is accepted, the same is done with `extend`.
-#[derive(Clone, Copy, Debug, PartialEq, Eq)]
-pub enum CustomOptions {
-    /// They are refused.
-    Refuse,
-    /// They are read past.
-    Skip,
-}
-
-/// Which sources are accepted.
-#[derive(Clone, Copy, Debug, PartialEq, Eq)]
-pub enum Dialect {
-    /// proto3 sources, with what is done with custom options.
-    Proto3(CustomOptions),
-    /// proto2 and proto3 sources, both with `extend`. Custom options are read past.
-    All,
-}
-
-impl Dialect {
-    /// Whether all sources are accepted.
-    pub fn is_all(self) -> bool
-        ensures { result ≡ is_all self }
-    {
-        match self {
-            Dialect::Proto3(_) => false,
-            Dialect::All => true,
-        }
-    }
-}
-
-/// The grammar of one file, by its syntax statement and the dialect.
-#[derive(Clone, Copy, Debug, PartialEq, Eq)]
-pub enum Syntax {
-    /// proto3, if only proto3 is accepted.
-    Proto3(CustomOptions),
-    /// proto3, if all sources are accepted: `extend` declares, and custom options are read past.
-    Extended,
-    /// proto2.
-    Proto2,
-}
-
-impl Syntax {
-    /// What is done with custom options.
-    pub fn custom_options(self) -> CustomOptions
-        ensures { result ≡ custom_of self }
-    {
-        match self {
-            Syntax::Proto3(custom) => custom,
-            Syntax::Extended | Syntax::Proto2 => CustomOptions::Skip,
-        }
-    }
-
-    /// Whether it is proto2.
-    pub fn is_proto2(self) -> bool
-        ensures { result ≡ is_proto2 self }
-    {
-        match self {
-            Syntax::Proto3(_) | Syntax::Extended => false,
-            Syntax::Proto2 => true,
-        }
-    }
-}
 
 /// The tree of a file (proto3 specification, "Proto file").
 #[derive(Debug, Drop)]

@@ -3,7 +3,7 @@ use Rattle.std.proofs.Common.{arith, eqb-true, ◌-◌, ◌≤◌, None, drop, t
 use Rattle.std.proofs.lemmas.Option.{same_Some}
 use Rattle.proto_lex.specs.Comments.{begins_close, EndsBlock, close, inside}
 use Rattle.proto_lex.specs.Reading.{block_at}
-use Rattle.proto_lex.proofs.ReadLemmas.{chosen, both, after-cons}
+use Rattle.proto_lex.proofs.ReadingTestLemmas.{chosen, both, after-cons}
 
 -- Block comments are read exactly as they are defined.
 

@@ -23,7 +23,7 @@ use Rattle.proto_lex.specs.declared.lexer.piece.PieceKind.TheVariants as piece
 use Rattle.proto_lex.specs.declared.token.Token.{Token}
 use Rattle.proto_lex.specs.declared.token.Comment.{Comment}
 use Rattle.proto_lex.proofs.ByteLemmas.{quote_not_backslash}
-use Rattle.proto_lex.proofs.ReadLemmas.{bind_of_err, ok_not_err, same_err}
+use Rattle.proto_lex.proofs.ReadingTestLemmas.{bind_of_err, ok_not_err, same_err}
 use Rattle.proto_lex.proofs.NumberLemmas.{integer_found, float_found}
 use Rattle.proto_lex.proofs.LiteralLemmas.{literal_first}
 use Rattle.proto_lex.proofs.LiteralFound.{escape_found}

@@ -22,7 +22,7 @@ use Rattle.proto_lex.specs.declared.lexer.piece.PieceKind.{PieceKind}
 use Rattle.proto_lex.specs.declared.lexer.piece.PieceKind.TheVariants as piece
 use Rattle.proto_lex.specs.declared.token.TokenKind.{TokenKind}
 use Rattle.proto_lex.specs.declared.token.TokenKind.TheVariants as kind
-use Rattle.proto_lex.proofs.ReadLemmas.{chosen, same_ok, err_not_ok, ok_not_err, same_err, bind_err}
+use Rattle.proto_lex.proofs.ReadingTestLemmas.{chosen, same_ok, err_not_ok, ok_not_err, same_err, bind_err}
 use Rattle.proto_lex.proofs.ByteLemmas.{is_plain_from}
 use Rattle.proto_lex.proofs.NumberLemmas.{integer_exact, float_exact}
 use Rattle.proto_lex.proofs.LiteralLemmas.{character_positive}

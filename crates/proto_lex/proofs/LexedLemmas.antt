@@ -25,7 +25,7 @@ use Rattle.proto_lex.specs.declared.token.CommentKind.{CommentKind}
 use Rattle.proto_lex.specs.declared.span.Span.{Span}
 use Rattle.proto_lex.specs.declared.lexer.piece.PieceKind.{PieceKind}
 use Rattle.proto_lex.specs.declared.lexer.piece.PieceKind.TheVariants as piece
-use Rattle.proto_lex.proofs.ReadLemmas.{both, either}
+use Rattle.proto_lex.proofs.ReadingTestLemmas.{both, either}
 use Rattle.proto_lex.proofs.PieceFound.{Stands, sign_cases}
 use Rattle.proto_lex.proofs.PieceExact.{integer_begins, float_begins, stands_some}
 
@@ -181,7 +181,7 @@ part_is text front word rest at e n h u v =
           (IsCharBoundary-at_seam text (front ++ word) rest split v);
     }
 
-in_order_before : (place later : ℕ) (spans : List Span) → place ≤ later → AreInOrder later spans
+pub in_order_before : (place later : ℕ) (spans : List Span) → place ≤ later → AreInOrder later spans
     → AreInOrder place spans
 in_order_before place later [] h o = tt
 in_order_before place later (span ∷ spans) h o = (omega (arith, o.0), o.1, o.2)

@@ -11,7 +11,7 @@ use Rattle.proto_lex.specs.declared.lexer.piece.PieceKind.{PieceKind}
 use Rattle.proto_lex.specs.declared.lexer.piece.PieceKind.TheVariants as piece
 use Rattle.proto_lex.specs.declared.token.Token.{Token}
 use Rattle.proto_lex.specs.declared.token.Comment.{Comment}
-use Rattle.proto_lex.proofs.ReadLemmas.{both, same_ok, err_not_ok, bind_ok, bind_of_ok, bind_of_err}
+use Rattle.proto_lex.proofs.ReadingTestLemmas.{both, same_ok, err_not_ok, bind_ok, bind_of_ok, bind_of_err}
 use Rattle.proto_lex.proofs.PieceFound.{Stands, Begins, piece_found}
 use Rattle.proto_lex.proofs.PieceExact.{piece_exact, stands_some}
 use Rattle.proto_lex.proofs.PiecesLemmas.{pieces_step, pieces_fault, drop_after}

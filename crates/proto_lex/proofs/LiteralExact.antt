@@ -9,7 +9,7 @@ use Rattle.proto_lex.specs.Literals.{is_plain, is_escape_letter, IsEscape, lette
 use Rattle.proto_lex.specs.Literals.{two_octal, three_octal, short_unicode, long_unicode, last_unicode, EndsLiteral}
 use Rattle.proto_lex.specs.Literals.{close, character, escape}
 use Rattle.proto_lex.specs.Reading.{begins_with_hex, escape_len, character_at, literal_at}
-use Rattle.proto_lex.proofs.ReadLemmas.{both, either}
+use Rattle.proto_lex.proofs.ReadingTestLemmas.{both, either}
 use Rattle.proto_lex.proofs.LiteralLemmas.{literal_step-cons, literal_close}
 use Rattle.proto_lex.proofs.ByteLemmas.{quote_not_backslash, plain_not_quote, plain_not_newline, plain_not_nul}
 use Rattle.proto_lex.proofs.ByteLemmas.{plain_not_backslash, hex_is_plain, octal_is_plain}

@@ -9,7 +9,7 @@ use Rattle.proto_lex.specs.Literals.{is_plain, is_escape_letter, IsEscape, lette
 use Rattle.proto_lex.specs.Literals.{long_unicode, last_unicode, EndsLiteral, close, character, escape}
 use Rattle.proto_lex.specs.Reading.{begins_with_hex, begins_last_unicode, begins_long_unicode, escape_len, escaped}
 use Rattle.proto_lex.specs.Reading.{character_at, literal_at}
-use Rattle.proto_lex.proofs.ReadLemmas.{chosen, both, either, same_ok, err_not_ok, bind_ok}
+use Rattle.proto_lex.proofs.ReadingTestLemmas.{chosen, both, either, same_ok, err_not_ok, bind_ok}
 use Rattle.proto_lex.proofs.LiteralLemmas.{character_positive}
 use Rattle.proto_lex.proofs.ByteLemmas.{is_plain_from}
 

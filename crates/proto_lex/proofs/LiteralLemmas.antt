@@ -4,7 +4,7 @@ use Rattle.std.proofs.lemmas.Bool.Decides.{nat_tests}
 use Rattle.proto_lex.specs.Reading.{Read, ◌>>=◌, literal_at, character_at, escape_len, escaped}
 use Rattle.proto_lex.specs.declared.fault.LexFault.{LexFault}
 use Rattle.proto_lex.specs.declared.fault.LexFault.TheVariants.{OpenString}
-use Rattle.proto_lex.proofs.ReadLemmas.{chosen, err_not_ok, after-cons, bind_of_ok, bind_of_err}
+use Rattle.proto_lex.proofs.ReadingTestLemmas.{chosen, err_not_ok, after-cons, bind_of_ok, bind_of_err}
 
 -- the bytes that are known to be in the string may be left out
 pub literal_skip : (quote opening skip len : ℕ) (bytes : List ℕ)

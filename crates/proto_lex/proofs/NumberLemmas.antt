@@ -7,8 +7,8 @@ use Rattle.proto_lex.specs.Numbers.{no_exponent, unsigned, signed, IsFloat, whol
 use Rattle.proto_lex.specs.Numbers.{goes_on, run_after, run_of, begins_hexadecimal}
 use Rattle.proto_lex.specs.Reading.{past, are_digits, are_hex_digits, is_zero_integer, is_integer, past_sign}
 use Rattle.proto_lex.specs.Reading.{is_exponent_or_none, ends_fraction, ends_whole, is_float}
-use Rattle.proto_lex.proofs.ReadLemmas.{chosen, both, after-cons}
-use Rattle.proto_lex.proofs.PrefixLemmas.{past-cons, past-stop, past-all}
+use Rattle.proto_lex.proofs.ReadingTestLemmas.{chosen, both, after-cons}
+use Rattle.proto_lex.proofs.ReadingPrefixLemmas.{past-cons, past-stop, past-all}
 use Rattle.proto_lex.proofs.ByteLemmas.{nonzero_not_zero, nonzero_is_digit, digit_nonzero, octal_not_hex_mark}
 use Rattle.proto_lex.proofs.ByteLemmas.{octal_is_digit, digit_not_point, digit_not_plus_or_minus}
 use Rattle.proto_lex.proofs.ByteLemmas.{exponent_mark_not_digit, exponent_mark_not_point, hex_mark_not_digit}

@@ -12,8 +12,8 @@ use Rattle.proto_lex.specs.declared.lexer.piece.PieceKind.TheVariants as piece
 use Rattle.proto_lex.specs.declared.token.TokenKind.{TokenKind}
 use Rattle.proto_lex.specs.declared.token.TokenKind.TheVariants as kind
 use Rattle.proto_lex.specs.declared.token.CommentKind.{CommentKind}
-use Rattle.proto_lex.proofs.ReadLemmas.{both, either}
-use Rattle.proto_lex.proofs.PrefixLemmas.{prefix_exact, one_more}
+use Rattle.proto_lex.proofs.ReadingTestLemmas.{both, either}
+use Rattle.proto_lex.proofs.ReadingPrefixLemmas.{prefix_exact, one_more}
 use Rattle.proto_lex.proofs.ByteLemmas.{letter_not_blank, digit_not_blank, digit_not_letter, quote_not_blank}
 use Rattle.proto_lex.proofs.ByteLemmas.{quote_not_letter, quote_not_digit, quote_not_point, nonzero_is_digit}
 use Rattle.proto_lex.proofs.NumberLemmas.{integer_exact, float_exact, float_no_integer, digits_start}

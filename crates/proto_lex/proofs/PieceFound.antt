@@ -18,8 +18,8 @@ use Rattle.proto_lex.specs.declared.lexer.piece.PieceKind.TheVariants as piece
 use Rattle.proto_lex.specs.declared.token.TokenKind.{TokenKind}
 use Rattle.proto_lex.specs.declared.token.TokenKind.TheVariants as kind
 use Rattle.proto_lex.specs.declared.token.CommentKind.TheVariants as comment
-use Rattle.proto_lex.proofs.ReadLemmas.{chosen, same_ok, err_not_ok, bind_ok}
-use Rattle.proto_lex.proofs.PrefixLemmas.{prefix_passes, prefix_stops}
+use Rattle.proto_lex.proofs.ReadingTestLemmas.{chosen, same_ok, err_not_ok, bind_ok}
+use Rattle.proto_lex.proofs.ReadingPrefixLemmas.{prefix_passes, prefix_stops}
 use Rattle.proto_lex.proofs.NumberLemmas.{integer_found, float_found}
 use Rattle.proto_lex.proofs.NumberLemmas.{run_of-front}
 use Rattle.proto_lex.proofs.LiteralFound.{literal_found}

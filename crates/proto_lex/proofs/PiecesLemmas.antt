@@ -5,7 +5,7 @@ use Rattle.std.proofs.Common.{inr, append_assoc, length-append}
 use Rattle.std.proofs.lemmas.List.{drop_at, length-append, append-nil}
 use Rattle.std.specs.List.{prefix_len}
 use Rattle.proto_lex.specs.Bytes.{is_blank}
-use Rattle.proto_lex.proofs.PrefixLemmas.{one_more}
+use Rattle.proto_lex.proofs.ReadingPrefixLemmas.{one_more}
 use Rattle.proto_lex.specs.Lexes.{LexesFrom, at_end, blank, comment, token, Lexes, unmarked, marked, part}
 use Rattle.proto_lex.specs.Reading.{◌>>=◌, piece_at, Pieces, pieces, with_first, pieces_at, mark_len, pieces_of, Read}
 use Rattle.proto_lex.specs.Reading.{joined, with_last, GivesPieces}
@@ -16,7 +16,7 @@ use Rattle.proto_lex.specs.declared.lexer.piece.PieceKind.{PieceKind}
 use Rattle.proto_lex.specs.declared.lexer.piece.PieceKind.TheVariants as piece
 use Rattle.proto_lex.specs.declared.token.Token.{Token}
 use Rattle.proto_lex.specs.declared.token.Comment.{Comment}
-use Rattle.proto_lex.proofs.ReadLemmas.{both, same_ok, err_not_ok, bind_ok, bind_of_ok, bind_of_err}
+use Rattle.proto_lex.proofs.ReadingTestLemmas.{both, same_ok, err_not_ok, bind_ok, bind_of_ok, bind_of_err}
 use Rattle.proto_lex.proofs.PieceFound.{Stands, Begins, piece_found}
 use Rattle.proto_lex.proofs.PieceExact.{piece_exact, stands_some}
 use Rattle.std.proofs.lemmas.Bool.Decides.{nat_tests}

@@ -1,14 +1,19 @@
 //! Text, positions, tokens and comments of proto3 sources.
 #![tactic(auto)]
 
-mod fault;
-mod laws;
-mod lexer;
+// Texts, and parts of them.
 mod position;
 mod span;
 mod text;
+
+// From a text to its tokens and comments.
+mod fault;
+mod lexer;
 mod token;
 mod tokens;
+
+// The laws.
+mod laws;
 
 pub use fault::LexFault;
 pub use laws::{

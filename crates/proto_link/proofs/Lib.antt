@@ -1,7 +1,15 @@
+-- Each file is named after the spec or source that it serves.
+-- Proofs of the laws
 pub mod LawLemmas
+-- What is left out of files is one list
+pub mod LawOmissionLemmas
+-- Where items and imports stand there is one, and in files without a clash a full name has one declaration
+pub mod LawOneItemLemmas
+-- Lookup along scopes
 pub mod LookupLemmas
+-- From lookups to what a use names
 pub mod ResolveLemmas
+-- What the last components of a name that a use resolves to name
 pub mod TargetLemmas
-pub mod OneItemLemmas
-pub mod OneTargetLemmas
-pub mod OmissionLemmas
+-- One entity a name, one target a use, one clash, one absence, one refusal
+pub mod TargetOneLemmas

@@ -1,8 +1,8 @@
 -- Lookup along scopes.
 use Rattle.std.proofs.Common.{◌≡◌, ◌↔◌, ℕ, ◌+◌, ◌<◌, Bool, List, [], ◌∷◌, ◌++◌, length, Option, Some, None, MatchOption}
-use Rattle.std.proofs.Common.{refl, sym, subst, arith}
-use Rattle.proto_decl.specs.Names.{qualified, scopes_of}
-use Rattle.proto_decl.proofs.ScopeLemmas.{scopes_begin}
+use Rattle.std.proofs.Common.{refl, subst, arith}
+use Rattle.proto_decl.specs.Names.{qualified, IsAround}
+use Rattle.proto_decl.proofs.ScopeLemmas.{one_around, none_around_root}
 use Rattle.std.proofs.lemmas.List.{append_assoc}
 use denote.Ref.{Bor}
 use Rattle.proto_visibility.specs.Files.{File}
@@ -14,41 +14,36 @@ module _ (files : List File) (file : ℕ) (admits : NameKind → Bool) (word : L
   -- what is left to look through answers for all of the scopes
   abbrev pub StandsFor : (next : Option (Bor (List ℕ))) → (scope : List ℕ) → Type 0
   StandsFor next scope = MatchOption next
-      ((start : List ℕ) → Innermost files file admits word (scopes_of scope) start → ⊥)
-      (λ s. (start : List ℕ) → Innermost files file admits word (scopes_of s.now) start
-      ↔ Innermost files file admits word (scopes_of scope) start)
+      ((start : List ℕ) → Innermost files file admits word scope start → ⊥)
+      (λ s. (start : List ℕ) → Innermost files file admits word s.now start
+      ↔ Innermost files file admits word scope start)
 
-  pub stands_first : (scope : List ℕ) → (start : List ℕ) → Innermost files file admits word (scopes_of scope) start
-      ↔ Innermost files file admits word (scopes_of scope) start
+  pub stands_first : (scope : List ℕ) → (start : List ℕ) → Innermost files file admits word scope start
+      ↔ Innermost files file admits word scope start
   stands_first scope start = (λ i. i, λ i. i)
 
-  pub at_once : (scope : List ℕ) → KnowsAs files file admits (qualified scope word)
-      → Innermost files file admits word (scopes_of scope) scope
-  at_once scope known =
-      subst (λ scopes. Innermost files file admits word scopes scope) (sym (scopes_begin scope).1) (here known)
+  behind : (scope outer start : List ℕ) → (KnowsAs files file admits (qualified scope word) → ⊥)
+      → IsAround scope outer → Innermost files file admits word scope start
+      → Innermost files file admits word outer start
+  behind scope outer start not is (here known) = absurd (not known)
+  behind scope outer start not is (farther absent also rest) =
+      subst (λ (o : List ℕ). Innermost files file admits word o start) (one_around also is) rest
 
-  behind : (scope start : List ℕ) (outer : List (List ℕ)) → (KnowsAs files file admits (qualified scope word) → ⊥)
-      → Innermost files file admits word (scope ∷ outer) start → Innermost files file admits word outer start
-  behind scope start outer not (here known) = absurd (not known)
-  behind scope start outer not (farther absent rest) = rest
-
-  none_left : (start : List ℕ) → Innermost files file admits word [] start → ⊥
-  none_left start i = elim i [ ]
+  none_at_root : (scope start : List ℕ) → scope ≡ [] → (KnowsAs files file admits (qualified scope word) → ⊥)
+      → Innermost files file admits word scope start → ⊥
+  none_at_root scope start root not (here known) = not known
+  none_at_root scope start root not (farther {outer = outer} absent is rest) =
+      none_around_root (subst (λ (s : List ℕ). IsAround s outer) root is)
 
   pub stands_next : (scope inner : List ℕ) (around : Option (Bor (List ℕ)))
       → (KnowsAs files file admits (qualified inner word) → ⊥)
-      → MatchOption around (inner ≡ []) (λ outer. scopes_of inner ≡ inner ∷ scopes_of outer.now)
-      → ((start : List ℕ) → Innermost files file admits word (scopes_of inner) start
-      ↔ Innermost files file admits word (scopes_of scope) start) → StandsFor around scope
-  stands_next scope inner None not root so_far = λ start i.
-      let here_it : Innermost files file admits word ([] ∷ []) start =
-      subst (λ s. Innermost files file admits word (scopes_of s) start) root ((so_far start).1 i) in
-      none_left start (behind [] start []
-      (subst (λ s. KnowsAs files file admits (qualified s word) → ⊥) root not) here_it)
+      → MatchOption around (inner ≡ []) (λ outer. IsAround inner outer.now)
+      → ((start : List ℕ) → Innermost files file admits word inner start
+      ↔ Innermost files file admits word scope start) → StandsFor around scope
+  stands_next scope inner None not root so_far = λ start i. none_at_root inner start root not ((so_far start).1 i)
   stands_next scope inner (Some outer) not is so_far = λ start. (
-    λ i. (so_far start).0 (subst (λ ss. Innermost files file admits word ss start) (sym is) (farther not i)),
-    λ i. behind inner start (scopes_of outer.now) not
-        (subst (λ ss. Innermost files file admits word ss start) is ((so_far start).1 i)),
+    λ i. (so_far start).0 (farther not is i),
+    λ i. behind inner outer.now start not is ((so_far start).1 i),
   )
 
 -- how much is left to look through

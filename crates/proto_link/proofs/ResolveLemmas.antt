@@ -1,9 +1,9 @@
 -- From lookups to what a use names.
 use Rattle.std.proofs.Common.{◌≡◌, ℕ, ◌≤◌, Bool, true, false, List, [], ◌∷◌, length, map, get_or, Option, Some, None}
 use Rattle.std.proofs.Common.{MatchOption, Result, Ok, Err, IfOk, refl, ap, sym, ◌∙◌, subst, arith}
-use Rattle.proto_decl.specs.Names.{qualified, dotted, scopes_of}
-use Rattle.proto_decl.specs.declared.type_use.Component.{Component}
-use Rattle.proto_decl.specs.declared.type_use.Use.{Use}
+use Rattle.proto_decl.specs.Names.{qualified, dotted}
+use Rattle.proto_decl.specs.declared.uses.Component.{Component}
+use Rattle.proto_decl.specs.declared.uses.Use.{Use}
 use Rattle.proto_visibility.specs.Files.{File}
 use Rattle.proto_visibility.specs.Knows.{KnowsAs, is_type, is_aggregate}
 use Rattle.proto_link.specs.Resolves.{Innermost, ResolvesIn, Resolves, words_of}
@@ -12,13 +12,13 @@ use Rattle.proto_link.specs.Targets.{IsUnresolved}
 use Rattle.proto_link.specs.Tables.Found.{IsSingle, IsCompound}
 use Rattle.proto_link.proofs.LawLemmas.{one_scope}
 
-module _ (files : List File) (file : ℕ) (first words : List ℕ) (scopes : List (List ℕ)) where
+module _ (files : List File) (file : ℕ) (first words : List ℕ) (from : List ℕ) where
   pub compound_by : {S : Type 0} (start text : List ℕ) (bytes : S → List ℕ) (result : Option S)
-      → text ≡ qualified start words → Innermost files file is_aggregate first scopes start
+      → text ≡ qualified start words → Innermost files file is_aggregate first from start
       → MatchOption result (KnowsAs files file is_type text → ⊥)
       (λ name. (bytes name ≡ text) × KnowsAs files file is_type text)
-      → MatchOption result ((name : List ℕ) → IsCompound files file first words scopes name → ⊥)
-      (λ name. IsCompound files file first words scopes (bytes name))
+      → MatchOption result ((name : List ℕ) → IsCompound files file first words from name → ⊥)
+      (λ name. IsCompound files file first words from (bytes name))
   compound_by start text bytes None is innermost none = λ name c.
       let same = ap (λ s. qualified s words) (one_scope c.innermost innermost) in
       none (subst (KnowsAs files file is_type) (c.name_is ∙ (same ∙ sym is)) c.known)
@@ -30,57 +30,57 @@ module _ (files : List File) (file : ℕ) (first words : List ℕ) (scopes : Lis
         known = subst (KnowsAs files file is_type) (sym some.0) some.1;
       }
 
-  pub compound_none : ((start : List ℕ) → Innermost files file is_aggregate first scopes start → ⊥) → (name : List ℕ)
-      → IsCompound files file first words scopes name → ⊥
+  pub compound_none : ((start : List ℕ) → Innermost files file is_aggregate first from start → ⊥) → (name : List ℕ)
+      → IsCompound files file first words from name → ⊥
   compound_none none name c = none c.start c.innermost
 
 -- what is found for a use with these words
 abbrev pub Answers : {S : Type 0} → List File → ℕ → (bytes : S → List ℕ) → Option S → Bool
-    → (words scopes : List (List ℕ)) → Type 0
-Answers files file bytes result dot words scopes =
-    MatchOption result ((name : List ℕ) → ResolvesIn files file dot words scopes name → ⊥)
-    (λ name. ResolvesIn files file dot words scopes (bytes name))
+    → (words : List (List ℕ)) (from : List ℕ) → Type 0
+Answers files file bytes result dot words from =
+    MatchOption result ((name : List ℕ) → ResolvesIn files file dot words from name → ⊥)
+    (λ name. ResolvesIn files file dot words from (bytes name))
 
-module _ {S : Type 0} (files : List File) (file : ℕ) (bytes : S → List ℕ) (scopes : List (List ℕ)) where
+module _ {S : Type 0} (files : List File) (file : ℕ) (bytes : S → List ℕ) (from : List ℕ) where
   absolute_by : (words : List (List ℕ)) (text : List ℕ) (result : Option S) → text ≡ dotted words
       → MatchOption result (KnowsAs files file is_type text → ⊥)
       (λ name. (bytes name ≡ text) × KnowsAs files file is_type text)
-      → Answers files file bytes result true words scopes
+      → Answers files file bytes result true words from
   absolute_by words text None is none = λ name r. not name r
     where
-      not : (name : List ℕ) → ResolvesIn files file true words scopes name → ⊥
+      not : (name : List ℕ) → ResolvesIn files file true words from name → ⊥
       not name (absolute known) = none (subst (KnowsAs files file is_type) (sym is) known)
   absolute_by words text (Some name) is some =
-      subst (ResolvesIn files file true words scopes) (sym (some.0 ∙ is))
+      subst (ResolvesIn files file true words from) (sym (some.0 ∙ is))
       (absolute (subst (KnowsAs files file is_type) is some.1))
 
-  no_word : (name : List ℕ) → ResolvesIn files file false [] scopes name → ⊥
+  no_word : (name : List ℕ) → ResolvesIn files file false [] from name → ⊥
   no_word name r = elim r [ ]
 
   single_by : (word : List ℕ) (result : Option S)
-      → MatchOption result ((start : List ℕ) → Innermost files file is_type word scopes start → ⊥)
-      (λ name. IsSingle files file word scopes (bytes name)) → Answers files file bytes result false (word ∷ []) scopes
+      → MatchOption result ((start : List ℕ) → Innermost files file is_type word from start → ⊥)
+      (λ name. IsSingle files file word from (bytes name)) → Answers files file bytes result false (word ∷ []) from
   single_by word None none = λ name r. not name r
     where
-      not : (name : List ℕ) → ResolvesIn files file false (word ∷ []) scopes name → ⊥
+      not : (name : List ℕ) → ResolvesIn files file false (word ∷ []) from name → ⊥
       not name (single {scope = scope} innermost) = none scope innermost
   single_by word (Some name) some =
-      subst (ResolvesIn files file false (word ∷ []) scopes) (sym some.name_is) (single some.innermost)
+      subst (ResolvesIn files file false (word ∷ []) from) (sym some.name_is) (single some.innermost)
 
   compound_of : (first second : List ℕ) (others : List (List ℕ)) (text : List ℕ) (result : Option S)
       → text ≡ dotted (first ∷ (second ∷ others))
-      → MatchOption result ((name : List ℕ) → IsCompound files file first text scopes name → ⊥)
-      (λ name. IsCompound files file first text scopes (bytes name))
-      → Answers files file bytes result false (first ∷ (second ∷ others)) scopes
+      → MatchOption result ((name : List ℕ) → IsCompound files file first text from name → ⊥)
+      (λ name. IsCompound files file first text from (bytes name))
+      → Answers files file bytes result false (first ∷ (second ∷ others)) from
   compound_of first second others text None is none = λ name r. not name r
     where
-      not : (name : List ℕ) → ResolvesIn files file false (first ∷ (second ∷ others)) scopes name → ⊥
+      not : (name : List ℕ) → ResolvesIn files file false (first ∷ (second ∷ others)) from name → ⊥
       not name (compound {scope = scope} innermost known) =
           none (qualified scope (dotted (first ∷ (second ∷ others))))
           (record { start = scope; innermost = innermost; name_is = ap (qualified scope) (sym is); known = known })
   compound_of first second others text (Some name) is some =
       let name_is = some.name_is ∙ ap (qualified some.start) is in
-      subst (ResolvesIn files file false (first ∷ (second ∷ others)) scopes) (sym name_is)
+      subst (ResolvesIn files file false (first ∷ (second ∷ others)) from) (sym name_is)
       (compound some.innermost (subst (KnowsAs files file is_type) name_is some.known))
 
 one_word : (cs : List Component) (word : Component) → length cs ≡ 1 → word ≡ get_or cs 0 word
@@ -103,44 +103,44 @@ module _ {S : Type 0} (files : List File) (file : ℕ) (type_use : Use) (bytes :
   AnswersUse = MatchOption result (IsUnresolved files file type_use) (λ name. Resolves files file type_use (bytes name))
 
   by_parts : (dot : Bool) (words : List (List ℕ)) → type_use.has_leading_dot ≡ dot → words_of type_use ≡ words
-      → Answers files file bytes result dot words (scopes_of type_use.scope) → AnswersUse
+      → Answers files file bytes result dot words type_use.scope → AnswersUse
   by_parts dot words is are answers =
-      subst (λ d. Answers files file bytes result d (words_of type_use) (scopes_of type_use.scope)) (sym is)
-      (subst (λ ws. Answers files file bytes result dot ws (scopes_of type_use.scope)) (sym are) answers)
+      subst (λ d. Answers files file bytes result d (words_of type_use) type_use.scope) (sym is)
+      (subst (λ ws. Answers files file bytes result dot ws type_use.scope) (sym are) answers)
 
   pub use_dotted : (text : List ℕ) → type_use.has_leading_dot ≡ true → text ≡ dotted (words_of type_use)
       → MatchOption result (KnowsAs files file is_type text → ⊥)
       (λ name. (bytes name ≡ text) × KnowsAs files file is_type text) → AnswersUse
   use_dotted text dot is found =
       by_parts true (words_of type_use) dot refl
-      (absolute_by files file bytes (scopes_of type_use.scope) (words_of type_use) text result is found)
+      (absolute_by files file bytes type_use.scope (words_of type_use) text result is found)
 
   pub use_single : (word : Component) → type_use.has_leading_dot ≡ false → length type_use.components ≡ 1
       → word ≡ get_or type_use.components 0 word
-      → MatchOption result ((start : List ℕ) → Innermost files file is_type word.name (scopes_of type_use.scope) start
-      → ⊥) (λ name. IsSingle files file word.name (scopes_of type_use.scope) (bytes name)) → AnswersUse
+      → MatchOption result ((start : List ℕ) → Innermost files file is_type word.name type_use.scope start
+      → ⊥) (λ name. IsSingle files file word.name type_use.scope (bytes name)) → AnswersUse
   use_single word dot size is found =
       by_parts false (word.name ∷ []) dot (one_word type_use.components word size is)
-      (single_by files file bytes (scopes_of type_use.scope) word.name result found)
+      (single_by files file bytes type_use.scope word.name result found)
 
   pub use_compound : (first : Component) (text : List ℕ) → type_use.has_leading_dot ≡ false
       → 2 ≤ length type_use.components → first ≡ get_or type_use.components 0 first → text ≡ dotted (words_of type_use)
-      → MatchOption result ((name : List ℕ) → IsCompound files file first.name text (scopes_of type_use.scope) name → ⊥)
-      (λ name. IsCompound files file first.name text (scopes_of type_use.scope) (bytes name)) → AnswersUse
+      → MatchOption result ((name : List ℕ) → IsCompound files file first.name text type_use.scope name → ⊥)
+      (λ name. IsCompound files file first.name text type_use.scope (bytes name)) → AnswersUse
   use_compound first text dot size is text_is found =
       let words = more_words type_use.components first size is in
       by_parts false (first.name ∷ (words.0 ∷ words.1)) dot words.2
-      (compound_of files file bytes (scopes_of type_use.scope) first.name words.0 words.1 text result
+      (compound_of files file bytes type_use.scope first.name words.0 words.1 text result
       (text_is ∙ ap dotted words.2) found)
 
 pub use_none : (files : List File) (file : ℕ) (type_use : Use) → type_use.has_leading_dot ≡ false
     → length type_use.components ≡ 0 → IsUnresolved files file type_use
 use_none files file type_use dot size =
     λ name r. no type_use.components size name
-    (subst (λ d. ResolvesIn files file d (words_of type_use) (scopes_of type_use.scope) name) dot r)
+    (subst (λ d. ResolvesIn files file d (words_of type_use) type_use.scope name) dot r)
   where
     no : (cs : List Component) → length cs ≡ 0 → (name : List ℕ)
-        → ResolvesIn files file false (map (λ c. c.name) cs) (scopes_of type_use.scope) name → ⊥
+        → ResolvesIn files file false (map (λ c. c.name) cs) type_use.scope name → ⊥
     no [] e name r = elim r [ ]
     no (c ∷ cs) e name r = absurd (omega arith)
 
@@ -154,14 +154,14 @@ ok_each P Q (Err e) holds each = tt
 -- what a lookup of a word, or of more words, finds
 abbrev pub SingleFound : {S : Type 0} → List File → ℕ → (bytes : S → List ℕ) → (word scope : List ℕ) → Option S → Type 0
 SingleFound files file bytes word scope result =
-    MatchOption result ((start : List ℕ) → Innermost files file is_type word (scopes_of scope) start → ⊥)
-    (λ name. IsSingle files file word (scopes_of scope) (bytes name))
+    MatchOption result ((start : List ℕ) → Innermost files file is_type word scope start → ⊥)
+    (λ name. IsSingle files file word scope (bytes name))
 
 abbrev pub CompoundFound : {S : Type 0} → List File → ℕ → (bytes : S → List ℕ) → (first words scope : List ℕ) → Option S
     → Type 0
 CompoundFound files file bytes first words scope result =
-    MatchOption result ((name : List ℕ) → IsCompound files file first words (scopes_of scope) name → ⊥)
-    (λ name. IsCompound files file first words (scopes_of scope) (bytes name))
+    MatchOption result ((name : List ℕ) → IsCompound files file first words scope name → ⊥)
+    (λ name. IsCompound files file first words scope (bytes name))
 
 module _ {S : Type 0} (files : List File) (file : ℕ) (type_use : Use) (bytes : S → List ℕ) (components : List Component)
     (scope : List ℕ) (are : components ≡ type_use.components) (scope_is : scope ≡ type_use.scope)

@@ -4,7 +4,7 @@ use Rattle.std.proofs.Common.{length, get_or, take, map, Some, None, Option, Mat
 use Rattle.std.proofs.Common.{subst, cond, arith}
 use Rattle.std.specs.List.{slice_get, count_by}
 use Rattle.std.proofs.lemmas.Bool.{cases_lt, false≢true}
-use Rattle.std.proofs.lemmas.Option.{slice_get-get_or, slice_get_within}
+use Rattle.std.proofs.lemmas.Option.{slice_get-get_or, slice_get_within, same_Some}
 use Rattle.std.proofs.lemmas.List.{take_more, length-map, length_push, get_or_push, get_or-map}
 use Rattle.std.proofs.lemmas.List.Sums.{sum_by-append, sum_by-cons}
 use Rattle.std.proofs.lemmas.List.Elements.{All-contains}
@@ -13,13 +13,13 @@ use denote.Ref.{Bor}
 use Rattle.proto_decl.specs.Names.{qualified, dotted, components_of, prefix_of}
 use Rattle.proto_decl.specs.Facts.{Facts}
 use Rattle.proto_decl.specs.Laws.{IsEntity, PrefixesAreEntities}
-use Rattle.proto_decl.specs.declared.type_use.Component.{Component}
-use Rattle.proto_decl.specs.declared.type_use.Use.{Use}
+use Rattle.proto_decl.specs.declared.uses.Component.{Component}
+use Rattle.proto_decl.specs.declared.uses.Use.{Use}
 use Rattle.proto_decl.specs.declared.declaration.Declaration.{Declaration}
-use Rattle.proto_visibility.specs.declared.entities.Entity.{Entity}
+use Rattle.proto_visibility.specs.declared.lookup.Entity.{Entity}
 use Rattle.proto_visibility.specs.Files.{File, HasFacts}
 use Rattle.proto_visibility.specs.Sees.{Sees}
-use Rattle.proto_visibility.specs.Knows.{NameKind, Knows, KnowsAs, is_type}
+use Rattle.proto_visibility.specs.Knows.{NameKind, Knows, KnowsAs, is_type, DeclaresName, DeclaresNameAs, SeesGiving}
 use Rattle.proto_visibility.specs.Knows.NameKind.{OfPackage}
 use Rattle.proto_visibility.specs.Knows.Knows.{packaged as known_packaged}
 use Rattle.proto_link.specs.Resolves.{Innermost, ResolvesIn, Resolves}
@@ -28,14 +28,13 @@ use Rattle.proto_link.specs.Resolves.ResolvesIn.{absolute, single, compound}
 use Rattle.proto_link.specs.declared.target.Target.{Target}
 use Rattle.proto_link.specs.Targets.{IsNamed, IsTarget}
 use Rattle.proto_link.specs.Targets.IsNamed.{packaged as named_packaged, declared as named_declared}
-use Rattle.proto_visibility.specs.FileNames.{Gives, GivesAs, SeesGiving}
-use Rattle.proto_visibility.specs.FileNames.Gives.{declared as gives_declared, packaged as gives_packaged}
-use Rattle.proto_visibility.specs.Entities.{IsEntityOf}
+use Rattle.proto_visibility.specs.Knows.DeclaresName.{declared as gives_declared, packaged as gives_packaged}
+use Rattle.proto_visibility.specs.Knows.{IsEntityOf}
 use Rattle.proto_link.specs.Tables.Parts.{AreEntitiesOf, AreNamed, longer}
-use Rattle.proto_visibility.specs.Entities.IsEntityOf.{packaged, declared}
+use Rattle.proto_visibility.specs.Knows.IsEntityOf.{packaged, declared}
 use Rattle.proto_decl.proofs.CommentTextLemmas.{join_with_byte-push}
 use Rattle.proto_visibility.proofs.SeeingLemmas.{slice_get_prefix}
-use Rattle.proto_visibility.proofs.FactLemmas.{one_list_of_facts}
+use Rattle.proto_visibility.proofs.FileFactLemmas.{one_list_of_facts}
 
 -- ---- prefixes
 
@@ -76,21 +75,21 @@ words_fit (word ∷ []) = omega (arith, length-slice_split is_dot word)
 words_fit (word ∷ (next ∷ others)) =
     let behind = dotted (next ∷ others) in
     let rest = words_fit (next ∷ others) in
-    let counted : count_by is_dot (word ++ 46 ∷ behind) ≡ count_by is_dot word + (1 + count_by is_dot behind) =
+    let reachable : count_by is_dot (word ++ 46 ∷ behind) ≡ count_by is_dot word + (1 + count_by is_dot behind) =
     sum_by-append ones word (46 ∷ behind) ∙ ap (λ n. count_by is_dot word + n) (sum_by-cons ones 46 behind) in
-    omega (arith, rest, counted, length-slice_split is_dot behind, length-slice_split is_dot (word ++ 46 ∷ behind))
+    omega (arith, rest, reachable, length-slice_split is_dot behind, length-slice_split is_dot (word ++ 46 ∷ behind))
 
 qualified_fit : (scope name : List ℕ) → length (components_of name) ≤ length (components_of (qualified scope name))
 qualified_fit [] name = omega arith
 qualified_fit (byte ∷ scope) name =
-    let counted : count_by is_dot ((byte ∷ scope) ++ 46 ∷ name)
+    let reachable : count_by is_dot ((byte ∷ scope) ++ 46 ∷ name)
     ≡ count_by is_dot (byte ∷ scope) + (1 + count_by is_dot name) =
     sum_by-append ones (byte ∷ scope) (46 ∷ name)
     ∙ ap (λ n. count_by is_dot (byte ∷ scope) + n) (sum_by-cons ones 46 name) in
-    omega (arith, counted, length-slice_split is_dot name, length-slice_split is_dot ((byte ∷ scope) ++ 46 ∷ name))
+    omega (arith, reachable, length-slice_split is_dot name, length-slice_split is_dot ((byte ∷ scope) ++ 46 ∷ name))
 
-fits : {files : List File} {file : ℕ} {dot : Bool} {words scopes : List (List ℕ)} {name : List ℕ}
-    → ResolvesIn files file dot words scopes name → length words ≤ length (components_of name)
+fits : {files : List File} {file : ℕ} {dot : Bool} {words : List (List ℕ)} {from name : List ℕ}
+    → ResolvesIn files file dot words from name → length words ≤ length (components_of name)
 fits (absolute {words = words} known) = words_fit words
 fits (single {word = word} {scope = scope} innermost) = omega (arith, words_fit (word ∷ []), qualified_fit scope word)
 fits (compound {first = first} {second = second} {scope = scope} {others = others} innermost known) =
@@ -103,13 +102,13 @@ used_fit files file type_use name r =
 
 -- ---- and is that of a type
 
-known_there : {files : List File} {file : ℕ} {admits : NameKind → Bool} {word : List ℕ} {scopes : List (List ℕ)}
-    {scope : List ℕ} → Innermost files file admits word scopes scope → KnowsAs files file admits (qualified scope word)
+pub known_there : {files : List File} {file : ℕ} {admits : NameKind → Bool} {word from scope : List ℕ}
+    → Innermost files file admits word from scope → KnowsAs files file admits (qualified scope word)
 known_there (here known) = known
-known_there (farther absent innermost) = known_there innermost
+known_there (farther absent is innermost) = known_there innermost
 
-is_of_type : {files : List File} {file : ℕ} {dot : Bool} {words scopes : List (List ℕ)} {name : List ℕ}
-    → ResolvesIn files file dot words scopes name → KnowsAs files file is_type name
+pub is_of_type : {files : List File} {file : ℕ} {dot : Bool} {words : List (List ℕ)} {from name : List ℕ}
+    → ResolvesIn files file dot words from name → KnowsAs files file is_type name
 is_of_type (absolute known) = known
 is_of_type (single innermost) = known_there innermost
 is_of_type (compound innermost known) = known
@@ -120,7 +119,8 @@ resolved_type files file type_use name r = is_of_type r
 
 -- ---- its prefixes are entities of the file that declares it
 
-prefix_entity : {facts : Facts} {name : List ℕ} {kind : NameKind} → PrefixesAreEntities facts → Gives facts name kind
+prefix_entity : {facts : Facts} {name : List ℕ} {kind : NameKind} → PrefixesAreEntities facts
+    → DeclaresName facts name kind
     → is_type kind ≡ true → (count : ℕ) → 0 < count → count ≤ length (components_of name)
     → IsEntity facts (prefix_of name count)
 prefix_entity {facts = facts} prefixes (gives_declared {declaration = d} listed) admitted count some few =
@@ -129,7 +129,7 @@ prefix_entity {facts = facts} prefixes (gives_declared {declaration = d} listed)
 prefix_entity prefixes (gives_packaged prefix) admitted count some few = absurd (false≢true admitted)
 
 pub prefix_is_entity : (facts : Facts) (name prefix : List ℕ) (components : List (Bor (List ℕ))) (i : ℕ)
-    → PrefixesAreEntities facts → GivesAs is_type name facts → map (λ c. c.now) components ≡ components_of name
+    → PrefixesAreEntities facts → DeclaresNameAs is_type name facts → map (λ c. c.now) components ≡ components_of name
     → i < length components
     → prefix ≡ prefix_of name (i + 1) → IsEntity facts prefix
 prefix_is_entity facts name prefix components i prefixes gives are within is =
@@ -139,9 +139,6 @@ prefix_is_entity facts name prefix components i prefixes gives are within is =
     (omega (arith, within, size, ap length are)))
 
 -- ---- the parts so far
-
-one_Entity : (a b : Entity) → Some a ≡ Some b → a ≡ b
-one_Entity a b e = cc
 
 module _ (number : ℕ) (facts : Facts) (name : List ℕ) (skipped : ℕ) where
   -- what the components from there on name, of the first so many
@@ -173,7 +170,7 @@ module _ (number : ℕ) (facts : Facts) (name : List ℕ) (skipped : ℕ) where
           let stands : slice_get (parts ++ part ∷ []) j ≡ Some part =
           slice_get-get_or (parts ++ part ∷ []) j part within
           ∙ ap Some (get_or_push parts part part j (sym here_it)) in
-          let same : one ≡ part = one_Entity one part (sym at ∙ stands) in
+          let same : one ≡ part = same_Some one part (sym at ∙ stands) in
           let index : count + 1 ≡ skipped + j + 1 = omega (arith, so_far.size) in
           subst (λ n. IsEntityOf number facts (prefix_of name n) n one) index
           (subst (λ f. IsEntityOf number facts f (count + 1) one) is
@@ -265,8 +262,8 @@ pub seen_within_files : (files : List File) (file : ℕ) (admits : NameKind → 
 seen_within_files files file admits name seen s = slice_get_within files seen s.giving.file s.giving.numbered
 
 pub gives_there : (files : List File) (file : ℕ) (admits : NameKind → Bool) (name : List ℕ) (seen : ℕ) (facts : Facts)
-    → SeesGiving files file admits name seen → HasFacts files seen facts → GivesAs admits name facts
+    → SeesGiving files file admits name seen → HasFacts files seen facts → DeclaresNameAs admits name facts
 gives_there files file admits name seen facts s has =
-    subst (GivesAs admits name)
+    subst (DeclaresNameAs admits name)
     (one_list_of_facts files seen s.giving.gives.facts facts (facts_known files file admits name seen s) has)
     s.giving.gives.gives

@@ -4,14 +4,14 @@ use Rattle.std.specs.List.{slice_get}
 use Rattle.proto_decl.specs.Names.{package_of}
 use Rattle.proto_decl.specs.Facts.{Facts}
 use Rattle.proto_decl.specs.declared.declaration.Declaration.{Declaration}
-use Rattle.proto_decl.specs.declared.type_use.Use.{Use}
-use Rattle.proto_visibility.specs.declared.place.FilePlace.{FilePlace}
+use Rattle.proto_decl.specs.declared.uses.Use.{Use}
+use Rattle.proto_visibility.specs.declared.files.FilePlace.{FilePlace}
 use Rattle.proto_visibility.specs.declared.fault.LinkFault.{LinkFault}
 use Rattle.proto_visibility.specs.declared.fault.LinkFault.TheVariants.{Memory}
-use Rattle.proto_visibility.specs.declared.entities.Entity.{Entity}
+use Rattle.proto_visibility.specs.declared.lookup.Entity.{Entity}
 use Rattle.proto_link.specs.declared.target.Target.{Target}
 use Rattle.proto_visibility.specs.Files.{File, HasFacts, HaveOrigins, IsSource}
-use Rattle.proto_visibility.specs.Sees.{Counts}
+use Rattle.proto_visibility.specs.Sees.{IsReachable}
 use Rattle.proto_visibility.specs.Clashes.{Clash, NoClash}
 use Rattle.proto_visibility.specs.Absences.{Absent, Broken}
 use Rattle.proto_link.specs.Resolves.{Resolves}
@@ -24,23 +24,23 @@ abbrev pub OneNameAUse : Type 0
 OneNameAUse = (files : List File) (file : ℕ) (type_use : Use) (name other : List ℕ) → Resolves files file type_use name
     → Resolves files file type_use other → name ≡ other
 
--- there is one least file that counts and has no facts
+-- there is one least file that is reachable and has no facts
 abbrev pub OneBrokenFile : Type 0
 OneBrokenFile = (files : List File) (number other : ℕ) → Broken files number → Broken files other → number ≡ other
 
--- a file that counts declares it, by its index there
+-- a reachable file declares it, by its index there
 pub record IsDeclaredAt (files : List File) (number index : ℕ) (declaration : Declaration) : Type 0 where
   pub facts : Facts
-  pub counts : Counts files number
+  pub is_reachable : IsReachable files number
   pub known : HasFacts files number facts
   pub stands : slice_get facts.declarations index ≡ Some declaration
 
--- a file that counts has the package, or one below it
+-- a reachable file has the package, or one below it
 pub record HasPackage (files : List File) (name : List ℕ) : Type 0 where
   pub number : ℕ
   pub facts : Facts
   pub count : ℕ
-  pub counts : Counts files number
+  pub is_reachable : IsReachable files number
   pub known : HasFacts files number facts
   pub some : 0 < count
   pub few : count ≤ length facts.package_name

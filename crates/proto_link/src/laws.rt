@@ -20,7 +20,7 @@ pub fn one_name_a_use()
     ensures { OneNameAUse }
 {}
 
-/// One of the files that count and have no facts is the least.
+/// One of the reachable files and have no facts is the least.
 pub fn one_broken_file()
     ensures { OneBrokenFile }
 {}

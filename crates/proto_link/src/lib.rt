@@ -3,12 +3,17 @@
 //! Which files see which, what clashes and who has which name is the crate `proto_visibility`'s.
 #![tactic(auto)]
 
-mod laws;
+// Files that are linked.
 mod linker;
+
+// Which name a use has, and what it names.
 mod lookup;
 mod parts;
 mod resolve;
 mod target;
+
+// The laws.
+mod laws;
 
 pub use laws::{
     one_broken_file, one_declaration_a_name, one_name_a_use, one_omission_list, one_refusal,
@@ -16,7 +21,7 @@ pub use laws::{
 };
 pub use linker::Linker;
 pub use proto_visibility::{
-    CheckedFiles, Entity, FilePlace, LinkFault, LinkFile, ListedNames, have_own_paths,
-    kept_files_are_clear, left_out, nothing_is_left_out_of_good_files, one_kept,
+    CheckedFiles, Entity, FileOmission, FilePlace, LinkFault, LinkFile, ListedNames,
+    have_own_paths, kept_files_are_clear, left_out, nothing_is_left_out_of_good_files, one_kept,
 };
 pub use target::Target;

@@ -112,12 +112,13 @@ impl<'a, 't> Linker<'a, 't> {
         self.namespace.visible(file, other)
     }
 
-    /// The files that count have facts, no names clash, and the facts of each file are those of some
+    /// The reachable files have facts, no names clash, and the facts of each file are those of some
     /// text: what the laws ask for. Takes no memory.
     pub fn linked(&self)
         ensures clear { HaveClearNames self.now }
         ensures origins { HaveOrigins self.now }
     {
+        // From here on it is known that no names of the files clash, and that their facts are those of texts.
         self.namespace.linked();
     }
 

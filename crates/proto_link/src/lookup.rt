@@ -2,11 +2,10 @@
 
 ghost use Rattle.std.specs.Prelude.{List, ℕ, ◌≡◌, ◌<◌, ◌↔◌, IsTrue, IfOk, OnOk, MatchOption, ◌∷◌, map, length};
 ghost use Rattle.std.specs.String.{string_bytes};
-ghost use Rattle.proto_decl.specs.Names.{qualified, dotted, scopes_of};
-ghost use Rattle.proto_visibility.specs.Knows.{KnowsAs, is_type};
+ghost use Rattle.proto_decl.specs.Names.{qualified, dotted};
+ghost use Rattle.proto_visibility.specs.Knows.{KnowsAs, is_type, admits};
 ghost use Rattle.proto_link.specs.Resolves.{Innermost, Resolves};
 ghost use Rattle.proto_link.specs.Targets.{IsUnresolved};
-ghost use Rattle.proto_visibility.specs.FileNames.{admits};
 ghost use Rattle.proto_link.specs.Tables.Found.{IsSingle, IsCompound};
 
 use proto_decl::{Component, Use, scope_around};
@@ -58,7 +57,7 @@ fn joined_behind(
 }
 
 /// The full name of the type that a use of a file names.
-pub(crate) fn name_of(
+pub(crate) fn full_name_of_use(
     alloc: Global,
     namespace: &Namespace,
     file: usize,
@@ -103,8 +102,8 @@ fn innermost<'s>(
 ) -> Result<Option<&'s str>, AllocError>
     requires { file < length namespace.now }
     ensures { IfOk result (λ found. MatchOption found ((start : List ℕ) → Innermost namespace.now file (admits role)
-        word.now (scopes_of scope.now) start → ⊥) (λ start. Innermost namespace.now file (admits role) word.now
-        (scopes_of scope.now) start.now)) }
+        word.now scope.now start → ⊥) (λ start. Innermost namespace.now file (admits role) word.now
+        scope.now start.now)) }
 {
     let mut next = Some(scope);
     while let Some(inner) = next {
@@ -127,7 +126,7 @@ fn single(
 ) -> Result<Option<String>, AllocError>
     requires { file < length namespace.now }
     ensures { IfOk result (λ found. MatchOption found ((start : List ℕ) → Innermost namespace.now file is_type word.now
-        (scopes_of scope.now) start → ⊥) (λ name. IsSingle namespace.now file word.now (scopes_of scope.now)
+        scope.now start → ⊥) (λ name. IsSingle namespace.now file word.now scope.now
         (string_bytes name))) }
 {
     let mut text = String::with_capacity(alloc, room_under(scope, word))?;
@@ -151,8 +150,8 @@ fn compound(
 ) -> Result<Option<String>, AllocError>
     requires { file < length namespace.now }
     ensures { IfOk result (λ found. MatchOption found ((name : List ℕ) → IsCompound namespace.now file first.now
-        words.now (scopes_of scope.now) name → ⊥) (λ name. IsCompound namespace.now file first.now words.now
-        (scopes_of scope.now) (string_bytes name))) }
+        words.now scope.now name → ⊥) (λ name. IsCompound namespace.now file first.now words.now
+        scope.now (string_bytes name))) }
 {
     let mut text = String::with_capacity(alloc, room_under(scope, words))?;
     match innermost(namespace, file, Role::AsAggregate, scope, first, &mut text)? {

@@ -4,8 +4,7 @@ ghost use Rattle.std.specs.Prelude.{ℕ, List, ◌≡◌, ◌≤◌, IfOk, OnOk,
 ghost use Rattle.proto_decl.specs.Names.{components_of};
 ghost use denote.Ref.{Bor};
 ghost use Rattle.std.specs.String.{string_bytes};
-ghost use Rattle.proto_visibility.specs.Knows.{is_type};
-ghost use Rattle.proto_visibility.specs.FileNames.{GivesAs};
+ghost use Rattle.proto_visibility.specs.Knows.{is_type, DeclaresNameAs};
 ghost use Rattle.proto_visibility.specs.Files.{HasFacts};
 ghost use Rattle.proto_link.specs.Tables.Parts.{AreEntitiesOf, longer};
 
@@ -40,12 +39,13 @@ pub(crate) fn parts_in(
     name: &str,
     count: usize,
 ) -> Result<Vec<Entity>, AllocError>
-    requires declared { GivesAs is_type name.now facts.now }
+    requires declared { DeclaresNameAs is_type name.now facts.now }
     requires has { HasFacts namespace.now number facts.now }
     requires count { count ≤ length (components_of name.now) }
     ensures { IfOk result (λ parts. AreEntitiesOf number facts.now name.now count parts.items) }
 {
     prefixes_are_entities();
+    // From here on it is known that the facts are those of some file.
     facts.origin();
     let components = components_in(alloc, name)?;
     let skipped = components.len() - count;

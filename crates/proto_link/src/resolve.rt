@@ -6,12 +6,12 @@ ghost use Rattle.proto_visibility.specs.Knows.{KnowsAs, is_type};
 ghost use Rattle.proto_link.specs.Tables.Parts.{AreNamed};
 ghost use Rattle.proto_link.specs.Targets.{IsTarget, MayRefuseUse};
 
-use crate::lookup::name_of;
+use crate::lookup::full_name_of_use;
 use crate::parts::parts_in;
 use crate::target::Target;
+use basics::{OwnedText, Sequence};
 use proto_decl::Use;
 use proto_visibility::{Entity, FilePlace, LinkFault, Namespace, Role};
-use sequences::{OwnedText, Sequence};
 use std::alloc::{AllocError, Global};
 
 /// What a use names in a file's scopes.
@@ -25,7 +25,7 @@ pub(crate) fn target_of(
     ensures target { IfOk result (IsTarget namespace.now file type_use.now) }
     ensures refused { IfErr result (MayRefuseUse namespace.now file type_use.now) }
 {
-    match name_of(alloc, namespace, file, type_use)? {
+    match full_name_of_use(alloc, namespace, file, type_use)? {
         Some(name) => {
             let used = type_use.components.as_slice().len();
             let parts = parts_of(alloc, namespace, file, name.as_str(), used)?;

@@ -1,7 +1,7 @@
 //! What a use of a type names.
 
+use basics::{OwnedText, Sequence};
 use proto_visibility::Entity;
-use sequences::{OwnedText, Sequence};
 
 /// What a use names: the full name of a type, and for each component of the use what it names.
 #[derive(Debug, Drop)]

@@ -1,7 +1,7 @@
 //! What files declare, and the components of their packages.
 
 use proto_decl::{Component, Declaration, DeclarationKind};
-use proto_link::{Entity, FilePlace, LinkFault, LinkFile};
+use proto_link::{Entity, FilePlace, LinkFile};
 use std::alloc::Global;
 use test_kit::Made;
 
@@ -148,13 +148,10 @@ fn least_with(
 }
 
 /// The first clash of items.
-pub(crate) fn first_clash(items: &[Item]) -> Option<LinkFault> {
+pub(crate) fn first_clash(items: &[Item]) -> Option<(FilePlace, FilePlace)> {
     let mut least = None;
     for second in items {
         least = least_with(items, second, least);
     }
-    match least {
-        Some((first, second)) => Some(LinkFault::Duplicate(first, second)),
-        None => None,
-    }
+    least
 }

@@ -8,7 +8,7 @@ ghost use Rattle.proto_visibility.specs.Linked.{HaveClearNames};
 use crate::answers::listing_with_paths;
 use crate::meanings::listing_of;
 use crate::scans::{absent_of, omissions_of};
-use proto_link::{LinkFault, LinkFile, Linker, kept_files_are_clear, left_out};
+use proto_link::{FileOmission, LinkFile, Linker, kept_files_are_clear, left_out};
 use std::alloc::Global;
 use test_kit::Made;
 
@@ -27,7 +27,7 @@ fn same<'a, 't>(file: &LinkFile<'a, 't>) -> LinkFile<'a, 't>
 fn kept_files<'a, 't>(
     alloc: Global,
     files: &[LinkFile<'a, 't>],
-    omissions: &[Option<LinkFault>],
+    omissions: &[Option<FileOmission>],
 ) -> Made<Vec<LinkFile<'a, 't>>>
     ensures { IfOk result (λ kept. kept.items ≡ kept_of omissions.now files.now) }
 {
@@ -78,7 +78,7 @@ fn are_linked_as_scanned<'a>(alloc: Global, files: &'a [LinkFile<'a, '_>]) -> Ma
 fn are_omitted_as_scanned<'a>(
     alloc: Global,
     files: &'a [LinkFile<'a, '_>],
-    omissions: &[Option<LinkFault>],
+    omissions: &[Option<FileOmission>],
 ) -> Made<bool>
     requires own { HaveOwnPaths files.now }
     requires omissions { AreOmissions files.now omissions.now }

@@ -1,7 +1,7 @@
 //! Which files see which, and why files can't be linked, found by scans of all files.
 
 use crate::items::{add_items_of, first_clash};
-use proto_link::{FilePlace, LinkFault, LinkFile};
+use proto_link::{FileOmission, FilePlace, LinkFault, LinkFile};
 use proto_parse::ImportKind;
 use std::alloc::Global;
 use test_kit::Made;
@@ -80,9 +80,9 @@ fn counted_of(alloc: Global, files: &[LinkFile]) -> Made<Vec<usize>> {
 }
 
 /// The first file that counts and has no facts.
-fn first_unread(files: &[LinkFile], counted: &[usize]) -> Option<usize> {
+fn first_unread(files: &[LinkFile], reachable: &[usize]) -> Option<usize> {
     for (number, file) in files.iter().enumerate() {
-        if file.facts.is_none() && counted.contains(&number) {
+        if file.facts.is_none() && reachable.contains(&number) {
             return Some(number);
         }
     }
@@ -120,9 +120,13 @@ fn add_absent(
 }
 
 /// Adds the imports that have to be there and name no file, of the files that count.
-fn add_all_absent(files: &[LinkFile], counted: &[usize], absent: &mut Vec<FilePlace>) -> Made<()> {
+fn add_all_absent(
+    files: &[LinkFile],
+    reachable: &[usize],
+    absent: &mut Vec<FilePlace>,
+) -> Made<()> {
     for (number, file) in files.iter().enumerate() {
-        if counted.contains(&number) {
+        if reachable.contains(&number) {
             add_absent(files, number, file, absent)?;
         }
     }
@@ -131,14 +135,18 @@ fn add_all_absent(files: &[LinkFile], counted: &[usize], absent: &mut Vec<FilePl
 
 /// The imports that have to be there and name no file, of all files that count, in order.
 pub(crate) fn absent_of(alloc: Global, files: &[LinkFile]) -> Made<Vec<FilePlace>> {
-    let counted = counted_of(alloc, files)?;
+    let reachable = counted_of(alloc, files)?;
     let mut absent = Vec::new(alloc);
-    add_all_absent(files, counted.as_slice(), &mut absent)?;
+    add_all_absent(files, reachable.as_slice(), &mut absent)?;
     Ok(absent)
 }
 
-/// The first clash in files with these numbers.
-fn clash_of(alloc: Global, files: &[LinkFile], numbers: &[usize]) -> Made<Option<LinkFault>> {
+/// The places of the first clash in files with these numbers.
+fn clash_of(
+    alloc: Global,
+    files: &[LinkFile],
+    numbers: &[usize],
+) -> Made<Option<(FilePlace, FilePlace)>> {
     let mut items = Vec::new(alloc);
     add_items_of(alloc, &mut items, files, numbers)?;
     Ok(first_clash(items.as_slice()))
@@ -148,14 +156,13 @@ fn clash_of(alloc: Global, files: &[LinkFile], numbers: &[usize]) -> Made<Option
 fn fault_of_counted(
     alloc: Global,
     files: &[LinkFile],
-    counted: &[usize],
+    reachable: &[usize],
 ) -> Made<Option<LinkFault>> {
-    if let Some(file) = first_unread(files, counted) {
+    if let Some(file) = first_unread(files, reachable) {
         return Ok(Some(LinkFault::Broken(file)));
     }
-    let clash = clash_of(alloc, files, counted)?;
-    if clash.is_some() {
-        return Ok(clash);
+    if let Some((first, second)) = clash_of(alloc, files, reachable)? {
+        return Ok(Some(LinkFault::Duplicate(first, second)));
     }
     let absent = absent_of(alloc, files)?;
     Ok(absent.first().map(|place| LinkFault::MissingImport(*place)))
@@ -169,28 +176,30 @@ fn omission_of(
     kept: &mut Vec<usize>,
     number: usize,
     file: &LinkFile,
-) -> Made<Option<LinkFault>> {
+) -> Made<Option<FileOmission>> {
     if file.facts.is_none() {
-        return Ok(Some(LinkFault::Broken(number)));
+        return Ok(Some(FileOmission::Broken));
     }
     kept.push(number)?;
-    let clash = clash_of(alloc, files, kept.as_slice())?;
-    if clash.is_some() {
-        kept.pop();
+    match clash_of(alloc, files, kept.as_slice())? {
+        Some((first, second)) => {
+            kept.pop();
+            Ok(Some(FileOmission::Duplicate(first, second)))
+        }
+        None => Ok(None),
     }
-    Ok(clash)
 }
 
 /// Adds for each file why it is left out, if it is. These files count.
 fn add_omissions(
     alloc: Global,
     files: &[LinkFile],
-    counted: &[usize],
+    reachable: &[usize],
     kept: &mut Vec<usize>,
-    omissions: &mut Vec<Option<LinkFault>>,
+    omissions: &mut Vec<Option<FileOmission>>,
 ) -> Made<()> {
     for (number, file) in files.iter().enumerate() {
-        let omission = if counted.contains(&number) {
+        let omission = if reachable.contains(&number) {
             omission_of(alloc, files, kept, number, file)?
         } else {
             None
@@ -201,16 +210,22 @@ fn add_omissions(
 }
 
 /// For each file why it is left out, if it is.
-pub(crate) fn omissions_of(alloc: Global, files: &[LinkFile]) -> Made<Vec<Option<LinkFault>>> {
-    let counted = counted_of(alloc, files)?;
+pub(crate) fn omissions_of(alloc: Global, files: &[LinkFile]) -> Made<Vec<Option<FileOmission>>> {
+    let reachable = counted_of(alloc, files)?;
     let mut kept = Vec::new(alloc);
     let mut omissions = Vec::new(alloc);
-    add_omissions(alloc, files, counted.as_slice(), &mut kept, &mut omissions)?;
+    add_omissions(
+        alloc,
+        files,
+        reachable.as_slice(),
+        &mut kept,
+        &mut omissions,
+    )?;
     Ok(omissions)
 }
 
 /// Why files can't be linked, if they can't.
 pub(crate) fn fault_of(alloc: Global, files: &[LinkFile]) -> Made<Option<LinkFault>> {
-    let counted = counted_of(alloc, files)?;
-    fault_of_counted(alloc, files, counted.as_slice())
+    let reachable = counted_of(alloc, files)?;
+    fault_of_counted(alloc, files, reachable.as_slice())
 }

@@ -4,9 +4,9 @@ use Rattle.std.proofs.lemmas.Slice.Eq.{bytes_eq-Decides}
 use Rattle.std.specs.List.{list_any}
 use Rattle.proto_lex.specs.declared.span.Span.{Span}
 use Rattle.proto_lex.specs.declared.token.TokenKind.TheVariants.{Identifier, Semicolon, Less}
-use Rattle.proto_grammar.specs.declared.tree.CustomOptions.{CustomOptions}
-use Rattle.proto_grammar.specs.declared.tree.Syntax.{Syntax}
-use Rattle.proto_grammar.specs.declared.tree.Syntax.TheVariants.{Proto3, Extended, Proto2}
+use Rattle.proto_grammar.specs.declared.dialect.CustomOptions.{CustomOptions}
+use Rattle.proto_grammar.specs.declared.dialect.Syntax.{Syntax}
+use Rattle.proto_grammar.specs.declared.dialect.Syntax.TheVariants.{Proto3, Extended, Proto2}
 use Rattle.proto_grammar.specs.declared.tree.Heading.{Heading}
 use Rattle.proto_grammar.specs.declared.tree.MapField.{MapField}
 use Rattle.proto_grammar.specs.declared.tree.Enum.{Enum}
@@ -29,8 +29,8 @@ use Rattle.proto_grammar.specs.Grammar.Fields.IsMapField.{map_field}
 use Rattle.proto_grammar.specs.Grammar.Reserved.{IsReserved, IsExtensions}
 use Rattle.proto_grammar.specs.Grammar.Reserved.IsReserved.{reserved}
 use Rattle.proto_grammar.specs.Grammar.Reserved.IsExtensions.{extensions}
-use Rattle.proto_grammar.proofs.Steps.{both_false}
-use Rattle.proto_grammar.proofs.TokenLemmas.{same_kind, one_next, one_others}
+use Rattle.proto_grammar.proofs.RepetitionStepLemmas.{both_false}
+use Rattle.proto_grammar.proofs.TerminalTokenLemmas.{same_kind, one_next, one_others}
 use Rattle.proto_parse.specs.Choice.{statement_words, begins_map, begins_other}
 use Rattle.proto_parse.specs.Reading.Choice.{file_statement_of, message_statement_of}
 use Rattle.proto_parse.specs.Grammar.Files.{IsImport, IsPackage}

@@ -1,21 +1,29 @@
 -- The lists of a tree that are never empty.
 use Rattle.std.proofs.Common.{ℕ, zero, suc, ◌≤◌, Bool, Option, Some, None, option_map, option_to_list, List, [], ◌∷◌}
 use Rattle.std.proofs.Common.{◌++◌, length, length-append, All, arith}
+use Rattle.std.specs.List.{flat_map}
 use Rattle.std.proofs.lemmas.List.Elements.{All-append, All-nil, All-cons, All-head, All-tail}
 use Rattle.proto_grammar.specs.declared.tree.Label.{Label}
 use Rattle.proto_grammar.specs.declared.tree.FileItem.{FileItem}
 use Rattle.proto_grammar.specs.Terminal.{is_end}
-use Rattle.proto_parse.specs.Filled.{HasSome, FilledTypeName, FilledType, FilledField, FilledMapField, FilledLeaf}
-use Rattle.proto_parse.specs.Filled.{FilledBody, FilledBlock, FilledMethod, FilledService, FilledItem, FilledImport}
-use Rattle.proto_parse.specs.Filled.{FilledFile}
+use Rattle.proto_parse.specs.Filled.{HasSome, FilledTypeName, FilledPart, FilledPackage, FilledImport, FilledFile}
+use Rattle.proto_parse.specs.Parts.{Part, of_enum, of_leaf, of_body, of_block, of_item, anywhere, one_part}
+use Rattle.proto_parse.specs.Parts.{parts_in, named_by, extended_by}
+use Rattle.proto_parse.specs.Parts.Part.{BlockPart, EnumPart, ValuePart, FieldPart, MapFieldPart, ServicePart}
+use Rattle.proto_parse.specs.Parts.Part.{MethodPart}
 use Rattle.proto_lex.specs.declared.span.Span.{Span}
-use Rattle.proto_grammar.specs.declared.tree.CustomOptions.{CustomOptions}
-use Rattle.proto_grammar.specs.declared.tree.Dialect.{Dialect}
-use Rattle.proto_grammar.specs.declared.tree.Syntax.{Syntax}
+use Rattle.proto_grammar.specs.declared.dialect.CustomOptions.{CustomOptions}
+use Rattle.proto_grammar.specs.declared.dialect.Dialect.{Dialect}
+use Rattle.proto_grammar.specs.declared.dialect.Syntax.{Syntax}
 use Rattle.proto_grammar.specs.declared.tree.TypeName.{TypeName}
 use Rattle.proto_grammar.specs.declared.tree.FieldType.{FieldType}
 use Rattle.proto_grammar.specs.declared.tree.Field.{Field}
 use Rattle.proto_grammar.specs.declared.tree.MapField.{MapField}
+use Rattle.proto_grammar.specs.declared.tree.Heading.{Heading}
+use Rattle.proto_grammar.specs.declared.tree.Enum.{Enum}
+use Rattle.proto_grammar.specs.declared.tree.Head.{Head}
+use Rattle.proto_grammar.specs.declared.tree.Head.TheVariants as head
+use Rattle.proto_grammar.specs.declared.tree.Leaf.{Leaf}
 use Rattle.proto_grammar.specs.declared.tree.Method.{Method}
 use Rattle.proto_grammar.specs.declared.tree.Service.{Service}
 use Rattle.proto_grammar.specs.declared.tree.Item.{Item}
@@ -25,7 +33,7 @@ use Rattle.proto_grammar.specs.declared.tree.Import.{Import}
 use Rattle.proto_grammar.specs.declared.tree.File.{File}
 use Rattle.proto_grammar.specs.Lexeme.{Lexeme}
 use Rattle.proto_parse.specs.Limits.{max_message_depth}
-use Rattle.proto_grammar.specs.Tree.{BlockTree}
+use Rattle.proto_grammar.specs.Tree.{Body, BlockTree}
 use Rattle.proto_grammar.specs.Items.{body_of}
 use Rattle.proto_grammar.specs.Grammar.Repetition.{Until, Adds}
 use Rattle.proto_grammar.specs.Grammar.Repetition.Until.{done, more}
@@ -99,17 +107,70 @@ type_name_filled : {a b : List Lexeme} {x : TypeName} → IsTypeName a x b → F
 type_name_filled (rooted d n) = name_filled n
 type_name_filled (plain_name n) = name_filled n
 
-type_filled : {a b : List Lexeme} {x : FieldType} → IsType a x b → FilledType x
-type_filled (scalar is w) = tt
-type_filled (named not n) = type_name_filled n
+-- a part that names one type, and one that names none
+one_type : (type : TypeName) → FilledTypeName type → All FilledTypeName (type ∷ [])
+one_type type some = All-cons FilledTypeName type [] some (All-nil FilledTypeName)
+
+no_type : All FilledTypeName []
+no_type = All-nil FilledTypeName
+
+type_filled : {a b : List Lexeme} {x : FieldType} → IsType a x b → All FilledTypeName (named_by x)
+type_filled (scalar is w) = no_type
+type_filled (named {name = x} not n) = one_type x (type_name_filled n)
 
 typed_filled : {custom : CustomOptions} {first : Span} {label : Option Label} {a b : List Lexeme} {x : Field}
-    → IsTyped custom first label a x b → FilledField x
+    → IsTyped custom first label a x b → FilledPart (FieldPart x)
 typed_filled (typed y n) = type_filled y
 
 map_field_filled : {custom : CustomOptions} {a b : List Lexeme} {x : MapField} → IsMapField custom a x b
-    → FilledMapField x
+    → FilledPart (MapFieldPart x)
 map_field_filled (map_field f l k c v g h) = type_filled v
+
+-- all parts of what is in a tree
+abbrev AllFilled : List Part → Type 0
+AllFilled parts = All FilledPart parts
+
+abbrev FilledLeaf : Leaf → Type 0
+FilledLeaf leaf = AllFilled (of_leaf anywhere one_part tt leaf)
+
+abbrev FilledBlock : BlockTree → Type 0
+FilledBlock block = AllFilled (of_block anywhere one_part tt block)
+
+abbrev FilledBody : Body → Type 0
+FilledBody body = AllFilled (of_body anywhere one_part tt body)
+
+abbrev FilledItem : FileItem → Type 0
+FilledItem item = AllFilled (of_item anywhere one_part tt item)
+
+-- a part, and those behind it
+and_parts : (part : Part) (parts : List Part) → FilledPart part → AllFilled parts → AllFilled (part ∷ parts)
+and_parts part parts some all = All-cons FilledPart part parts some all
+
+alone : (part : Part) → FilledPart part → AllFilled (part ∷ [])
+alone part some = and_parts part [] some (All-nil FilledPart)
+
+-- the parts of values, and those of methods
+abbrev value_parts : List Heading → List Part
+value_parts values = flat_map (λ (v : Heading). ValuePart v ∷ []) values
+
+abbrev method_parts : List Method → List Part
+method_parts methods = flat_map (λ (m : Method). MethodPart m ∷ []) methods
+
+values_filled : (values : List Heading) → AllFilled (value_parts values)
+values_filled [] = All-nil FilledPart
+values_filled (v ∷ values) = and_parts (ValuePart v) (value_parts values) no_type (values_filled values)
+
+enum_filled : (enum : Enum) → AllFilled (of_enum anywhere one_part tt enum)
+enum_filled enum = and_parts (EnumPart enum.heading) (value_parts enum.values) no_type (values_filled enum.values)
+
+abbrev FilledMethod : Method → Type 0
+FilledMethod m = FilledPart (MethodPart m)
+
+methods_filled : (methods : List Method) → All FilledMethod methods → AllFilled (method_parts methods)
+methods_filled [] all = All-nil FilledPart
+methods_filled (m ∷ methods) all =
+    and_parts (MethodPart m) (method_parts methods) (All-head FilledMethod m methods all)
+    (methods_filled methods (All-tail FilledMethod m methods all))
 
 -- of one item of a block
 abbrev FilledBlockItem : Item → Type 0
@@ -117,14 +178,19 @@ FilledBlockItem (tree.Block b) = FilledBlock b
 FilledBlockItem (tree.Leaf leaf) = FilledLeaf leaf
 
 body_filled : (items : List Item) → All FilledBlockItem items → FilledBody (body_of items)
-body_filled [] all = tt
+body_filled [] all = All-nil FilledPart
 body_filled (tree.Block b ∷ items) all =
-    let here = All-head FilledBlockItem (tree.Block b) items all in
-    (here.0, here.1, body_filled items (All-tail FilledBlockItem (tree.Block b) items all))
-body_filled (tree.Leaf leaf ∷ items) all = (
-  All-head FilledBlockItem (tree.Leaf leaf) items all,
-  body_filled items (All-tail FilledBlockItem (tree.Leaf leaf) items all),
-)
+    All-append FilledPart (of_block anywhere one_part tt b) (of_body anywhere one_part tt (body_of items))
+    (All-head FilledBlockItem (tree.Block b) items all)
+    (body_filled items (All-tail FilledBlockItem (tree.Block b) items all))
+body_filled (tree.Leaf leaf ∷ items) all =
+    All-append FilledPart (of_leaf anywhere one_part tt leaf) (of_body anywhere one_part tt (body_of items))
+    (All-head FilledBlockItem (tree.Leaf leaf) items all)
+    (body_filled items (All-tail FilledBlockItem (tree.Leaf leaf) items all))
+
+block_filled : (head : Head) (items : List Item) → All FilledTypeName (extended_by head) → FilledBody (body_of items)
+    → FilledBlock (record { head = head; body = body_of items })
+block_filled head items some all = and_parts (BlockPart head) (of_body anywhere one_part tt (body_of items)) some all
 
 -- what is read is filled
 abbrev Fills : {A : Type 0} → (A → Type 0) → (List Lexeme → A → List Lexeme → Type 0) → Type 0
@@ -146,9 +212,11 @@ braced_filled Is fills a c x (braced {b = b} u e) =
 
 labelled_filled : (syntax : Syntax) (Inner : List Lexeme → List Item → List Lexeme → Type 0) → Fills FilledItems Inner
     → (first : Span) (label : Option Label) → Fills FilledBlockItem (IsLabelled syntax Inner first label)
-labelled_filled syntax Inner fills first label a b x (labelled-field is f) = typed_filled f
-labelled_filled syntax Inner fills first label a c x (labelled-group is (group {b = b} {items = items} g i)) =
-    (tt, fills b c items i)
+labelled_filled syntax Inner fills first label a b x (labelled-field {field = y} is f) =
+    alone (FieldPart y) (typed_filled f)
+labelled_filled syntax Inner fills first label a c x
+    (labelled-group is (group {b = b} {group = y} {items = items} g i)) =
+    block_filled (head.Group y) items no_type (fills b c items i)
 
 member_filled : (syntax : Syntax) (Inner : List Lexeme → List Item → List Lexeme → Type 0) → Fills FilledItems Inner
     → Fills FilledBlockItem (IsMember syntax Inner)
@@ -175,15 +243,16 @@ FilledExtend (Some x) = FilledBlock x
 
 extend_statement_filled : (syntax : Syntax) (Inner : List Lexeme → List Item → List Lexeme → Type 0)
     → Fills FilledItems Inner → Fills FilledExtend (IsExtendStatement Inner syntax)
-extend_statement_filled syntax Inner fills a e x (kept is (extend {d = d} {items = items} k not n o i)) = (
-  type_name_filled n,
-  braced_filled (IsExtendItem syntax Inner) (extend_item_filled syntax Inner fills) d e items i,
-)
+extend_statement_filled syntax Inner fills a e x
+    (kept is (extend {d = d} {type = y} {items = items} k not n o i)) =
+    block_filled (head.Extend y) items (one_type y (type_name_filled n))
+    (braced_filled (IsExtendItem syntax Inner) (extend_item_filled syntax Inner fills) d e items i)
 extend_statement_filled syntax Inner fills a b x (passed e) = tt
 
 message_filled : (Inner : List Lexeme → List Item → List Lexeme → Type 0) → Fills FilledItems Inner
     → Fills FilledBlock (IsMessage Inner)
-message_filled Inner fills a c x (message {b = b} {items = items} h i) = (tt, fills b c items i)
+message_filled Inner fills a c x (message {b = b} {heading = y} {items = items} h i) =
+    block_filled (head.Message y) items no_type (fills b c items i)
 
 extended_item_filled : (x : Option BlockTree) → FilledExtend x → FilledOption (option_map tree.Block x)
 extended_item_filled None filled = tt
@@ -193,11 +262,13 @@ message_item_filled : (syntax : Syntax) (Inner : List Lexeme → List Item → L
     → Fills FilledItems Inner → Fills FilledOption (IsMessageItem syntax Inner)
 message_item_filled syntax Inner fills a b x (items-empty s) = tt
 message_item_filled syntax Inner fills a b x (items-message {message = y} i) = message_filled Inner fills a b y i
-message_item_filled syntax Inner fills a b x (items-enum e) = tt
+message_item_filled syntax Inner fills a b x (items-enum {enum = y} e) = enum_filled y
 message_item_filled syntax Inner fills a b x (items-option o) = tt
-message_item_filled syntax Inner fills a c x (items-oneof (oneof {b = b} {items = items} h i)) =
-    (tt, braced_filled (IsOneofItem syntax Inner) (oneof_item_filled syntax Inner fills) b c items i)
-message_item_filled syntax Inner fills a b x (items-map_field f) = map_field_filled f
+message_item_filled syntax Inner fills a c x (items-oneof (oneof {b = b} {heading = y} {items = items} h i)) =
+    block_filled (head.Oneof y) items no_type
+    (braced_filled (IsOneofItem syntax Inner) (oneof_item_filled syntax Inner fills) b c items i)
+message_item_filled syntax Inner fills a b x (items-map_field {field = y} f) =
+    alone (MapFieldPart y) (map_field_filled f)
 message_item_filled syntax Inner fills a b x (items-reserved r) = tt
 message_item_filled syntax Inner fills a b x (items-extend {extend = y} e) =
     extended_item_filled y (extend_statement_filled syntax Inner fills a b y e)
@@ -217,11 +288,14 @@ method_type_filled (method_type o s none_next n c) = type_name_filled n
 service_item_filled : (custom : CustomOptions) (a b : List Lexeme) (x : Method) → IsServiceItem custom a (Some x) b
     → FilledMethod x
 service_item_filled custom a b x (services-method (method f n i r o c)) =
-    (method_type_filled i, method_type_filled o)
+    All-cons FilledTypeName x.input (x.output ∷ []) (method_type_filled i) (one_type x.output (method_type_filled o))
 
-service_filled : {custom : CustomOptions} {a b : List Lexeme} {x : Service} → IsService custom a x b → FilledService x
-service_filled {custom} (service {b = c} {c = d} {methods = methods} h u e) =
-    until_all FilledMethod (service_item_filled custom) [] methods c d u (All-nil FilledMethod)
+service_filled : {custom : CustomOptions} {a b : List Lexeme} {x : Service} → IsService custom a x b
+    → FilledItem (item.Service x)
+service_filled {custom} (service {b = c} {c = d} {heading = y} {methods = methods} h u e) =
+    and_parts (ServicePart y) (method_parts methods) no_type
+    (methods_filled methods
+    (until_all FilledMethod (service_item_filled custom) [] methods c d u (All-nil FilledMethod)))
 
 import_filled : {a b : List Lexeme} {x : Import} → IsImport a x b → FilledImport x
 import_filled (import {d = d} {e = e} {literal = literal} {literals = literals} k i l u s) =
@@ -245,9 +319,15 @@ with_extend : (items : List FileItem) (x : Option BlockTree) → All FilledItem 
 with_extend items None all here = All-append FilledItem items [] all (All-nil FilledItem)
 with_extend items (Some x) all here = with_item items (item.Block x) all here
 
+-- of a file so far
+record FilledSoFar (f : File) : Type 0 where
+  package_name : FilledPackage f.package_name
+  imports : All FilledImport f.imports
+  items : All FilledItem f.items
+
 statement_filled : (syntax : Syntax) (f g : File) (a b : List Lexeme) → IsStatement max_message_depth syntax f a g b
-    → FilledFile f
-    → FilledFile g
+    → FilledSoFar f
+    → FilledSoFar g
 statement_filled syntax f g a b (statements-empty s) filled = filled
 statement_filled syntax f g a b (statements-import {import = x} i) filled =
     record {
@@ -269,7 +349,7 @@ statement_filled syntax f g a b (statements-enum {enum = e} i) filled =
     record {
       package_name = filled.package_name;
       imports = filled.imports;
-      items = with_item f.items (item.Enum e) filled.items tt;
+      items = with_item f.items (item.Enum e) filled.items (enum_filled e);
     }
 statement_filled syntax f g a b (statements-service {service = s} i) filled =
     record {
@@ -287,12 +367,23 @@ statement_filled syntax f g a b (statements-extend {extend = x} e) filled =
     }
 
 statements_filled : (syntax : Syntax) (f g : File) (a b : List Lexeme)
-    → Until is_end (IsStatement max_message_depth syntax) f a g b → FilledFile f → FilledFile g
+    → Until is_end (IsStatement max_message_depth syntax) f a g b → FilledSoFar f → FilledSoFar g
 statements_filled syntax f g a b (done e) filled = filled
 statements_filled syntax f g a b (more {t = t} {b = c} further first behind) filled =
     statements_filled syntax t g c b behind (statement_filled syntax f t a c first filled)
 
+items_filled : (items : List FileItem) → All FilledItem items → AllFilled (parts_in items)
+items_filled [] all = All-nil FilledPart
+items_filled (x ∷ items) all =
+    All-append FilledPart (of_item anywhere one_part tt x) (parts_in items) (All-head FilledItem x items all)
+    (items_filled items (All-tail FilledItem x items all))
+
 pub file_filled : {dialect : Dialect} {a : List Lexeme} (f : File) → IsFile dialect a f → FilledFile f
 file_filled f (file {b = b} {c = c} {syntax = syntax} s u) =
-    statements_filled syntax empty_file f b c u
-    (record { package_name = tt; imports = All-nil FilledImport; items = All-nil FilledItem })
+    let filled = statements_filled syntax empty_file f b c u
+    (record { package_name = tt; imports = All-nil FilledImport; items = All-nil FilledItem }) in
+    record {
+      package_name = filled.package_name;
+      imports = filled.imports;
+      parts = items_filled f.items filled.items;
+    }

@@ -1,30 +1,38 @@
--- What is not there is not read, and levels
-pub mod Stops
--- Literals joined
-pub mod Joined
--- What the next word chooses
+-- Each file is named after the spec or source that it serves.
+-- The word that is next chooses the production, and a field or a group is next if nothing else is
 pub mod Choices
--- What is read is in the grammar, and takes tokens
-pub mod Found
-pub mod Shorter
-pub mod StepsFall
--- What is in the grammar is read
 pub mod Exact
--- What is left of the tokens
-pub mod Tails
--- Where the spans of a tree stand
-pub mod Walk
 -- The lists of a tree that are never empty
 pub mod Filled
--- What is proto3 is among all sources
-pub mod Widened
--- The grammar as a machine, and what is read by it
-pub mod Machine
-pub mod Parts
--- Which fault tokens have
+pub mod Found
+-- What is in the grammar leaves fewer tokens
+pub mod GrammarShorterLemmas
+-- What is left of the tokens after a part is a tail of them
+pub mod GrammarTailLemmas
+-- What is proto3 is proto3 if all sources are accepted, too, unless an extend is read past
+pub mod LawWidenedLemmas
+-- What isn't read where no level is left, and what is inside is read a level down
+pub mod MessageStopLemmas
+-- What is found in the parts of a tree
+pub mod PartLemmas
+-- Each step of a loop takes a token
+pub mod ReadingFallLemmas
+-- A front of the tokens, and whether it goes on behind a token at which the machine stops
+pub mod RefusedFrontLemmas
+-- Tokens have at most one fault, and none if they derive a tree
 pub mod RefusedLemmas
--- The fault that is met is theirs
-pub mod Fronts
-pub mod Told
-pub mod Versions
-pub mod Refusing
+-- The grammar as steps, and a machine that takes tokens one by one by the steps that are still to come
+pub mod RefusedMachine
+-- The grammar as steps of the machine, production by production
+pub mod RefusedParts
+-- The fault that reading meets is the one that the tokens have
+pub mod RefusedReadingLemmas
+-- The fault that is met is the one that the tokens have
+pub mod RefusedToldLemmas
+-- What holds of each of two lists in a row holds of each of both
+pub mod SplitLemmas
+-- The literals of a syntax statement, joined
+pub mod SyntaxJoinedLemmas
+-- Syntax statements: what is behind one that is read, and the fault of one that isn't
+pub mod SyntaxVersionLemmas
+pub mod Walk

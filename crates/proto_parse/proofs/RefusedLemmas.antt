@@ -9,12 +9,16 @@ use Rattle.proto_lex.specs.declared.token.TokenKind.TheVariants.{OpenParenthesis
 use Rattle.proto_grammar.specs.declared.fault.SyntaxFault.{SyntaxFault}
 use Rattle.proto_grammar.specs.declared.fault.SyntaxFault.TheVariants.{NotProto3, CustomOption, Aggregate, Extend}
 use Rattle.proto_grammar.specs.declared.fault.SyntaxFault.TheVariants.{TwoPackages, ImportEscape, TooDeep, Grammar}
-use Rattle.proto_grammar.specs.declared.tree.Dialect.{Dialect}
-use Rattle.proto_grammar.specs.declared.tree.Syntax.{Syntax}
+use Rattle.proto_grammar.specs.declared.dialect.CustomOptions.TheVariants.{Refuse, Skip}
+use Rattle.proto_grammar.specs.declared.dialect.Dialect.{Dialect}
+use Rattle.proto_grammar.specs.declared.dialect.Dialect.TheVariants.{Proto3}
+use Rattle.proto_grammar.specs.declared.dialect.Syntax.{Syntax}
 use Rattle.proto_grammar.specs.declared.tree.File.{File}
 use Rattle.proto_grammar.specs.Lexeme.{Lexeme, place_of}
 use Rattle.proto_grammar.specs.Terminal.{is_kind, first_is, of_kind, is_word, not_next, offset_at}
 use Rattle.proto_grammar.specs.Grammar.Repetition.One.{one}
+use Rattle.proto_grammar.specs.Syntax.{custom_in}
+use Rattle.proto_parse.specs.Faults.{is_of_custom_options}
 use Rattle.proto_parse.specs.Limits.{max_message_depth}
 use Rattle.proto_parse.specs.Grammar.Files.{IsSyntax, IsFileWithin, IsFile}
 use Rattle.proto_parse.specs.Grammar.Files.IsSyntax.{proto3, proto2, no_statement as no_syntax}
@@ -24,8 +28,8 @@ use Rattle.proto_parse.specs.Refused.NamesNoVersion.{no_statement, edition, othe
 use Rattle.proto_parse.specs.Refused.WouldGoOn.{custom_option, aggregate, extend, two_packages, import_escape, too_deep}
 use Rattle.proto_parse.specs.Refused.WouldGoOn.{group_too_deep}
 use Rattle.proto_parse.specs.Refused.IsRefused.{not_proto3, would_go_on, wrong, missing}
-use Rattle.proto_grammar.proofs.TokenLemmas.{one_next, other_kind, other_word, next_other_word, word_kind}
-use Rattle.proto_parse.proofs.Joined.{joined_exact}
+use Rattle.proto_grammar.proofs.TerminalTokenLemmas.{one_next, other_kind, other_word, next_other_word, word_kind}
+use Rattle.proto_parse.proofs.SyntaxJoinedLemmas.{joined_exact}
 
 -- ---- what goes on
 
@@ -255,3 +259,25 @@ no_fault {dialect} tree (file {b = b} {syntax = x} s u) (not_proto3 e n) =
 no_fault {dialect} {tokens} tree d (would_go_on v e w g) = w.here (begins dialect tokens _ _ _ tree d e)
 no_fault {dialect} {tokens} tree d (wrong v e w none) = w.here (begins dialect tokens _ _ _ tree d e)
 no_fault tree d (missing v on none) = none tree d
+
+-- ---- where custom options are read past
+
+never_refused : {dialect : Dialect} → custom_in dialect ≡ Skip → dialect ≡ Proto3 Refuse → true ≡ false
+never_refused skips is = let same : Refuse ≡ Skip = sym (ap custom_in is) ∙ skips in cc
+
+no_option : {dialect : Dialect} {front : List Lexeme} {t : Lexeme} {behind : List Lexeme} {fault : SyntaxFault}
+    → custom_in dialect ≡ Skip → WouldGoOn dialect front t behind fault → is_of_custom_options fault ≡ false
+no_option skips (custom_option is k on) = never_refused skips is
+no_option skips (aggregate is k on) = never_refused skips is
+no_option skips (extend is k on) = never_refused skips is
+no_option skips (two_packages is d some) = refl
+no_option skips (import_escape plain is escaped p on) = refl
+no_option skips (too_deep is on) = refl
+no_option skips (group_too_deep is on) = refl
+
+pub no_option_fault : {dialect : Dialect} {tokens : List Lexeme} {end : ℕ} {fault : SyntaxFault}
+    → custom_in dialect ≡ Skip → IsRefused dialect tokens end fault → is_of_custom_options fault ≡ false
+no_option_fault skips (not_proto3 e n) = refl
+no_option_fault skips (would_go_on v e w g) = no_option skips g
+no_option_fault skips (wrong v e w none) = refl
+no_option_fault skips (missing v on none) = refl

@@ -5,7 +5,7 @@ use Rattle.proto_lex.specs.declared.token.TokenKind.TheVariants.{Semicolon, Less
 use Rattle.proto_grammar.specs.Lexeme.{Lexeme}
 use Rattle.proto_grammar.specs.Terminal.{first_is, others, of_kind, is_word}
 use Rattle.proto_grammar.specs.Syntax.{is_proto2}
-use Rattle.proto_grammar.specs.declared.tree.Syntax.{Syntax}
+use Rattle.proto_grammar.specs.declared.dialect.Syntax.{Syntax}
 
 -- Whether a map field is next: the word `map`. In proto3 a `<` has to follow, since a field may begin with the name of
 -- its type there.

@@ -5,6 +5,7 @@ pub use Rattle.proto_grammar.specs.Syntax
 pub use Rattle.proto_grammar.specs.Tree
 pub use Rattle.proto_grammar.specs.Items
 pub use Rattle.proto_grammar.specs.FaultNames
+pub use Rattle.proto_grammar.specs.declared.dialect
 pub use Rattle.proto_grammar.specs.declared.tree
 pub use Rattle.proto_grammar.specs.declared.fault
 -- The grammar
@@ -15,7 +16,8 @@ pub mod Derives
 pub mod Extends
 pub mod Faults
 pub mod Refused
--- Where the spans of a tree are
+-- The parts of a tree, and where their spans are
+pub mod Parts
 pub mod Walk
 -- The lists of a tree that are never empty
 pub mod Filled

@@ -7,10 +7,10 @@ use Rattle.proto_lex.specs.declared.token.TokenKind.TheVariants.{StringLiteral, 
 use Rattle.proto_grammar.specs.declared.fault.SyntaxFault.{SyntaxFault}
 use Rattle.proto_grammar.specs.declared.fault.SyntaxFault.TheVariants.{NotProto3, CustomOption, Aggregate, Extend}
 use Rattle.proto_grammar.specs.declared.fault.SyntaxFault.TheVariants.{TwoPackages, ImportEscape, TooDeep, Grammar}
-use Rattle.proto_grammar.specs.declared.tree.CustomOptions.{CustomOptions}
-use Rattle.proto_grammar.specs.declared.tree.CustomOptions.TheVariants.{Refuse, Skip}
-use Rattle.proto_grammar.specs.declared.tree.Dialect.{Dialect}
-use Rattle.proto_grammar.specs.declared.tree.Dialect.TheVariants.{Proto3, All}
+use Rattle.proto_grammar.specs.declared.dialect.CustomOptions.{CustomOptions}
+use Rattle.proto_grammar.specs.declared.dialect.CustomOptions.TheVariants.{Refuse, Skip}
+use Rattle.proto_grammar.specs.declared.dialect.Dialect.{Dialect}
+use Rattle.proto_grammar.specs.declared.dialect.Dialect.TheVariants.{Proto3, All}
 use Rattle.proto_grammar.specs.declared.tree.File.{File}
 use Rattle.proto_lex.specs.declared.token.Token.{Token}
 use Rattle.proto_grammar.specs.Lexeme.{Lexeme, place_of, lexemes_of}

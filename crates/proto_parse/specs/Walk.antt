@@ -11,21 +11,17 @@ use Rattle.proto_grammar.specs.declared.tree.FieldType.{FieldType}
 use Rattle.proto_grammar.specs.declared.tree.FieldType.TheVariants.{Scalar, Named}
 use Rattle.proto_grammar.specs.declared.tree.Field.{Field}
 use Rattle.proto_grammar.specs.declared.tree.MapField.{MapField}
-use Rattle.proto_grammar.specs.declared.tree.Enum.{Enum}
 use Rattle.proto_grammar.specs.declared.tree.Group.{Group}
 use Rattle.proto_grammar.specs.declared.tree.Head.{Head}
 use Rattle.proto_grammar.specs.declared.tree.Head.TheVariants as head
-use Rattle.proto_grammar.specs.declared.tree.Leaf.{Leaf}
-use Rattle.proto_grammar.specs.declared.tree.Leaf.TheVariants as leaf
 use Rattle.proto_grammar.specs.declared.tree.Method.{Method}
-use Rattle.proto_grammar.specs.declared.tree.Service.{Service}
 use Rattle.proto_grammar.specs.declared.tree.FileItem.{FileItem}
-use Rattle.proto_grammar.specs.declared.tree.FileItem.TheVariants as item
 use Rattle.proto_grammar.specs.declared.tree.Import.{Import}
 use Rattle.proto_grammar.specs.declared.tree.File.{File}
 use Rattle.proto_grammar.specs.Lexeme.{Lexeme}
-use Rattle.proto_grammar.specs.Tree.{Body}
-use Rattle.proto_grammar.specs.Tree.Body.{NoMore, LeafThen, BlockThen}
+use Rattle.proto_parse.specs.Parts.{Part, parts_in}
+use Rattle.proto_parse.specs.Parts.Part.{BlockPart, EnumPart, ValuePart, FieldPart, MapFieldPart, ServicePart}
+use Rattle.proto_parse.specs.Parts.Part.{MethodPart}
 
 -- What a token is to a tree: a declaration's first token, an identifier, a string literal, or another token.
 pub data Role : Type 0 where
@@ -69,7 +65,7 @@ MarksAreInOrder place [] = Unit {0}
 MarksAreInOrder place (m ∷ marks) =
     (place ≤ m.span.start) × (m.span.start < m.span.end) × MarksAreInOrder (place_behind m) marks
 
--- The marks of the parts of a tree, in the order of a walk: a declaration before what is in it.
+-- The marks of each part of a tree, in their order.
 abbrev pub names_marks : List Span → List Mark
 names_marks spans = map (mark Name) spans
 
@@ -92,9 +88,6 @@ abbrev pub map_field_marks : MapField → List Mark
 map_field_marks field = mark First field.heading.first ∷ (mark Name field.key
     ∷ (type_marks field.value ++ mark Name field.heading.name ∷ (mark Other field.heading.closing ∷ [])))
 
-abbrev pub enum_marks : Enum → List Mark
-enum_marks enum = heading_marks enum.heading ++ flat_map heading_marks enum.values
-
 abbrev pub group_marks : Group → List Mark
 group_marks group = mark First group.heading.first
     ∷ (mark Name group.word ∷ (mark Name group.heading.name ∷ (mark Other group.heading.closing ∷ [])))
@@ -105,31 +98,25 @@ head_marks (head.Group group) = group_marks group
 head_marks (head.Oneof heading) = heading_marks heading
 head_marks (head.Extend type) = type_name_marks type
 
-abbrev pub leaf_marks : Leaf → List Mark
-leaf_marks (leaf.Enum enum) = enum_marks enum
-leaf_marks (leaf.Field field) = field_marks field
-leaf_marks (leaf.MapField field) = map_field_marks field
-
-abbrev pub body_marks : Body → List Mark
-body_marks NoMore = []
-body_marks (LeafThen leaf others) = leaf_marks leaf ++ body_marks others
-body_marks (BlockThen head inner others) = head_marks head ++ (body_marks inner ++ body_marks others)
-
 abbrev pub method_marks : Method → List Mark
 method_marks method = mark First method.heading.first ∷ (mark Name method.heading.name
     ∷ (type_name_marks method.input ++ (type_name_marks method.output ++ mark Other method.heading.closing ∷ [])))
 
-abbrev pub service_marks : Service → List Mark
-service_marks service = heading_marks service.heading ++ flat_map method_marks service.methods
+abbrev pub part_marks : Part → List Mark
+part_marks (BlockPart head) = head_marks head
+part_marks (EnumPart heading) = heading_marks heading
+part_marks (ValuePart heading) = heading_marks heading
+part_marks (FieldPart field) = field_marks field
+part_marks (MapFieldPart field) = map_field_marks field
+part_marks (ServicePart heading) = heading_marks heading
+part_marks (MethodPart method) = method_marks method
 
-abbrev pub item_marks : FileItem → List Mark
-item_marks (item.Block block) = head_marks block.head ++ body_marks block.body
-item_marks (item.Enum enum) = enum_marks enum
-item_marks (item.Service service) = service_marks service
+abbrev pub marks_in : List FileItem → List Mark
+marks_in items = flat_map part_marks (parts_in items)
 
 -- Those of the messages, enums, services and extends of a file, of its imports, and of its package.
 abbrev pub marks_of_items : File → List Mark
-marks_of_items file = flat_map item_marks file.items
+marks_of_items file = marks_in file.items
 
 abbrev pub marks_of_imports : File → List Mark
 marks_of_imports file = flat_map (λ (import : Import). map (mark Literal) import.literals) file.imports
@@ -142,7 +129,7 @@ abbrev pub IsAmongItems : (components : List Span) → List FileItem → List Le
 IsAmongItems components items tokens =
     (before : List FileItem)
     × ((behind : List FileItem) × ((items ≡ before ++ behind)
-    × Among (flat_map item_marks before ++ (names_marks components ++ flat_map item_marks behind)) tokens))
+    × Among (marks_in before ++ (names_marks components ++ marks_in behind)) tokens))
 
 abbrev pub PackageIsAmongItems : Option (List Span) → List FileItem → List Lexeme → Type 0
 PackageIsAmongItems None items tokens = Unit {0}

@@ -2,13 +2,13 @@
 
 ghost use Rattle.std.specs.Prelude.{◌≡◌};
 ghost use Rattle.proto_grammar.specs.Gives.{Gives};
-ghost use Rattle.proto_grammar.specs.declared.tree.CustomOptions.TheVariants.{Skip};
+ghost use Rattle.proto_grammar.specs.declared.dialect.CustomOptions.TheVariants.{Skip};
 ghost use Rattle.proto_parse.specs.Reading.Messages.{heading_at, value_at, enum_item_at, enum_items_at, enum_at};
 
 use crate::fitting::fitted;
+use basics::Sequence;
 use proto_grammar::{CustomOptions, Enum, Heading, Parser, SyntaxFault, keep};
 use proto_lex::TokenKind;
-use sequences::Sequence;
 use std::alloc::Global;
 
 /// The declaring word, a name and `{`.

@@ -5,7 +5,7 @@ ghost use Rattle.proto_parse.specs.Reading.Choice.{file_statement_of};
 ghost use Rattle.proto_parse.specs.Limits.{max_message_depth};
 ghost use Rattle.proto_grammar.specs.Gives.{Gives};
 ghost use Rattle.proto_grammar.specs.Syntax.{custom_of, custom_in};
-ghost use Rattle.proto_grammar.specs.declared.tree.CustomOptions.TheVariants.{Skip};
+ghost use Rattle.proto_grammar.specs.declared.dialect.CustomOptions.TheVariants.{Skip};
 ghost use Rattle.proto_parse.specs.Reading.Files.{import_kind_at, path_literal_at, path_literals_at, import_at};
 ghost use Rattle.proto_parse.specs.Reading.Files.{package_at, only_package_at, statement_at, statements_at, file_at};
 
@@ -14,11 +14,11 @@ use crate::messages::{MAX_MESSAGE_DEPTH, extend_statement, message};
 use crate::services::service;
 use crate::statement::FileStatement;
 use crate::syntax::syntax;
+use basics::Sequence;
 use proto_grammar::{
     Dialect, File, FileItem, Import, ImportKind, Parser, Syntax, SyntaxFault, keep,
 };
 use proto_lex::{Span, TokenKind};
-use sequences::Sequence;
 use std::alloc::Global;
 
 /// The word `weak` or `public` of an import, if one is next.

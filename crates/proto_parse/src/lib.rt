@@ -1,20 +1,28 @@
 //! The syntax tree of a source: which tokens have one, and which.
 #![tactic(auto)]
 
+// From the tokens of a text to its tree.
+mod parsing;
+
+// Statements of a file.
 mod enums;
 mod files;
-mod fitting;
-mod laws;
 mod messages;
-mod parsing;
 mod passed;
 mod services;
-mod statement;
 mod syntax;
+
+// What they share.
+mod fitting;
+mod statement;
+
+// The laws.
+mod laws;
 
 pub use laws::{
     derives_or_has_a_fault, names_have_components, no_fault_where_it_derives, one_syntax_fault,
-    one_tree, proto3_among_all, proto3_without_extend_among_all, spans_in_order, spans_of_tokens,
+    one_tree, proto3_among_all, proto3_without_extend_among_all, skipped_options_are_no_fault,
+    spans_in_order, spans_of_tokens,
 };
 pub use messages::MAX_MESSAGE_DEPTH;
 pub use parsing::{parse, parse_with};

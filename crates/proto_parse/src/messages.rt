@@ -74,7 +74,7 @@ fn ranges(parser: &mut Parser<'_>, syntax: Syntax) -> Result<Option<Item>, Synta
 /// A message. It and what is in it take up at most `levels` levels, of which each message and each group takes up one
 /// (proto3 specification, "Message definition").
 #[cycle(parser)]
-#[tactic(auto, using(crate::proofs::Stops::no_message, crate::proofs::Stops::some_message))]
+#[tactic(auto, using(crate::proofs::MessageStopLemmas::no_message, crate::proofs::MessageStopLemmas::some_message))]
 pub(crate) fn message(
     parser: &mut Parser<'_>,
     alloc: Global,
@@ -98,7 +98,7 @@ pub(crate) fn message(
 /// A group from behind its label on, with this first token and label. It and what is in it take up at most `levels`
 /// levels (proto2 specification, "Group field").
 #[cycle(parser)]
-#[tactic(auto, using(crate::proofs::Stops::no_group, crate::proofs::Stops::some_group))]
+#[tactic(auto, using(crate::proofs::MessageStopLemmas::no_group, crate::proofs::MessageStopLemmas::some_group))]
 fn group(
     parser: &mut Parser<'_>,
     alloc: Global,

@@ -1,13 +1,11 @@
 //! Parsing: from the tokens of a text to its tree.
 
-ghost use Rattle.std.specs.Prelude.{◌≡◌, ◌⊎◌, false, IfOk, IfErr, MatchResult};
+ghost use Rattle.std.specs.Prelude.{◌≡◌, ◌⊎◌, IfOk, IfErr, MatchResult};
 ghost use Rattle.proto_parse.specs.Derives.{Derives};
-ghost use Rattle.proto_parse.specs.Faults.{is_of_custom_options};
 ghost use Rattle.proto_parse.specs.Refused.{HasFault};
-ghost use Rattle.proto_grammar.specs.Syntax.{custom_in};
 ghost use Rattle.proto_grammar.specs.declared.tree.File.{File};
-ghost use Rattle.proto_grammar.specs.declared.tree.CustomOptions.TheVariants.{Refuse, Skip};
-ghost use Rattle.proto_grammar.specs.declared.tree.Dialect.TheVariants.{Proto3};
+ghost use Rattle.proto_grammar.specs.declared.dialect.CustomOptions.TheVariants.{Refuse};
+ghost use Rattle.proto_grammar.specs.declared.dialect.Dialect.TheVariants.{Proto3};
 ghost use Rattle.proto_grammar.specs.declared.fault.SyntaxFault.TheVariants.{Memory};
 
 use crate::files::file;
@@ -32,7 +30,7 @@ pub fn parse(alloc: Global, tokens: &Tokens<'_, '_>) -> Result<File, SyntaxFault
 /// The tree that the tokens derive, with a choice of which sources are accepted.
 ///
 /// It is Ok if and only if they derive one, unless memory runs out. Otherwise the fault is the one that the tokens
-/// have, and if custom options are read past none of CustomOption, Aggregate and Extend.
+/// have.
 pub fn parse_with(
     alloc: Global,
     tokens: &Tokens<'_, '_>,
@@ -41,7 +39,6 @@ pub fn parse_with(
     ensures found { IfOk result (λ file. Derives dialect tokens.now.text tokens.now.tokens file) }
     ensures only { (file : File) → Derives dialect tokens.now.text tokens.now.tokens file
         → MatchResult result (λ found. found ≡ file) (λ fault. fault ≡ Memory) }
-    ensures skipped { custom_in dialect ≡ Skip → IfErr result (λ fault. is_of_custom_options fault ≡ false) }
     ensures fault { IfErr result (λ fault. (fault ≡ Memory)
         ⊎ HasFault dialect tokens.now.text tokens.now.tokens fault) }
 {

@@ -2,16 +2,16 @@
 
 ghost use Rattle.std.specs.Prelude.{◌≡◌};
 ghost use Rattle.proto_grammar.specs.Gives.{Gives};
-ghost use Rattle.proto_grammar.specs.declared.tree.CustomOptions.TheVariants.{Skip};
+ghost use Rattle.proto_grammar.specs.declared.dialect.CustomOptions.TheVariants.{Skip};
 ghost use Rattle.proto_parse.specs.Reading.Services.{stream_at, method_type_at, method_item_at, method_items_at};
 ghost use Rattle.proto_parse.specs.Reading.Services.{method_body_at, method_end_at, method_at, service_item_at};
 ghost use Rattle.proto_parse.specs.Reading.Services.{service_items_at, service_at};
 
 use crate::enums::heading;
 use crate::fitting::fitted;
+use basics::Sequence;
 use proto_grammar::{CustomOptions, Heading, Method, Parser, Service, SyntaxFault, TypeName, keep};
 use proto_lex::{Span, TokenKind};
-use sequences::Sequence;
 use std::alloc::Global;
 
 /// The marker `stream`, if it is next.

@@ -5,7 +5,7 @@ ghost use Rattle.proto_parse.specs.Reading.Choice.{version_of};
 ghost use Rattle.proto_grammar.specs.Gives.{Gives};
 ghost use Rattle.proto_grammar.specs.Terminal.{first, behind};
 ghost use Rattle.proto_grammar.specs.Syntax.{custom_of, custom_in, proto3_in};
-ghost use Rattle.proto_grammar.specs.declared.tree.CustomOptions.TheVariants.{Skip};
+ghost use Rattle.proto_grammar.specs.declared.dialect.CustomOptions.TheVariants.{Skip};
 ghost use Rattle.proto_parse.specs.Reading.Syntax.{stripped_of, is_left, content_of, joined_of, past_literals};
 ghost use Rattle.proto_parse.specs.Reading.Syntax.{version_at, syntax_statement_at, syntax_at};
 
@@ -42,7 +42,7 @@ fn content<'t>(parser: &mut Parser<'t>) -> &'t [u8]
 }
 
 /// Which version the literals that are next spell when joined.
-#[tactic(auto, using(crate::proofs::Joined::nothing_joined, crate::proofs::Joined::past_done))]
+#[tactic(auto, using(crate::proofs::SyntaxJoinedLemmas::nothing_joined, crate::proofs::SyntaxJoinedLemmas::past_done))]
 fn version(parser: &mut Parser<'_>) -> Version
     ensures version { result ≡ version_of (joined_of parser.old.left) }
     ensures rest { parser.new ≡ past_literals parser.old }

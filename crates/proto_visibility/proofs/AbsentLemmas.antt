@@ -11,23 +11,24 @@ use Rattle.std.proofs.lemmas.List.{get_or_default, take_all, flat_map_more}
 use Rattle.std.proofs.lemmas.List.Elements.{Contains-get_or, Contains-append_left, Contains-append_right}
 use Rattle.std.proofs.lemmas.List.Elements.{Contains-append_cases}
 use Rattle.std.proofs.lemmas.Map.Keys.{sorted_from_strictly_increasing, below_from_sorted}
+use Rattle.std.proofs.lemmas.Option.{same_Some}
+use Rattle.basics.proofs.ListLemmas.{only}
 use Rattle.proto_lex.specs.declared.span.Span.{Span}
 use Rattle.proto_lex.specs.Lexed.{AreInOrder}
 use Rattle.proto_decl.specs.Facts.{Facts, ImportsInOrder}
-use Rattle.proto_decl.specs.declared.imported.Imported.{Imported}
-use Rattle.proto_visibility.specs.declared.place.FilePlace.{FilePlace}
+use Rattle.proto_decl.specs.declared.imports.Imported.{Imported}
+use Rattle.proto_visibility.specs.declared.files.FilePlace.{FilePlace}
 use Rattle.proto_visibility.specs.Files.{File, HasFacts, HasPath, is_public, HasPathAt}
-use Rattle.proto_visibility.specs.Sees.{Counts}
-use Rattle.proto_visibility.specs.Sees.Counts.{seen}
+use Rattle.proto_visibility.specs.Sees.{IsReachable}
+use Rattle.proto_visibility.specs.Sees.IsReachable.{seen}
 use Rattle.proto_visibility.specs.Sees.SeesBy.{itself}
-use Rattle.proto_visibility.specs.Items.{Before}
+use Rattle.proto_visibility.specs.Clashes.{Before}
 use Rattle.proto_visibility.specs.Absences.{IsNeeded, IsMissing, Absent, NoAbsent, AreMissing}
 use Rattle.proto_visibility.specs.Absences.IsNeeded.{of_source, of_included}
 use Rattle.proto_visibility.specs.Tables.ImportTables.{imports_in, imports_of, is_absent, absent_at, absents_of}
 use Rattle.proto_visibility.specs.Tables.ImportTables.{absents_at, NoneIsAbsent, IsFirstAbsent}
-use Rattle.proto_visibility.proofs.FileRowLemmas.{not_falling}
-use Rattle.proto_visibility.proofs.FirstLemmas.{contained, take_next, at_contained}
-use Rattle.proto_visibility.proofs.ImportTableLemmas.{only}
+use Rattle.proto_visibility.proofs.RowRisingLemmas.{not_falling}
+use Rattle.basics.proofs.FirstLemmas.{contained, take_next, at_contained}
 
 -- ---- imports in order
 
@@ -36,11 +37,8 @@ behind_place : (imports : List Imported) (place k : ℕ) (import : Imported)
     → place ≤ import.span.start
 behind_place [] place k import order stands = absurd (cc)
 behind_place (one ∷ imports) place zero import order stands =
-    let same : one ≡ import = one_Imported one import stands in
+    let same : one ≡ import = same_Some one import stands in
     let start = ap (λ (i : Imported). i.span.start) same in omega (arith, order.0)
-  where
-    one_Imported : (a b : Imported) → Some a ≡ Some b → a ≡ b
-    one_Imported a b e = cc
 behind_place (one ∷ imports) place (suc k) import order stands =
     let rest = behind_place imports one.span.end k import order.2 stands in omega (arith, order.0, order.1)
 
@@ -267,50 +265,44 @@ module _ (files : List File) (number : List ℕ → Option ℕ)
       not_true true e = sym e
       not_true false e = refl
 
-  -- the needed imports that miss a file are the absent ones of the files that count
-  needed_from : (file : File) (k : ℕ) (facts : Facts) (import : Imported) → Counts files k
+  -- the needed imports that miss a file are the absent ones of the reachable files
+  needed_from : (file : File) (k : ℕ) (facts : Facts) (import : Imported) → IsReachable files k
       → slice_get files k ≡ Some file → file.facts ≡ Some facts → Contains facts.imports import
       → (not file.is_included || is_public import.kind) ≡ true → IsNeeded files k import
-  needed_from file k facts import counts stands known listed needed =
+  needed_from file k facts import is_reachable stands known listed needed =
       elim (or_cases (not file.is_included) (is_public import.kind) needed) [
         | inl source ↦ of_source (record { file = file; numbered = stands; source = is_false file.is_included source })
             (record { file = file; numbered = stands; known = known }) listed
-        | inr public ↦ of_included counts (record { file = file; numbered = stands; known = known }) listed public
+        | inr public ↦ of_included is_reachable (record { file = file; numbered = stands; known = known }) listed public
       ]
     where
       is_false : (b : Bool) → not b ≡ true → b ≡ false
       is_false true e = sym e
       is_false false e = refl
 
-  one_File : (a b : File) → Some a ≡ Some b → a ≡ b
-  one_File a b e = cc
-
-  one_Facts : (a b : Facts) → Some a ≡ Some b → a ≡ b
-  one_Facts a b e = cc
-
   -- what a needed import says of the file that it stands in
   pub record Needs (k : ℕ) (import : Imported) : Type 0 where
     pub file : File
     pub stands : slice_get files k ≡ Some file
-    pub counts : Counts files k
+    pub is_reachable : IsReachable files k
     pub listed : Contains (imports_of file) import
     pub needed : (not file.is_included || is_public import.kind) ≡ true
 
   needs : (k : ℕ) (import : Imported) → IsNeeded files k import → Needs k import
   needs k import (of_source is known listed) =
-      let same : is.file ≡ known.file = one_File is.file known.file (sym is.numbered ∙ known.numbered) in
+      let same : is.file ≡ known.file = same_Some is.file known.file (sym is.numbered ∙ known.numbered) in
       record {
         file = is.file;
         stands = is.numbered;
-        counts = seen is itself;
+        is_reachable = seen is itself;
         listed = subst (λ f. Contains (imports_in f) import)
             (sym (ap (λ (f : File). f.facts) same ∙ known.known)) listed;
         needed = subst (λ b. (not b || is_public import.kind) ≡ true) (sym is.source) refl;
       }
-  needs k import (of_included counts known listed public) = record {
+  needs k import (of_included is_reachable known listed public) = record {
     file = known.file;
     stands = known.numbered;
-    counts = counts;
+    is_reachable = is_reachable;
     listed = subst (λ f. Contains (imports_in f) import) (sym known.known) listed;
     needed = subst (λ b. (not known.file.is_included || b) ≡ true) (sym public) (last known.file.is_included);
   }
@@ -321,14 +313,14 @@ module _ (files : List File) (number : List ℕ → Option ℕ)
 
   -- a missing import is an absent one at some index of its file
   index_of : (place : FilePlace) (m : IsMissing files place)
-      → (file : File) × (slice_get files place.file ≡ Some file) × Counts files place.file
+      → (file : File) × (slice_get files place.file ≡ Some file) × IsReachable files place.file
       × ((index : ℕ) × (slice_get (imports_of file) index ≡ Some m.import)
       × (is_absent number file.is_included m.import ≡ true))
   index_of place m =
       let n = needs place.file m.import m.needed in (
         n.file,
         n.stands,
-        n.counts,
+        n.is_reachable,
         (
           n.listed.0,
           slice_get-get_or (imports_of n.file) n.listed.0 m.import n.listed.1 ∙ ap Some n.listed.2,
@@ -357,24 +349,24 @@ module _ (files : List File) (number : List ℕ → Option ℕ)
       cases (Some x) = inr (x, refl)
 
   -- an import that is absent misses a file
-  missing_at : (file : File) (k : ℕ) (import : Imported) → Counts files k → slice_get files k ≡ Some file
+  missing_at : (file : File) (k : ℕ) (import : Imported) → IsReachable files k → slice_get files k ≡ Some file
       → Contains (imports_of file) import → is_absent number file.is_included import ≡ true
       → IsMissing files (record { file = k; span = import.span })
-  missing_at file k import counts stands listed absent =
+  missing_at file k import is_reachable stands listed absent =
       let parts = and_parts (not file.is_included || is_public import.kind) (is_none (number import.path)) absent in
       let facts = facts_at file import listed in
       record {
         import = import;
-        needed = needed_from file k facts.0 import counts stands facts.1 facts.2 parts.0;
+        needed = needed_from file k facts.0 import is_reachable stands facts.1 facts.2 parts.0;
         stands = refl;
         missing = no_path import.path parts.1;
       }
 
   -- ---- the search along the row of those that count
 
-  module _ (row : List ℕ) (counted : (k : ℕ) → Contains row k ↔ Counts files k) where
-    place_in_row : (k : ℕ) → Counts files k → (i : ℕ) × (i < length row) × (get_or row i 0 ≡ k)
-    place_in_row k counts = let there = (counted k).1 counts in
+  module _ (row : List ℕ) (reachable : (k : ℕ) → Contains row k ↔ IsReachable files k) where
+    place_in_row : (k : ℕ) → IsReachable files k → (i : ℕ) × (i < length row) × (get_or row i 0 ≡ k)
+    place_in_row k is_reachable = let there = (reachable k).1 is_reachable in
         (there.0, there.1, get_or_default row there.0 0 k there.1 ∙ there.2)
 
     not_in_front : (count : ℕ) (place : FilePlace) → NoneUpTo files number row count → (m : IsMissing files place)
@@ -398,7 +390,7 @@ module _ (files : List File) (number : List ℕ → Option ℕ)
       | inl before ↦ none i other before at
       | inr last ↦ (
           let same : get_or row i 0 ≡ k = ap (λ n. get_or row n 0) (omega arith) ∙ sym is in
-          let equal : file ≡ other = one_File file other (sym stands ∙ (ap (slice_get files) (sym same) ∙ at)) in
+          let equal : file ≡ other = same_Some file other (sym stands ∙ (ap (slice_get files) (sym same) ∙ at)) in
           subst (λ f. NoneIsAbsent number f.is_included (imports_of f)) equal here)
     ]
 
@@ -407,15 +399,15 @@ module _ (files : List File) (number : List ℕ → Option ℕ)
         → NoneUpTo files number row count → ImportsInOrder (imports_of file)
         → IsFirstAbsent number file.is_included (imports_of file) span → Absent files (record { file = k; span = span })
     is_absent_place count file k span rises within is stands none order first =
-        let counts : Counts files k =
-        (counted k).0 (subst (Contains row) (sym is) (Contains-get_or row count 0 within)) in
+        let is_reachable : IsReachable files k =
+        (reachable k).0 (subst (Contains row) (sym is) (Contains-get_or row count 0 within)) in
         let parts = and_parts (not file.is_included || is_public first.import.kind)
         (is_none (number first.import.path)) first.absent in
         let facts = facts_at file first.import (contained (imports_of file) first.index first.import first.stands) in
         record {
           missing = record {
             import = first.import;
-            needed = needed_from file k facts.0 first.import counts stands facts.1 facts.2 parts.0;
+            needed = needed_from file k facts.0 first.import is_reachable stands facts.1 facts.2 parts.0;
             stands = first.place;
             missing = no_path first.import.path parts.1;
           };
@@ -426,7 +418,7 @@ module _ (files : List File) (number : List ℕ → Option ℕ)
             → ⊥
         same_file other m here less =
             let at = index_of other m in
-            let equal : at.0 ≡ file = one_File at.0 file (sym at.1 ∙ (ap (slice_get files) here ∙ stands)) in
+            let equal : at.0 ≡ file = same_Some at.0 file (sym at.1 ∙ (ap (slice_get files) here ∙ stands)) in
             let stands_at : slice_get (imports_of file) at.3.0 ≡ Some m.import =
             subst (λ f. slice_get (imports_of f) at.3.0 ≡ Some m.import) equal at.3.1 in
             let absent_at : is_absent number file.is_included m.import ≡ true =
@@ -457,10 +449,11 @@ module _ (files : List File) (number : List ℕ → Option ℕ)
     each_missing place = (
       λ there. (
           let by = given_by (absents_at files number) row place there in
-          of_file by.x ((counted by.x).0 (contained row by.index by.x by.stands)) (slice_get files by.x) refl by.given),
+          of_file by.x ((reachable by.x).0 (contained row by.index by.x by.stands))
+          (slice_get files by.x) refl by.given),
       λ m.
           let at = index_of place m in
-          let in_row = (counted place.file).1 at.2 in
+          let in_row = (reachable place.file).1 at.2 in
           gives (absents_at files number) row in_row.0 place.file place (at_contained row place.file in_row)
           (subst (λ o. Contains (absents_of number place.file o) place) (sym at.1)
           (gives (absent_at number at.0.is_included place.file) (imports_of at.0) at.3.0 m.import place at.3.1
@@ -469,15 +462,15 @@ module _ (files : List File) (number : List ℕ → Option ℕ)
           (λ i. record { file = place.file; span = m.stands i })))),
     )
       where
-        of_file : (k : ℕ) → Counts files k → (of : Option File) → slice_get files k ≡ of
+        of_file : (k : ℕ) → IsReachable files k → (of : Option File) → slice_get files k ≡ of
             → Contains (absents_of number k of) place → IsMissing files place
-        of_file k counts None stands there = absurd (omega (arith, there.1))
-        of_file k counts (Some file) stands there =
+        of_file k is_reachable None stands there = absurd (omega (arith, there.1))
+        of_file k is_reachable (Some file) stands there =
             let by = given_by (absent_at number file.is_included k) (imports_of file) place there in
             let is = if_so (is_absent number file.is_included by.x)
             (record { file = k; span = by.x.span }) place by.given in
             subst (IsMissing files) is.1
-            (missing_at file k by.x counts stands (contained (imports_of file) by.index by.x by.stands) is.0)
+            (missing_at file k by.x is_reachable stands (contained (imports_of file) by.index by.x by.stands) is.0)
 
     pub all_missing : IsStrictlyIncreasing row → AllInOrder files → (count : ℕ) (places : List FilePlace)
         → length row ≤ count → places ≡ flat_map (absents_at files number) (take count row) → AreMissing files places

@@ -5,14 +5,13 @@ use Rattle.std.specs.List.{Contains, slice_get}
 use Rattle.std.specs.Str.{bytes_eq}
 use Rattle.std.specs.HashMap.{HashMap}
 use Rattle.std.proofs.lemmas.Bool.{cases_lt, cases_order, cases_Bool, false≢true, cond-true, cond-false, or_parts}
-use Rattle.std.proofs.lemmas.Option.{slice_get_within}
+use Rattle.std.proofs.lemmas.Option.{slice_get_within, same_Some}
 use Rattle.std.proofs.lemmas.Slice.Eq.{bytes_eq-Decides}
-use Rattle.proto_visibility.specs.declared.place.FilePlace.{FilePlace}
-use Rattle.proto_visibility.specs.Items.{Before, Item}
-use Rattle.proto_visibility.specs.Clashes.{Excludes, ClashBy, NoClashBy}
-use Rattle.proto_visibility.specs.Tables.NameTables.{AreInPlace, HasNone, IsFirstNamed, AreFirst, place_if_declared}
-use Rattle.proto_visibility.specs.Tables.NameTables.{clash_with, index_in}
-use Rattle.proto_visibility.proofs.FirstLemmas.{contained_at, contained}
+use Rattle.proto_visibility.specs.declared.files.FilePlace.{FilePlace}
+use Rattle.proto_visibility.specs.Clashes.{Before, Item, Excludes, ClashBy, NoClashBy}
+use Rattle.proto_visibility.specs.Tables.ClashTables.{AreInPlace, HasNone, IsFirstNamed, AreFirst, place_if_declared}
+use Rattle.proto_visibility.specs.Tables.ClashTables.{clash_with, index_in}
+use Rattle.basics.proofs.FirstLemmas.{contained_at, contained}
 
 -- ---- places
 
@@ -22,15 +21,12 @@ never_both a b (inl h) (inr k) = omega (arith, k.0)
 never_both a b (inr h) (inl k) = omega (arith, h.0)
 never_both a b (inr h) (inr k) = omega (arith, h.1, k.1)
 
-one_Item : (a b : Item) → Some a ≡ Some b → a ≡ b
-one_Item a b e = cc
-
 module _ (items : List Item) (placed : AreInPlace items) where
   pub in_order : (j k : ℕ) (a b : Item) → slice_get items j ≡ Some a → slice_get items k ≡ Some b
       → Before a.place b.place → j < k
   in_order j k a b at there before = elim (cases_order j k) [
     | inl same ↦ (
-        let equal : a ≡ b = one_Item a b (sym at ∙ (ap (slice_get items) same ∙ there)) in
+        let equal : a ≡ b = same_Some a b (sym at ∙ (ap (slice_get items) same ∙ there)) in
         let itself = subst (λ (x : Item). Before x.place b.place) equal before in
         absurd (never_both b.place b.place itself itself))
     | inr apart ↦ elim apart
@@ -107,7 +103,7 @@ none_clash_more items count item first stands is missing so_far j k a b less wit
       | inl before ↦ so_far j k a b less before at there name
       | inr last ↦ (
           let here : k ≡ count = omega arith in
-          let same : b ≡ item = one_Item b item (sym there ∙ (ap (slice_get items) here ∙ stands)) in
+          let same : b ≡ item = same_Some b item (sym there ∙ (ap (slice_get items) here ∙ stands)) in
           let named : a.full_name ≡ item.full_name = name ∙ ap (λ (x : Item). x.full_name) same in
           subst (λ (x : Item). (a.is_declaration || x.is_declaration) ≡ false) (sym same)
           (with_first first is missing named))
@@ -125,7 +121,7 @@ none_clash_more items count item first stands is missing so_far j k a b less wit
         let neither = or_parts f.item.is_declaration item.is_declaration
         (no_clash_at items item m f.item missing f.stands) in
         or_false a.is_declaration item.is_declaration (elim (cases_order m j) [
-          | inl equal ↦ (let one : f.item ≡ a = one_Item f.item a (sym f.stands ∙ (ap (slice_get items) equal ∙ at)) in
+          | inl equal ↦ (let one : f.item ≡ a = same_Some f.item a (sym f.stands ∙ (ap (slice_get items) equal ∙ at)) in
               sym (ap (λ (x : Item). x.is_declaration) one) ∙ neither.0)
           | inr apart ↦ elim apart [
             | inl later ↦ (or_parts f.item.is_declaration a.is_declaration
@@ -152,7 +148,7 @@ is_clash items count item first place placed stands is found so_far =
         × ((a.is_declaration || item.is_declaration) ≡ true))
         → IsFirstNamed items count item.full_name at.0 → ClashBy (Contains items) place item.place
     by_first at f =
-        let same : f.item ≡ at.1 = one_Item f.item at.1 (sym f.stands ∙ at.3) in
+        let same : f.item ≡ at.1 = same_Some f.item at.1 (sym f.stands ∙ at.3) in
         record {
           earlier = at.1;
           later = item;
@@ -175,7 +171,7 @@ is_clash items count item first place placed stands is found so_far =
               let ja = contained_at items a e.first_is in
               let jb = contained_at items b e.second_is in
               let is_last = one_index items placed jb.0 count b item jb.1 stands here in
-              let equal : b ≡ item = one_Item b item (sym jb.1 ∙ (ap (slice_get items) is_last ∙ stands)) in
+              let equal : b ≡ item = same_Some b item (sym jb.1 ∙ (ap (slice_get items) is_last ∙ stands)) in
               let prefix = in_order items placed ja.0 at.0 a at.1 ja.1 at.3
               (subst (λ p. Before a.place p) (sym at.4) before) in
               f.first ja.0 a prefix ja.1 (e.one_name ∙ ap (λ (x : Item). x.full_name) equal);
@@ -198,7 +194,7 @@ more_none items count item name stands other missing k x h at named = elim (case
   | inl before ↦ missing k x before at named
   | inr last ↦ (
       let here : k ≡ count = omega arith in
-      let same : x ≡ item = one_Item x item (sym at ∙ (ap (slice_get items) here ∙ stands)) in
+      let same : x ≡ item = same_Some x item (sym at ∙ (ap (slice_get items) here ∙ stands)) in
       other (sym (ap (λ (y : Item). y.full_name) same) ∙ named))
 ]
 

@@ -13,10 +13,10 @@ use Rattle.std.proofs.lemmas.List.Elements.{Contains-append_right, Contains-appe
 use Rattle.std.proofs.lemmas.List.Elements.{Contains-get_or}
 use Rattle.std.proofs.lemmas.List.{take_more, length_push, get_or_push}
 use Rattle.std.proofs.lemmas.List.Elements.{filter_map-append}
+use Rattle.basics.proofs.ListLemmas.{in_front, only}
 use Rattle.proto_visibility.proofs.SeeingLemmas.{slice_get_prefix}
 use Rattle.proto_decl.specs.Facts.{Facts}
-use Rattle.proto_decl.specs.declared.imported.Imported.{Imported}
-use Rattle.proto_decl.proofs.AncestorLemmas.{in_front}
+use Rattle.proto_decl.specs.declared.imports.Imported.{Imported}
 use Rattle.proto_visibility.specs.declared.import_table.Steps.{Steps}
 use Rattle.proto_visibility.specs.Files.{File, Imports, HaveOwnPaths, is_public, HasPathAt}
 use Rattle.proto_visibility.specs.Tables.ImportTables.{targets, HasStep, AreWithin, IsTableOf, number_in, AreNumbered}
@@ -27,11 +27,6 @@ use Rattle.proto_visibility.specs.Tables.ImportTables.{imports_in, imports_of, t
 cases_Option : {Y : Type 0} (o : Option Y) → (o ≡ None) ⊎ ((y : Y) × (o ≡ Some y))
 cases_Option None = inl refl
 cases_Option (Some y) = inr (y, refl)
-
--- the only item of a list
-pub only : {X : Type 0} (x y : X) → Contains (x ∷ []) y → x ≡ y
-only x y (zero, h, e) = e
-only x y (suc k, h, e) = absurd (omega arith)
 
 filter_map_none : {X Y : Type 0} (h : X → Option Y) (x : X) (xs : List X) → h x ≡ None
     → filter_map h (x ∷ xs) ≡ filter_map h xs
@@ -307,7 +302,8 @@ own_more files old count file stands new numbered own i j a b i_in j_in at there
 
 -- the path at hand has a number, of a file before it
 pub not_own : {S : Type 0} (files : List File) (old : HashMap (Bor (List ℕ)) ℕ S) (count : ℕ) (file : File)
-    (first : Option ℕ) → slice_get files count ≡ Some file → first ≡ number_in old file.path → is_some first ≡ true
+    (first : Option ℕ) → slice_get files count ≡ Some file → first ≡ number_in old file.path
+    → is_some first ≡ true
     → AreNumberedUpTo files old count → HaveOwnPaths files → ⊥
 not_own files old count file None stands is some numbered own = false≢true some
 not_own files old count file (Some k) stands is some numbered own =

@@ -12,19 +12,20 @@ use Rattle.std.proofs.lemmas.List.Elements.{Contains-append_cases}
 use Rattle.std.proofs.lemmas.List.Sorted.{IsPermutation-append_right, IsPermutation-append_comm, IsPermutation-map}
 use Rattle.std.proofs.lemmas.List.Sorted.{IsPermutation-sym, Contains-permutation}
 use Rattle.std.proofs.lemmas.Map.Keys.{IsDistinct-cons, IsDistinct-IsPermutation, apart_from_distinct}
+use Rattle.std.proofs.lemmas.Option.{same_Some}
+use Rattle.basics.proofs.ListLemmas.{only}
 use Rattle.proto_lex.specs.declared.span.Span.{Span}
 use Rattle.proto_lex.specs.Lexed.{AreInOrder}
 use Rattle.proto_decl.specs.Names.{dotted, package_of}
 use Rattle.proto_decl.specs.Facts.{Facts, PackageInOrder, component_spans, name_spans}
-use Rattle.proto_decl.specs.declared.type_use.Component.{Component}
+use Rattle.proto_decl.specs.declared.uses.Component.{Component}
 use Rattle.proto_decl.specs.declared.declaration.Declaration.{Declaration}
 use Rattle.proto_decl.proofs.CommentTextLemmas.{join_with_byte-push}
-use Rattle.proto_visibility.specs.Items.{Item}
-use Rattle.proto_visibility.specs.Tables.NameTables.{AreInPlace}
+use Rattle.proto_visibility.specs.Clashes.{Item}
+use Rattle.proto_visibility.specs.Tables.ClashTables.{AreInPlace}
 use Rattle.proto_visibility.specs.Tables.FileItems.{declared_item, packaged_item, IsPackaged, IsItemOf, starts_of}
 use Rattle.proto_visibility.specs.Tables.FileItems.{AreOfFile, AreWithPackage}
-use Rattle.proto_visibility.proofs.FileRowLemmas.{flips}
-use Rattle.proto_visibility.proofs.ImportTableLemmas.{only}
+use Rattle.proto_visibility.proofs.RowRisingLemmas.{flips}
 use Rattle.proto_visibility.proofs.SeeingLemmas.{slice_get_prefix}
 
 -- ---- prefixes
@@ -84,12 +85,6 @@ pub record AreWithFirst (number : ℕ) (components : List Component) (old new : 
   pub of_file : AreOfFile number old → AreOfFile number new
   pub each : (item : Item) → Contains new item ↔ (Contains old item ⊎ IsPackaged number components count item)
 
-one_Item : (a b : Item) → Some a ≡ Some b → a ≡ b
-one_Item a b e = cc
-
-one_Component : (a b : Component) → Some a ≡ Some b → a ≡ b
-one_Component a b e = cc
-
 of_file_more : (number : ℕ) (items : List Item) (item : Item) → item.place.file ≡ number → AreOfFile number items
     → AreOfFile number (items ++ item ∷ [])
 of_file_more number items item is all index one stands = elim (cases_lt index (length items)) [
@@ -100,7 +95,7 @@ of_file_more number items item is all index one stands = elim (cases_lt index (l
       let at : slice_get (items ++ item ∷ []) index ≡ Some item =
       slice_get-get_or (items ++ item ∷ []) index item within
       ∙ ap Some (get_or_push items item item index (sym here)) in
-      ap (λ (x : Item). x.place.file) (one_Item one item (sym stands ∙ at)) ∙ is)
+      ap (λ (x : Item). x.place.file) (same_Some one item (sym stands ∙ at)) ∙ is)
 ]
 
 pub with_more : (number : ℕ) (components : List Component) (old now : List Item) (count : ℕ) (component : Component)
@@ -135,7 +130,7 @@ with_more number components old now count component item within at stands is so_
         | inr later ↦ (
             let here : packaged.0 ≡ count = omega (arith, packaged.2) in
             let same : packaged.1 ≡ component =
-            one_Component packaged.1 component (sym packaged.3 ∙ (ap (slice_get components) here ∙ stands)) in
+            same_Some packaged.1 component (sym packaged.3 ∙ (ap (slice_get components) here ∙ stands)) in
             let equal : one ≡ item =
             packaged.4 ∙ (ap (λ n. packaged_item number components n packaged.1) here
             ∙ (ap (packaged_item number components count) same ∙ sym is)) in

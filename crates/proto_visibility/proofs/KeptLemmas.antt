@@ -5,19 +5,18 @@ use Rattle.std.specs.List.{slice_get}
 use Rattle.std.proofs.lemmas.Bool.{cases_lt, cases_order}
 use Rattle.std.proofs.lemmas.Option.{slice_get_within, slice_get-get_or}
 use Rattle.proto_decl.specs.Facts.{Facts}
-use Rattle.proto_visibility.specs.declared.fault.LinkFault.{LinkFault}
-use Rattle.proto_visibility.specs.declared.fault.LinkFault.TheVariants.{Broken, Duplicate, MissingImport, Unresolved}
-use Rattle.proto_visibility.specs.declared.fault.LinkFault.TheVariants.{Memory}
+use Rattle.proto_visibility.specs.declared.omissions.FileOmission.{FileOmission}
+use Rattle.proto_visibility.specs.declared.omissions.FileOmission.TheVariants.{Broken, Duplicate}
 use Rattle.proto_visibility.specs.Files.{File, HasFacts, Imports}
-use Rattle.proto_visibility.specs.Sees.{LeadsTo, Sees, Counts}
+use Rattle.proto_visibility.specs.Sees.{LeadsTo, Sees, IsReachable}
 use Rattle.proto_visibility.specs.Sees.LeadsTo.{at_once, through}
 use Rattle.proto_visibility.specs.Sees.SeesBy.{itself, import}
-use Rattle.proto_visibility.specs.Sees.Counts.{seen}
-use Rattle.proto_visibility.specs.Items.{Before, Item, IsItem}
-use Rattle.proto_visibility.specs.Items.IsItem.{declared, packaged}
-use Rattle.proto_visibility.specs.Clashes.{Excludes, NoClash}
+use Rattle.proto_visibility.specs.Sees.IsReachable.{seen}
+use Rattle.proto_visibility.specs.Clashes.{Before, Item, IsItem, Excludes, NoClash}
+use Rattle.proto_visibility.specs.Clashes.IsItem.{declared, packaged}
 use Rattle.proto_visibility.specs.Absences.{NoneBroken}
-use Rattle.proto_visibility.specs.Kept.{Omissions, IsKept, IsMet, IsOmission, AreOmissions, kept_of, number_among_all}
+use Rattle.proto_visibility.specs.Kept.{Omissions, IsKeptFile, IsMet, IsOmission, AreOmissions, kept_of}
+use Rattle.proto_visibility.specs.Kept.{number_among_all}
 use Rattle.proto_visibility.specs.Kept.{AreAllKept, OneKept, NothingIsLeftOutOfGoodFiles, KeptFilesAreClear}
 
 pub excludes_as : {I J : Item → Type 0} (a b : Item) → (I a → J a) → (I b → J b) → Excludes I a b → Excludes J a b
@@ -32,7 +31,7 @@ excludes_as a b f g e = record {
 -- ---- one list is kept
 
 module _ (files : List File) where
-  pub met : (a b : Omissions) (n : ℕ) → ((m : ℕ) → m < n → IsKept a m ↔ IsKept b m) → (item : Item)
+  pub met : (a b : Omissions) (n : ℕ) → ((m : ℕ) → m < n → IsKeptFile a m ↔ IsKeptFile b m) → (item : Item)
       → IsMet (IsItem files) a n item → IsMet (IsItem files) b n item
   met a b n below item is = record {
     is_item = is.is_item;
@@ -44,33 +43,31 @@ module _ (files : List File) where
   }
 
   kept_too : (a b : Omissions) → AreOmissions files a → AreOmissions files b → (n : ℕ)
-      → ((m : ℕ) → m < n → IsKept a m ↔ IsKept b m) → IsKept a n → IsKept b n
+      → ((m : ℕ) → m < n → IsKeptFile a m ↔ IsKeptFile b m) → IsKeptFile a n → IsKeptFile b n
   kept_too a b are others n below kept =
       let within = slice_get_within a n None kept in
       let at = slice_get-get_or b n None (omega (arith, are.one_each, others.one_each, within)) in
       by (get_or b n None) at (others.each n (get_or b n None) at)
     where
-      back : (m : ℕ) → m < n → IsKept b m ↔ IsKept a m
+      back : (m : ℕ) → m < n → IsKeptFile b m ↔ IsKeptFile a m
       back m h = ((below m h).1, (below m h).0)
 
-      by : (o : Option LinkFault) → slice_get b n ≡ Some o → IsOmission files b n o → IsKept b n
+      by : (o : Option FileOmission) → slice_get b n ≡ Some o → IsOmission files b n o → IsKeptFile b n
       by None at is = at
-      by (Some (Broken other)) at is = absurd ((are.each n None kept).0 is.1)
+      by (Some Broken) at is = absurd ((are.each n None kept).0 is)
       by (Some (Duplicate first second)) at is =
           absurd ((are.each n None kept).1 is.earlier is.later
           (excludes_as is.earlier is.later (met b a n back is.earlier) (met b a n back is.later) is.exclude))
-      by (Some (MissingImport place)) at is = absurd is
-      by (Some (Unresolved place)) at is = absurd is
-      by (Some Memory) at is = absurd is
 
-  below : (a b : Omissions) → AreOmissions files a → AreOmissions files b → (n m : ℕ) → m < n → IsKept a m ↔ IsKept b m
+  below : (a b : Omissions) → AreOmissions files a → AreOmissions files b → (n m : ℕ) → m < n → IsKeptFile a m
+      ↔ IsKeptFile b m
   below a b are others zero m h = absurd (omega arith)
   below a b are others (suc n) m h = elim (cases_lt m n) [
     | inl before ↦ below a b are others n m before
     | inr last ↦ (
         let here : n ≡ m = omega arith in
         let prefix = below a b are others n in
-        subst (λ k. IsKept a k ↔ IsKept b k) here (
+        subst (λ k. IsKeptFile a k ↔ IsKeptFile b k) here (
           kept_too a b are others n prefix,
           kept_too b a others are n (λ k less. ((prefix k less).1, (prefix k less).0)),
         ))
@@ -81,9 +78,10 @@ one_kept files omissions others are too number = below files omissions others ar
 
 -- ---- nothing is left out of good files
 
-file_of : (files : List File) (item : Item) → IsItem files item → item.place.file < length files
-file_of files _ (declared {number = number} counts has listed) = slice_get_within files number has.file has.numbered
-file_of files _ (packaged {number = number} index counts has stands) =
+pub file_of : (files : List File) (item : Item) → IsItem files item → item.place.file < length files
+file_of files _ (declared {number = number} is_reachable has listed) = slice_get_within files number
+    has.file has.numbered
+file_of files _ (packaged {number = number} index is_reachable has stands) =
     slice_get_within files number has.file has.numbered
 
 pub nothing_is_left_out : NothingIsLeftOutOfGoodFiles
@@ -101,25 +99,23 @@ nothing_is_left_out files omissions are = (
       by good.read good.clear k (get_or omissions k d) (are.each k (get_or omissions k d) at),
 )
   where
-    kept : AreAllKept omissions → (number : ℕ) → number < length files → IsKept omissions number
+    kept : AreAllKept omissions → (number : ℕ) → number < length files → IsKeptFile omissions number
     kept all number h =
         let within : number < length omissions = omega (arith, are.one_each) in
         slice_get-get_or omissions number None within ∙ ap Some (all number None within)
 
     meets : AreAllKept omissions → (a b : Item) → IsItem files a → Before a.place b.place
-        → (a.place.file ≡ b.place.file) ⊎ ((a.place.file < b.place.file) × IsKept omissions a.place.file)
+        → (a.place.file ≡ b.place.file) ⊎ ((a.place.file < b.place.file) × IsKeptFile omissions a.place.file)
     meets all a b is (inl less) = inr (less, kept all a.place.file (file_of files a is))
     meets all a b is (inr same) = inl same.0
 
-    by : NoneBroken files → NoClash files → (k : ℕ) (o : Option LinkFault) → IsOmission files omissions k o → o ≡ None
+    by : NoneBroken files → NoClash files → (k : ℕ) (o : Option FileOmission) → IsOmission files omissions k o
+        → o ≡ None
     by read clear k None is = refl
-    by read clear k (Some (Broken other)) is = absurd (read k is.1)
+    by read clear k (Some Broken) is = absurd (read k is)
     by read clear k (Some (Duplicate first second)) is =
         absurd (clear is.earlier is.later
         (excludes_as is.earlier is.later (λ m. m.is_item) (λ m. m.is_item) is.exclude))
-    by read clear k (Some (MissingImport place)) is = absurd is
-    by read clear k (Some (Unresolved place)) is = absurd is
-    by read clear k (Some Memory) is = absurd is
 
 -- ---- a file that is kept, among all files
 
@@ -133,7 +129,7 @@ at_all (None ∷ omissions) (y ∷ ys) (suc k) x e = at_all omissions ys k x e
 at_all (Some fault ∷ omissions) (y ∷ ys) k x e = at_all omissions ys k x e
 
 pub is_kept : {X : Type 0} (omissions : Omissions) (xs : List X) (k : ℕ) (x : X)
-    → slice_get (kept_of omissions xs) k ≡ Some x → IsKept omissions (number_among_all omissions k)
+    → slice_get (kept_of omissions xs) k ≡ Some x → IsKeptFile omissions (number_among_all omissions k)
 is_kept [] xs k x e = absurd (cc)
 is_kept (None ∷ omissions) [] k x e = absurd (cc)
 is_kept (Some fault ∷ omissions) [] k x e = absurd (cc)
@@ -182,8 +178,8 @@ module _ (files : List File) (omissions : Omissions) where
   sees_among itself = itself
   sees_among (import {file = file} {next = next} step rest) = import (imports_among file next step) (leads_among rest)
 
-  counts_among : (k : ℕ) → Counts kept k → Counts files (all k)
-  counts_among k (seen {source = source} is sees) =
+  reachable_among : (k : ℕ) → IsReachable kept k → IsReachable files (all k)
+  reachable_among k (seen {source = source} is sees) =
       seen (record { file = is.file; numbered = at_all omissions files source is.file is.numbered; source = is.source })
       (sees_among sees)
 
@@ -195,14 +191,15 @@ module _ (files : List File) (omissions : Omissions) where
   }
 
   item_among : (item : Item) → IsItem kept item → IsItem files (moved item)
-  item_among _ (declared {number = number} {facts = facts} counts has listed) =
-      declared (counts_among number counts) (facts_among number facts has) listed
-  item_among _ (packaged {number = number} {facts = facts} index counts has stands) =
-      packaged index (counts_among number counts) (facts_among number facts has) stands
+  item_among _ (declared {number = number} {facts = facts} is_reachable has listed) =
+      declared (reachable_among number is_reachable) (facts_among number facts has) listed
+  item_among _ (packaged {number = number} {facts = facts} index is_reachable has stands) =
+      packaged index (reachable_among number is_reachable) (facts_among number facts has) stands
 
-  item_kept : (item : Item) → IsItem kept item → IsKept omissions (all item.place.file)
-  item_kept _ (declared {number = number} counts has listed) = is_kept omissions files number has.file has.numbered
-  item_kept _ (packaged {number = number} index counts has stands) =
+  item_kept : (item : Item) → IsItem kept item → IsKeptFile omissions (all item.place.file)
+  item_kept _ (declared {number = number} is_reachable has listed) = is_kept omissions files number
+      has.file has.numbered
+  item_kept _ (packaged {number = number} index is_reachable has stands) =
       is_kept omissions files number has.file has.numbered
 
   order_among : (a b : Item) → Before a.place b.place → Before (moved a).place (moved b).place
@@ -238,7 +235,7 @@ kept_are_clear files omissions are own = (
         (are.each n None (is_kept omissions files number unread.file unread.numbered)).0
         (record {
           file = unread.file;
-          counts = counts_among files omissions number unread.counts;
+          is_reachable = reachable_among files omissions number unread.is_reachable;
           numbered = at_all omissions files number unread.file unread.numbered;
           unread = unread.unread;
         });

@@ -1,21 +1,43 @@
-pub mod FileRowLemmas
-pub mod SearchLemmas
-pub mod RunLemmas
-pub mod OrderLemmas
-pub mod SeeingLemmas
-pub mod ImportTableLemmas
-pub mod CountingLemmas
+-- Each file is named after the spec or source that it serves.
+-- The first import that isn't there
 pub mod AbsentLemmas
+-- Names that can't clash, since the numbers of them differ
+pub mod ClashDifferingLemmas
+-- The first clash of names, over items in order of place
 pub mod ClashLemmas
+-- The facts of the file with a number
+pub mod FileFactLemmas
+-- An order of files, and rows of places in it
+pub mod FileOrderLemmas
+-- The facts of files are those of texts
+pub mod FileOriginLemmas
+-- Steps by the numbers of paths are imports
+pub mod ImportTableLemmas
+-- The items of all reachable files, in order of place
+pub mod ItemAllLemmas
+-- The items of one file, in order of place
 pub mod ItemLemmas
-pub mod AllItemsLemmas
-pub mod DifferingLemmas
-pub mod FirstLemmas
-pub mod FactLemmas
-pub mod NameOwnerLemmas
-pub mod EntityLemmas
-pub mod NameLemmas
-pub mod ListedLemmas
-pub mod OriginLemmas
+-- The laws of what is kept
 pub mod KeptLemmas
+-- Why files can't be linked, for functions that refuse them
+pub mod LinkedRefusalRules
+-- What a full name names in one file
+pub mod LookupEntityLemmas
+-- The names that a file knows
+pub mod LookupKnownLemmas
+-- The files that give a name, by the tables
+pub mod LookupListedLemmas
+-- Tables of the names that files give
+pub mod NameLemmas
+-- The pass over items that leaves out the files with a clash, and the files without facts
 pub mod PassLemmas
+-- Rows of numbers that rise, and binary search in them
+pub mod RowRisingLemmas
+-- Runs of numbers
+pub mod RowRunLemmas
+-- The marks of a search over files
+pub mod SearchLemmas
+-- A search along the steps of a table finds what a file sees
+pub mod SeeingLemmas
+-- Which files are reachable, by one search from all sources
+pub mod SeeingReachableLemmas

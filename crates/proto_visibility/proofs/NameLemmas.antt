@@ -10,18 +10,18 @@ use Rattle.std.proofs.lemmas.Option.{slice_get_within, same_Some}
 use Rattle.std.proofs.lemmas.List.Elements.{Contains-get_or, Contains-push, Contains-push_cases, Contains-append_left}
 use Rattle.std.proofs.lemmas.List.Sorted.{IsNonDecreasingBy-push, IsNonDecreasingBy-short}
 use Rattle.std.proofs.lemmas.Slice.Eq.{bytes_eq-Decides}
+use Rattle.basics.proofs.ListLemmas.{item_at}
 use Rattle.proto_decl.specs.Names.{package_of}
 use Rattle.proto_decl.specs.Facts.{Facts}
 use Rattle.proto_decl.specs.declared.declaration.Declaration.{Declaration}
 use Rattle.proto_visibility.specs.declared.names.DeclaredAt.{DeclaredAt}
 use Rattle.proto_visibility.specs.Files.{File}
-use Rattle.proto_visibility.specs.Knows.{is_aggregate}
+use Rattle.proto_visibility.specs.Knows.{is_aggregate, IsPrefix}
 use Rattle.proto_visibility.specs.Knows.NameKind.{OfDeclaration}
 use Rattle.proto_visibility.specs.Tables.FileItems.{ArePrefixes, AreAllPrefixes, package_name_of, package_name_in}
-use Rattle.proto_visibility.specs.FileNames.{IsPrefix}
 use Rattle.proto_visibility.specs.Tables.GivenNames.{IsDeclaredOf, IsDeclaredIn, IsDeclaredBy, ArePackaged, HasPrefix}
 use Rattle.proto_visibility.specs.Tables.GivenNames.{HasPrefixAt}
-use Rattle.proto_visibility.proofs.FirstLemmas.{contained, contained_at, item_at}
+use Rattle.basics.proofs.FirstLemmas.{contained, contained_at}
 
 -- ---- lists at names, with what comes to them in turn
 
@@ -141,9 +141,6 @@ pub declared_within : (number : ℕ) (declarations : List Declaration) (k : ℕ)
     → IsDeclaredOf number declarations k name one → k < length declarations
 declared_within number declarations k name one d = slice_get_within declarations k d.declaration d.stands
 
-one_Facts : (a b : Facts) → Some a ≡ Some b → a ≡ b
-one_Facts a b e = cc
-
 -- the declarations of a file's facts are the file's
 pub declared_in_file : (number : ℕ) (file : File) (facts : Facts) (old new : List ℕ → List DeclaredAt)
     → file.facts ≡ Some facts
@@ -158,7 +155,7 @@ declared_in_file number file facts old new known its name one = (
     | inr here ↦ inr (
       here.2,
       subst (λ (f : Facts). IsDeclaredOf number f.declarations here.2 name one)
-          (one_Facts here.0 facts (sym here.1 ∙ known)) here.3,
+          (same_Some here.0 facts (sym here.1 ∙ known)) here.3,
     )
   ]),
 )

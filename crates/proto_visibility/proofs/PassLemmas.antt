@@ -9,22 +9,21 @@ use Rattle.std.specs.HashMap.{HashMap}
 use Rattle.std.proofs.lemmas.Bool.{cases_lt, cases_order, cases_Bool, false≢true, cond-true, cond-false, or_parts}
 use Rattle.std.proofs.lemmas.Option.{slice_get_within, slice_get-get_or, same_Some}
 use Rattle.std.proofs.lemmas.Slice.Eq.{bytes_eq-Decides}
-use Rattle.proto_visibility.specs.declared.place.FilePlace.{FilePlace}
-use Rattle.proto_visibility.specs.declared.fault.LinkFault.{LinkFault}
-use Rattle.proto_visibility.specs.declared.fault.LinkFault.TheVariants.{Broken, Duplicate, MissingImport, Unresolved}
-use Rattle.proto_visibility.specs.declared.fault.LinkFault.TheVariants.{Memory}
+use Rattle.proto_visibility.specs.declared.files.FilePlace.{FilePlace}
+use Rattle.proto_visibility.specs.declared.omissions.FileOmission.{FileOmission}
+use Rattle.proto_visibility.specs.declared.omissions.FileOmission.TheVariants.{Broken, Duplicate}
 use Rattle.proto_visibility.specs.Files.{File}
-use Rattle.proto_visibility.specs.Sees.{Counts}
-use Rattle.proto_visibility.specs.Items.{Before, Item, IsItem}
-use Rattle.proto_visibility.specs.Clashes.{ClashBy}
+use Rattle.proto_visibility.specs.Sees.{IsReachable}
+use Rattle.proto_visibility.specs.Clashes.{Before, Item, IsItem, ClashBy}
 use Rattle.proto_visibility.specs.Absences.{IsUnread}
-use Rattle.proto_visibility.specs.Kept.{Omissions, IsKept, IsMet, IsOmission, AreOmissions}
-use Rattle.proto_visibility.specs.Tables.NameTables.{AreInPlace, clash_with, index_in}
-use Rattle.proto_visibility.specs.Tables.Passes.{AreUnreadOf, IsClashOmission, AreClashesOmitted, IsOpen, IsOpenAt}
-use Rattle.proto_visibility.specs.Tables.Passes.{IsTold, ArePassed}
+use Rattle.proto_visibility.specs.Kept.{Omissions, IsKeptFile, IsMet, IsOmission, AreOmissions}
+use Rattle.proto_visibility.specs.Tables.ClashTables.{AreInPlace, clash_with, index_in}
+use Rattle.proto_visibility.specs.Tables.Passes.{AreUnreadOf, IsOutByClash, IsClashOmission, AreClashesOmitted, IsOpen}
+use Rattle.proto_visibility.specs.Tables.Passes.{IsOpenAt, IsTold, ArePassed}
+use Rattle.proto_visibility.specs.Tables.Passes.IsOutByClash.{by_clash}
 use Rattle.proto_visibility.proofs.ClashLemmas.{in_order, one_index, clash_at, no_clash_at}
 use Rattle.proto_visibility.proofs.ClashLemmas.{clash_by, no_clash_by}
-use Rattle.proto_visibility.proofs.FirstLemmas.{contained_at, contained}
+use Rattle.basics.proofs.FirstLemmas.{contained_at, contained}
 
 -- ---- a list of which one entry is set
 
@@ -49,7 +48,7 @@ set_elsewhere (x ∷ xs) (suc n) (suc m) y apart = set_elsewhere xs n m y (λ sa
 same_item : (items : List Item) (k : ℕ) (a b : Item) → slice_get items k ≡ Some a → slice_get items k ≡ Some b → a ≡ b
 same_item items k a b at there = same_Some a b (sym at ∙ there)
 
-pub same_kept : (a b : Omissions) (n m : ℕ) → a ≡ b → n ≡ m → IsKept a n → IsKept b m
+pub same_kept : (a b : Omissions) (n m : ℕ) → a ≡ b → n ≡ m → IsKeptFile a n → IsKeptFile b m
 same_kept a b n m list number kept =
     ap (slice_get b) (sym number) ∙ (ap (λ (l : Omissions). slice_get l n) (sym list) ∙ kept)
 
@@ -62,10 +61,10 @@ or_false true y h e = h
 or_false false y h e = e
 
 -- a file is kept or left out
-not_both : (fault : LinkFault) → Some None ≡ Some (Some fault) → ⊥
-not_both fault e = none (same_Some {A = Option LinkFault} None (Some fault) e)
+not_both : (fault : FileOmission) → Some None ≡ Some (Some fault) → ⊥
+not_both fault e = none (same_Some {A = Option FileOmission} None (Some fault) e)
   where
-    none : {f : LinkFault} → None ≡ Some f → ⊥
+    none : {f : FileOmission} → None ≡ Some f → ⊥
     none h = cc
 
 module _ (items : List Item) (placed : AreInPlace items) where
@@ -86,7 +85,8 @@ module _ (items : List Item) (placed : AreInPlace items) where
   module _ {S : Type 0} (start : Omissions) (count : ℕ) (omissions : Omissions) (names : HashMap (List ℕ) ℕ S)
       (item : Item)
       (at : slice_get items count ≡ Some item) (so_far : ArePassed items start count omissions names) where
-    told_more : (number : ℕ) (fault : LinkFault) → IsKept start number → slice_get omissions number ≡ Some (Some fault)
+    told_more : (number : ℕ) (fault : FileOmission) → IsKeptFile start number
+        → slice_get omissions number ≡ Some (Some fault)
         → IsTold items (count + 1) omissions number fault
     told_more number fault kept out = let told = so_far.told number fault kept out in
         (told.0, told.1, omega (arith, told.2), told.3, told.4, told.5)
@@ -234,7 +234,7 @@ module _ (items : List Item) (placed : AreInPlace items) where
 
       -- it clashes with the item, whose file is left out
       module _ (place : FilePlace) (clashes : clash_with items (Some k) item ≡ Some place) where
-        abbrev fault : LinkFault
+        abbrev fault : FileOmission
         fault = Duplicate place item.place
 
         abbrev new : Omissions
@@ -247,13 +247,13 @@ module _ (items : List Item) (placed : AreInPlace items) where
         elsewhere : (n : ℕ) → (n ≡ item.place.file → ⊥) → slice_get new n ≡ slice_get omissions n
         elsewhere n apart = set_elsewhere omissions item.place.file n (Some fault) apart
 
-        not_kept : (n : ℕ) → n ≡ item.place.file → IsKept new n → ⊥
+        not_kept : (n : ℕ) → n ≡ item.place.file → IsKeptFile new n → ⊥
         not_kept n same kept = not_both fault (sym kept ∙ (ap (slice_get new) same ∙ out_there))
 
-        kept_before : (n : ℕ) → IsKept new n → IsKept omissions n
+        kept_before : (n : ℕ) → IsKeptFile new n → IsKeptFile omissions n
         kept_before n kept = sym (elsewhere n (λ same. not_kept n same kept)) ∙ kept
 
-        kept_after : (n : ℕ) → (n ≡ item.place.file → ⊥) → IsKept omissions n → IsKept new n
+        kept_after : (n : ℕ) → (n ≡ item.place.file → ⊥) → IsKeptFile omissions n → IsKeptFile new n
         kept_after n apart kept = elsewhere n apart ∙ kept
 
         -- what a file up to this one meets, it still meets
@@ -279,8 +279,11 @@ module _ (items : List Item) (placed : AreInPlace items) where
         )
 
         met_open : (x : Item) → IsMet (Contains items) new item.place.file x → IsOpen omissions x
-        met_open x is = elim is.meets
-            [ inl own ↦ subst (IsKept omissions) (sym own) open_item | inr before ↦ kept_before x.place.file before.1 ]
+        met_open x is = elim is.meets [
+          | inl own ↦ subst (IsKeptFile omissions) (sym own) open_item
+          | inr before ↦ kept_before
+              x.place.file before.1
+        ]
 
         met_now : (x : Item) (j : ℕ) → slice_get items j ≡ Some x → x.place.file ≤ item.place.file → IsOpen omissions x
             → IsMet (Contains items) new item.place.file x
@@ -349,14 +352,15 @@ module _ (items : List Item) (placed : AreInPlace items) where
             | inl same ↦ (
                 let is : fault ≡ other =
                 one_fault fault other (sym out_there ∙ (ap (slice_get new) (sym same) ∙ out)) in
-                let here : IsClashOmission (Contains items) new number (Some fault) =
-                subst (λ n. ClashBy (IsMet (Contains items) new n) place item.place) (sym same) first_clash in (
+                let here : IsOutByClash (Contains items) new number fault =
+                by_clash (subst (λ n. ClashBy (IsMet (Contains items) new n) place item.place) (sym same) first_clash)
+                in (
                   count,
                   item,
                   omega arith,
                   at,
                   sym same,
-                  subst (λ f. IsClashOmission (Contains items) new number (Some f)) is here,
+                  subst (IsOutByClash (Contains items) new number) is here,
                 ))
             | inr apart ↦ (
                 let was = sym (elsewhere number (λ same. unequal number item.place.file apart same)) ∙ out in
@@ -395,7 +399,7 @@ module _ (items : List Item) (placed : AreInPlace items) where
           ];
         }
           where
-            one_fault : (a b : LinkFault) → Some (Some a) ≡ Some (Some b) → a ≡ b
+            one_fault : (a b : FileOmission) → Some (Some a) ≡ Some (Some b) → a ≡ b
             one_fault a b e = cc
 
             unequal : (a b : ℕ) → (a < b) ⊎ (b < a) → a ≡ b → ⊥
@@ -407,15 +411,11 @@ module _ (items : List Item) (placed : AreInPlace items) where
                 not_kept b.place.file (ap (λ (x : Item). x.place.file) (same_at items l count b item same there at))
                 open_b
 
-            omitted_by : (n : ℕ) (f : LinkFault)
+            omitted_by : (n : ℕ) (f : FileOmission)
                 → ((x : Item) → IsMet (Contains items) omissions n x ↔ IsMet (Contains items) new n x)
-                → IsClashOmission (Contains items) omissions n (Some f)
-                → IsClashOmission (Contains items) new n (Some f)
-            omitted_by n (Broken other) same h = h
-            omitted_by n (Duplicate first second) same h = clash_by same first second h
-            omitted_by n (MissingImport spot) same h = h
-            omitted_by n (Unresolved spot) same h = h
-            omitted_by n Memory same h = h
+                → IsOutByClash (Contains items) omissions n f → IsOutByClash (Contains items) new n f
+            omitted_by n _ same (by_clash {first = first} {second = second} h) =
+                by_clash (clash_by same first second h)
 
       -- whether it clashes or not
       pub pass_met : (new : Omissions) (clash : Option FilePlace) → clash_with items (Some k) item ≡ clash
@@ -441,7 +441,8 @@ module _ (items : List Item) (placed : AreInPlace items) where
     told = λ number omission kept out. by number omission kept out;
   }
     where
-      by : (number : ℕ) (omission : Option LinkFault) → IsKept start number → slice_get omissions number ≡ Some omission
+      by : (number : ℕ) (omission : Option FileOmission) → IsKeptFile start number
+          → slice_get omissions number ≡ Some omission
           → IsClashOmission (Contains items) omissions number omission
       by number (Some fault) kept out = (so_far.told number fault kept out).5
       by number None kept out = λ a b e.
@@ -453,7 +454,7 @@ module _ (items : List Item) (placed : AreInPlace items) where
           (opened b e.second_is) e.one_name) ∙ e.declares)
         where
           opened : (x : Item) → IsMet (Contains items) omissions number x → IsOpen omissions x
-          opened x is = elim is.meets [ inl own ↦ subst (IsKept omissions) (sym own) out | inr before ↦ before.1 ]
+          opened x is = elim is.meets [ inl own ↦ subst (IsKeptFile omissions) (sym own) out | inr before ↦ before.1 ]
 
 -- before any item
 pub none_passed : {S : Type 0} (items : List Item) (start : Omissions) (names : HashMap (List ℕ) ℕ S)
@@ -489,21 +490,18 @@ omissions_of files items start omissions are unread clashes = record {
       λ m. record { is_item = (are item).1 m.is_item; meets = m.meets },
     )
 
-    told : (number : ℕ) (omission : Option LinkFault) → (IsUnread files number → ⊥)
+    told : (number : ℕ) (omission : Option FileOmission) → (IsUnread files number → ⊥)
         → IsClashOmission (Contains items) omissions number omission → IsOmission files omissions number omission
     told number None read h = (read, no_clash_by (met number) h)
-    told number (Some (Broken other)) read h = absurd h
-    told number (Some (Duplicate first second)) read h = clash_by (met number) first second h
-    told number (Some (MissingImport spot)) read h = absurd h
-    told number (Some (Unresolved spot)) read h = absurd h
-    told number (Some Memory) read h = absurd h
+    told number (Some Broken) read h = elim h [ ]
+    told number (Some (Duplicate first second)) read (by_clash h) = clash_by (met number) first second h
 
-    entry : (number : ℕ) (omission : Option LinkFault) → slice_get omissions number ≡ Some omission
-        → (o : Option (Option LinkFault)) → slice_get start number ≡ o → number < length start
+    entry : (number : ℕ) (omission : Option FileOmission) → slice_get omissions number ≡ Some omission
+        → (o : Option (Option FileOmission)) → slice_get start number ≡ o → number < length start
         → IsOmission files omissions number omission
     entry number omission out None at within = absurd (none_is (sym (slice_get-get_or start number None within) ∙ at))
       where
-        none_is : {x : Option LinkFault} → Some x ≡ None → ⊥
+        none_is : {x : Option FileOmission} → Some x ≡ None → ⊥
         none_is e = cc
     entry number omission out (Some None) at within =
         told number omission (unread.each number None at) (clashes.told number omission at out)
@@ -511,7 +509,7 @@ omissions_of files items start omissions are unread clashes = record {
         let its = unread.each number (Some fault) at in
         let same : Some fault ≡ omission =
         same_Some (Some fault) omission (sym (clashes.stays number fault at) ∙ out) in
-        subst (IsOmission files omissions number) (ap Some (sym its.0) ∙ same) (refl, its.1)
+        subst (IsOmission files omissions number) (ap Some (sym its.0) ∙ same) its.1
 
 -- ---- files without facts
 
@@ -533,8 +531,8 @@ push_get (z ∷ zs) x y zero e = inl e
 push_get (z ∷ zs) x y (suc k) e =
     elim (push_get zs x y k e) [ inl prefix ↦ inl prefix | inr last ↦ inr (ap suc last.0, last.1) ]
 
-pub unread_more : (files : List File) (count : ℕ) (omissions : Omissions) (omission : Option LinkFault)
-    → MatchOption omission (IsUnread files count → ⊥) (λ fault. (fault ≡ Broken count) × IsUnread files count)
+pub unread_more : (files : List File) (count : ℕ) (omissions : Omissions) (omission : Option FileOmission)
+    → MatchOption omission (IsUnread files count → ⊥) (λ fault. (fault ≡ Broken) × IsUnread files count)
     → AreUnreadOf files count omissions → AreUnreadOf files (count + 1) (omissions ++ omission ∷ [])
 unread_more files count omissions omission is so_far = record {
   one_each = length_push omissions omission ∙ ap (λ n. n + 1) so_far.one_each;
@@ -542,8 +540,9 @@ unread_more files count omissions omission is so_far = record {
     | inl prefix ↦ so_far.each number o prefix
     | inr last ↦ (
         let here : count ≡ number = sym (last.0 ∙ so_far.one_each) in
-        subst (λ n. MatchOption o (IsUnread files n → ⊥) (λ fault. (fault ≡ Broken n) × IsUnread files n)) here
-        (subst (λ p. MatchOption p (IsUnread files count → ⊥) (λ fault. (fault ≡ Broken count) × IsUnread files count))
+        subst (λ n. MatchOption o (IsUnread files n → ⊥) (λ fault. (fault ≡ Broken) × IsUnread files n)) here
+        (subst (λ p. MatchOption p (IsUnread files count → ⊥)
+        (λ fault. (fault ≡ Broken) × IsUnread files count))
         last.1 is))
   ];
 }
@@ -553,13 +552,13 @@ unread_more files count omissions omission is so_far = record {
     length_push (y ∷ ys) x = omega (arith, length_push ys x)
 
 pub unread_by : (files : List File) (number : ℕ) (file : File) (row : List ℕ)
-    → ((other : ℕ) → Contains row other ↔ Counts files other) → slice_get files number ≡ Some file
-    → (omission : Option LinkFault)
+    → ((other : ℕ) → Contains row other ↔ IsReachable files other) → slice_get files number ≡ Some file
+    → (omission : Option FileOmission)
     → MatchOption omission (file.facts ≡ None → Contains row number → ⊥)
-    (λ fault. (fault ≡ Broken number) × (file.facts ≡ None) × Contains row number)
-    → MatchOption omission (IsUnread files number → ⊥) (λ fault. (fault ≡ Broken number) × IsUnread files number)
-unread_by files number file row counted at None none = λ unread.
+    (λ fault. (fault ≡ Broken) × (file.facts ≡ None) × Contains row number)
+    → MatchOption omission (IsUnread files number → ⊥) (λ fault. (fault ≡ Broken) × IsUnread files number)
+unread_by files number file row reachable at None none = λ unread.
     let same : unread.file ≡ file = same_Some unread.file file (sym unread.numbered ∙ at) in
-    none (ap (λ (f : File). f.facts) (sym same) ∙ unread.unread) ((counted number).1 unread.counts)
-unread_by files number file row counted at (Some its) is =
-    (is.0, record { file = file; counts = (counted number).0 is.2; numbered = at; unread = is.1 })
+    none (ap (λ (f : File). f.facts) (sym same) ∙ unread.unread) ((reachable number).1 unread.is_reachable)
+unread_by files number file row reachable at (Some its) is =
+    (is.0, record { file = file; is_reachable = (reachable number).0 is.2; numbered = at; unread = is.1 })

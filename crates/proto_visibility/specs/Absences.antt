@@ -1,20 +1,21 @@
--- Imports of files that aren't there, and included files that can't be read.
+-- Missing imports: those of files that aren't there. And reachable files without facts, which couldn't be read.
 use Rattle.std.specs.Prelude.{◌≡◌, ◌<◌, ◌↔◌, ℕ, true, Some, None, List, Contains, AllPairs}
 use Rattle.std.specs.List.{slice_get}
 use Rattle.proto_decl.specs.Facts.{Facts}
-use Rattle.proto_decl.specs.declared.imported.Imported.{Imported}
-use Rattle.proto_visibility.specs.declared.place.FilePlace.{FilePlace}
+use Rattle.proto_decl.specs.declared.imports.Imported.{Imported}
+use Rattle.proto_visibility.specs.declared.files.FilePlace.{FilePlace}
 use Rattle.proto_visibility.specs.Files.{File, HasFacts, IsSource, HasPath, is_public}
-use Rattle.proto_visibility.specs.Sees.{Counts}
-use Rattle.proto_visibility.specs.Items.{Before}
+use Rattle.proto_visibility.specs.Sees.{IsReachable}
+use Rattle.proto_visibility.specs.Clashes.{Before}
 
--- An import that has to be there: any of a source, and the public ones of an included file that counts.
+-- An import that has to be there: any of a source, and the public ones of a reachable included file.
 pub data IsNeeded (files : List File) : ℕ → Imported → Type 0 where
   of_source : {number : ℕ} {facts : Facts} {import : Imported}
       → IsSource files number → HasFacts files number facts → Contains facts.imports import
       → IsNeeded files number import
   of_included : {number : ℕ} {facts : Facts} {import : Imported}
-      → Counts files number → HasFacts files number facts → Contains facts.imports import → is_public import.kind ≡ true
+      → IsReachable files number → HasFacts files number facts → Contains facts.imports import
+      → is_public import.kind ≡ true
       → IsNeeded files number import
 
 -- no file has the path of the import at this place, which has to be there
@@ -37,10 +38,10 @@ pub record Absent (files : List File) (place : FilePlace) : Type 0 where
 abbrev pub NoAbsent : List File → Type 0
 NoAbsent files = (place : FilePlace) → IsMissing files place → ⊥
 
--- a file that counts has no facts
+-- a reachable file has no facts
 pub record IsUnread (files : List File) (number : ℕ) : Type 0 where
   pub file : File
-  pub counts : Counts files number
+  pub is_reachable : IsReachable files number
   pub numbered : slice_get files number ≡ Some file
   pub unread : file.facts ≡ None
 

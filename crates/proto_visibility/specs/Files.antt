@@ -4,7 +4,7 @@ use Rattle.std.specs.List.{slice_get}
 use Rattle.proto_parse.specs.tree.ImportKind.{ImportKind}
 use Rattle.proto_parse.specs.tree.ImportKind.TheVariants.{Plain, Weak, Public}
 use Rattle.proto_decl.specs.Facts.{Facts, AreOfSomeFile}
-use Rattle.proto_decl.specs.declared.imported.Imported.{Imported}
+use Rattle.proto_decl.specs.declared.imports.Imported.{Imported}
 
 -- A file: its path below its root, its facts unless it couldn't be read or parsed, and whether it is included: linked,
 -- but not indexed.

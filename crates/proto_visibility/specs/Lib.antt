@@ -1,9 +1,8 @@
 -- the files that are linked, and what they import
 pub mod Files
--- which file sees which, and which files count
+-- which file sees which, and which files are reachable
 pub mod Sees
 -- the first clash of names, and the first import of a file that isn't there
-pub mod Items
 pub mod Clashes
 pub mod Absences
 -- which files can be linked, and which are kept if not all can
@@ -11,7 +10,5 @@ pub mod Linked
 pub mod Kept
 -- which names a file knows, who gives them, and as what
 pub mod Knows
-pub mod FileNames
-pub mod Entities
 -- the tables by which the code finds them
 pub mod Tables

@@ -1,10 +1,10 @@
 -- Which files can be linked, and why others can't.
-use Rattle.std.specs.Prelude.{ℕ, ⊤, List, length}
+use Rattle.std.specs.Prelude.{ℕ, List, length}
 use Rattle.std.specs.HashMap.{HashMap}
 use denote.Ref.{Bor}
 use Rattle.proto_visibility.specs.declared.fault.LinkFault.{LinkFault}
-use Rattle.proto_visibility.specs.declared.fault.LinkFault.TheVariants.{Broken, Duplicate, MissingImport, Unresolved}
-use Rattle.proto_visibility.specs.declared.fault.LinkFault.TheVariants.{Memory}
+use Rattle.proto_visibility.specs.declared.fault.LinkFault.TheVariants.{Broken, Duplicate, MissingImport, Memory}
+use Rattle.proto_visibility.specs.declared.files.FilePlace.{FilePlace}
 use Rattle.proto_visibility.specs.Files.{File, Imports, HaveOrigins}
 use Rattle.proto_visibility.specs.Clashes.{Clash, NoClash}
 use Rattle.proto_visibility.specs.Absences as absences
@@ -12,7 +12,7 @@ use Rattle.proto_visibility.specs.Tables.ImportTables.{AreRowsBy, AreNumbered}
 use Rattle.proto_visibility.specs.declared.names.Names.{Names}
 use Rattle.proto_visibility.specs.Tables.GivenNames.{AreNames}
 
--- What names are looked up in: the files that count have facts, and no names clash.
+-- What names are looked up in: the reachable files have facts, and no names clash.
 pub record HaveClearNames (files : List File) : Type 0 where
   pub read : absences.NoneBroken files
   pub clear : NoClash files
@@ -23,14 +23,14 @@ pub record CanBeLinked (files : List File) : Type 0 where
   pub clear : NoClash files
   pub complete : absences.NoAbsent files
 
--- each fault comes if it holds and none of those before it does; nothing is said about memory; that a use names no
--- type is none of them
-abbrev pub MayRefuse : List File → LinkFault → Type 0
-MayRefuse files (Broken number) = absences.Broken files number
-MayRefuse files (Duplicate first second) = absences.NoneBroken files × Clash files first second
-MayRefuse files (MissingImport place) = absences.NoneBroken files × NoClash files × absences.Absent files place
-MayRefuse files (Unresolved place) = ⊥
-MayRefuse files Memory = ⊤
+-- each fault comes if it holds and none of those before it does; nothing is said about memory
+pub data MayRefuse (files : List File) : LinkFault → Type 0 where
+  broken_file : {number : ℕ} → absences.Broken files number → MayRefuse files (Broken number)
+  clashing : {first second : FilePlace} → absences.NoneBroken files → Clash files first second
+      → MayRefuse files (Duplicate first second)
+  absent_import : {place : FilePlace} → absences.NoneBroken files → NoClash files → absences.Absent files place
+      → MayRefuse files (MissingImport place)
+  lacks_memory : MayRefuse files Memory
 
 -- what is kept of files that were checked
 pub record AreChecked {S : Type 0} (files : List File) (numbers : HashMap (Bor (List ℕ)) ℕ S) (rows : List (List ℕ))

@@ -1,4 +1,4 @@
--- Which file sees which (proto3 language guide, "Importing Definitions"), and which files count.
+-- Which file sees which (proto3 language guide, "Importing Definitions"), and which files are reachable.
 use Rattle.std.specs.Prelude.{ℕ, Bool, true, List}
 use Rattle.proto_visibility.specs.Files.{File, IsSource, Imports}
 
@@ -16,6 +16,6 @@ pub data SeesBy (Imports : ℕ → Bool → ℕ → Type 0) : ℕ → ℕ → Ty
 abbrev pub Sees : List File → ℕ → ℕ → Type 0
 Sees files = SeesBy (Imports files)
 
--- A file counts if it is a source, or an included file that a source sees. Others have no effect.
-pub data Counts (files : List File) : ℕ → Type 0 where
-  seen : {source file : ℕ} → IsSource files source → Sees files source file → Counts files file
+-- A file is reachable if it is a source, or an included file that a source sees. Others have no effect.
+pub data IsReachable (files : List File) : ℕ → Type 0 where
+  seen : {source file : ℕ} → IsSource files source → Sees files source file → IsReachable files file

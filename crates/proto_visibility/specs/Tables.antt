@@ -1,9 +1,11 @@
 -- the tables by which the code finds names, and the steps of its searches
-pub mod FileItems
-pub mod NameTables
-pub mod Numbers
+-- what files import, and which each one sees
 pub mod ImportTables
-pub mod Visits
-pub mod GivenNames
-pub mod Passes
 pub mod Rows
+pub mod Visits
+-- the items of a file, and their clashes
+pub mod FileItems
+pub mod ClashTables
+pub mod Passes
+-- which names files give
+pub mod GivenNames

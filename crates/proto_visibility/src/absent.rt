@@ -4,7 +4,7 @@ ghost use Rattle.std.specs.Prelude.{ℕ, ◌≡◌, ◌↔◌, ◌++◌, Some, n
 ghost use Rattle.std.specs.List.{flat_map};
 ghost use Rattle.std.specs.Option.{is_none};
 ghost use Rattle.proto_decl.specs.Facts.{ImportsInOrder};
-ghost use Rattle.proto_visibility.specs.Sees.{Counts};
+ghost use Rattle.proto_visibility.specs.Sees.{IsReachable};
 ghost use Rattle.proto_visibility.specs.Absences.{Absent, NoAbsent, AreMissing};
 ghost use Rattle.proto_visibility.specs.Tables.ImportTables.{
   AreNumbered,
@@ -17,10 +17,8 @@ ghost use Rattle.proto_visibility.specs.Tables.ImportTables.{
   IsFirstAbsent,
 };
 
-use crate::file_row::FileRow;
-use crate::link_file::LinkFile;
-use crate::origins::have_origins;
-use crate::place::FilePlace;
+use crate::files::{FilePlace, LinkFile, have_origins};
+use crate::rows::FileRow;
 use proto_decl::{Imported, facts_in_order};
 use proto_lex::Span;
 use proto_parse::ImportKind;
@@ -31,13 +29,13 @@ use std::collections::HashMap;
 pub(crate) fn first_absent(
     files: &[LinkFile],
     numbers: &HashMap<&str, usize>,
-    counted: &FileRow,
+    reachable: &FileRow,
 ) -> Option<FilePlace>
     requires numbers { AreNumbered files.now numbers.now }
-    requires counted { (number : ℕ) → Contains counted.now number ↔ Counts files.now number }
+    requires reachable { (number : ℕ) → Contains reachable.now number ↔ IsReachable files.now number }
     ensures { MatchOption result (NoAbsent files.now) (Absent files.now) }
 {
-    for number in counted.as_slice() {
+    for number in reachable.as_slice() {
         if let Some(span) = absent_of(&files[*number], numbers) {
             return Some(FilePlace {
                 file: *number,
@@ -58,6 +56,7 @@ fn absent_of(file: &LinkFile, numbers: &HashMap<&str, usize>) -> Option<Span>
     let included = file.is_included();
     match file.facts {
         Some(facts) => {
+            // From here on it is known that the facts are those of some file.
             facts.origin();
             absent_along(facts.imports(), included, numbers)
         }
@@ -105,16 +104,16 @@ pub(crate) fn all_absent(
     alloc: Global,
     files: &[LinkFile],
     numbers: &HashMap<&str, usize>,
-    counted: &FileRow,
+    reachable: &FileRow,
 ) -> Result<Vec<FilePlace>, AllocError>
     requires numbers { AreNumbered files.now numbers.now }
-    requires counted { (number : ℕ) → Contains counted.now number ↔ Counts files.now number }
+    requires reachable { (number : ℕ) → Contains reachable.now number ↔ IsReachable files.now number }
     ensures { IfOk result (λ places. AreMissing files.now places.items) }
 {
     have_origins(files);
     facts_in_order();
     let mut places = Vec::new(alloc);
-    for number in counted.as_slice() {
+    for number in reachable.as_slice() {
         add_absent(&mut places, *number, &files[*number], numbers)?;
     }
     Ok(places)

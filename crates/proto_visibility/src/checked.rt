@@ -2,24 +2,20 @@
 
 ghost use Rattle.std.specs.Prelude.{ℕ, ◌≡◌, ◌↔◌, IfOk, IfErr, MatchOption, Contains};
 ghost use Rattle.proto_visibility.specs.Files.{HaveOwnPaths};
-ghost use Rattle.proto_visibility.specs.Sees.{Counts};
+ghost use Rattle.proto_visibility.specs.Sees.{IsReachable};
 ghost use Rattle.proto_visibility.specs.Clashes.{Clash, NoClash};
 ghost use Rattle.proto_visibility.specs.Tables.FileItems.{AreAllPrefixes};
 ghost use Rattle.proto_visibility.specs.Linked.{CanBeLinked, MayRefuse};
 
 use crate::absent::first_absent;
-use crate::all_items::{all_items, all_prefixes};
-use crate::clash::first_clash;
-use crate::counting::{counted_files, first_unread};
-use crate::differing::numbers_differ;
+use crate::clash::{first_clash, numbers_differ};
 use crate::fault::LinkFault;
-use crate::file_row::FileRow;
+use crate::files::{FilePlace, LinkFile, have_origins};
 use crate::import_table::{numbers_of, steps_of};
-use crate::link_file::LinkFile;
-use crate::origins::have_origins;
-use crate::place::FilePlace;
-use crate::seeing::{SeenFiles, seen_files};
-use sequences::{OwnedText, Sequence};
+use crate::items::{all_items, all_prefixes};
+use crate::rows::FileRow;
+use crate::seeing::{SeenFiles, first_unread, reachable_files, seen_files};
+use basics::{OwnedText, Sequence};
 use std::alloc::{AllocError, Global};
 use std::collections::HashMap;
 use std::marker::Model;
@@ -48,6 +44,7 @@ impl<'a, 't> Model for CheckedFiles<'a, 't> {
 
 impl<'a, 't> CheckedFiles<'a, 't> {
     /// Checks files, no two of which have one path, as `Namespace::new` does: it refuses them alike.
+    #[tactic(auto, using(crate::proofs::LinkedRefusalRules::refusals))]
     pub fn of(
         alloc: Global,
         files: &'a [LinkFile<'a, 't>],
@@ -63,6 +60,7 @@ impl<'a, 't> CheckedFiles<'a, 't> {
     }
 
     /// The same, by the names of their packages' prefixes.
+    #[tactic(auto, using(crate::proofs::LinkedRefusalRules::refusals))]
     pub(crate) fn by_prefixes(
         alloc: Global,
         files: &'a [LinkFile<'a, 't>],
@@ -76,15 +74,15 @@ impl<'a, 't> CheckedFiles<'a, 't> {
     {
         let numbers = numbers_of(alloc, files)?;
         let table = steps_of(alloc, files, &numbers)?;
-        let counted = counted_files(alloc, files, table.as_slice())?;
-        if let Some(number) = first_unread(files, &counted) {
+        let reachable = reachable_files(alloc, files, table.as_slice())?;
+        if let Some(number) = first_unread(files, &reachable) {
             return Err(LinkFault::Broken(number));
         }
-        let clash = clash_among(alloc, files, prefixes, &counted)?;
+        let clash = clash_among(alloc, files, prefixes, &reachable)?;
         if let Some((first, second)) = clash {
             return Err(LinkFault::Duplicate(first, second));
         }
-        if let Some(place) = first_absent(files, &numbers, &counted) {
+        if let Some(place) = first_absent(files, &numbers, &reachable) {
             return Err(LinkFault::MissingImport(place));
         }
         have_origins(files);
@@ -97,22 +95,22 @@ impl<'a, 't> CheckedFiles<'a, 't> {
     }
 }
 
-/// The first clash of names among the items of the files that count.
+/// The first clash of names among the items of the reachable files.
 fn clash_among(
     alloc: Global,
     files: &[LinkFile],
     prefixes: &[Sequence<OwnedText>],
-    counted: &FileRow,
+    reachable: &FileRow,
 ) -> Result<Option<(FilePlace, FilePlace)>, AllocError>
     requires prefixes { AreAllPrefixes files.now prefixes.now }
-    requires counted { (number : ℕ) → Contains counted.now number ↔ Counts files.now number }
+    requires reachable { (number : ℕ) → Contains reachable.now number ↔ IsReachable files.now number }
     ensures { IfOk result (λ clash. MatchOption clash (NoClash files.now)
         (λ places. Clash files.now places.0 places.1)) }
 {
-    if numbers_differ(alloc, files, prefixes, counted)? {
+    if numbers_differ(alloc, files, prefixes, reachable)? {
         return Ok(None);
     }
-    let items = all_items(alloc, files, prefixes, counted)?;
+    let items = all_items(alloc, files, prefixes, reachable)?;
     let clash = first_clash(alloc, items.as_slice())?;
     Ok(clash)
 }

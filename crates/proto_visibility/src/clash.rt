@@ -1,28 +1,21 @@
-//! The first clash of names.
+//! The first clash of names, and names that can't clash, since the numbers of them differ.
 
-ghost use Rattle.std.specs.Prelude.{
-  List,
-  ℕ,
-  ◌≡◌,
-  ◌<◌,
-  IfOk,
-  OnOk,
-  IfSome,
-  MatchOption,
-  Some,
-  Contains,
-  length,
-  is_some,
-  if◌then◌else◌,
-};
+ghost use Rattle.std.specs.Prelude.{List, ℕ, ◌≡◌, ◌<◌, IfOk, OnOk, IfSome, MatchOption, Some, Contains, length};
+ghost use Rattle.std.specs.Prelude.{is_some, if◌then◌else◌, ◌↔◌, ◌++◌, IsTrue, map};
 ghost use Rattle.std.specs.Str.{bytes_eq};
-ghost use Rattle.proto_visibility.specs.Clashes.{ClashBy, NoClashBy};
-ghost use Rattle.proto_visibility.specs.Tables.NameTables.{AreInPlace, clash_with, index_in};
+ghost use Rattle.std.specs.List.{list_any};
+ghost use Rattle.proto_visibility.specs.Clashes.{ClashBy, NoClashBy, NoClash, Item};
+ghost use Rattle.proto_visibility.specs.Tables.ClashTables.{AreInPlace, clash_with, index_in};
+ghost use Rattle.proto_visibility.specs.Sees.{IsReachable};
+ghost use Rattle.proto_visibility.specs.Tables.FileItems.{AreAllPrefixes, declared_item};
+ghost use Rattle.proto_visibility.specs.Tables.ClashTables.{AreApart, declarations_of, has_number};
 
-use crate::place::FilePlace;
-use proto_decl::FullName;
+use crate::files::{FilePlace, LinkFile};
+use crate::rows::FileRow;
+use basics::{OwnedText, Sequence};
+use proto_decl::{Declaration, FullName};
 use std::alloc::{AllocError, Global};
-use std::collections::HashMap;
+use std::collections::{HashMap, HashSet};
 use std::marker::Model;
 
 /// A declaration or a component of a package statement: where it is, and the full name that it gives.
@@ -34,7 +27,7 @@ pub(crate) struct Item<'a> {
 }
 
 impl<'a> Model for Item<'a> {
-    ghost use Rattle.proto_visibility.specs.Items.{Item};
+    ghost use Rattle.proto_visibility.specs.Clashes.{Item};
 
     ghost Value = { Item };
 
@@ -68,7 +61,7 @@ pub(crate) fn first_clash(
 }
 
 /// The index of the first item with a name. If there is none, this index is kept as that of the name.
-pub(crate) fn first_named<'a>(
+fn first_named<'a>(
     names: &mut HashMap<FullName<'a>, usize>,
     name: FullName<'a>,
     index: usize,
@@ -97,4 +90,97 @@ pub(crate) fn clash_with(items: &[Item], first: Option<usize>, item: &Item) -> O
     } else {
         None
     }
+}
+
+/// Whether the numbers of all declarations' full names differ, and those of packages from them. If so, no names clash.
+///
+/// Two full names seldom have one number, so equal numbers nearly always mean one name. How often the answer is yes is
+/// promised nowhere: only time depends on it.
+pub(crate) fn numbers_differ(
+    alloc: Global,
+    files: &[LinkFile],
+    prefixes: &[Sequence<OwnedText>],
+    reachable: &FileRow,
+) -> Result<bool, AllocError>
+    requires prefixes { AreAllPrefixes files.now prefixes.now }
+    requires reachable { (number : ℕ) → Contains reachable.now number ↔ IsReachable files.now number }
+    ensures { IfOk result (λ differ. IsTrue differ → NoClash files.now) }
+{
+    let mut numbers = HashSet::with_capacity(alloc, room_for(files))?;
+    for number in reachable.as_slice() {
+        let differ = add_file(&mut numbers, &files[*number])?;
+        if !differ {
+            return Ok(false);
+        }
+    }
+    let shared = has_package(&numbers, prefixes);
+    Ok(!shared)
+}
+
+/// No fewer than the declarations of the reachable files: how much room a list or a set of them is made with.
+pub(crate) fn room_for(files: &[LinkFile]) -> usize {
+    let mut room: usize = 0;
+    for file in files {
+        room = room.saturating_add(count_of(file));
+    }
+    room
+}
+
+/// How many of them one file has.
+fn count_of(file: &LinkFile) -> usize {
+    match file.facts {
+        Some(facts) => facts.declarations().len(),
+        None => 0,
+    }
+}
+
+/// Adds the numbers of the full names of a file's declarations, as long as each is new. Whether all are.
+fn add_file(numbers: &mut HashSet<u64>, file: &LinkFile) -> Result<bool, AllocError>
+    ensures { IfOk result (λ new. IsTrue new → (number : ℕ) (items : List Item) → AreApart items numbers.old
+        → AreApart (items ++ map (declared_item number) (declarations_of file.now)) numbers.new) }
+{
+    match file.facts {
+        Some(facts) => add_declarations(numbers, facts.declarations()),
+        None => Ok(true),
+    }
+}
+
+/// Adds the numbers of these declarations' full names, as long as each is new. Whether all are.
+fn add_declarations(
+    numbers: &mut HashSet<u64>,
+    declarations: &[Declaration],
+) -> Result<bool, AllocError>
+    ensures { IfOk result (λ new. IsTrue new → (number : ℕ) (items : List Item) → AreApart items numbers.old
+        → AreApart (items ++ map (declared_item number) declarations.now) numbers.new) }
+{
+    for declaration in declarations {
+        let new = numbers.insert(declaration.full_name().hash64())?;
+        if !new {
+            return Ok(false);
+        }
+    }
+    Ok(true)
+}
+
+/// Whether the number of some package's name is in the set.
+fn has_package(numbers: &HashSet<u64>, prefixes: &[Sequence<OwnedText>]) -> bool
+    ensures { result ≡ list_any (λ names. list_any (λ name. has_number numbers.now name) names) prefixes.now }
+{
+    prefixes
+        .iter()
+        .any(|names| has_one(numbers, names.as_slice()))
+}
+
+/// Whether the number of one of these names is in the set.
+fn has_one(numbers: &HashSet<u64>, names: &[OwnedText]) -> bool
+    ensures { result ≡ list_any (λ name. has_number numbers.now name) names.now }
+{
+    names.iter().any(|name| has_number(numbers, name.as_str()))
+}
+
+/// Whether the number of a full name is in the set.
+fn has_number(numbers: &HashSet<u64>, name: &str) -> bool
+    ensures { result ≡ has_number numbers.now name.now }
+{
+    numbers.contains(&FullName::whole(name).hash64())
 }

@@ -1,6 +1,6 @@
 //! Why files can't be linked.
 
-use crate::place::FilePlace;
+use crate::files::FilePlace;
 use std::alloc::AllocError;
 use thiserror::Error;
 
@@ -21,7 +21,7 @@ pub enum LinkFault {
     #[error("an import of a file that isn't there, {0}")]
     MissingImport(FilePlace),
     /// A use that names no type, by the place of the whole use: from its leading dot, or its first component if it
-    /// has none, to its last one. Only `Linker::resolve` of `proto_link` answers it.
+    /// has none, to its last one. `proto_link` and the crates above answer it.
     #[error("a use that names no type, {0}")]
     Unresolved(FilePlace),
     /// Memory was refused.

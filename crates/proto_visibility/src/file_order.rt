@@ -26,8 +26,8 @@ ghost use Rattle.proto_visibility.specs.Tables.ImportTables.{AreWithin};
 ghost use Rattle.proto_visibility.specs.Tables.Rows.{IsIn, AreRanks, files_at};
 
 use crate::import_table::Steps;
-use crate::name_owners::stands_among;
-use crate::runs::Run;
+use crate::lookup::stands_among;
+use crate::rows::Run;
 use crate::search::Search;
 use std::alloc::{AllocError, Global};
 use std::marker::Model;

@@ -22,7 +22,7 @@ ghost use Rattle.std.specs.Str.{bytes_eq};
 ghost use Rattle.proto_visibility.specs.Files.{HaveOwnPaths, is_public};
 ghost use Rattle.proto_visibility.specs.Tables.ImportTables.{IsTableOf, AreNumbered, imports_of, number_in, target};
 
-use crate::link_file::LinkFile;
+use crate::files::LinkFile;
 use proto_decl::Imported;
 use proto_parse::ImportKind;
 use std::alloc::{AllocError, Global};
@@ -51,7 +51,7 @@ pub(crate) fn steps_of(
     Ok(table)
 }
 
-/// Whether no two of the files have one path, as `Linker::new` needs it. `Err` if memory was refused.
+/// Whether no two of the files have one path, as `Namespace::new` needs it. `Err` if memory was refused.
 pub fn have_own_paths(alloc: Global, files: &[LinkFile]) -> Result<bool, AllocError>
     ensures { IfOk result (λ own. IsTrue own ↔ HaveOwnPaths files.now) }
 {

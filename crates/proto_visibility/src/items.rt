@@ -1,23 +1,23 @@
-//! The items of a file: its declarations and the components of its package statement.
+//! The items of files: their declarations and the components of their package statements.
 
 ghost use Rattle.std.specs.Prelude.{List, ℕ, ◌≡◌, ◌+◌, ◌∷◌, ◌↔◌, IfOk, OnOk, Some, Contains, length, map};
 ghost use Rattle.std.specs.List.{slice_get};
 ghost use Rattle.proto_decl.specs.Names.{dotted};
 ghost use Rattle.proto_visibility.specs.Tables.FileItems.{ArePrefixes, IsItemOf, declared_item, AreWithPackage};
-ghost use Rattle.proto_visibility.specs.Items.{Item};
-ghost use Rattle.proto_visibility.specs.Tables.NameTables.{AreInPlace};
+ghost use Rattle.proto_visibility.specs.Tables.FileItems.{AreAllPrefixes, IsItemIn, package_name_of};
+ghost use Rattle.proto_visibility.specs.Clashes.{Item, IsItem};
+ghost use Rattle.proto_visibility.specs.Tables.ClashTables.{AreInPlace};
+ghost use Rattle.proto_visibility.specs.Sees.{IsReachable};
 
-use crate::clash::Item;
-use crate::place::FilePlace;
+use crate::clash::{Item, room_for};
+use crate::files::{FilePlace, LinkFile};
+use crate::rows::FileRow;
+use basics::{OwnedText, Sequence};
 use proto_decl::{Component, Declaration, FileFacts, FullName, facts_in_order};
-use sequences::OwnedText;
 use std::alloc::{AllocError, Global};
 
 /// For each component of a package's name the name up to it.
-pub(crate) fn package_prefixes(
-    alloc: Global,
-    components: &[Component],
-) -> Result<Vec<OwnedText>, AllocError>
+fn package_prefixes(alloc: Global, components: &[Component]) -> Result<Vec<OwnedText>, AllocError>
     ensures { IfOk result (λ prefixes. ArePrefixes components.now prefixes.items) }
 {
     match components {
@@ -46,7 +46,7 @@ fn prefixes_of(
 }
 
 /// The items of a file with this number, in order of place.
-pub(crate) fn file_items<'a>(
+fn file_items<'a>(
     alloc: Global,
     number: usize,
     facts: &'a FileFacts,
@@ -57,6 +57,7 @@ pub(crate) fn file_items<'a>(
     ensures items { IfOk result (λ items. (item : Item) → Contains items.items item ↔ IsItemOf number facts.now item) }
 {
     facts_in_order();
+    // From here on it is known that the facts are those of some file.
     facts.origin();
     let mut items = declared_items(alloc, number, facts.declarations(), prefixes.len())?;
     add_package(&mut items, number, facts.package_name(), prefixes)?;
@@ -109,4 +110,81 @@ fn add_package<'a>(
         })?;
     }
     Ok(())
+}
+
+/// For each file, and each component of its package's name, the name up to it.
+pub(crate) fn all_prefixes(
+    alloc: Global,
+    files: &[LinkFile],
+) -> Result<Vec<Sequence<OwnedText>>, AllocError>
+    ensures { IfOk result (λ prefixes. AreAllPrefixes files.now prefixes.items) }
+{
+    let mut prefixes = Vec::with_capacity(alloc, files.len())?;
+    for file in files {
+        prefixes.push_reserved(prefixes_of_file(alloc, file)?);
+    }
+    Ok(prefixes)
+}
+
+/// The prefixes of the name of a file's package; none if it has no facts.
+fn prefixes_of_file(alloc: Global, file: &LinkFile) -> Result<Sequence<OwnedText>, AllocError>
+    ensures { IfOk result (λ prefixes. ArePrefixes (package_name_of file.now) prefixes) }
+{
+    match file.facts {
+        Some(facts) => {
+            let prefixes = package_prefixes(alloc, facts.package_name())?;
+            Ok(Sequence::from_vec(prefixes))
+        }
+        None => Ok(Sequence::new(alloc)),
+    }
+}
+
+/// The items of the reachable files, in order of place.
+pub(crate) fn all_items<'a>(
+    alloc: Global,
+    files: &'a [LinkFile<'a, '_>],
+    prefixes: &'a [Sequence<OwnedText>],
+    reachable: &FileRow,
+) -> Result<Vec<Item<'a>>, AllocError>
+    requires prefixes { AreAllPrefixes files.now prefixes.now }
+    requires reachable { (number : ℕ) → Contains reachable.now number ↔ IsReachable files.now number }
+    ensures order { IfOk result (λ items. AreInPlace items.items) }
+    ensures items { IfOk result (λ items. (item : Item) → Contains items.items item ↔ IsItem files.now item) }
+{
+    let mut items = Vec::with_capacity(alloc, room_with_packages(files, prefixes))?;
+    for number in reachable.as_slice() {
+        let file = &files[*number];
+        let mut more = items_of_file(alloc, *number, file, prefixes[*number].as_slice())?;
+        items.append(&mut more)?;
+    }
+    Ok(items)
+}
+
+/// No fewer than the items of the reachable files.
+fn room_with_packages(files: &[LinkFile], prefixes: &[Sequence<OwnedText>]) -> usize {
+    let mut room = room_for(files);
+    for names in prefixes {
+        room = room.saturating_add(names.as_slice().len());
+    }
+    room
+}
+
+/// What a file gives names to, in order of place.
+fn items_of_file<'a>(
+    alloc: Global,
+    number: usize,
+    file: &LinkFile<'a, '_>,
+    prefixes: &'a [OwnedText],
+) -> Result<Vec<Item<'a>>, AllocError>
+    requires { ArePrefixes (package_name_of file.now) prefixes.now }
+    ensures order { IfOk result (λ items. AreInPlace items.items) }
+    ensures items { IfOk result (λ items. (item : Item) → Contains items.items item ↔ IsItemIn number file.now item) }
+{
+    match file.facts {
+        Some(facts) => {
+            let items = file_items(alloc, number, facts, prefixes)?;
+            Ok(items)
+        }
+        None => Ok(Vec::new(alloc)),
+    }
 }

@@ -7,7 +7,7 @@ pub fn one_kept()
     ensures { OneKept }
 {}
 
-/// Nothing is left out if and only if the files that count have facts and no names clash.
+/// Nothing is left out if and only if the reachable files have facts and no names clash.
 pub fn nothing_is_left_out_of_good_files()
     ensures { NothingIsLeftOutOfGoodFiles }
 {}

@@ -1,41 +1,40 @@
 //! Which files see which, what clashes among their names, and who has which name.
 #![tactic(auto)]
 
+// Files to be linked, what they import, missing imports, and which files each one sees.
 mod absent;
-mod all_items;
-mod checked;
-mod clash;
-mod counting;
-mod differing;
-mod entities;
-mod fault;
-mod file_order;
-mod file_row;
+mod files;
 mod import_table;
-mod items;
-mod laws;
-mod link_file;
-mod listed_names;
-mod name_owners;
-mod names;
-mod namespace;
-mod omissions;
-mod origins;
-mod place;
-mod role;
-mod runs;
 mod search;
 mod seeing;
-mod seen_row;
+
+// Sets of files, in an order that keeps them small.
+mod file_order;
+mod rows;
+
+// Their names, and which clash.
+mod clash;
+mod items;
+
+// Who gives a name, and as what.
+mod lookup;
+mod names;
+
+// Which files can be linked, and which are left out.
+mod checked;
+mod fault;
+mod namespace;
+mod omissions;
+
+// The laws.
+mod laws;
 
 pub use checked::CheckedFiles;
-pub use entities::Entity;
 pub use fault::LinkFault;
+pub use files::{FilePlace, LinkFile};
 pub use import_table::have_own_paths;
 pub use laws::{kept_files_are_clear, nothing_is_left_out_of_good_files, one_kept};
-pub use link_file::LinkFile;
-pub use listed_names::ListedNames;
+pub use lookup::{Entity, Role};
+pub use names::ListedNames;
 pub use namespace::Namespace;
-pub use omissions::left_out;
-pub use place::FilePlace;
-pub use role::Role;
+pub use omissions::{FileOmission, left_out};

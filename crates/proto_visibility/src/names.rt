@@ -5,21 +5,17 @@ ghost use Rattle.std.specs.List.Sorted.{IsNonDecreasing};
 ghost use Rattle.std.specs.Str.{bytes_eq};
 ghost use Rattle.proto_visibility.specs.declared.names.DeclaredAt.{DeclaredAt};
 ghost use Rattle.proto_visibility.specs.Tables.FileItems.{AreAllPrefixes};
-ghost use Rattle.proto_visibility.specs.Tables.GivenNames.{
-  owned_at,
-  IsDeclaredOf,
-  IsDeclaredIn,
-  AreDeclared,
-  HasPrefixAt,
-  AreNames,
-};
+ghost use Rattle.proto_visibility.specs.Tables.GivenNames.{owned_at, IsDeclaredOf, IsDeclaredIn, AreDeclared};
+ghost use Rattle.proto_visibility.specs.Tables.GivenNames.{HasPrefixAt, AreNames};
 
-use crate::link_file::LinkFile;
-use crate::role::Role;
+use crate::files::LinkFile;
+use crate::items::all_prefixes;
+use crate::lookup::Role;
+use basics::{OwnedText, Sequence};
 use indexmap::IndexMap;
 use proto_decl::{Declaration, DeclarationKind, FullName};
-use sequences::{OwnedText, Sequence};
 use std::alloc::{AllocError, Global};
+use std::marker::Model;
 
 /// A declaration of a file, by the file's number and its index there, and its kind.
 #[derive(Clone, Copy, Debug)]
@@ -220,4 +216,59 @@ fn add_copied(
     let name = String::from_str(alloc, prefix)?;
     names.entry(name)?.or_default().push(number)?;
     Ok(())
+}
+
+/// The names that files give, whether they clash or not.
+///
+/// It can be made while another thread makes `CheckedFiles` of the same files. Contracts see the list of the files.
+#[derive(Drop)]
+pub struct ListedNames<'a, 't> {
+    files: &'a [LinkFile<'a, 't>],
+    names: Names,
+}
+
+impl<'a, 't> Model for ListedNames<'a, 't> {
+    ghost use Rattle.std.specs.Prelude.{List};
+    ghost use Rattle.proto_visibility.specs.Files.{File};
+    ghost use Rattle.proto_visibility.specs.Tables.GivenNames.{AreNames};
+
+    ghost Value = { List File };
+
+    ghost view = { λ listed. listed.files.now };
+
+    ghost invariant = { λ listed. AreNames listed.files.now listed.names };
+}
+
+impl<'a, 't> ListedNames<'a, 't> {
+    /// The names that files give.
+    pub fn of(
+        alloc: Global,
+        files: &'a [LinkFile<'a, 't>],
+    ) -> Result<ListedNames<'a, 't>, AllocError>
+        ensures { IfOk result (λ listed. listed ≡ files.now) }
+    {
+        let prefixes = all_prefixes(alloc, files)?;
+        let listed = ListedNames::by_prefixes(alloc, files, prefixes.as_slice())?;
+        Ok(listed)
+    }
+
+    /// The same, by the names of their packages' prefixes.
+    pub(crate) fn by_prefixes(
+        alloc: Global,
+        files: &'a [LinkFile<'a, 't>],
+        prefixes: &[Sequence<OwnedText>],
+    ) -> Result<ListedNames<'a, 't>, AllocError>
+        requires { AreAllPrefixes files.now prefixes.now }
+        ensures { IfOk result (λ listed. listed ≡ files.now) }
+    {
+        let names = Names::of(alloc, files, prefixes)?;
+        Ok(ListedNames { files, names })
+    }
+
+    /// The tables. Takes no memory.
+    pub(crate) fn into_names(self) -> Names
+        ensures { AreNames self.entry result }
+    {
+        self.names
+    }
 }

@@ -3,29 +3,21 @@
 ghost use Rattle.std.specs.Prelude.{◌≡◌, ◌<◌, ◌↔◌, IsTrue, IfOk, IfErr, MatchOption, length};
 ghost use Rattle.proto_decl.specs.Facts.{Facts};
 ghost use Rattle.proto_decl.specs.Laws.{IsEntity};
-ghost use Rattle.proto_visibility.specs.Entities.{IsEntityOf};
+ghost use Rattle.proto_visibility.specs.Knows.{IsEntityOf, KnowsAs, admits, SeesGiving};
 ghost use Rattle.proto_visibility.specs.Files.{HaveOwnPaths, HaveOrigins, HasFacts, HasPath, HasPathAt, IsIncludedAt};
 ghost use Rattle.proto_visibility.specs.Sees.{Sees};
 ghost use Rattle.proto_visibility.specs.Absences.{AreMissing};
 ghost use Rattle.proto_visibility.specs.Linked.{HaveClearNames, CanBeLinked, MayRefuse};
-ghost use Rattle.proto_visibility.specs.Knows.{KnowsAs};
-ghost use Rattle.proto_visibility.specs.FileNames.{admits, SeesGiving};
 
 use crate::absent::{all_absent, is_numbered};
-use crate::all_items::all_prefixes;
 use crate::checked::CheckedFiles;
-use crate::counting::counted_files;
-use crate::entities::{Entity, entity_in};
 use crate::fault::LinkFault;
+use crate::files::{FilePlace, LinkFile, have_origins};
 use crate::import_table::{numbers_of, steps_of};
-use crate::link_file::LinkFile;
-use crate::listed_names::ListedNames;
-use crate::name_owners::giving_in;
-use crate::names::Names;
-use crate::origins::have_origins;
-use crate::place::FilePlace;
-use crate::role::Role;
-use crate::seeing::{SeenFiles, seen_files};
+use crate::items::all_prefixes;
+use crate::lookup::{Entity, Role, entity_in, giving_in};
+use crate::names::{ListedNames, Names};
+use crate::seeing::{SeenFiles, reachable_files, seen_files};
 use proto_decl::FileFacts;
 use std::alloc::{AllocError, Global};
 use std::collections::HashMap;
@@ -61,6 +53,7 @@ impl<'a, 't> Namespace<'a, 't> {
     ///
     /// An included file has an effect only where some source sees it. A weak import counts as a
     /// plain one.
+    #[tactic(auto, using(crate::proofs::LinkedRefusalRules::refusals))]
     pub fn new(alloc: Global, files: &'a [LinkFile<'a, 't>]) -> Result<Namespace<'a, 't>, LinkFault>
         requires { HaveOwnPaths files.now }
         ensures linked { IfOk result (λ namespace. namespace ≡ files.now) }
@@ -128,8 +121,8 @@ impl<'a, 't> Namespace<'a, 't> {
         ensures { IfOk result (λ places. AreMissing self.now places.items) }
     {
         let table = steps_of(alloc, self.files, &self.numbers)?;
-        let counted = counted_files(alloc, self.files, table.as_slice())?;
-        all_absent(alloc, self.files, &self.numbers, &counted)
+        let reachable = reachable_files(alloc, self.files, table.as_slice())?;
+        all_absent(alloc, self.files, &self.numbers, &reachable)
     }
 
     /// Whether a file sees another: itself, what it imports, and what public imports lead to from
@@ -151,7 +144,7 @@ impl<'a, 't> Namespace<'a, 't> {
         giving_in(&self.names, &self.seen.row(file), name, role)
     }
 
-    /// The files that count have facts, no names clash, and the facts of each file are those of some
+    /// The reachable files have facts, no names clash, and the facts of each file are those of some
     /// text: what the laws ask for. Takes no memory.
     pub fn linked(&self)
         ensures clear { HaveClearNames self.now }

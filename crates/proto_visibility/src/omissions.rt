@@ -16,41 +16,45 @@ ghost use Rattle.std.specs.Prelude.{
   length,
   slice_set,
 };
-ghost use Rattle.proto_visibility.specs.declared.fault.LinkFault.TheVariants.{Broken, Duplicate};
+ghost use Rattle.proto_visibility.specs.declared.omissions.FileOmission.TheVariants.{Broken, Duplicate};
 ghost use Rattle.proto_visibility.specs.Files.{HaveOwnPaths};
-ghost use Rattle.proto_visibility.specs.Sees.{Counts};
-ghost use Rattle.proto_visibility.specs.Kept.{Omissions, IsKept, AreOmissions};
-ghost use Rattle.proto_visibility.specs.Tables.NameTables.{AreInPlace, clash_with, index_in};
+ghost use Rattle.proto_visibility.specs.Sees.{IsReachable};
+ghost use Rattle.proto_visibility.specs.Kept.{Omissions, IsKeptFile, AreOmissions};
+ghost use Rattle.proto_visibility.specs.Tables.ClashTables.{AreInPlace, clash_with, index_in};
 ghost use Rattle.proto_visibility.specs.Tables.Passes.{AreUnreadOf, AreClashesOmitted, ArePassed, IsOpenAt};
 
-use crate::all_items::{all_items, all_prefixes};
 use crate::clash::{Item, clash_with};
-use crate::counting::counted_files;
-use crate::fault::LinkFault;
-use crate::file_row::FileRow;
+use crate::files::{FilePlace, LinkFile};
 use crate::import_table::{numbers_of, steps_of};
-use crate::link_file::LinkFile;
+use crate::items::{all_items, all_prefixes};
+use crate::rows::FileRow;
+use crate::seeing::reachable_files;
 use proto_decl::FullName;
 use std::alloc::{AllocError, Global};
 use std::collections::HashMap;
 
+/// Why a file is left out of a tree with faults.
+#[derive(Clone, Copy, Debug, Drop, PartialEq, Eq)]
+pub enum FileOmission {
+    /// It has no facts.
+    Broken,
+    /// One of its names clashes with another of its own, or with one of a file that was kept before it: the places of
+    /// the two. Among these clashes it is that with the least second place, and then the least first.
+    Duplicate(FilePlace, FilePlace),
+}
+
 /// For each file, by its number, why it is left out of a tree with faults; `None` for a file that is kept. No two of
-/// the files have one path.
-///
-/// A file without facts gets `Broken`, with its number. A file gets `Duplicate` if one of its names clashes with
-/// another of its own, or with one of a file that was kept before it: among these clashes, that with the least second
-/// place, and then the least first. Only files that count are left out: sources, and what some source sees. No other
-/// fault comes.
-pub fn left_out(alloc: Global, files: &[LinkFile]) -> Result<Vec<Option<LinkFault>>, AllocError>
+/// the files have one path. Only reachable files are left out: sources, and what some source sees.
+pub fn left_out(alloc: Global, files: &[LinkFile]) -> Result<Vec<Option<FileOmission>>, AllocError>
     requires { HaveOwnPaths files.now }
     ensures { IfOk result (λ omissions. AreOmissions files.now omissions.items) }
 {
     let numbers = numbers_of(alloc, files)?;
     let table = steps_of(alloc, files, &numbers)?;
-    let counted = counted_files(alloc, files, table.as_slice())?;
+    let reachable = reachable_files(alloc, files, table.as_slice())?;
     let prefixes = all_prefixes(alloc, files)?;
-    let items = all_items(alloc, files, prefixes.as_slice(), &counted)?;
-    let mut omissions = unread_files(alloc, files, &counted)?;
+    let items = all_items(alloc, files, prefixes.as_slice(), &reachable)?;
+    let mut omissions = unread_files(alloc, files, &reachable)?;
     omit_clashes(alloc, &mut omissions, items.as_slice())?;
     Ok(omissions)
 }
@@ -59,26 +63,26 @@ pub fn left_out(alloc: Global, files: &[LinkFile]) -> Result<Vec<Option<LinkFaul
 fn unread_files(
     alloc: Global,
     files: &[LinkFile],
-    counted: &FileRow,
-) -> Result<Vec<Option<LinkFault>>, AllocError>
-    requires { (number : ℕ) → Contains counted.now number ↔ Counts files.now number }
+    reachable: &FileRow,
+) -> Result<Vec<Option<FileOmission>>, AllocError>
+    requires { (number : ℕ) → Contains reachable.now number ↔ IsReachable files.now number }
     ensures { IfOk result (λ omissions. AreUnreadOf files.now (length files.now) omissions.items) }
 {
     let mut omissions = Vec::with_capacity(alloc, files.len())?;
     for (number, file) in files.iter().enumerate() {
-        omissions.push_reserved(unread_at(number, file, counted));
+        omissions.push_reserved(unread_at(number, file, reachable));
     }
     Ok(omissions)
 }
 
 /// The same for one file.
-fn unread_at(number: usize, file: &LinkFile, counted: &FileRow) -> Option<LinkFault>
+fn unread_at(number: usize, file: &LinkFile, reachable: &FileRow) -> Option<FileOmission>
     ensures { MatchOption result
-        (file.now.facts ≡ None → Contains counted.now number → ⊥)
-        (λ fault. (fault ≡ Broken number) × (file.now.facts ≡ None) × Contains counted.now number) }
+        (file.now.facts ≡ None → Contains reachable.now number → ⊥)
+        (λ omission. (omission ≡ Broken) × (file.now.facts ≡ None) × Contains reachable.now number) }
 {
-    if file.is_unread() && counted.has(number) {
-        Some(LinkFault::Broken(number))
+    if file.is_unread() && reachable.has(number) {
+        Some(FileOmission::Broken)
     } else {
         None
     }
@@ -88,7 +92,7 @@ fn unread_at(number: usize, file: &LinkFile, counted: &FileRow) -> Option<LinkFa
 #[tactic(auto, using(crate::proofs::PassLemmas::none_passed))]
 fn omit_clashes(
     alloc: Global,
-    omissions: &mut Vec<Option<LinkFault>>,
+    omissions: &mut Vec<Option<FileOmission>>,
     items: &[Item],
 ) -> Result<(), AllocError>
     requires { AreInPlace items.now }
@@ -104,7 +108,7 @@ fn omit_clashes(
 /// Takes one more item. If no item of an open file has its name, the name is kept as its. If the item that has it
 /// clashes with this one, the file of this one is left out.
 fn pass_item<'a>(
-    omissions: &mut Vec<Option<LinkFault>>,
+    omissions: &mut Vec<Option<FileOmission>>,
     names: &mut HashMap<FullName<'a>, usize>,
     items: &[Item<'a>],
     index: usize,
@@ -131,8 +135,8 @@ fn pass_item<'a>(
 }
 
 /// Whether the file with this number is kept so far.
-fn is_kept(omissions: &[Option<LinkFault>], number: usize) -> bool
-    ensures { IsTrue result ↔ IsKept omissions.now number }
+fn is_kept(omissions: &[Option<FileOmission>], number: usize) -> bool
+    ensures { IsTrue result ↔ IsKeptFile omissions.now number }
 {
     match omissions.get(number).copied() {
         Some(omission) => omission.is_none(),
@@ -142,7 +146,7 @@ fn is_kept(omissions: &[Option<LinkFault>], number: usize) -> bool
 
 /// The index of the item that the map has at a name, if its file is kept so far.
 fn open_with<'a>(
-    omissions: &[Option<LinkFault>],
+    omissions: &[Option<FileOmission>],
     names: &HashMap<FullName<'a>, usize>,
     items: &[Item<'a>],
     name: &FullName<'a>,
@@ -161,7 +165,12 @@ fn open_with<'a>(
 }
 
 /// Leaves out the file of an item, if the item clashes with the one at this index.
-fn omit_if_clash(omissions: &mut Vec<Option<LinkFault>>, items: &[Item], first: usize, item: &Item)
+fn omit_if_clash(
+    omissions: &mut Vec<Option<FileOmission>>,
+    items: &[Item],
+    first: usize,
+    item: &Item,
+)
     requires { item.now.place.file < length omissions.old.items }
     ensures { MatchOption (clash_with items.now (Some first) item.now)
         (omissions.new.items ≡ omissions.old.items)
@@ -169,6 +178,6 @@ fn omit_if_clash(omissions: &mut Vec<Option<LinkFault>>, items: &[Item], first: 
         ≡ slice_set omissions.old.items item.now.place.file (Some (Duplicate place item.now.place))) }
 {
     if let Some(place) = clash_with(items, Some(first), item) {
-        omissions[item.place.file] = Some(LinkFault::Duplicate(place, item.place));
+        omissions[item.place.file] = Some(FileOmission::Duplicate(place, item.place));
     }
 }

@@ -23,8 +23,7 @@ ghost use Rattle.proto_visibility.specs.Tables.Rows.{files_at};
 ghost use Rattle.proto_visibility.specs.Tables.Visits.{visit, visit_all, IsNewAt};
 
 use crate::file_order::FileOrder;
-use crate::file_row::FileRow;
-use crate::runs::Runs;
+use crate::rows::{FileRow, Runs};
 use std::alloc::{AllocError, Global};
 use std::marker::Model;
 

@@ -1,25 +1,19 @@
-//! The files that each file sees, by a search along imports.
+//! The files that each file sees, by a search along imports, and the reachable ones: sources, and what they see.
 
-ghost use Rattle.std.specs.Prelude.{ℕ, ◌≡◌, ◌<◌, ◌↔◌, ◌⊎◌, Some, OnOk, IfOk, Contains, length, map};
+ghost use Rattle.std.specs.Prelude.{ℕ, ◌≡◌, ◌<◌, ◌↔◌, ◌⊎◌, Some, OnOk, IfOk, Contains, length, map, [], MatchOption};
 ghost use Rattle.std.specs.List.{slice_get};
 ghost use Rattle.proto_visibility.specs.Files.{Imports};
-ghost use Rattle.proto_visibility.specs.Sees.{SeesBy};
-ghost use Rattle.proto_visibility.specs.Tables.ImportTables.{
-  HasStep,
-  AreWithin,
-  AreRowsBy,
-  IsTableOf,
-  IsBegun,
-  IsLedTo,
-};
+ghost use Rattle.proto_visibility.specs.Sees.{SeesBy, IsReachable};
+ghost use Rattle.proto_visibility.specs.Tables.ImportTables.{HasStep, AreWithin, AreRowsBy, IsTableOf, IsBegun};
+ghost use Rattle.proto_visibility.specs.Tables.ImportTables.{IsLedTo, IsBegunBySource};
 ghost use Rattle.proto_visibility.specs.Tables.Rows.{files_at};
+ghost use Rattle.proto_visibility.specs.Absences.{Broken, NoneBroken};
 
 use crate::file_order::FileOrder;
+use crate::files::LinkFile;
 use crate::import_table::Steps;
-use crate::link_file::LinkFile;
-use crate::runs::Runs;
+use crate::rows::{FileRow, Runs, SeenRow};
 use crate::search::Search;
-use crate::seen_row::SeenRow;
 use std::alloc::{AllocError, Global};
 use std::marker::Model;
 
@@ -99,7 +93,7 @@ fn search_from(search: &mut Search, table: &[Steps], file: usize) -> Result<(), 
 }
 
 /// Finds a file and what it imports, but not publicly.
-pub(crate) fn begin(search: &mut Search, table: &[Steps], file: usize) -> Result<(), AllocError>
+fn begin(search: &mut Search, table: &[Steps], file: usize) -> Result<(), AllocError>
     requires within { AreWithin table.now }
     requires files { search.old.files ≡ length table.now }
     requires file { file < length table.now }
@@ -113,7 +107,7 @@ pub(crate) fn begin(search: &mut Search, table: &[Steps], file: usize) -> Result
 }
 
 /// Finds what public imports lead to from the files that are found.
-pub(crate) fn follow(search: &mut Search, table: &[Steps]) -> Result<(), AllocError>
+fn follow(search: &mut Search, table: &[Steps]) -> Result<(), AllocError>
     requires within { AreWithin table.now }
     requires files { search.old.files ≡ length table.now }
     ensures files { OnOk result (search.new.files ≡ search.old.files) }
@@ -126,4 +120,51 @@ pub(crate) fn follow(search: &mut Search, table: &[Steps]) -> Result<(), AllocEr
         done += 1;
     }
     Ok(())
+}
+
+/// The row of the reachable files, by the steps of all files: one search from all sources.
+pub(crate) fn reachable_files(
+    alloc: Global,
+    files: &[LinkFile],
+    table: &[Steps],
+) -> Result<FileRow, AllocError>
+    requires { IsTableOf files.now table.now }
+    ensures { IfOk result (λ reachable. (number : ℕ) → Contains reachable number ↔ IsReachable files.now number) }
+{
+    let mut search = Search::new(alloc, table.len())?;
+    begin_sources(&mut search, files, table)?;
+    follow(&mut search, table)?;
+    let reachable = search.to_row(alloc)?;
+    Ok(reachable)
+}
+
+/// Finds the sources, and what they import, but not publicly.
+fn begin_sources(search: &mut Search, files: &[LinkFile], table: &[Steps]) -> Result<(), AllocError>
+    requires table { IsTableOf files.now table.now }
+    requires files { search.old.files ≡ length table.now }
+    requires none { search.old.numbers ≡ [] }
+    ensures files { OnOk result (search.new.files ≡ search.old.files) }
+    ensures begun { OnOk result ((number : ℕ) → Contains search.new.numbers number ↔ IsBegunBySource files.now table.now
+        (length files.now) number) }
+{
+    for (number, file) in files.iter().enumerate() {
+        if file.is_included() {
+            continue;
+        }
+        begin(search, table, number)?;
+    }
+    Ok(())
+}
+
+/// The least of the reachable files that have no facts.
+pub(crate) fn first_unread(files: &[LinkFile], reachable: &FileRow) -> Option<usize>
+    requires { (number : ℕ) → Contains reachable.now number ↔ IsReachable files.now number }
+    ensures { MatchOption result (NoneBroken files.now) (Broken files.now) }
+{
+    for number in reachable.as_slice() {
+        if files[*number].is_unread() {
+            return Some(*number);
+        }
+    }
+    None
 }

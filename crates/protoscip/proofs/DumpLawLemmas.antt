@@ -1,6 +1,6 @@
 -- A source has one listing, and is refused for want of memory alone where it has one.
 use Rattle.std.proofs.Common.{◌≡◌, ◌∙◌, ℕ, false, ◌<◌, List, ap, sym, subst, refl, arith}
-use Rattle.proto_parse.specs.tree.Dialect.{Dialect}
+use Rattle.proto_parse.specs.dialect.Dialect.{Dialect}
 use Rattle.scip_wire.specs.Decodes.{Decodes}
 use Rattle.protoscip.specs.Dump.{dump_tree, dump_settings, default_choices, IsListing, IsRefusal}
 use Rattle.protoscip.specs.DumpLaws.{OneListing, ListedUnlessMemory}

@@ -8,19 +8,21 @@ use Rattle.proto_lex.specs.declared.fault.LexFault.{LexFault}
 use Rattle.proto_lex.specs.declared.fault.LexFault.TheVariants as lexing
 use Rattle.proto_lex.specs.Text.{IsText, IsNoText, max_text_length}
 use Rattle.proto_lex.specs.Faults.{IsFirstFault}
-use Rattle.proto_parse.specs.tree.Dialect.{Dialect}
-use Rattle.proto_decl.specs.Seen.{Seen}
+use Rattle.proto_parse.specs.dialect.Dialect.{Dialect}
+use Rattle.proto_decl.specs.Values.{Seen}
 use Rattle.index_hooks.specs.declared.choice.Choice.{Choice}
 use Rattle.source_tree.specs.Files.{TreeFile}
 use Rattle.source_tree.specs.Reading.{kept_bytes, max_kept_length}
 use Rattle.scip_build.specs.Builds.{IsBuilt, IsBuildFault}
+use Rattle.streams.specs.Readers.{Reader}
+use Rattle.streams.specs.Writers.{SinkOf, Writer, writing}
 use Rattle.proto_visibility.specs.Linked.{CanBeLinked}
 use Rattle.scip_build.specs.Documents.{IsLeastUnresolved}
 use Rattle.scip_build.specs.Files.{FileContents, ReadFile}
-use Rattle.scip_build.specs.Linking.{linked_files, MayRefuseReadings}
+use Rattle.scip_build.specs.Linking.{linked_files, MayRefuseParsed}
 use Rattle.scip_build.specs.Parsed.{IsUnparsed, IsUnreadable}
 use Rattle.scip_build.specs.declared.faulty.Faulty.TheVariants.{Refuse}
-use Rattle.scip_build.specs.Readings.{HasContents, AreReadingsOf, IsFirstFaulty}
+use Rattle.scip_build.specs.ParsedFiles.{HasContents, AreParsedFiles, IsFirstFaulty}
 use Rattle.scip_build.specs.declared.built.Built.{Built}
 use Rattle.scip_build.specs.declared.settings.Settings.{Settings}
 use Rattle.scip_build.specs.declared.fault.BuildFault.{BuildFault}
@@ -32,13 +34,14 @@ use Rattle.protoscip.specs.Faults.{fault_of_build}
 use Rattle.protoscip.specs.FaultLines.{HasFilesOf}
 use Rattle.protoscip.specs.Indexes.{IsRefused}
 use Rattle.protoscip.specs.Writing.{IsNotReadBack}
+use Rattle.protoscip.specs.Writing.IsNotReadBack.{reading_lacks_memory, has_no_bytes}
 use Rattle.protoscip.specs.Output.{Writes}
 use Rattle.protoscip.specs.Indexes.{recorded_of}
 use Rattle.protoscip.specs.Dump.{source_path, dump_tree, dump_settings, default_choices, IsListing, IsRefusal, Dumps}
 use Rattle.protoscip.specs.Dump.{LeavesWriter, IsDumped, IsListingOf, IsTreeOfFault, IsTreeOfSource}
 use Rattle.protoscip.specs.declared.fault.Fault.{Fault}
 use Rattle.protoscip.specs.declared.fault.Fault.TheVariants as fault
-use Rattle.protoscip.proofs.FileLemmas.{files_of_build}
+use Rattle.protoscip.proofs.HeadlineFileLemmas.{files_of_build}
 
 refused_of_build : (allows : Seen → Choice → Type 0) (settings : Settings) (tree : List TreeFile) (workers : ℕ)
     (e : BuildFault) → IsBuildFault allows settings.faulty settings.dialect tree workers e
@@ -83,17 +86,8 @@ module _ (dialect : Dialect) (bytes : List ℕ) (settings : Settings) (tree : Li
     indexed = record { index = built.index; built = built_of_dump built is; spelled = listing.0 };
     listing_is = listing.1;
   }
-  listed_or_refused text built (Err fault.Memory) is none = tt
-  listed_or_refused text built (Err fault.TooLarge) is none = (built, built_of_dump built is, none)
-  listed_or_refused text built (Err fault.Spawn) is none = absurd none
-  listed_or_refused text built (Err (fault.Lex number e)) is none = absurd none
-  listed_or_refused text built (Err (fault.Syntax number e)) is none = absurd none
-  listed_or_refused text built (Err (fault.Duplicate first second)) is none = absurd none
-  listed_or_refused text built (Err (fault.MissingImport place)) is none = absurd none
-  listed_or_refused text built (Err (fault.Unresolved place)) is none = absurd none
-  listed_or_refused text built (Err (fault.Write count)) is none = absurd none
-  listed_or_refused text built (Err fault.Read) is none = absurd none
-  listed_or_refused text built (Err (fault.Answer count)) is none = absurd none
+  listed_or_refused text built (Err _) is (reading_lacks_memory short) = tt
+  listed_or_refused text built (Err _) is (has_no_bytes large) = (built, built_of_dump built is, large)
 
 -- ---- what is kept of bytes is all of them, where that isn't too long
 
@@ -117,10 +111,11 @@ module _ (dialect : Dialect) (bytes : List ℕ) where
   short_contents (Ok contents) has = has.1.facts_in.lexing.text.short
   short_contents (Err e) has = absurd (let same : false ≡ true = has.0 in cc)
 
-  pub short_source : (readings : List ReadFile)
-      → AreReadingsOf Refuse dialect default_choices (dump_tree bytes) readings → length bytes ≤ max_text_length
+  pub short_source : (parsed : List ReadFile)
+      → AreParsedFiles Refuse dialect default_choices (dump_tree bytes) parsed → length bytes ≤ max_text_length
   short_source [] are = absurd (let none = are.one_each in omega (arith, none))
-  short_source (reading ∷ others) are = short_contents reading.contents (are.each zero alone reading refl refl).contents
+  short_source (parsed_file ∷ others) are = short_contents parsed_file.contents
+      (are.each zero alone parsed_file refl refl).contents
 
 module _ (dialect : Dialect) (bytes : List ℕ) where
   no_text_of_all : (e : LexFault) → IsNoText (kept_bytes bytes) e → IsNoText bytes e
@@ -152,22 +147,22 @@ module _ (dialect : Dialect) (bytes : List ℕ) where
       }
   faulty_of_all (suc number) e is = absurd (none-some is.file is.numbered)
 
-  of_readings : (P : List TreeFile → List ReadFile → Type 0)
-      → (readings : List ReadFile)
-      × AreReadingsOf Refuse dialect default_choices (dump_tree (kept_bytes bytes)) readings
-      × P (dump_tree (kept_bytes bytes)) readings
-      → (readings : List ReadFile) × AreReadingsOf Refuse dialect default_choices (dump_tree bytes) readings
-      × P (dump_tree bytes) readings
-  of_readings P of =
-      whole (λ b. (readings : List ReadFile) × AreReadingsOf Refuse dialect default_choices (dump_tree b) readings
-      × P (dump_tree b) readings) bytes (short_source dialect (kept_bytes bytes) of.0 of.1) of
+  of_parsed : (P : List TreeFile → List ReadFile → Type 0)
+      → (parsed : List ReadFile)
+      × AreParsedFiles Refuse dialect default_choices (dump_tree (kept_bytes bytes)) parsed
+      × P (dump_tree (kept_bytes bytes)) parsed
+      → (parsed : List ReadFile) × AreParsedFiles Refuse dialect default_choices (dump_tree bytes) parsed
+      × P (dump_tree bytes) parsed
+  of_parsed P of =
+      whole (λ b. (parsed : List ReadFile) × AreParsedFiles Refuse dialect default_choices (dump_tree b) parsed
+      × P (dump_tree b) parsed) bytes (short_source dialect (kept_bytes bytes) of.0 of.1) of
 
   fault_of_all : (number : ℕ) (e : FileFault)
       → IsBuildFault default_choices Refuse dialect (dump_tree (kept_bytes bytes)) 1 (build.File number e)
       → IsBuildFault default_choices Refuse dialect (dump_tree bytes) 1 (build.File number e)
   fault_of_all number e (refuse, inl first) = (refuse, inl (faulty_of_all number e first))
   fault_of_all number e (refuse, inr of) =
-      (refuse, inr (of_readings (λ _ readings. MayRefuseReadings readings (build.File number e)) of))
+      (refuse, inr (of_parsed (λ _ parsed. MayRefuseParsed parsed (build.File number e)) of))
 
   -- what holds of the bytes that are kept holds of all
   pub refusal_of_all : (e : Fault) → IsRefusal dialect (kept_bytes bytes) e → IsRefusal dialect bytes e
@@ -176,13 +171,13 @@ module _ (dialect : Dialect) (bytes : List ℕ) where
   refusal_of_all (fault.Lex number e) is = fault_of_all number (file.Lex e) is
   refusal_of_all (fault.Syntax number e) is = fault_of_all number (file.Syntax e) is
   refusal_of_all (fault.Duplicate first second) is =
-      (is.0, of_readings (λ _ readings. MayRefuseReadings readings (build.Duplicate first second)) is.1)
+      (is.0, of_parsed (λ _ parsed. MayRefuseParsed parsed (build.Duplicate first second)) is.1)
   refusal_of_all (fault.MissingImport place) is =
-      (is.0, of_readings (λ _ readings. MayRefuseReadings readings (build.MissingImport place)) is.1)
+      (is.0, of_parsed (λ _ parsed. MayRefuseParsed parsed (build.MissingImport place)) is.1)
   refusal_of_all (fault.Unresolved place) is = (
     is.0,
-    of_readings
-        (λ _ readings. CanBeLinked (linked_files readings) × IsLeastUnresolved (linked_files readings) place) is.1,
+    of_parsed
+        (λ _ parsed. CanBeLinked (linked_files parsed) × IsLeastUnresolved (linked_files parsed) place) is.1,
   )
   refusal_of_all fault.TooLarge is =
       whole (λ b. IsRefusal dialect b fault.TooLarge) bytes
@@ -213,19 +208,19 @@ module _ (dialect : Dialect) (bytes : List ℕ) where
   refused_dumps due (fault.Answer count) is = is
 
   -- with the writer as it was,
-  pub refused_writer : (W : Type 0) (contents : W → Option (List ℕ)) (failures : W → ℕ) (out : W) (due : List ℕ)
-      (e : Fault) → IsRefusal dialect bytes e → LeavesWriter contents failures out out due (Err e)
-  refused_writer W contents failures out due fault.Spawn is = refl
-  refused_writer W contents failures out due fault.Memory is = refl
-  refused_writer W contents failures out due (fault.Lex number e) is = refl
-  refused_writer W contents failures out due (fault.Syntax number e) is = refl
-  refused_writer W contents failures out due (fault.Duplicate first second) is = refl
-  refused_writer W contents failures out due (fault.MissingImport place) is = refl
-  refused_writer W contents failures out due (fault.Unresolved place) is = refl
-  refused_writer W contents failures out due fault.TooLarge is = refl
-  refused_writer W contents failures out due (fault.Write count) is = absurd is
-  refused_writer W contents failures out due fault.Read is = refl
-  refused_writer W contents failures out due (fault.Answer count) is = refl
+  pub refused_writer : {W : Type 0} (sink : SinkOf W) (out : W) (due : List ℕ) (e : Fault) → IsRefusal dialect bytes e
+      → LeavesWriter (writing sink out out) due (Err e)
+  refused_writer sink out due fault.Spawn is = refl
+  refused_writer sink out due fault.Memory is = refl
+  refused_writer sink out due (fault.Lex number e) is = refl
+  refused_writer sink out due (fault.Syntax number e) is = refl
+  refused_writer sink out due (fault.Duplicate first second) is = refl
+  refused_writer sink out due (fault.MissingImport place) is = refl
+  refused_writer sink out due (fault.Unresolved place) is = refl
+  refused_writer sink out due fault.TooLarge is = refl
+  refused_writer sink out due (fault.Write count) is = absurd is
+  refused_writer sink out due fault.Read is = refl
+  refused_writer sink out due (fault.Answer count) is = refl
 
   -- and of no other file
   pub dump_files : (e : Fault) → IsRefusal dialect bytes e → HasFilesOf (dump_tree bytes) e
@@ -247,18 +242,18 @@ module _ (dialect : Dialect) (bytes : List ℕ) where
   dump_files (fault.Answer count) is = tt
 
 -- where the listing is written, or cut off
-module _ (W : Type 0) (contents : W → Option (List ℕ)) (failures : W → ℕ) (before after : W) (due : List ℕ) where
+module _ {W : Type 0} (out : Writer W) (due : List ℕ) where
   pub written_dumps : (dialect : Dialect) (bytes : List ℕ) (done : Result (Unit {0}) Fault)
-      → IsListing dialect bytes due → Writes contents failures before after due done → Dumps dialect bytes due done
+      → IsListing dialect bytes due → Writes out due done → Dumps dialect bytes due done
   written_dumps dialect bytes (Ok done) is wrote = is
   written_dumps dialect bytes (Err e) is wrote = let P : Fault → Type 0 = λ f. Dumps dialect bytes due (Err f) in
       subst P (sym wrote.1) is
 
-  pub written_writer : (done : Result (Unit {0}) Fault) → Writes contents failures before after due done
-      → LeavesWriter contents failures before after due done
+  pub written_writer : (done : Result (Unit {0}) Fault) → Writes out due done
+      → LeavesWriter out due done
   written_writer (Ok done) wrote = wrote
   written_writer (Err e) wrote =
-      let P : Fault → Type 0 = λ f. LeavesWriter contents failures before after due (Err f) in
+      let P : Fault → Type 0 = λ f. LeavesWriter out due (Err f) in
       subst P (sym wrote.1) wrote.2
 
 -- what is said of what is read, if it is
@@ -267,12 +262,11 @@ pub said_of_read : {A : Type 0} (P : A → Type 0) (read : Option A) (bytes : A)
 said_of_read P read bytes is said = subst (λ o. IfSome o P) is said
 
 -- where the source isn't read nothing is due, of any bytes
-module _ {R W : Type 0} (remaining : R → Option (List ℕ)) (contents : W → Option (List ℕ)) (failures : W → ℕ)
-    (dialect : Dialect) (reader : R) (out : W) where
-  pub unread_dumped : IsDumped remaining contents failures dialect reader out out (Err fault.Read)
+module _ {R W : Type 0} (source : Reader R) (sink : SinkOf W) (dialect : Dialect) (out : W) where
+  pub unread_dumped : IsDumped dialect source (writing sink out out) (Err fault.Read)
   unread_dumped = record { due = []; writer = refl; some = ([], tt); told = λ bytes known. tt }
 
-  pub starved_dumped : IsDumped remaining contents failures dialect reader out out (Err fault.Memory)
+  pub starved_dumped : IsDumped dialect source (writing sink out out) (Err fault.Memory)
   starved_dumped = record { due = []; writer = refl; some = ([], tt); told = λ bytes known. tt }
 
 -- the tree of a source has the same files, whatever it holds
@@ -291,8 +285,8 @@ any_dump_files fault.Read bytes others has = has
 any_dump_files (fault.Answer count) bytes others has = has
 
 -- a source that was read has the tree in which any fault has its places
-module _ {R : Type 0} (remaining : R → Option (List ℕ)) (reader : R) (tree : List TreeFile) where
-  pub tree_of_fault : (e : Fault) → IsTreeOfSource remaining reader tree → IsTreeOfFault remaining reader tree e
+module _ {R : Type 0} (source : Reader R) (tree : List TreeFile) where
+  pub tree_of_fault : (e : Fault) → IsTreeOfSource source tree → IsTreeOfFault source tree e
   tree_of_fault fault.Spawn is = is
   tree_of_fault fault.Memory is = tt
   tree_of_fault (fault.Lex number e) is = is
@@ -305,7 +299,7 @@ module _ {R : Type 0} (remaining : R → Option (List ℕ)) (reader : R) (tree :
   tree_of_fault fault.Read is = tt
   tree_of_fault (fault.Answer count) is = is
 
-  pub tree_of_done : (done : Result (Unit {0}) Fault) → IsTreeOfSource remaining reader tree
-      → IfErr done (IsTreeOfFault remaining reader tree)
+  pub tree_of_done : (done : Result (Unit {0}) Fault) → IsTreeOfSource source tree
+      → IfErr done (IsTreeOfFault source tree)
   tree_of_done (Ok done) is = tt
   tree_of_done (Err e) is = tree_of_fault e is

@@ -14,7 +14,7 @@ use Rattle.source_tree.specs.declared.fault.TreeFault.TheVariants as refusal
 use Rattle.source_tree.specs.Files.{SourceFile, TreeFile, in_tree, file_cmp}
 use Rattle.source_tree.specs.Trees.{IsTreeOf, IsFileOf, of_source, of_included}
 use Rattle.protoscip.specs.Dump.{source_path, dump_tree}
-use Rattle.proto_visibility.proofs.FirstLemmas.{contained, at_contained}
+use Rattle.basics.proofs.FirstLemmas.{contained, at_contained}
 
 -- a list of one has nothing else
 only : {X : Type 0} (x y : X) (k : ℕ) → slice_get (x ∷ []) k ≡ Some y → y ≡ x

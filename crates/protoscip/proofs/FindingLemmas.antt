@@ -1,8 +1,8 @@
 -- Why what is told of a tree can't be had.
 use Rattle.std.proofs.Common.{◌≡◌, ℕ, List, subst}
-use Rattle.proto_decl.specs.Seen.{Seen}
+use Rattle.proto_decl.specs.Values.{Seen}
 use Rattle.index_hooks.specs.declared.choice.Choice.{Choice}
-use Rattle.proto_parse.specs.tree.Dialect.{Dialect}
+use Rattle.proto_parse.specs.dialect.Dialect.{Dialect}
 use Rattle.source_tree.specs.Files.{TreeFile}
 use Rattle.scip_build.specs.Builds.{IsBuildFault}
 use Rattle.scip_build.specs.declared.settings.Settings.{Settings}
@@ -12,12 +12,13 @@ use Rattle.scip_build.specs.declared.fault.BuildFault.TheVariants as build
 use Rattle.scip_build.specs.declared.fault.FileFault.TheVariants as file
 use Rattle.protoscip.specs.Faults.{fault_of_build}
 use Rattle.protoscip.specs.ToldTrees.{MayNotTell, skipping}
+use Rattle.protoscip.specs.ToldTrees.MayNotTell.{telling_lacks_thread, telling_lacks_memory}
 
 -- if faults are skipped, a tree is refused for want of memory or of a thread alone
 unrefused : (allows : Seen → Choice → Type 0) (dialect : Dialect) (tree : List TreeFile) (workers : ℕ)
     (e : BuildFault) → IsBuildFault allows Skip dialect tree workers e → MayNotTell workers (fault_of_build e)
-unrefused allows dialect tree workers build.Spawn is = is
-unrefused allows dialect tree workers build.Memory is = tt
+unrefused allows dialect tree workers build.Spawn is = telling_lacks_thread is
+unrefused allows dialect tree workers build.Memory is = telling_lacks_memory
 unrefused allows dialect tree workers (build.File number (file.Lex e)) is = let never = is.0 in absurd cc
 unrefused allows dialect tree workers (build.File number (file.Syntax e)) is = let never = is.0 in absurd cc
 unrefused allows dialect tree workers (build.Duplicate first second) is = let never = is.0 in absurd cc

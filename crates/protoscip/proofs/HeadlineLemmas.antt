@@ -5,12 +5,12 @@ use Rattle.std.specs.Prelude.{true, false, ◌&&◌, Contains}
 use Rattle.std.specs.declared.cmp.Ordering.{Ordering}
 use Rattle.std.specs.Result.{result_map_both}
 use Rattle.proto_lex.specs.declared.position.Encoding.{Encoding}
-use Rattle.proto_decl.specs.Seen.{Seen}
+use Rattle.proto_decl.specs.Values.{Seen}
 use Rattle.proto_decl.specs.Facts.{Facts}
-use Rattle.proto_decl.specs.declared.type_use.Use.{Use}
+use Rattle.proto_decl.specs.declared.uses.Use.{Use}
 use Rattle.proto_visibility.specs.Files.{File, HasFacts, IsSource, HaveOrigins}
 use Rattle.proto_visibility.specs.Kept.{Omissions, kept_of, number_among_all}
-use Rattle.proto_visibility.proofs.FirstLemmas.{contained}
+use Rattle.basics.proofs.FirstLemmas.{contained}
 use Rattle.index_hooks.specs.declared.choice.Choice.{Choice}
 use Rattle.source_tree.specs.Files.{TreeFile}
 use Rattle.scip_symbol.specs.Package.{Package}
@@ -24,7 +24,7 @@ use Rattle.scip_model.specs.Occurs.{Occurs}
 use Rattle.scip_model.specs.Occurs as rule
 use Rattle.scip_records.specs.declared.records.Document.{Document}
 use Rattle.scip_records.specs.declared.records.Occurrence.{Occurrence}
-use Rattle.scip_query.specs.OccurrenceAt.{Subject, subject_at, subject_in, subject_of}
+use Rattle.scip_query.specs.OccurrenceAt.{Subject, subject_at, subject_found, subject_of}
 use Rattle.scip_query.specs.References.{is_local, is_of, is_definition, references_of, definitions_of, references_at}
 use Rattle.scip_query.specs.References.{definitions_at}
 use Rattle.scip_query.specs.Sites.{Site, Numbered}
@@ -38,12 +38,12 @@ use Rattle.scip_build.specs.declared.faulty.Faulty.TheVariants.{Refuse, Skip}
 use Rattle.scip_build.specs.declared.settings.Settings.{Settings}
 use Rattle.protoscip.specs.Headline.{IsEntityOf, package_of_entity, entity_of, defines, IsSite, site_cmp, IsOf}
 use Rattle.protoscip.specs.Headline.{IsSiteOf, IsDefinitionOf}
-use Rattle.protoscip.specs.Headline.{IsAt, Answers, AnswersNames, Headline}
+use Rattle.protoscip.specs.Headline.{IsAt, Answers, AnswersNames, Headline, linked}
 use Rattle.protoscip.specs.NameLaws.{LawsOfNames}
-use Rattle.protoscip.proofs.EntityLemmas.{entity_is, symbol_is, one_entity, one_symbol, own_entity}
-use Rattle.protoscip.proofs.LinkedLemmas.{at_all_linked, have_origins, good_paths}
-use Rattle.protoscip.proofs.UseLemmas.{component_names}
-use Rattle.protoscip.proofs.SiteLemmas.{IsAsked, asked, of_symbol, defining, just}
+use Rattle.protoscip.proofs.HeadlineEntityLemmas.{entity_is, symbol_is, one_entity, one_symbol, own_entity}
+use Rattle.protoscip.proofs.HeadlineLinkedLemmas.{at_all_linked, have_origins, good_paths}
+use Rattle.protoscip.proofs.UseLawLemmas.{component_names}
+use Rattle.protoscip.proofs.HeadlineSiteLemmas.{IsAsked, asked, of_symbol, defining, just}
 
 -- no symbol of an entity is local
 not_local : (id : Package) (entity : Entity) → is_local (text_of id entity) ≡ false
@@ -71,14 +71,14 @@ alike same of = record {
 -- a use names a type where faults are refused, or where it is said to
 resolves : {allows : Seen → Choice → Type 0} {settings : Settings} {tree : List TreeFile} {result : Built}
     (built : IsBuilt allows settings tree result) (source : ℕ) (facts : Facts) (type_use : Use)
-    → IsSource (linked_files built.of_files.readings) source
-    → HasFacts (linked_files built.of_files.readings) source facts → Contains facts.uses type_use
-    → (settings.faulty ≡ Skip → IsResolved (linked_files built.of_files.readings) source type_use)
-    → IsResolved (linked_files built.of_files.readings) source type_use
+    → IsSource (linked built) source
+    → HasFacts (linked built) source facts → Contains facts.uses type_use
+    → (settings.faulty ≡ Skip → IsResolved (linked built) source type_use)
+    → IsResolved (linked built) source type_use
 resolves {settings = settings} built source facts type_use is has listed named = by settings.faulty refl
   where
     by : (faulty : Faulty) → settings.faulty ≡ faulty
-        → IsResolved (linked_files built.of_files.readings) source type_use
+        → IsResolved (linked built) source type_use
     by Skip skip = named skip
     by Refuse refuse =
         let good = built.of_files.refused refuse in
@@ -102,40 +102,40 @@ kept_paths omissions all good number file at =
 
 module _ {allows : Seen → Choice → Type 0} {settings : Settings} {tree : List TreeFile} {result : Built}
     (built : IsBuilt allows settings tree result)
-    (origins : HaveOrigins (linked_files built.of_files.readings))
-    (good : HaveGoodPaths (linked_files built.of_files.readings))
+    (origins : HaveOrigins (linked built))
+    (good : HaveGoodPaths (linked built))
     (are_packages : ArePackages settings.package) (laws : LawsOfNames) where
   Files : List File
-  Files = linked_files built.of_files.readings
+  Files = linked built
 
   -- ---- the entity of an occurrence
 
   source_of : (document : Document)
-      (has : HasDocument (linked_files built.of_files.readings)
-      (texts_of built.of_files.readings) result.choices settings.package settings.encoding document)
-      → IsSource (linked_files built.of_files.readings) has.source
+      (has : HasDocument (linked built)
+      (texts_of built.of_files.parsed) result.choices settings.package settings.encoding document)
+      → IsSource (linked built) has.source
   source_of document has = record { file = has.is.file; numbered = has.is.numbered; source = has.is.is_source }
 
   of_files : (entity : Entity) (document : Document) (o : Occurrence) → IsOf built entity document o
-      → IsEntityOf (linked_files built.of_files.readings) entity
+      → IsEntityOf (linked built) entity
   of_files entity document o is =
-      subst (IsEntityOf (linked_files built.of_files.readings)) is.is
-      (entity_is (linked_files built.of_files.readings) origins laws result.choices settings.package
+      subst (IsEntityOf (linked built)) is.is
+      (entity_is (linked built) origins laws result.choices settings.package
       settings.encoding is.of_source.source is.of_source.text (source_of document is.of_source) o is.occurs)
 
   -- the text of an entity's symbol
-  symbol_in : (entity : Entity) → IsEntityOf (linked_files built.of_files.readings) entity → List ℕ
-  symbol_in entity of = text_of (package_of_entity (linked_files built.of_files.readings) settings.package of) entity
+  symbol_in : (entity : Entity) → IsEntityOf (linked built) entity → List ℕ
+  symbol_in entity of = text_of (package_of_entity (linked built) settings.package of) entity
 
-  symbol_of : (entity : Entity) (of : IsEntityOf (linked_files built.of_files.readings) entity) (document : Document)
+  symbol_of : (entity : Entity) (of : IsEntityOf (linked built) entity) (document : Document)
       (o : Occurrence) → IsOf built entity document o → o.symbol ≡ symbol_in entity of
   unfolding symbol_in
   symbol_of entity of document o is =
-      let its = subst (IsEntityOf (linked_files built.of_files.readings)) (sym is.is) of in
-      symbol_is (linked_files built.of_files.readings) origins good built.of_files.clear.clear laws settings.package
+      let its = subst (IsEntityOf (linked built)) (sym is.is) of in
+      symbol_is (linked built) origins good built.of_files.clear.clear laws settings.package
       is.of_source.source (source_of document is.of_source) result.choices settings.encoding is.of_source.text o
       is.occurs its
-      ∙ one_symbol (linked_files built.of_files.readings) origins good built.of_files.clear.clear laws settings.package
+      ∙ one_symbol (linked built) origins good built.of_files.clear.clear laws settings.package
       (entity_of is.occurs) entity its of is.is
 
   entity_at : (document : Document) (o : Occurrence) → Contains result.index.documents document
@@ -145,12 +145,12 @@ module _ {allows : Seen → Choice → Type 0} {settings : Settings} {tree : Lis
       let occurs = (has.is.occurrences.exact o).0 there in
       (entity_of occurs, record { of_source = has; occurs = occurs; is = refl })
 
-  same_entity : (entity other : Entity) (is : IsEntityOf (linked_files built.of_files.readings) entity)
-      (its : IsEntityOf (linked_files built.of_files.readings) other) → symbol_in entity is ≡ symbol_in other its
+  same_entity : (entity other : Entity) (is : IsEntityOf (linked built) entity)
+      (its : IsEntityOf (linked built) other) → symbol_in entity is ≡ symbol_in other its
       → entity ≡ other
   unfolding symbol_in
   same_entity = one_entity
-      (linked_files built.of_files.readings) origins good built.of_files.clear.clear laws settings.package are_packages
+      (linked built) origins good built.of_files.clear.clear laws settings.package are_packages
 
   -- occurrences with one symbol are of one entity
   by_symbol : (entity other : Entity) (document another : Document) (o also : Occurrence) → IsOf built entity document o
@@ -162,7 +162,7 @@ module _ {allows : Seen → Choice → Type 0} {settings : Settings} {tree : Lis
       (sym (symbol_of other other_is another also its) ∙ (sym same ∙ symbol_of entity own_is document o is))
 
   each : (site : Site) → IsSite result.index site
-      → (entity : Entity) × IsEntityOf (linked_files built.of_files.readings) entity × IsSiteOf built entity site
+      → (entity : Entity) × IsEntityOf (linked built) entity × IsSiteOf built entity site
       × ((other : Entity) → IsSiteOf built other site → other ≡ entity)
   each site there =
       let listed = contained result.index.documents site.place.document site.document there.document_is in
@@ -214,7 +214,7 @@ module _ {allows : Seen → Choice → Type 0} {settings : Settings} {tree : Lis
     is_global subject of entity is =
         let its = of_files entity of.named.document of.occurrence is in
         ap is_local (sym of.symbol ∙ symbol_of entity its of.named.document of.occurrence is)
-        ∙ not_local (package_of_entity (linked_files built.of_files.readings) settings.package its) entity
+        ∙ not_local (package_of_entity (linked built) settings.package its) entity
 
     at_position : (subject : Subject) (of : IsAsked result.index path line column subject) (entity : Entity)
         → IsOf built entity of.named.document of.occurrence → IsAt built path line column entity
@@ -233,7 +233,7 @@ module _ {allows : Seen → Choice → Type 0} {settings : Settings} {tree : Lis
     subject_of_entity entity at = (
       record { asked = at.named; symbol = at.occurrence.symbol },
       ap (λ (named : Option Numbered). subject_of named (record { line = line; column = column })) at.document_is
-          ∙ ap (subject_in at.named) at.stands,
+          ∙ ap (subject_found at.named) at.stands,
     )
 
     -- an answer by what is found for the subject
@@ -291,17 +291,17 @@ module _ {allows : Seen → Choice → Type 0} {settings : Settings} {tree : Lis
   unfolding symbol_in
   answers_names = record {
     used = λ source facts type_use component is has listed among named.
-        component_names (linked_files built.of_files.readings) source laws.targets origins facts type_use component is
+        component_names (linked built) source laws.targets origins facts type_use component is
         has listed among (resolves built source facts type_use is has listed named);
     each = each;
     symbol = λ entity site of is. symbol_of entity of site.document site.occurrence is.1;
     one_to_one = λ entity other is its. (
       same_entity entity other is its,
-      one_symbol (linked_files built.of_files.readings) origins good built.of_files.clear.clear laws settings.package
+      one_symbol (linked built) origins good built.of_files.clear.clear laws settings.package
           entity other is
           its,
     );
-    own = own_entity (linked_files built.of_files.readings) origins good built.of_files.clear.clear laws;
+    own = own_entity (linked built) origins good built.of_files.clear.clear laws;
     role = role;
     references = references;
     definitions = definitions;
@@ -310,7 +310,7 @@ module _ {allows : Seen → Choice → Type 0} {settings : Settings} {tree : Lis
 pub headline : (allows : Seen → Choice → Type 0) → LawsOfNames → Headline allows
 headline allows laws settings tree is_tree are_packages recorded bytes indexed =
     let built = indexed.built in
-    let readings = built.of_files.readings in
+    let parsed = built.of_files.parsed in
     let kept = built.of_files.kept in
     let Origins : List ReadFile → Type 0 = λ rs. HaveOrigins (linked_files rs) in
     let Good : List ReadFile → Type 0 = λ rs. HaveGoodPaths (linked_files rs) in

@@ -4,9 +4,10 @@ use Rattle.std.proofs.Common.{Err, refl, sym, subst, arith}
 use Rattle.std.specs.List.{All, AllZip}
 use Rattle.std.proofs.lemmas.List.Elements.{All-nil, All-cons}
 use Rattle.std.proofs.Math.Nat.{lt_of_not-le}
-use Rattle.proto_decl.specs.Seen.{Seen}
+use Rattle.proto_decl.specs.Values.{Seen}
 use Rattle.index_hooks.specs.declared.choice.Choice.{Choice}
 use Rattle.source_tree.specs.Files.{TreeFile}
+use Rattle.streams.specs.Writers.{SinkOf, Writer, writing}
 use Rattle.scip_records.specs.declared.records.Index.{Index}
 use Rattle.scip_records.specs.declared.records.Document.{Document}
 use Rattle.scip_records.specs.declared.records.Metadata.{Metadata}
@@ -28,9 +29,9 @@ use Rattle.scip_wire.specs.declared.write_fault.WriteFault.TheVariants as writin
 use Rattle.protoscip.specs.Faults.{fault_of_build, fault_of_writing}
 use Rattle.protoscip.specs.Indexes.{recorded_of, IsSpelled, Indexes}
 use Rattle.protoscip.specs.Writing.{IsRecordOf, WritesIndex}
+use Rattle.protoscip.specs.Writing.WritesIndex.{index_is_written, index_is_cut_off, index_is_too_large}
 use Rattle.protoscip.specs.FaultLines.{HasFilesOf}
 use Rattle.protoscip.specs.declared.fault.Fault.{Fault}
-use Rattle.protoscip.specs.declared.fault.Fault.TheVariants as fault
 
 pub not_above : (n m : ℕ) → (m < n → ⊥) → n ≤ m
 not_above n m never = let h : n < suc m = lt_of_not-le never in omega arith
@@ -59,14 +60,15 @@ module _ (decodes : SpellingDecodes) (one : OneDecoding) (index : Index) (known 
       spelled decodes one index known
       (not_above (length (spelling_of index)) max_index_len (λ above. never (large.1 above)))
 
-  module _ (W : Type 0) (contents : W → Option (List ℕ)) (failures : W → ℕ) (before after : W) where
+  module _ {W : Type 0} (out : Writer W) where
     -- an index isn't written, or cut off
     pub not_written : (e : WriteFault) → (stopped e ≡ stopped writing.TooLarge)
-        ↔ (max_index_len < length (spelling_of index)) → Leaves contents failures before after (spelling_of index) e
-        → WritesIndex contents failures index before after (Err (fault_of_writing e))
-    not_written writing.TooLarge large leaves = (large.0 refl, leaves)
+        ↔ (max_index_len < length (spelling_of index)) → Leaves out (spelling_of index) e
+        → WritesIndex index out (Err (fault_of_writing e))
+    not_written writing.TooLarge large leaves = index_is_too_large (large.0 refl) leaves
     not_written (writing.Write count) large leaves =
-        (spelled_unless (stopped (writing.Write count) ≡ stopped writing.TooLarge) large (λ same. cc), leaves)
+        index_is_cut_off (spelled_unless (stopped (writing.Write count) ≡ stopped writing.TooLarge) large (λ same. cc))
+        leaves
 
 -- ---- the parts of an index, of whose documents the records are kept
 
@@ -106,62 +108,43 @@ module _ (index : Index) (parts : Parts (List ℕ)) (are : ArePartsOf IsRecordOf
     external_symbols = subst (λ (es : List SymbolInformation). All IsFitInfo es) are.external_symbols external_symbols;
   }
 
-module _ (W : Type 0) (contents : W → Option (List ℕ)) (failures : W → ℕ) (allows : Seen → Choice → Type 0)
-    (settings : Settings) (tree : List TreeFile) (workers : ℕ) (before after : W) where
+module _ {W : Type 0} (allows : Seen → Choice → Type 0) (settings : Settings) (tree : List TreeFile) (workers : ℕ) where
   -- a tree isn't built
-  pub unbuilt : (e : BuildFault) → IsBuildFault allows settings.faulty settings.dialect tree workers e
-      → Indexes contents failures allows settings tree workers before before (Err (fault_of_build e))
-  unbuilt build.Spawn is = (is, refl)
-  unbuilt build.Memory is = (is, refl)
-  unbuilt (build.File number (file.Lex e)) is = (is, refl)
-  unbuilt (build.File number (file.Syntax e)) is = (is, refl)
-  unbuilt (build.Duplicate first second) is = (is, refl)
-  unbuilt (build.MissingImport place) is = (is, refl)
-  unbuilt (build.Unresolved place) is = (is, refl)
+  pub unbuilt : (sink : SinkOf W) (out : W) (e : BuildFault)
+      → IsBuildFault allows settings.faulty settings.dialect tree workers e
+      → Indexes allows settings tree workers (writing sink out out) (Err (fault_of_build e))
+  unbuilt sink out build.Spawn is = (is, refl)
+  unbuilt sink out build.Memory is = (is, refl)
+  unbuilt sink out (build.File number (file.Lex e)) is = (is, refl)
+  unbuilt sink out (build.File number (file.Syntax e)) is = (is, refl)
+  unbuilt sink out (build.Duplicate first second) is = (is, refl)
+  unbuilt sink out (build.MissingImport place) is = (is, refl)
+  unbuilt sink out (build.Unresolved place) is = (is, refl)
 
-  module _ (built : Built) (is : IsBuilt allows settings tree built) where
+  module _ (out : Writer W) (built : Built) (is : IsBuilt allows settings tree built) where
     -- its index isn't written, or cut off
-    pub unwritten : (e : Fault) → WritesIndex contents failures built.index before after (Err e)
-        → Indexes contents failures allows settings tree workers before after (Err e)
-    unwritten fault.Spawn wrote = absurd wrote
-    unwritten fault.Memory wrote = absurd wrote
-    unwritten (fault.Lex number e) wrote = absurd wrote
-    unwritten (fault.Syntax number e) wrote = absurd wrote
-    unwritten (fault.Duplicate first second) wrote = absurd wrote
-    unwritten (fault.MissingImport place) wrote = absurd wrote
-    unwritten (fault.Unresolved place) wrote = absurd wrote
-    unwritten fault.TooLarge wrote = ((built, is, wrote.0), wrote.1)
-    unwritten (fault.Write count) wrote = (
+    pub unwritten : (e : Fault) → WritesIndex built.index out (Err e)
+        → Indexes allows settings tree workers out (Err e)
+    unwritten _ (index_is_too_large large left) = ((built, is, large), left)
+    unwritten _ (index_is_cut_off spells cut) = (
       recorded_of built.choices built.told,
       spelling_of built.index,
-      record { index = built.index; built = is; spelled = wrote.0 },
-      wrote.1,
+      record { index = built.index; built = is; spelled = spells },
+      cut,
     )
-    unwritten fault.Read wrote = absurd wrote
-    unwritten (fault.Answer count) wrote = absurd wrote
 
     -- it is written
-    pub written : (done : Unit {0}) → WritesIndex contents failures built.index before after (Ok done)
-        → Indexes contents failures allows settings tree workers before after
+    pub written : (done : Unit {0}) → WritesIndex built.index out (Ok done)
+        → Indexes allows settings tree workers out
         (Ok (recorded_of built.choices built.told))
-    written done wrote = (
+    written done (index_is_written spells wrote) = (
       spelling_of built.index,
-      record { index = built.index; built = is; spelled = wrote.0 },
-      wrote.1,
+      record { index = built.index; built = is; spelled = spells },
+      wrote,
     )
 
 -- writing an index has no fault of a file
-pub no_files : (W : Type 0) (contents : W → Option (List ℕ)) (failures : W → ℕ) (tree : List TreeFile)
-    (before after : W) (index : Index) (e : Fault)
-    → WritesIndex contents failures index before after (Err e) → HasFilesOf tree e
-no_files W contents failures tree before after index fault.Spawn wrote = tt
-no_files W contents failures tree before after index fault.Memory wrote = absurd wrote
-no_files W contents failures tree before after index (fault.Lex number e) wrote = absurd wrote
-no_files W contents failures tree before after index (fault.Syntax number e) wrote = absurd wrote
-no_files W contents failures tree before after index (fault.Duplicate first second) wrote = absurd wrote
-no_files W contents failures tree before after index (fault.MissingImport place) wrote = absurd wrote
-no_files W contents failures tree before after index (fault.Unresolved place) wrote = absurd wrote
-no_files W contents failures tree before after index fault.TooLarge wrote = tt
-no_files W contents failures tree before after index (fault.Write count) wrote = tt
-no_files W contents failures tree before after index fault.Read wrote = tt
-no_files W contents failures tree before after index (fault.Answer count) wrote = tt
+pub no_files : {W : Type 0} (tree : List TreeFile) (out : Writer W) (index : Index) (e : Fault)
+    → WritesIndex index out (Err e) → HasFilesOf tree e
+no_files tree out index _ (index_is_too_large large left) = tt
+no_files tree out index _ (index_is_cut_off spells cut) = tt

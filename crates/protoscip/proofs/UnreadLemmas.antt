@@ -1,6 +1,6 @@
 -- What couldn't be read, in a report: each once, and unlike all else.
 use Rattle.std.proofs.Common.{◌≡◌, ◌≢◌, ℕ, suc, false, true, List, [], ◌∷◌, ◌++◌, map, ap, refl, sym}
-use Rattle.std.proofs.Common.{arith, None}
+use Rattle.std.proofs.Common.{arith, None, get_or}
 use Rattle.std.specs.Prelude.{unwrap_or}
 use Rattle.std.specs.List.{All}
 use Rattle.std.specs.Str.{bytes_eq}
@@ -8,25 +8,23 @@ use Rattle.std.proofs.lemmas.List.Elements.{All-append, All-map}
 use Rattle.std.proofs.lemmas.List.Kept.{AllPairs-cons}
 use Rattle.std.proofs.lemmas.Slice.Eq.{bytes_eq-Decides}
 use Rattle.fault_reports.specs.Findings.{Found, FoundPlace}
-use Rattle.proto_lex.specs.FaultNames.{lex_name}
 use Rattle.proto_lex.specs.declared.fault.LexFault.{LexFault}
 use Rattle.proto_lex.specs.declared.fault.LexFault.TheVariants as lexing
-use Rattle.proto_parse.specs.FaultNames.{syntax_name}
 use Rattle.proto_parse.specs.fault.SyntaxFault.{SyntaxFault}
 use Rattle.proto_parse.specs.fault.SyntaxFault.TheVariants as parsing
 use Rattle.source_tree.specs.Files.{TreeFile}
-use Rattle.scip_build.specs.declared.fault.BuildFault.{BuildFault}
-use Rattle.protoscip.specs.FaultLines.{name_of}
+use Rattle.scip_build.specs.declared.omission.Omission.{Omission}
+use Rattle.protoscip.specs.FaultTexts.{lex_text, name_of, syntax_text}
 use Rattle.protoscip.specs.FindingLaws.{AreApart}
-use Rattle.protoscip.specs.Findings.{all_findings, faults_of, finding_of, kind_of, told_findings}
-use Rattle.protoscip.specs.Faults.{fault_of_build}
+use Rattle.protoscip.specs.Findings.{all_findings, told_finding, told_findings}
+use Rattle.protoscip.specs.Faults.{fault_of_omission}
 use Rattle.protoscip.specs.Unread.{unread_finding, unread_name}
 use Rattle.protoscip.specs.declared.fault.Fault.{Fault}
 use Rattle.protoscip.specs.declared.fault.Fault.TheVariants as fault
 
 -- ---- no fault has its name
 
-lex_unlike : (e : LexFault) → bytes_eq (lex_name e) unread_name ≡ false
+lex_unlike : (e : LexFault) → bytes_eq (lex_text e).name unread_name ≡ false
 lex_unlike lexing.TooLong = refl
 lex_unlike (lexing.NotUtf8 at) = refl
 lex_unlike (lexing.BadByte at) = refl
@@ -36,7 +34,7 @@ lex_unlike (lexing.BadEscape at) = refl
 lex_unlike (lexing.BadNumber at) = refl
 lex_unlike lexing.Memory = refl
 
-syntax_unlike : (e : SyntaxFault) → bytes_eq (syntax_name e) unread_name ≡ false
+syntax_unlike : (e : SyntaxFault) → bytes_eq (syntax_text e).name unread_name ≡ false
 syntax_unlike (parsing.NotProto3 at) = refl
 syntax_unlike (parsing.CustomOption at) = refl
 syntax_unlike (parsing.Aggregate at) = refl
@@ -64,11 +62,9 @@ unlike (fault.Answer count) = refl
 abbrev HasOther : Found → Type 0
 HasOther found = bytes_eq found.name unread_name ≡ false
 
-have_other : (tree : List TreeFile) (told : List BuildFault) → All HasOther (told_findings tree told)
+have_other : (tree : List TreeFile) (told : List Omission) → All HasOther (told_findings tree told)
 have_other tree told =
-    All-map HasOther (λ f. finding_of (kind_of f) tree f) (faults_of told)
-    (All-map (λ f. HasOther (finding_of (kind_of f) tree f)) fault_of_build told
-    (λ i d within. unlike _))
+    All-map HasOther (told_finding tree) told (λ i d within. unlike (fault_of_omission (get_or told i d)))
 
 -- ---- none is alike
 
@@ -104,7 +100,7 @@ before_apart (p ∷ paths) others apart also named =
     (λ i d within. unlike_told p _ (named i d within)))
     (before_apart paths others (others_apart p paths apart) also named)
 
-pub with_unread : (tree : List TreeFile) (unread : List (List ℕ)) (told : List BuildFault) → AreApart unread
+pub with_unread : (tree : List TreeFile) (unread : List (List ℕ)) (told : List Omission) → AreApart unread
     → AreApart (told_findings tree told) → AreApart (all_findings tree unread told)
 with_unread tree unread told apart also =
     before_apart unread (told_findings tree told) apart also (have_other tree told)

@@ -1,17 +1,16 @@
 -- What a dump answers of a source: its listing, or why there is none.
--- `failures`, `reads` and `ends` are the feed's, `contents` the sink's; `before` and `after` are it around the call.
-use Rattle.std.specs.Prelude.{◌≡◌, ℕ, false, List, [], ◌∷◌, Option, Some, Result, Ok, Err, codes}
+use Rattle.std.specs.Prelude.{◌≡◌, ℕ, false, List, [], ◌∷◌, Some, Result, Ok, Err, codes}
 use Rattle.proto_lex.specs.declared.position.Encoding.TheVariants.{Utf8}
-use Rattle.proto_parse.specs.tree.CustomOptions.TheVariants as custom
-use Rattle.proto_parse.specs.tree.Dialect.{Dialect}
-use Rattle.proto_parse.specs.tree.Dialect.TheVariants.{Proto3}
-use Rattle.proto_decl.specs.Seen.{Seen}
+use Rattle.proto_parse.specs.dialect.CustomOptions.TheVariants as custom
+use Rattle.proto_parse.specs.dialect.Dialect.{Dialect}
+use Rattle.proto_parse.specs.dialect.Dialect.TheVariants.{Proto3}
+use Rattle.proto_decl.specs.Values.{Seen}
 use Rattle.index_hooks.specs.declared.choice.Choice.{Choice}
 use Rattle.index_hooks.specs.MayChoose.{IsDefaultChoice}
 use Rattle.source_tree.specs.Files.{TreeFile}
 use Rattle.source_tree.specs.Reading.{kept_bytes}
-use Rattle.streams.specs.WholeReads.{IsReadFault, IsReadThrough}
-use Rattle.streams.specs.WholeWrites.{IsWritten, IsCutOff}
+use Rattle.streams.specs.Readers.{Reader, known_before, IsReadFault, IsReadThrough, IsUnfailed}
+use Rattle.streams.specs.Writers.{Writer, IsWritten, IsCutOff, IsUntouched}
 use Rattle.scip_build.specs.declared.settings.Settings.{Settings}
 use Rattle.scip_build.specs.declared.faulty.Faulty.TheVariants.{Refuse}
 use Rattle.scip_records.specs.declared.records.Index.{Index}
@@ -72,39 +71,36 @@ Dumps dialect bytes due (Err Read) = Unit {0}
 Dumps dialect bytes due (Err fault) = IsRefusal dialect bytes fault
 
 -- the reader: it was read to its end; at Read, why it wasn't; at Memory, no read failed
-abbrev pub LeavesReader : {R : Type 0} → (failures reads ends : R → ℕ) → R → R → Result (Unit {0}) Fault → Type 0
-LeavesReader failures reads ends before after (Err Memory) = failures after ≡ failures before
-LeavesReader failures reads ends before after (Err Read) = IsReadFault failures reads ends before after
-LeavesReader failures reads ends before after other = IsReadThrough failures ends before after
+abbrev pub LeavesReader : {R : Type 0} → Reader R → Result (Unit {0}) Fault → Type 0
+LeavesReader source (Err Memory) = IsUnfailed source
+LeavesReader source (Err Read) = IsReadFault source
+LeavesReader source other = IsReadThrough source
 
 -- the writer: the whole text was written; at Write, its first `count` bytes; after any other fault the writer is as it
 -- was
-abbrev pub LeavesWriter : {W : Type 0} → (contents : W → Option (List ℕ)) → (failures : W → ℕ) → W → W → List ℕ
-    → Result (Unit {0}) Fault → Type 0
-LeavesWriter contents failures before after due (Ok done) = IsWritten contents failures before after due
-LeavesWriter contents failures before after due (Err (Write count)) = IsCutOff contents failures before after due count
-LeavesWriter contents failures before after due (Err fault) = after ≡ before
+abbrev pub LeavesWriter : {W : Type 0} → Writer W → List ℕ → Result (Unit {0}) Fault → Type 0
+LeavesWriter out due (Ok done) = IsWritten out due
+LeavesWriter out due (Err (Write count)) = IsCutOff out due count
+LeavesWriter out due (Err fault) = IsUntouched out
 
 -- What a dump leaves of its writer, by the text that it has to write: that of the bytes which the reader tells that
 -- it has left; if it tells none, of some bytes.
-pub record IsDumped {R W : Type 0} (remaining : R → Option (List ℕ)) (contents : W → Option (List ℕ)) (failures : W → ℕ)
-    (dialect : Dialect) (reader : R) (before after : W)
+pub record IsDumped {R W : Type 0} (dialect : Dialect) (source : Reader R) (out : Writer W)
     (done : Result (Unit {0}) Fault) : Type 0 where
   pub due : List ℕ
-  pub writer : LeavesWriter contents failures before after due done
+  pub writer : LeavesWriter out due done
   pub some : (bytes : List ℕ) × Dumps dialect bytes due done
-  pub told : (bytes : List ℕ) → remaining reader ≡ Some bytes → Dumps dialect bytes due done
+  pub told : (bytes : List ℕ) → known_before source ≡ Some bytes → Dumps dialect bytes due done
 
 -- The tree is that of what was kept of a source: of the bytes which the reader tells that it has left; if it tells
 -- none, of some bytes.
-pub record IsTreeOfSource {R : Type 0} (remaining : R → Option (List ℕ)) (reader : R) (tree : List TreeFile) : Type 0
-  where
-    pub kept : List ℕ
-    pub tree_is : tree ≡ dump_tree kept
-    pub told : (bytes : List ℕ) → remaining reader ≡ Some bytes → kept ≡ kept_bytes bytes
+pub record IsTreeOfSource {R : Type 0} (source : Reader R) (tree : List TreeFile) : Type 0 where
+  pub kept : List ℕ
+  pub tree_is : tree ≡ dump_tree kept
+  pub told : (bytes : List ℕ) → known_before source ≡ Some bytes → kept ≡ kept_bytes bytes
 
 -- the tree in which a dump's fault has its places; any tree if the source wasn't read, or memory ran out
-abbrev pub IsTreeOfFault : {R : Type 0} → (remaining : R → Option (List ℕ)) → R → List TreeFile → Fault → Type 0
-IsTreeOfFault remaining reader tree Read = Unit {0}
-IsTreeOfFault remaining reader tree Memory = Unit {0}
-IsTreeOfFault remaining reader tree fault = IsTreeOfSource remaining reader tree
+abbrev pub IsTreeOfFault : {R : Type 0} → Reader R → List TreeFile → Fault → Type 0
+IsTreeOfFault source tree Read = Unit {0}
+IsTreeOfFault source tree Memory = Unit {0}
+IsTreeOfFault source tree fault = IsTreeOfSource source tree

@@ -1,6 +1,6 @@
 -- What the definitions say about dumps, whatever the code does.
 use Rattle.std.specs.Prelude.{◌≡◌, ℕ, List}
-use Rattle.proto_parse.specs.tree.Dialect.{Dialect}
+use Rattle.proto_parse.specs.dialect.Dialect.{Dialect}
 use Rattle.protoscip.specs.Dump.{IsListing, IsRefusal}
 use Rattle.protoscip.specs.declared.fault.Fault.{Fault}
 use Rattle.protoscip.specs.declared.fault.Fault.TheVariants.{Memory}

@@ -5,63 +5,25 @@ use Rattle.std.specs.Prelude.{nat_eq, codes, if◌then◌else◌}
 use Rattle.std.specs.List.{list_any, slice_get}
 use Rattle.std.specs.Str.{bytes_eq}
 use Rattle.std.specs.Option.{option_map, unwrap_or}
-use Rattle.excerpts.specs.Excerpts.{excerpt, quoted}
-use Rattle.excerpts.specs.Literals.{joined}
-use Rattle.excerpts.specs.Places.{place_text, token_len}
+use Rattle.diagnostics.specs.Excerpts.{excerpt, quoted}
+use Rattle.diagnostics.specs.Literals.{joined}
+use Rattle.diagnostics.specs.Places.{place_text, token_len}
 use Rattle.proto_lex.specs.FaultNames.{lex_offset}
-use Rattle.proto_lex.specs.declared.fault.LexFault.{LexFault}
-use Rattle.proto_lex.specs.declared.fault.LexFault.TheVariants as lexing
 use Rattle.proto_parse.specs.FaultNames.{syntax_offset}
 use Rattle.proto_parse.specs.fault.SyntaxFault.{SyntaxFault}
 use Rattle.proto_parse.specs.fault.SyntaxFault.TheVariants as parsing
-use Rattle.proto_parse.specs.tree.Dialect.{Dialect}
-use Rattle.proto_visibility.specs.declared.place.FilePlace.{FilePlace}
+use Rattle.proto_parse.specs.dialect.Dialect.{Dialect}
+use Rattle.proto_visibility.specs.declared.files.FilePlace.{FilePlace}
 use Rattle.source_tree.specs.Files.{TreeFile}
-use Rattle.syntax_hints.specs.Hints.{IsHinted}
+use Rattle.diagnostics.specs.Hints.{IsHinted}
 use Rattle.protoscip.specs.FaultLines.{line_of, path_of}
+use Rattle.protoscip.specs.FaultTexts.{sentence_of, syntax_sentence}
 use Rattle.protoscip.specs.Required.{has_required}
 use Rattle.protoscip.specs.declared.fault.Fault.{Fault}
-use Rattle.protoscip.specs.declared.fault.Fault.TheVariants.{Spawn, Memory, Lex, Syntax, Duplicate, MissingImport}
-use Rattle.protoscip.specs.declared.fault.Fault.TheVariants.{Unresolved, TooLarge, Write, Read, Answer}
+use Rattle.protoscip.specs.declared.fault.Fault.TheVariants.{Memory, Lex, Syntax, Duplicate, MissingImport}
+use Rattle.protoscip.specs.declared.fault.Fault.TheVariants.{Unresolved}
 
 -- ---- sentences
-
-abbrev pub lex_sentence : LexFault → List ℕ
-lex_sentence lexing.TooLong = codes "a source has at most 67108864 bytes"
-lex_sentence (lexing.NotUtf8 at) = codes "the bytes from here on aren't UTF-8"
-lex_sentence (lexing.BadByte at) = codes "this character can't be here"
-lex_sentence (lexing.OpenString at) = codes "this string has no end on its line"
-lex_sentence (lexing.OpenComment at) = codes "this comment has no `*/`"
-lex_sentence (lexing.BadEscape at) = codes "this backslash begins no escape"
-lex_sentence (lexing.BadNumber at) = codes "these letters and digits are no number"
-lex_sentence lexing.Memory = []
-
-abbrev pub syntax_sentence : SyntaxFault → List ℕ
-syntax_sentence (parsing.NotProto3 at) =
-    codes "a source begins with `syntax = \"proto3\";`; with `--accept all` it may be proto2"
-syntax_sentence (parsing.CustomOption at) =
-    codes "`--custom-options skip`, or `--accept all`, reads past options with parentheses"
-syntax_sentence (parsing.Aggregate at) =
-    codes "`--custom-options skip`, or `--accept all`, reads past values in braces"
-syntax_sentence (parsing.Extend at) = codes "`--custom-options skip` reads past `extend`, and `--accept all` reads it"
-syntax_sentence (parsing.TwoPackages at) = codes "a source has one package statement at most"
-syntax_sentence (parsing.ImportEscape at) = codes "an import's path is written without `\\`"
-syntax_sentence (parsing.TooDeep at) = codes "messages and groups nest at most 64 deep"
-syntax_sentence (parsing.Grammar at) = codes "the grammar wants something else here"
-syntax_sentence parsing.Memory = []
-
-abbrev pub sentence_of : Fault → List ℕ
-sentence_of Spawn = codes "no thread could be started; `--workers 1` needs none"
-sentence_of Memory = []
-sentence_of (Lex number fault) = lex_sentence fault
-sentence_of (Syntax number fault) = syntax_sentence fault
-sentence_of (Duplicate first second) = codes "this full name is given already"
-sentence_of (MissingImport place) = codes "no source has this path, below ROOT or a folder that is included"
-sentence_of (Unresolved place) = codes "no type that this source sees has this name"
-sentence_of TooLarge = codes "an index has at most 2147483647 bytes"
-sentence_of (Write count) = codes "the output can't be made, or its disk is full, or nobody reads it"
-sentence_of Read = codes "standard input couldn't be read to its end"
-sentence_of (Answer count) = codes "the answers can't be written: the disk is full, or nobody reads them"
 
 -- of the first of two places with one full name
 abbrev pub first_sentence : List ℕ
@@ -130,12 +92,6 @@ imported tree place = take (place.span.end - place.span.start) (drop place.span.
 abbrev pub has_path : (path : List ℕ) → List TreeFile → Bool
 has_path path tree = list_any (λ (file : TreeFile). bytes_eq file.path path) tree
 
--- an import without a file may be of one that is left out
-abbrev pub import_sentence : (is_there : Bool) → List ℕ
-import_sentence is_there =
-    if is_there then codes "the file with this path is left out"
-    else codes "no source has this path, below ROOT or a folder that is included"
-
 -- the token there is the word `edition`
 abbrev pub is_edition : List ℕ → Bool
 is_edition bytes = bytes_eq (take (token_len bytes) bytes) (codes "edition")
@@ -150,9 +106,12 @@ met_sentence text (parsing.Grammar at) =
     else syntax_sentence (parsing.Grammar at)
 met_sentence text fault = syntax_sentence fault
 
+-- an import without a file may be of one that is left out
 abbrev pub sentence_in : List TreeFile → Fault → List ℕ
 sentence_in tree (Syntax number fault) = met_sentence (bytes_of tree number) fault
-sentence_in tree (MissingImport place) = import_sentence (has_path (joined (imported tree place)) tree)
+sentence_in tree (MissingImport place) =
+    if has_path (joined (imported tree place)) tree then codes "the file with this path is left out"
+    else sentence_of (MissingImport place)
 sentence_in tree fault = sentence_of fault
 
 -- ---- explanations
@@ -161,7 +120,8 @@ sentence_in tree fault = sentence_of fault
 abbrev pub explanation_of : List TreeFile → Fault → (hints : List ℕ) → List ℕ
 explanation_of tree Memory hints = []
 explanation_of tree (Lex number fault) hints =
-    at_token (path_of tree number) (bytes_of tree number) (lex_offset fault) (lex_sentence fault)
+    at_token (path_of tree number) (bytes_of tree number) (lex_offset fault)
+    (sentence_of (Lex number fault))
 explanation_of tree (Syntax number fault) hints =
     at_met (path_of tree number) (bytes_of tree number) (syntax_offset fault)
     (met_sentence (bytes_of tree number) fault) hints

@@ -4,27 +4,15 @@ use Rattle.std.specs.Fmt.{decimal}
 use Rattle.std.specs.List.{All, slice_get}
 use Rattle.std.specs.Option.{option_map, unwrap_or}
 use Rattle.source_tree.specs.Files.{TreeFile}
-use Rattle.proto_lex.specs.FaultNames.{lex_name, lex_offset}
-use Rattle.proto_parse.specs.FaultNames.{syntax_name, syntax_offset}
-use Rattle.scip_build.specs.declared.fault.BuildFault.{BuildFault}
-use Rattle.protoscip.specs.Faults.{fault_of_build}
+use Rattle.proto_lex.specs.FaultNames.{lex_offset}
+use Rattle.proto_parse.specs.FaultNames.{syntax_offset}
+use Rattle.scip_build.specs.declared.omission.Omission.{Omission}
+use Rattle.protoscip.specs.FaultTexts.{name_of}
+use Rattle.protoscip.specs.Faults.{fault_of_omission}
 use Rattle.protoscip.specs.Lines.{plain_line, line_at, placed_line}
 use Rattle.protoscip.specs.declared.fault.Fault.{Fault}
 use Rattle.protoscip.specs.declared.fault.Fault.TheVariants.{Spawn, Memory, Lex, Syntax, Duplicate, MissingImport}
 use Rattle.protoscip.specs.declared.fault.Fault.TheVariants.{Unresolved, TooLarge, Write, Read, Answer}
-
-abbrev pub name_of : Fault → List ℕ
-name_of Spawn = codes "Spawn"
-name_of Memory = codes "Memory"
-name_of (Lex number fault) = lex_name fault
-name_of (Syntax number fault) = syntax_name fault
-name_of (Duplicate first second) = codes "Duplicate"
-name_of (MissingImport place) = codes "MissingImport"
-name_of (Unresolved place) = codes "Unresolved"
-name_of TooLarge = codes "TooLarge"
-name_of (Write count) = codes "Write"
-name_of Read = codes "Read"
-name_of (Answer count) = codes "Answer"
 
 -- ---- lines
 
@@ -39,19 +27,19 @@ duplicate_line path at later_path later_at =
     ++ codes ": Duplicate of " ++ path ++ codes "@" ++ decimal at
 
 -- the line of a fault, over this tree, with words before the path of the file at fault: `skipped` if the file is left
--- out for it, and `untargeted` if it only has an import or a use without a target
-abbrev pub line_with : (skipped untargeted : List ℕ) → List TreeFile → Fault → List ℕ
-line_with skipped untargeted tree (Lex number fault) =
+-- out for it, and `unresolved` if it only has an import or a use without a target
+abbrev pub line_with : (skipped unresolved : List ℕ) → List TreeFile → Fault → List ℕ
+line_with skipped unresolved tree (Lex number fault) =
     placed_line (skipped ++ path_of tree number) (lex_offset fault) (name_of (Lex number fault))
-line_with skipped untargeted tree (Syntax number fault) =
+line_with skipped unresolved tree (Syntax number fault) =
     placed_line (skipped ++ path_of tree number) (syntax_offset fault) (name_of (Syntax number fault))
-line_with skipped untargeted tree (Duplicate first second) =
+line_with skipped unresolved tree (Duplicate first second) =
     duplicate_line (path_of tree first.file) first.span.start (skipped ++ path_of tree second.file) second.span.start
-line_with skipped untargeted tree (MissingImport place) =
-    line_at (untargeted ++ path_of tree place.file) place.span.start (name_of (MissingImport place))
-line_with skipped untargeted tree (Unresolved place) =
-    line_at (untargeted ++ path_of tree place.file) place.span.start (name_of (Unresolved place))
-line_with skipped untargeted tree fault = plain_line (name_of fault)
+line_with skipped unresolved tree (MissingImport place) =
+    line_at (unresolved ++ path_of tree place.file) place.span.start (name_of (MissingImport place))
+line_with skipped unresolved tree (Unresolved place) =
+    line_at (unresolved ++ path_of tree place.file) place.span.start (name_of (Unresolved place))
+line_with skipped unresolved tree fault = plain_line (name_of fault)
 
 -- that of a run's fault: without words
 abbrev pub line_of : List TreeFile → Fault → List ℕ
@@ -77,5 +65,5 @@ HasFilesOf tree Read = ⊤
 HasFilesOf tree (Answer count) = ⊤
 
 -- it has those of all that is told
-abbrev pub HaveFilesOf : List TreeFile → List BuildFault → Type 0
-HaveFilesOf tree told = All (λ fault. HasFilesOf tree (fault_of_build fault)) told
+abbrev pub HaveFilesOf : List TreeFile → List Omission → Type 0
+HaveFilesOf tree told = All (λ omission. HasFilesOf tree (fault_of_omission omission)) told

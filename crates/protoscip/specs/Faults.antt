@@ -3,6 +3,8 @@ use Rattle.scip_build.specs.declared.fault.BuildFault.{BuildFault}
 use Rattle.scip_build.specs.declared.fault.BuildFault.TheVariants as build
 use Rattle.scip_build.specs.declared.fault.FileFault.{FileFault}
 use Rattle.scip_build.specs.declared.fault.FileFault.TheVariants as file
+use Rattle.scip_build.specs.declared.omission.Omission.{Omission}
+use Rattle.scip_build.specs.declared.omission.Omission.TheVariants as omitted
 use Rattle.std.specs.Prelude.{ℕ}
 use Rattle.scip_query.specs.declared.answer_fault.AnswerFault.{AnswerFault}
 use Rattle.scip_query.specs.declared.answer_fault.AnswerFault.TheVariants as answer
@@ -24,6 +26,13 @@ fault_of_build (build.File number fault) = fault_of_file number fault
 fault_of_build (build.Duplicate first second) = Duplicate first second
 fault_of_build (build.MissingImport place) = MissingImport place
 fault_of_build (build.Unresolved place) = Unresolved place
+
+-- the fault for which a run would be refused that skips it
+abbrev pub fault_of_omission : Omission → Fault
+fault_of_omission (omitted.File number fault) = fault_of_file number fault
+fault_of_omission (omitted.Duplicate first second) = Duplicate first second
+fault_of_omission (omitted.MissingImport place) = MissingImport place
+fault_of_omission (omitted.Unresolved place) = Unresolved place
 
 abbrev pub fault_of_writing : WriteFault → Fault
 fault_of_writing writing.TooLarge = TooLarge

@@ -1,6 +1,6 @@
 -- The files that a build names are the tree's, whatever may be chosen, as `allows` says.
 use Rattle.std.specs.Prelude.{ℕ, List}
-use Rattle.proto_decl.specs.Seen.{Seen}
+use Rattle.proto_decl.specs.Values.{Seen}
 use Rattle.index_hooks.specs.declared.choice.Choice.{Choice}
 use Rattle.source_tree.specs.Files.{TreeFile}
 use Rattle.scip_build.specs.declared.built.Built.{Built}

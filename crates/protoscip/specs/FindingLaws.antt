@@ -1,7 +1,7 @@
 -- No two findings of an index are alike, nor two faults of a run that is refused, whatever may be chosen, as `allows`
 -- says.
 use Rattle.std.specs.Prelude.{◌≢◌, ℕ, List, AllPairs}
-use Rattle.proto_decl.specs.Seen.{Seen}
+use Rattle.proto_decl.specs.Values.{Seen}
 use Rattle.index_hooks.specs.declared.choice.Choice.{Choice}
 use Rattle.source_tree.specs.Files.{TreeFile}
 use Rattle.source_tree.specs.Trees.{HaveOwnPaths}

@@ -8,12 +8,14 @@ use Rattle.fault_reports.specs.declared.finding.FindingKind.{FindingKind}
 use Rattle.fault_reports.specs.declared.finding.FindingKind.TheVariants as kind
 use Rattle.proto_lex.specs.FaultNames.{lex_offset}
 use Rattle.proto_parse.specs.FaultNames.{syntax_offset}
-use Rattle.proto_visibility.specs.declared.place.FilePlace.{FilePlace}
-use Rattle.scip_build.specs.declared.fault.BuildFault.{BuildFault}
+use Rattle.proto_visibility.specs.declared.files.FilePlace.{FilePlace}
+use Rattle.scip_build.specs.declared.omission.Omission.{Omission}
+use Rattle.scip_build.specs.declared.omission.Omission.TheVariants as omitted
 use Rattle.source_tree.specs.Files.{TreeFile}
 use Rattle.protoscip.specs.Explanations.{bytes_of, imported, sentence_in}
-use Rattle.protoscip.specs.FaultLines.{name_of, path_of}
-use Rattle.protoscip.specs.Faults.{fault_of_build}
+use Rattle.protoscip.specs.FaultLines.{path_of}
+use Rattle.protoscip.specs.FaultTexts.{name_of}
+use Rattle.protoscip.specs.Faults.{fault_of_omission}
 use Rattle.protoscip.specs.ToldLines.{is_import, is_skipped, is_skipped_source, is_use, left_out}
 use Rattle.protoscip.specs.Unread.{unread_finding}
 use Rattle.protoscip.specs.declared.fault.Fault.{Fault}
@@ -60,30 +62,29 @@ finding_of kind tree fault = record {
 
 -- ---- all findings
 
--- what is told of an index is an omission if a file is left out, and else a gap
-abbrev pub kind_of : Fault → FindingKind
-kind_of (Lex number fault) = kind.Skipped
-kind_of (Syntax number fault) = kind.Skipped
-kind_of (Duplicate first second) = kind.Skipped
-kind_of (MissingImport place) = kind.NoTarget
-kind_of (Unresolved place) = kind.NoTarget
-kind_of fault = kind.Fault
+-- of what an index lacks: a file is left out, or an import or a use has no target
+abbrev pub kind_of : Omission → FindingKind
+kind_of (omitted.File number fault) = kind.Skipped
+kind_of (omitted.Duplicate first second) = kind.Skipped
+kind_of (omitted.MissingImport place) = kind.Unresolved
+kind_of (omitted.Unresolved place) = kind.Unresolved
 
-abbrev pub faults_of : List BuildFault → List Fault
-faults_of told = map fault_of_build told
-
-abbrev pub told_in : List TreeFile → List Fault → List Found
-told_in tree faults = map (λ fault. finding_of (kind_of fault) tree fault) faults
+abbrev pub told_finding : List TreeFile → Omission → Found
+told_finding tree omission = finding_of (kind_of omission) tree (fault_of_omission omission)
 
 -- of an index, what is told of it, each thing in its order
-abbrev pub told_findings : List TreeFile → List BuildFault → List Found
-told_findings tree told = told_in tree (faults_of told)
+abbrev pub told_findings : List TreeFile → List Omission → List Found
+told_findings tree told = map (told_finding tree) told
 
 -- and before it what couldn't be read below the folders of the run
-abbrev pub all_findings : List TreeFile → (unread : List (List ℕ)) → List BuildFault → List Found
+abbrev pub all_findings : List TreeFile → (unread : List (List ℕ)) → List Omission → List Found
 all_findings tree unread told = map unread_finding unread ++ told_findings tree told
 
 -- ---- the findings of a run that is refused
+
+-- what is told, as faults of a run
+abbrev pub faults_of : List Omission → List Fault
+faults_of told = map fault_of_omission told
 
 -- the file with this number would be left out for it
 abbrev pub leaves_out : (number : ℕ) → Fault → Bool
@@ -123,13 +124,13 @@ abbrev pub refused_in : List TreeFile → List Fault → List Found
 refused_in tree faults = map (finding_of kind.Fault tree) faults
 
 -- the fault for which the run is refused, and then what else would be told, in its order
-abbrev pub refused_findings : List TreeFile → Fault → List BuildFault → List Found
+abbrev pub refused_findings : List TreeFile → Fault → List Omission → List Found
 refused_findings tree fault told = refused_in tree (faults_with fault (faults_of told))
 
 -- ---- counts
 
 -- as the last line of what is told has them
-abbrev pub counts_of : (sources : ℕ) → List BuildFault → (status : ℕ) → Counts
+abbrev pub counts_of : (sources : ℕ) → List Omission → (status : ℕ) → Counts
 counts_of sources told status = record {
   sources = sources - count_by (is_skipped_source sources) told;
   skipped = count_by is_skipped told;
@@ -139,5 +140,5 @@ counts_of sources told status = record {
 }
 
 -- what couldn't be read is skipped, too
-abbrev pub counts_with : (sources : ℕ) → (unread : List (List ℕ)) → List BuildFault → (status : ℕ) → Counts
+abbrev pub counts_with : (sources : ℕ) → (unread : List (List ℕ)) → List Omission → (status : ℕ) → Counts
 counts_with sources unread told status = record (counts_of sources told status) { skipped = left_out unread told }

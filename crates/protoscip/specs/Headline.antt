@@ -6,13 +6,13 @@ use Rattle.std.specs.Ordering.{nat_cmp, on, then_cmp}
 use Rattle.std.specs.List.{slice_get}
 use Rattle.proto_lex.specs.declared.position.Encoding.{Encoding}
 use Rattle.proto_decl.specs.Facts.{Facts}
-use Rattle.proto_decl.specs.Seen.{Seen}
+use Rattle.proto_decl.specs.Values.{Seen}
 use Rattle.proto_decl.specs.declared.declaration.Declaration.{Declaration}
-use Rattle.proto_decl.specs.declared.type_use.Component.{Component}
-use Rattle.proto_decl.specs.declared.type_use.Use.{Use}
-use Rattle.proto_visibility.specs.declared.entities.Entity.{Entity as Part}
+use Rattle.proto_decl.specs.declared.uses.Component.{Component}
+use Rattle.proto_decl.specs.declared.uses.Use.{Use}
+use Rattle.proto_visibility.specs.declared.lookup.Entity.{Entity as Part}
 use Rattle.proto_visibility.specs.Files.{File, HasFacts, IsSource}
-use Rattle.proto_visibility.specs.Sees.{Counts}
+use Rattle.proto_visibility.specs.Sees.{IsReachable}
 use Rattle.index_hooks.specs.declared.choice.Choice.{Choice}
 use Rattle.source_tree.specs.Files.{TreeFile}
 use Rattle.source_tree.specs.Trees.{IsTree}
@@ -45,12 +45,12 @@ use Rattle.protoscip.specs.Indexes.{built_of, IsIndexed}
 
 -- The entities of linked files: each file that counts, its package with those above it, and what it declares.
 pub data IsEntityOf (files : List File) : Entity → Type 0 where
-  of_file : {number : ℕ} {file : File} → Counts files number → slice_get files number ≡ Some file
+  of_file : {number : ℕ} {file : File} → IsReachable files number → slice_get files number ≡ Some file
       → IsEntityOf files (OfFile file.path)
-  of_package : {number count : ℕ} {facts : Facts} → Counts files number → HasFacts files number facts → 0 < count
+  of_package : {number count : ℕ} {facts : Facts} → IsReachable files number → HasFacts files number facts → 0 < count
       → count ≤ length facts.package_name
       → IsEntityOf files (package_at facts count)
-  of_declaration : {number index : ℕ} {facts : Facts} {declared : Declaration} → Counts files number
+  of_declaration : {number index : ℕ} {facts : Facts} {declared : Declaration} → IsReachable files number
       → HasDeclaration files number index facts declared
       → IsEntityOf files (declaration_at facts declared)
 
@@ -94,12 +94,16 @@ site_cmp = then_cmp (on (λ (s : Site). s.place.document) nat_cmp) (on (λ (s : 
 -- of what was built from a tree
 module _ {allows : Seen → Choice → Type 0} {settings : Settings} {tree : List TreeFile} {result : Built}
     (built : IsBuilt allows settings tree result) where
+  -- the files that it is of, linked
+  abbrev pub linked : List File
+  linked = linked_files built.of_files.parsed
+
   -- An occurrence of a document is one of an entity: the document is that of a source, and a rule by which it occurs
   -- there names this entity.
   pub record IsOf (entity : Entity) (document : Document) (occurrence : Occurrence) : Type 0 where
-    pub of_source : HasDocument (linked_files built.of_files.readings)
-        (texts_of built.of_files.readings) result.choices settings.package settings.encoding document
-    pub occurs : Occurs (linked_files built.of_files.readings) result.choices settings.package settings.encoding
+    pub of_source : HasDocument linked
+        (texts_of built.of_files.parsed) result.choices settings.package settings.encoding document
+    pub occurs : Occurs linked result.choices settings.package settings.encoding
         of_source.source
         of_source.text occurrence
     pub is : entity_of occurs ≡ entity
@@ -134,28 +138,28 @@ module _ {allows : Seen → Choice → Type 0} {settings : Settings} {tree : Lis
   -- occurrences of the entity asked, or its definitions among them, all of them and nothing else.
   pub record AnswersNames : Type 0 where
     pub used : (source : ℕ) (facts : Facts) (type_use : Use) (component : Component)
-        → IsSource (linked_files built.of_files.readings) source
-        → HasFacts (linked_files built.of_files.readings) source facts
+        → IsSource linked source
+        → HasFacts linked source facts
         → Contains facts.uses type_use → Contains type_use.components component
-        → (settings.faulty ≡ Skip → IsResolved (linked_files built.of_files.readings) source type_use)
+        → (settings.faulty ≡ Skip → IsResolved linked source type_use)
         → (part : Part) × (entity : Entity)
-        × NamesIn (linked_files built.of_files.readings) source component part entity
+        × NamesIn linked source component part entity
     pub each : (site : Site) → IsSite result.index site
-        → (entity : Entity) × IsEntityOf (linked_files built.of_files.readings) entity × IsSiteOf entity site
+        → (entity : Entity) × IsEntityOf linked entity × IsSiteOf entity site
         × ((other : Entity) → IsSiteOf other site → other ≡ entity)
-    pub symbol : (entity : Entity) (site : Site) (is : IsEntityOf (linked_files built.of_files.readings) entity)
+    pub symbol : (entity : Entity) (site : Site) (is : IsEntityOf linked entity)
         → IsSiteOf entity site
         → site.occurrence.symbol
-        ≡ text_of (package_of_entity (linked_files built.of_files.readings) settings.package is) entity
-    pub one_to_one : (entity other : Entity) (is : IsEntityOf (linked_files built.of_files.readings) entity)
-        (its : IsEntityOf (linked_files built.of_files.readings) other)
-        → (text_of (package_of_entity (linked_files built.of_files.readings) settings.package is) entity
-        ≡ text_of (package_of_entity (linked_files built.of_files.readings) settings.package its) other)
+        ≡ text_of (package_of_entity linked settings.package is) entity
+    pub one_to_one : (entity other : Entity) (is : IsEntityOf linked entity)
+        (its : IsEntityOf linked other)
+        → (text_of (package_of_entity linked settings.package is) entity
+        ≡ text_of (package_of_entity linked settings.package its) other)
         ↔ (entity ≡ other)
     pub own : (number index other its : ℕ) (facts more : Facts) (a b : Declaration)
-        → Counts (linked_files built.of_files.readings) number → Counts (linked_files built.of_files.readings) other
-        → HasDeclaration (linked_files built.of_files.readings) number index facts a
-        → HasDeclaration (linked_files built.of_files.readings) other its more b
+        → IsReachable linked number → IsReachable linked other
+        → HasDeclaration linked number index facts a
+        → HasDeclaration linked other its more b
         → declaration_at facts a ≡ declaration_at more b → (number ≡ other) × (index ≡ its)
     pub role : (entity : Entity) (site : Site) → (of : IsSiteOf entity site)
         → is_definition site.occurrence ≡ defines of.1.occurs

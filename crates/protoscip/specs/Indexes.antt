@@ -1,15 +1,15 @@
 -- What indexing a tree answers, and what it leaves of the writer. `allows` says which choices may come for a
--- declaration, `contents` and `failures` are the sink's, and `before` and `after` the sink around the call.
-use Rattle.std.specs.Prelude.{◌≡◌, ℕ, ◌<◌, ◌≤◌, ⊤, List, length, Option, Result, Ok, Err}
-use Rattle.proto_decl.specs.Seen.{Seen}
+-- declaration.
+use Rattle.std.specs.Prelude.{◌≡◌, ℕ, ◌<◌, ◌≤◌, ⊤, List, length, Result, Ok, Err}
+use Rattle.proto_decl.specs.Values.{Seen}
 use Rattle.index_hooks.specs.declared.choice.Choice.{Choice}
 use Rattle.source_tree.specs.Files.{TreeFile}
 use Rattle.scip_model.specs.Chosen.{Chosen}
-use Rattle.streams.specs.WholeWrites.{IsWritten, IsCutOff}
+use Rattle.streams.specs.Writers.{Writer, IsWritten, IsCutOff, IsUntouched}
 use Rattle.scip_records.specs.declared.records.Index.{Index}
 use Rattle.scip_build.specs.Builds.{IsBuilt, IsBuildFault}
 use Rattle.scip_build.specs.declared.built.Built.{Built}
-use Rattle.scip_build.specs.declared.fault.BuildFault.{BuildFault}
+use Rattle.scip_build.specs.declared.omission.Omission.{Omission}
 use Rattle.scip_build.specs.declared.settings.Settings.{Settings}
 use Rattle.scip_build.specs.declared.fault.BuildFault.TheVariants as build
 use Rattle.scip_build.specs.declared.fault.FileFault.TheVariants as file
@@ -28,7 +28,7 @@ pub record IsSpelled (index : Index) (bytes : List ℕ) : Type 0 where
   pub alone : (other : Index) → Decodes bytes other → other ≡ index
 
 -- what was recorded beside an index: the choices that it is made by, and what was left out
-abbrev pub recorded_of : Chosen → List BuildFault → Recorded
+abbrev pub recorded_of : Chosen → List Omission → Recorded
 recorded_of choices told = record { choices = choices; told = told }
 
 abbrev pub built_of : Index → Recorded → Built
@@ -67,13 +67,12 @@ IsRefused allows settings tree workers (Answer count) = ⊥
 
 -- The tree is indexed and the bytes are written; or a write fails, and their first `count` are; or the tree isn't
 -- indexed, and the writer is as it was.
-abbrev pub Indexes : {W : Type 0} → (contents : W → Option (List ℕ)) → (failures : W → ℕ)
-    → (allows : Seen → Choice → Type 0) → Settings → List TreeFile → (workers : ℕ)
-    → W → W → Result Recorded Fault → Type 0
-Indexes contents failures allows settings tree workers before after (Ok recorded) =
-    (bytes : List ℕ) × IsIndexed allows settings tree recorded bytes × IsWritten contents failures before after bytes
-Indexes contents failures allows settings tree workers before after (Err (Write count)) =
+abbrev pub Indexes : {W : Type 0} → (allows : Seen → Choice → Type 0) → Settings → List TreeFile → (workers : ℕ)
+    → Writer W → Result Recorded Fault → Type 0
+Indexes allows settings tree workers out (Ok recorded) =
+    (bytes : List ℕ) × IsIndexed allows settings tree recorded bytes × IsWritten out bytes
+Indexes allows settings tree workers out (Err (Write count)) =
     (recorded : Recorded) × (bytes : List ℕ) × IsIndexed allows settings tree recorded bytes
-    × IsCutOff contents failures before after bytes count
-Indexes contents failures allows settings tree workers before after (Err fault) =
-    IsRefused allows settings tree workers fault × (after ≡ before)
+    × IsCutOff out bytes count
+Indexes allows settings tree workers out (Err fault) =
+    IsRefused allows settings tree workers fault × IsUntouched out

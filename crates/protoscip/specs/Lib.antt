@@ -2,10 +2,10 @@
 pub mod Output
 -- why a run stops, the line that says so, and the status that a program then ends with
 pub mod Faults
+pub mod FaultTexts
 pub mod Lines
 pub mod FaultLines
 pub mod FileLaws
-pub mod Statuses
 -- what is added to that line if it is to be explained
 pub mod Required
 pub mod Explanations
@@ -30,5 +30,5 @@ pub mod DumpLaws
 -- answers to commands about the index of a tree
 pub mod Sessions
 pub mod Conversing
--- what holds of all of these
+-- the headline: the bytes decode to one index, and queries over it are exact
 pub mod Headline

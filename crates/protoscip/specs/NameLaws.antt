@@ -2,7 +2,7 @@
 use Rattle.std.specs.Prelude.{◌≢◌, List, [], All}
 use Rattle.proto_decl.specs.Names.{IsSimple}
 use Rattle.proto_decl.specs.Facts.{Facts, AreOfSomeFile}
-use Rattle.proto_decl.specs.Ancestors.{AreNamed, AreHeld}
+use Rattle.proto_decl.specs.Laws.{AreNamed, AreHeld}
 use Rattle.proto_link.specs.Laws.{OneDeclarationAName}
 use Rattle.scip_symbol.specs.OneEntity.{IsWithoutClash, declarations_of, AreWithoutClash}
 use Rattle.scip_model.specs.Laws.{SymbolsNameOne}

@@ -4,8 +4,8 @@ use Rattle.std.specs.Prelude.{ℕ, ◌-◌, Bool, ◌&&◌, ◌||◌, List, [], 
 use Rattle.std.specs.Prelude.{if◌then◌else◌}
 use Rattle.std.specs.List.{suffix_len}
 use Rattle.std.specs.Str.{bytes_eq}
-use Rattle.excerpts.specs.Gaps.{behind_gap}
-use Rattle.excerpts.specs.Literals.{joined}
+use Rattle.diagnostics.specs.Gaps.{behind_gap}
+use Rattle.diagnostics.specs.Literals.{joined}
 use Rattle.proto_lex.specs.Ascii as ascii
 use Rattle.proto_lex.specs.Bytes.{is_letter, is_word, starts}
 

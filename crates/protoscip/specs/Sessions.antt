@@ -1,11 +1,10 @@
--- What a session answers, and what it leaves of its reader and its writer. `remaining`, `read_failures`, `reads` and
--- `ends` are the feed's, `contents` and `write_failures` the sink's. `before` and `after` are the feed around the call,
--- `first` and `last` the sink.
-use Rattle.std.specs.Prelude.{◌≡◌, ◌⊎◌, ℕ, List, Option, Result, Ok, Err}
-use Rattle.proto_decl.specs.Seen.{Seen}
+-- What a session answers, and what it leaves of its reader and its writer.
+use Rattle.std.specs.Prelude.{◌⊎◌, ℕ, List, Result, Ok, Err}
+use Rattle.proto_decl.specs.Values.{Seen}
 use Rattle.index_hooks.specs.declared.choice.Choice.{Choice}
 use Rattle.source_tree.specs.Files.{TreeFile}
-use Rattle.streams.specs.WholeReads.{IsReadBriefly}
+use Rattle.streams.specs.Readers.{Reader, IsReadBriefly, IsUnread}
+use Rattle.streams.specs.Writers.{Writer, IsUntouched}
 use Rattle.scip_records.specs.declared.records.Index.{Index}
 use Rattle.scip_build.specs.declared.settings.Settings.{Settings}
 use Rattle.scip_query.specs.Conversing.{IsConversed, LeavesFeed}
@@ -17,45 +16,43 @@ use Rattle.protoscip.specs.declared.fault.Fault.{Fault}
 use Rattle.protoscip.specs.declared.fault.Fault.TheVariants.{Memory, Read, Answer}
 
 -- nothing was read or written
-pub record AreUntouched {R W : Type 0} (before after : R) (first last : W) : Type 0 where
-  pub unread : after ≡ before
-  pub unwritten : last ≡ first
+pub record AreUntouched {R W : Type 0} (commands : Reader R) (answers : Writer W) : Type 0 where
+  pub unread : IsUnread commands
+  pub unwritten : IsUntouched answers
 
-module _ {R W : Type 0} (remaining : R → Option (List ℕ)) (read_failures reads ends : R → ℕ)
-    (contents : W → Option (List ℕ)) (write_failures : W → ℕ) where
+module _ {R W : Type 0} (commands : Reader R) (answers : Writer W) where
   -- commands are read and answered from an index: what is due to them goes out, or that part of it which the fault
   -- leaves
-  pub record AreAnswered (index : Index) (before after : R) (first last : W)
-      (answered : Result (Unit {0}) AnswerFault) : Type 0 where
-    pub conversed : IsConversed contents write_failures index first last (remaining before) (remaining after) answered
-    pub feed : LeavesFeed read_failures reads ends before after answered
-    pub briefly : IsReadBriefly reads before after
+  pub record AreAnswered (index : Index) (answered : Result (Unit {0}) AnswerFault) : Type 0 where
+    pub conversed : IsConversed index commands answers answered
+    pub feed : LeavesFeed commands answered
+    pub briefly : IsReadBriefly commands
 
   -- they are; or memory runs out before the first
-  abbrev pub MayAnswer : Index → R → R → W → W → Result (Unit {0}) AnswerFault → Type 0
-  MayAnswer index before after first last (Err answer.Memory) =
-      AreUntouched before after first last ⊎ AreAnswered index before after first last (Err answer.Memory)
-  MayAnswer index before after first last answered = AreAnswered index before after first last answered
+  abbrev pub MayAnswer : Index → Result (Unit {0}) AnswerFault → Type 0
+  MayAnswer index (Err answer.Memory) =
+      AreUntouched commands answers ⊎ AreAnswered index (Err answer.Memory)
+  MayAnswer index answered = AreAnswered index answered
 
   -- The tree is indexed, this is recorded, and commands are answered from the index that its bytes decode to.
-  pub record IsServed (allows : Seen → Choice → Type 0) (settings : Settings) (tree : List TreeFile) (before after : R)
-      (first last : W) (recorded : Recorded) (answered : Result (Unit {0}) AnswerFault) : Type 0 where
+  pub record IsServed (allows : Seen → Choice → Type 0) (settings : Settings) (tree : List TreeFile)
+      (recorded : Recorded) (answered : Result (Unit {0}) AnswerFault) : Type 0 where
     pub bytes : List ℕ
     pub indexed : IsIndexed allows settings tree recorded bytes
-    pub are : AreAnswered indexed.index before after first last answered
+    pub are : AreAnswered indexed.index answered
 
   -- All commands are answered; or reading them or writing answers stops; or memory ran out before an answer, or before
   -- the first; or the tree isn't indexed.
-  abbrev pub Serves : (allows : Seen → Choice → Type 0) → Settings → List TreeFile → (workers : ℕ) → R → R → W → W
+  abbrev pub Serves : (allows : Seen → Choice → Type 0) → Settings → List TreeFile → (workers : ℕ)
       → Result Recorded Fault → Type 0
-  Serves allows settings tree workers before after first last (Ok recorded) =
-      IsServed allows settings tree before after first last recorded (Ok tt)
-  Serves allows settings tree workers before after first last (Err Read) =
-      (recorded : Recorded) × IsServed allows settings tree before after first last recorded (Err answer.Read)
-  Serves allows settings tree workers before after first last (Err (Answer count)) =
-      (recorded : Recorded) × IsServed allows settings tree before after first last recorded (Err (answer.Write count))
-  Serves allows settings tree workers before after first last (Err Memory) =
-      AreUntouched before after first last
-      ⊎ ((recorded : Recorded) × IsServed allows settings tree before after first last recorded (Err answer.Memory))
-  Serves allows settings tree workers before after first last (Err fault) =
-      IsRefused allows settings tree workers fault × AreUntouched before after first last
+  Serves allows settings tree workers (Ok recorded) =
+      IsServed allows settings tree recorded (Ok tt)
+  Serves allows settings tree workers (Err Read) =
+      (recorded : Recorded) × IsServed allows settings tree recorded (Err answer.Read)
+  Serves allows settings tree workers (Err (Answer count)) =
+      (recorded : Recorded) × IsServed allows settings tree recorded (Err (answer.Write count))
+  Serves allows settings tree workers (Err Memory) =
+      AreUntouched commands answers
+      ⊎ ((recorded : Recorded) × IsServed allows settings tree recorded (Err answer.Memory))
+  Serves allows settings tree workers (Err fault) =
+      IsRefused allows settings tree workers fault × AreUntouched commands answers

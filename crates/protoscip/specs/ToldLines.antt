@@ -6,12 +6,12 @@ use Rattle.std.specs.Fmt.{decimal}
 use Rattle.std.specs.List.{count_by}
 use Rattle.source_tree.specs.Files.{TreeFile}
 use Rattle.source_tree.specs.Trees.{IsSourceCount}
-use Rattle.proto_parse.specs.tree.Dialect.{Dialect}
-use Rattle.scip_build.specs.declared.fault.BuildFault.{BuildFault}
-use Rattle.scip_build.specs.declared.fault.BuildFault.TheVariants as build
+use Rattle.proto_parse.specs.dialect.Dialect.{Dialect}
+use Rattle.scip_build.specs.declared.omission.Omission.{Omission}
+use Rattle.scip_build.specs.declared.omission.Omission.TheVariants as omitted
 use Rattle.protoscip.specs.Explanations.{IsExplained}
 use Rattle.protoscip.specs.FaultLines.{line_with}
-use Rattle.protoscip.specs.Faults.{fault_of_build}
+use Rattle.protoscip.specs.Faults.{fault_of_omission}
 use Rattle.protoscip.specs.Unread.{unread_lines}
 use Rattle.protoscip.specs.declared.fault.Fault.{Fault}
 
@@ -28,26 +28,26 @@ IsToldLine explain tree fault text = IsExplained explain tree fault (told_line t
 -- ---- numbers
 
 -- a file is left out
-abbrev pub is_skipped : BuildFault → Bool
-is_skipped (build.File number fault) = true
-is_skipped (build.Duplicate first second) = true
-is_skipped fault = false
+abbrev pub is_skipped : Omission → Bool
+is_skipped (omitted.File number fault) = true
+is_skipped (omitted.Duplicate first second) = true
+is_skipped omission = false
 
 -- it is a source, by how many the tree has: their numbers are those below
-abbrev pub is_skipped_source : (sources : ℕ) → BuildFault → Bool
-is_skipped_source sources (build.File number fault) = nat_lt number sources
-is_skipped_source sources (build.Duplicate first second) = nat_lt second.file sources
-is_skipped_source sources fault = false
+abbrev pub is_skipped_source : (sources : ℕ) → Omission → Bool
+is_skipped_source sources (omitted.File number fault) = nat_lt number sources
+is_skipped_source sources (omitted.Duplicate first second) = nat_lt second.file sources
+is_skipped_source sources omission = false
 
 -- an import has no target
-abbrev pub is_import : BuildFault → Bool
-is_import (build.MissingImport place) = true
-is_import fault = false
+abbrev pub is_import : Omission → Bool
+is_import (omitted.MissingImport place) = true
+is_import omission = false
 
 -- a use has none
-abbrev pub is_use : BuildFault → Bool
-is_use (build.Unresolved place) = true
-is_use fault = false
+abbrev pub is_use : Omission → Bool
+is_use (omitted.Unresolved place) = true
+is_use omission = false
 
 -- `protoscip: N sources indexed, N skipped, N imports and N uses without a target`
 abbrev pub numbers_line : (indexed skipped imports uses : ℕ) → List ℕ
@@ -56,7 +56,7 @@ numbers_line indexed skipped imports uses =
     ++ decimal imports ++ codes " imports and " ++ decimal uses ++ codes " uses without a target"
 
 -- of a tree with this many sources
-abbrev pub counts_line : (sources : ℕ) → List BuildFault → List ℕ
+abbrev pub counts_line : (sources : ℕ) → List Omission → List ℕ
 counts_line sources told =
     numbers_line (sources - count_by (is_skipped_source sources) told) (count_by is_skipped told)
     (count_by is_import told) (count_by is_use told)
@@ -64,53 +64,53 @@ counts_line sources told =
 -- ---- all of it
 
 -- a line with its end
-abbrev pub IsEndedLine : (explain : Option Dialect) → List TreeFile → BuildFault → (text : List ℕ) → Type 0
-IsEndedLine explain tree fault text =
-    (line : List ℕ) × IsToldLine explain tree (fault_of_build fault) line × (text ≡ line ++ codes "\n")
+abbrev pub IsEndedLine : (explain : Option Dialect) → List TreeFile → Omission → (text : List ℕ) → Type 0
+IsEndedLine explain tree omission text =
+    (line : List ℕ) × IsToldLine explain tree (fault_of_omission omission) line × (text ≡ line ++ codes "\n")
 
 -- the lines in their order
-abbrev pub AreLines : (explain : Option Dialect) → List TreeFile → List BuildFault → (text : List ℕ) → Type 0
+abbrev pub AreLines : (explain : Option Dialect) → List TreeFile → List Omission → (text : List ℕ) → Type 0
 AreLines explain tree [] text = text ≡ []
 AreLines explain tree (first ∷ others) text =
     (line rest : List ℕ) × IsEndedLine explain tree first line × AreLines explain tree others rest
     × (text ≡ line ++ rest)
 
 -- and the numbers
-abbrev pub IsToldText : (explain : Option Dialect) → List TreeFile → (sources : ℕ) → List BuildFault → (text : List ℕ)
+abbrev pub IsToldText : (explain : Option Dialect) → List TreeFile → (sources : ℕ) → List Omission → (text : List ℕ)
     → Type 0
 IsToldText explain tree sources told text =
     (lines : List ℕ) × AreLines explain tree told lines × (text ≡ lines ++ counts_line sources told)
 
 -- what is reported of an index that lacks this: nothing if it lacks nothing, else all of it
-abbrev pub IsTextOfLacks : (explain : Option Dialect) → List TreeFile → List BuildFault → Option (List ℕ) → Type 0
-IsTextOfLacks explain tree [] text = text ≡ None
-IsTextOfLacks explain tree (first ∷ others) text =
+abbrev pub IsTextOfOmissions : (explain : Option Dialect) → List TreeFile → List Omission → Option (List ℕ) → Type 0
+IsTextOfOmissions explain tree [] text = text ≡ None
+IsTextOfOmissions explain tree (first ∷ others) text =
     (sources : ℕ) × IsSourceCount tree sources
     × ((told : List ℕ) × IsToldText explain tree sources (first ∷ others) told × (text ≡ Some told))
 
 -- ---- with what couldn't be read
 
 -- how many are left out, with these
-abbrev pub left_out : (unread : List (List ℕ)) → List BuildFault → ℕ
+abbrev pub left_out : (unread : List (List ℕ)) → List Omission → ℕ
 left_out unread told = length unread + count_by is_skipped told
 
 -- the numbers: what couldn't be read is skipped
-abbrev pub counts_line_with : (sources : ℕ) → (unread : List (List ℕ)) → List BuildFault → List ℕ
+abbrev pub counts_line_with : (sources : ℕ) → (unread : List (List ℕ)) → List Omission → List ℕ
 counts_line_with sources unread told =
     numbers_line (sources - count_by (is_skipped_source sources) told) (left_out unread told)
     (count_by is_import told) (count_by is_use told)
 
 -- the lines of what couldn't be read, then the others, and then the numbers
 abbrev pub IsToldTextWith : (explain : Option Dialect) → List TreeFile → (sources : ℕ) → (unread : List (List ℕ))
-    → List BuildFault → (text : List ℕ) → Type 0
+    → List Omission → (text : List ℕ) → Type 0
 IsToldTextWith explain tree sources unread told text =
     (lines : List ℕ) × AreLines explain tree told lines
     × (text ≡ unread_lines explain unread ++ (lines ++ counts_line_with sources unread told))
 
 -- what is reported of an index that lacks this: nothing if nothing is lacking, else all of it
-abbrev pub IsTextOfAllLacks : (explain : Option Dialect) → List TreeFile → (unread : List (List ℕ))
-    → List BuildFault → Option (List ℕ) → Type 0
-IsTextOfAllLacks explain tree [] told text = IsTextOfLacks explain tree told text
-IsTextOfAllLacks explain tree (first ∷ others) told text =
+abbrev pub IsTextOfAllOmissions : (explain : Option Dialect) → List TreeFile → (unread : List (List ℕ))
+    → List Omission → Option (List ℕ) → Type 0
+IsTextOfAllOmissions explain tree [] told text = IsTextOfOmissions explain tree told text
+IsTextOfAllOmissions explain tree (first ∷ others) told text =
     (sources : ℕ) × IsSourceCount tree sources
     × ((said : List ℕ) × IsToldTextWith explain tree sources (first ∷ others) told said × (text ≡ Some said))

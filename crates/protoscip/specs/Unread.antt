@@ -4,7 +4,7 @@ use Rattle.std.specs.Prelude.{ℕ, List, [], ◌++◌, Option, None, Some, codes
 use Rattle.std.specs.List.{flat_map}
 use Rattle.fault_reports.specs.Findings.{Found}
 use Rattle.fault_reports.specs.declared.finding.FindingKind.TheVariants.{Skipped}
-use Rattle.proto_parse.specs.tree.Dialect.{Dialect}
+use Rattle.proto_parse.specs.dialect.Dialect.{Dialect}
 use Rattle.protoscip.specs.Lines.{path_line}
 
 abbrev pub unread_name : List ℕ

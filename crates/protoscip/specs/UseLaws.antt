@@ -1,6 +1,6 @@
 -- Laws of uses.
 use Rattle.std.specs.Prelude.{ℕ, List}
-use Rattle.proto_decl.specs.declared.type_use.Use.{Use}
+use Rattle.proto_decl.specs.declared.uses.Use.{Use}
 use Rattle.proto_link.specs.declared.target.Target.{Target}
 use Rattle.proto_visibility.specs.Files.{File, HaveOrigins}
 use Rattle.proto_link.specs.Resolves.{Resolves}

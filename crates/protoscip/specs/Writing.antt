@@ -1,6 +1,6 @@
 -- What the writing of an index answers, and what it leaves of the writer.
-use Rattle.std.specs.Prelude.{◌≡◌, ℕ, ◌<◌, ◌≤◌, List, length, Option, Result, Ok, Err}
-use Rattle.streams.specs.WholeWrites.{IsWritten, IsCutOff}
+use Rattle.std.specs.Prelude.{◌≡◌, ℕ, ◌<◌, ◌≤◌, List, length, Result, Ok, Err}
+use Rattle.streams.specs.Writers.{Writer, IsWritten, IsCutOff, IsUntouched}
 use Rattle.scip_records.specs.declared.records.Document.{Document}
 use Rattle.scip_records.specs.declared.records.Index.{Index}
 use Rattle.scip_wire.specs.Spelling.{document_record, spelling_of, max_index_len}
@@ -15,22 +15,19 @@ pub record IsRecordOf (document : Document) (bytes : List ℕ) : Type 0 where
   pub fit : IsFitDocument document
 
 -- its bytes are written, all or the first `count`; or it has too many, and the writer is as it was
-abbrev pub WritesIndex : {W : Type 0} → (contents : W → Option (List ℕ)) → (failures : W → ℕ) → Index → W → W
-    → Result (Unit {0}) Fault → Type 0
-WritesIndex contents failures index before after (Ok done) =
-    IsSpelled index (spelling_of index) × IsWritten contents failures before after (spelling_of index)
-WritesIndex contents failures index before after (Err (Write count)) =
-    IsSpelled index (spelling_of index) × IsCutOff contents failures before after (spelling_of index) count
-WritesIndex contents failures index before after (Err TooLarge) =
-    (max_index_len < length (spelling_of index)) × (after ≡ before)
-WritesIndex contents failures index before after (Err other) = ⊥
+pub data WritesIndex {W : Type 0} (index : Index) (out : Writer W) : Result (Unit {0}) Fault → Type 0 where
+  index_is_written : {done : Unit {0}} → IsSpelled index (spelling_of index) → IsWritten out (spelling_of index)
+      → WritesIndex index out (Ok done)
+  index_is_cut_off : {count : ℕ} → IsSpelled index (spelling_of index) → IsCutOff out (spelling_of index) count
+      → WritesIndex index out (Err (Write count))
+  index_is_too_large : max_index_len < length (spelling_of index) → IsUntouched out
+      → WritesIndex index out (Err TooLarge)
 
 -- what is read back of an index's bytes is the index
 abbrev pub IsReadBack : Index → Index → Type 0
 IsReadBack index read = IsSpelled index (spelling_of index) × (read ≡ index)
 
 -- an index has no bytes to read back: it has too many, or, if it hasn't, memory ran out
-abbrev pub IsNotReadBack : Index → Fault → Type 0
-IsNotReadBack index Memory = length (spelling_of index) ≤ max_index_len
-IsNotReadBack index TooLarge = max_index_len < length (spelling_of index)
-IsNotReadBack index other = ⊥
+pub data IsNotReadBack (index : Index) : Fault → Type 0 where
+  reading_lacks_memory : length (spelling_of index) ≤ max_index_len → IsNotReadBack index Memory
+  has_no_bytes : max_index_len < length (spelling_of index) → IsNotReadBack index TooLarge

@@ -1,5 +1,7 @@
 //! Answers to commands about an index.
 
+ghost use Rattle.streams.specs.Readers.{reader};
+ghost use Rattle.streams.specs.Writers.{writer};
 ghost use Rattle.protoscip.specs.Sessions.{MayAnswer};
 
 use scip_query::{AnswerFault, Queries};
@@ -15,8 +17,7 @@ pub fn answer_commands<F: Feed, W: Sink>(
     commands: &mut F,
     answers: &mut W,
 ) -> Result<(), AnswerFault>
-    ensures { MayAnswer F.remaining F.failures F.reads F.ends W.contents W.failures index commands.old commands.new
-        answers.old answers.new result }
+    ensures { MayAnswer (reader F.Feed commands) (writer W.Sink answers) index result }
 {
     match Queries::new(alloc, index) {
         Ok(queries) => queries.answer_all(alloc, commands, answers),

@@ -2,7 +2,8 @@
 
 ghost use Rattle.std.specs.Prelude.{◌≡◌, ℕ, List, [], IfOk, IfErr, MatchResult, OnOk};
 ghost use Rattle.std.specs.String.{string_bytes};
-ghost use Rattle.streams.specs.WholeReads.{IsReadBriefly};
+ghost use Rattle.streams.specs.Readers.{IsReadBriefly, reader};
+ghost use Rattle.streams.specs.Writers.{writer};
 ghost use Rattle.protoscip.specs.Dump.{
   dump_tree,
   dump_settings,
@@ -16,12 +17,13 @@ ghost use Rattle.protoscip.specs.Dump.{
 };
 ghost use Rattle.protoscip.specs.FaultLines.{HasFilesOf};
 ghost use Rattle.protoscip.specs.Writing.{IsNotReadBack};
-ghost use Rattle.proto_parse.specs.tree.Dialect.{Dialect};
+ghost use Rattle.proto_parse.specs.dialect.Dialect.{Dialect};
 
 use crate::fault::Fault;
 use crate::listing::dump_text;
 use crate::output::write_text;
 use crate::reading_back::read_back;
+use basics::OwnedText;
 use index_hooks::{Choice, Chooses, DocChoice, Turns};
 use index_pool::{NoGate, Workers};
 use proto_decl::DeclView;
@@ -31,7 +33,6 @@ use scip_build::{Faulty, Run, Settings, build};
 use scip_model::FilePackages;
 use scip_records::Index;
 use scip_symbol::PackageId;
-use sequences::OwnedText;
 use source_tree::{Source, Tree, TreeFault, read_source};
 use std::alloc::{AllocError, Global};
 use std::sync::Wait;
@@ -157,12 +158,12 @@ pub fn dump_and_keep<R: Threads + Wait, F: Feed, W: Sink>(
     tree: &mut Tree,
     out: &mut W,
 ) -> Result<(), Fault>
-    ensures dumped { IsDumped F.remaining W.contents W.failures dialect source.old out.old out.new result }
-    ensures tree { IfErr result (IsTreeOfFault F.remaining source.old tree.new) }
+    ensures dumped { IsDumped dialect (reader F.Feed source) (writer W.Sink out) result }
+    ensures tree { IfErr result (IsTreeOfFault (reader F.Feed source) tree.new) }
     ensures files { IfErr result (HasFilesOf tree.new) }
     ensures alone { IfErr result (HasFilesOf (dump_tree [])) }
-    ensures reader { LeavesReader F.failures F.reads F.ends source.old source.new result }
-    ensures briefly { IsReadBriefly F.reads source.old source.new }
+    ensures reader { LeavesReader (reader F.Feed source) result }
+    ensures briefly { IsReadBriefly (reader F.Feed source) }
 {
     let bytes = match read_source(alloc, source)? {
         Some(bytes) => bytes,
@@ -188,10 +189,10 @@ pub fn dump_with<R: Threads + Wait, F: Feed, W: Sink>(
     source: &mut F,
     out: &mut W,
 ) -> Result<(), Fault>
-    ensures dumped { IsDumped F.remaining W.contents W.failures dialect source.old out.old out.new result }
+    ensures dumped { IsDumped dialect (reader F.Feed source) (writer W.Sink out) result }
     ensures files { IfErr result (HasFilesOf (dump_tree [])) }
-    ensures reader { LeavesReader F.failures F.reads F.ends source.old source.new result }
-    ensures briefly { IsReadBriefly F.reads source.old source.new }
+    ensures reader { LeavesReader (reader F.Feed source) result }
+    ensures briefly { IsReadBriefly (reader F.Feed source) }
 {
     let mut tree = dump_tree(alloc, Vec::new(alloc))?;
     dump_and_keep(rt, alloc, dialect, source, &mut tree, out)
@@ -204,10 +205,10 @@ pub fn dump<R: Threads + Wait, F: Feed, W: Sink>(
     source: &mut F,
     out: &mut W,
 ) -> Result<(), Fault>
-    ensures dumped { IsDumped F.remaining W.contents W.failures plain_dialect source.old out.old out.new result }
+    ensures dumped { IsDumped plain_dialect (reader F.Feed source) (writer W.Sink out) result }
     ensures files { IfErr result (HasFilesOf (dump_tree [])) }
-    ensures reader { LeavesReader F.failures F.reads F.ends source.old source.new result }
-    ensures briefly { IsReadBriefly F.reads source.old source.new }
+    ensures reader { LeavesReader (reader F.Feed source) result }
+    ensures briefly { IsReadBriefly (reader F.Feed source) }
 {
     dump_with(
         rt,

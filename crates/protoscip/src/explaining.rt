@@ -22,12 +22,11 @@ use crate::fault_lines::fault_line;
 use crate::required::has_required;
 use crate::sentences::sentence_in;
 use crate::tree_counter::{Part, TreeCounter};
-use excerpts::{push_quoted, token_len};
+use diagnostics::{hint_text, push_quoted, token_len};
 use proto_link::FilePlace;
 use proto_parse::{Dialect, SyntaxFault};
 use source_tree::Tree;
 use std::alloc::{AllocError, Global};
-use syntax_hints::hint_text;
 
 /// What is told of a place: a sentence, and what could be there.
 #[derive(Clone, Copy)]

@@ -1,14 +1,12 @@
 //! Why a run stops short of its answer.
 
 ghost use Rattle.std.specs.Prelude.{◌≡◌};
-ghost use Rattle.protoscip.specs.FaultLines.{name_of};
-ghost use Rattle.protoscip.specs.Statuses.{status_of};
+ghost use Rattle.protoscip.specs.FaultTexts.{name_of, status_of};
 
-use crate::statuses::{MEMORY_STATUS, SOURCES_STATUS, STREAM_STATUS};
 use proto_lex::LexFault;
 use proto_link::FilePlace;
 use proto_parse::SyntaxFault;
-use scip_build::{BuildFault, FileFault};
+use scip_build::{BuildFault, FileFault, Omission};
 use scip_query::AnswerFault;
 use scip_wire::{MAX_INDEX_LEN, WriteFault};
 use std::alloc::AllocError;
@@ -87,6 +85,22 @@ impl From<BuildFault> for Fault {
     }
 }
 
+impl From<Omission> for Fault {
+    ghost use Rattle.protoscip.specs.Faults.{fault_of_omission};
+
+    ghost from_gives = { λ omission e. e ≡ fault_of_omission omission };
+
+    fn from(omission: Omission) -> Fault {
+        match omission {
+            Omission::File(file, FileFault::Lex(fault)) => Fault::Lex(file, fault),
+            Omission::File(file, FileFault::Syntax(fault)) => Fault::Syntax(file, fault),
+            Omission::Duplicate(first, second) => Fault::Duplicate(first, second),
+            Omission::MissingImport(place) => Fault::MissingImport(place),
+            Omission::Unresolved(place) => Fault::Unresolved(place),
+        }
+    }
+}
+
 impl From<WriteFault> for Fault {
     ghost use Rattle.protoscip.specs.Faults.{fault_of_writing};
 
@@ -119,36 +133,13 @@ impl Fault {
     pub fn name(&self) -> &'static str
         ensures { result.now ≡ name_of self.now }
     {
-        match self {
-            Fault::Spawn => "Spawn",
-            Fault::Memory => "Memory",
-            Fault::Lex(_, fault) => fault.name(),
-            Fault::Syntax(_, fault) => fault.name(),
-            Fault::Duplicate(..) => "Duplicate",
-            Fault::MissingImport(_) => "MissingImport",
-            Fault::Unresolved(_) => "Unresolved",
-            Fault::TooLarge => "TooLarge",
-            Fault::Write(_) => "Write",
-            Fault::Read => "Read",
-            Fault::Answer(_) => "Answer",
-        }
+        self.text().name
     }
 
     /// The exit status of a program that stops for it.
     pub fn status(&self) -> u8
         ensures { result ≡ status_of self.now }
     {
-        match self {
-            Fault::Spawn
-            | Fault::Memory
-            | Fault::Lex(_, LexFault::Memory)
-            | Fault::Syntax(_, SyntaxFault::Memory) => MEMORY_STATUS,
-            Fault::Lex(..)
-            | Fault::Syntax(..)
-            | Fault::Duplicate(..)
-            | Fault::MissingImport(_)
-            | Fault::Unresolved(_) => SOURCES_STATUS,
-            Fault::TooLarge | Fault::Write(_) | Fault::Read | Fault::Answer(_) => STREAM_STATUS,
-        }
+        self.text().status
     }
 }

@@ -23,16 +23,16 @@ pub fn fault_line(alloc: Global, tree: &Tree, fault: &Fault) -> Result<String, A
 }
 
 /// The line, without its end, that says this, with words before the path of the file at fault: `skipped` if the file is
-/// left out for it, and `untargeted` if it only has an import or a use without a target.
+/// left out for it, and `unresolved` if it only has an import or a use without a target.
 pub(crate) fn line_with(
     alloc: Global,
     tree: &Tree,
     fault: &Fault,
     skipped: &str,
-    untargeted: &str,
+    unresolved: &str,
 ) -> Result<String, AllocError>
     requires { HasFilesOf tree.now fault.now }
-    ensures { IfOk result (λ line. string_bytes line ≡ line_with skipped.now untargeted.now tree.now fault.now) }
+    ensures { IfOk result (λ line. string_bytes line ≡ line_with skipped.now unresolved.now tree.now fault.now) }
 {
     let name = fault.name();
     match fault {
@@ -50,8 +50,8 @@ pub(crate) fn line_with(
             path_of(tree, second.file),
             second.span.start as usize,
         ),
-        Fault::MissingImport(place) => line_at_place(alloc, untargeted, tree, place, name),
-        Fault::Unresolved(place) => line_at_place(alloc, untargeted, tree, place, name),
+        Fault::MissingImport(place) => line_at_place(alloc, unresolved, tree, place, name),
+        Fault::Unresolved(place) => line_at_place(alloc, unresolved, tree, place, name),
         Fault::Spawn
         | Fault::Memory
         | Fault::TooLarge

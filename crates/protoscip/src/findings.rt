@@ -3,6 +3,7 @@
 ghost use Rattle.std.specs.Prelude.{◌≡◌, ◌++◌, [], ◌∷◌, IfOk, OnOk, map, option_map, string_bytes, if◌then◌else◌};
 ghost use Rattle.std.specs.List.{All};
 ghost use Rattle.protoscip.specs.FaultLines.{HasFile, HasFilesOf, HaveFilesOf};
+ghost use Rattle.protoscip.specs.Faults.{fault_of_omission};
 ghost use Rattle.protoscip.specs.FindingLaws.{FindingsComeOnce};
 ghost use Rattle.protoscip.specs.Findings.{
   all_findings,
@@ -24,8 +25,8 @@ ghost use Rattle.protoscip.specs.Findings.{
   refused_findings,
   refused_in,
   tells_same,
+  told_finding,
   told_findings,
-  told_in,
 };
 
 use crate::fault::Fault;
@@ -38,7 +39,7 @@ use crate::unread::unread_findings;
 use fault_reports::{Counts, Finding, FindingKind, Place};
 use index_hooks::Chooses;
 use proto_link::FilePlace;
-use scip_build::BuildFault;
+use scip_build::Omission;
 use source_tree::Tree;
 use std::alloc::{AllocError, Global};
 
@@ -148,49 +149,26 @@ pub fn finding_of<'a>(kind: FindingKind, tree: &'a Tree, fault: &Fault) -> Findi
     counted_finding(kind, tree, &mut counters_of(tree), fault)
 }
 
-/// What a thing that is told of an index is.
-fn kind_of(fault: &Fault) -> FindingKind
-    ensures { result ≡ kind_of fault.now }
+/// What a thing is that an index lacks.
+fn kind_of(omission: &Omission) -> FindingKind
+    ensures { result ≡ kind_of omission.now }
 {
-    match fault {
-        Fault::Lex(..) | Fault::Syntax(..) | Fault::Duplicate(..) => FindingKind::Skipped,
-        Fault::MissingImport(_) | Fault::Unresolved(_) => FindingKind::NoTarget,
-        Fault::Spawn
-        | Fault::Memory
-        | Fault::TooLarge
-        | Fault::Write(_)
-        | Fault::Read
-        | Fault::Answer(_) => FindingKind::Fault,
+    match omission {
+        Omission::File(..) | Omission::Duplicate(..) => FindingKind::Skipped,
+        Omission::MissingImport(_) | Omission::Unresolved(_) => FindingKind::Unresolved,
     }
 }
 
-/// What is told, as faults of a run.
-fn faults_of(alloc: Global, told: &[BuildFault]) -> Result<Vec<Fault>, AllocError>
-    ensures { IfOk result (λ faults. faults.items ≡ faults_of told.now) }
+/// The finding of what an index of the tree lacks. The places are counted on from those before.
+fn told_finding<'a>(tree: &'a Tree, counters: &mut Counters<'a>, omission: &Omission) -> Finding<'a>
+    requires files { HasFilesOf tree.now (fault_of_omission omission.now) }
+    requires own { counters.old.own ≡ tree.now }
+    requires first { counters.old.first ≡ tree.now }
+    ensures finding { result ≡ told_finding tree.now omission.now }
+    ensures own { counters.new.own ≡ tree.now }
+    ensures first { counters.new.first ≡ tree.now }
 {
-    let mut faults = Vec::new(alloc);
-    for fault in told {
-        faults.push(Fault::from(*fault))?;
-    }
-    Ok(faults)
-}
-
-/// The findings of faults that are told.
-fn told_in<'a>(
-    alloc: Global,
-    tree: &'a Tree,
-    faults: &[Fault],
-) -> Result<Vec<Finding<'a>>, AllocError>
-    requires { All (HasFilesOf tree.now) faults.now }
-    ensures { IfOk result (λ findings. findings.items ≡ told_in tree.now faults.now) }
-{
-    let mut counters = counters_of(tree);
-    let mut findings = Vec::new(alloc);
-    for fault in faults {
-        let finding = counted_finding(kind_of(fault), tree, &mut counters, fault);
-        findings.push(finding)?;
-    }
-    Ok(findings)
+    counted_finding(kind_of(omission), tree, counters, &Fault::from(*omission))
 }
 
 /// The findings of what is told of an index of the tree: each thing, in this order.
@@ -200,13 +178,18 @@ fn told_in<'a>(
 pub fn told_findings<'a>(
     alloc: Global,
     tree: &'a Tree,
-    told: &[BuildFault],
+    told: &[Omission],
 ) -> Result<Vec<Finding<'a>>, AllocError>
     requires { HaveFilesOf tree.now told.now }
     ensures { IfOk result (λ findings. findings.items ≡ told_findings tree.now told.now) }
 {
-    let faults = faults_of(alloc, told)?;
-    told_in(alloc, tree, faults.as_slice())
+    let mut counters = counters_of(tree);
+    let mut findings = Vec::new(alloc);
+    for omission in told {
+        let finding = told_finding(tree, &mut counters, omission);
+        findings.push(finding)?;
+    }
+    Ok(findings)
 }
 
 /// The findings of what is told of an index of the tree, and before these one for each path that couldn't be read and
@@ -218,7 +201,7 @@ pub fn all_findings<'a>(
     alloc: Global,
     tree: &'a Tree,
     unread: &'a [String],
-    told: &[BuildFault],
+    told: &[Omission],
 ) -> Result<Vec<Finding<'a>>, AllocError>
     requires { HaveFilesOf tree.now told.now }
     ensures { IfOk result (λ findings. findings.items ≡ all_findings tree.now (map string_bytes unread.now) told.now) }
@@ -227,6 +210,17 @@ pub fn all_findings<'a>(
     let mut others = told_findings(alloc, tree, told)?;
     findings.append(&mut others)?;
     Ok(findings)
+}
+
+/// What is told, as faults of a run.
+fn faults_of(alloc: Global, told: &[Omission]) -> Result<Vec<Fault>, AllocError>
+    ensures { IfOk result (λ faults. faults.items ≡ faults_of told.now) }
+{
+    let mut faults = Vec::new(alloc);
+    for omission in told {
+        faults.push(Fault::from(*omission))?;
+    }
+    Ok(faults)
 }
 
 /// Whether the file with this number would be left out for a fault.
@@ -329,7 +323,7 @@ pub fn refused_findings<'a>(
     alloc: Global,
     tree: &'a Tree,
     fault: &Fault,
-    told: &[BuildFault],
+    told: &[Omission],
 ) -> Result<Vec<Finding<'a>>, AllocError>
     requires fault { HasFilesOf tree.now fault.now }
     requires told { HaveFilesOf tree.now told.now }
@@ -341,7 +335,7 @@ pub fn refused_findings<'a>(
 }
 
 /// The counts for the last line of a report, of a tree with this many sources, and of a run that ends with this status.
-pub fn counts_of(sources: usize, told: &[BuildFault], status: u8) -> Counts
+pub fn counts_of(sources: usize, told: &[Omission], status: u8) -> Counts
     ensures { result ≡ counts_of sources told.now status }
 {
     Counts {
@@ -354,7 +348,7 @@ pub fn counts_of(sources: usize, told: &[BuildFault], status: u8) -> Counts
 }
 
 /// The same, with what couldn't be read and was left out.
-pub fn counts_with(sources: usize, unread: &[String], told: &[BuildFault], status: u8) -> Counts
+pub fn counts_with(sources: usize, unread: &[String], told: &[Omission], status: u8) -> Counts
     ensures { result ≡ counts_with sources (map string_bytes unread.now) told.now status }
 {
     Counts {

@@ -2,14 +2,14 @@
 
 ghost use Rattle.std.specs.Prelude.{Ok, Err, IfErr, IfOk, MatchResult, map, string_bytes};
 ghost use Rattle.std.specs.Option.{option_map};
-ghost use Rattle.streams.specs.WholeWrites.{IsWritten};
+ghost use Rattle.streams.specs.Writers.{IsWritten, writer};
 ghost use Rattle.scip_records.specs.declared.records.Index.{Index};
 ghost use Rattle.scip_build.specs.Forms.{ArePartsOf};
 ghost use Rattle.protoscip.specs.Explanations.{explain_in};
 ghost use Rattle.protoscip.specs.FaultLines.{HasFilesOf, HaveFilesOf};
 ghost use Rattle.protoscip.specs.Headline.{IsNavigable};
 ghost use Rattle.protoscip.specs.Indexes.{Indexes, recorded_of};
-ghost use Rattle.protoscip.specs.ToldLines.{IsTextOfAllLacks, IsTextOfLacks};
+ghost use Rattle.protoscip.specs.ToldLines.{IsTextOfAllOmissions, IsTextOfOmissions};
 ghost use Rattle.protoscip.specs.Writing.{IsRecordOf, WritesIndex};
 
 use crate::as_bytes::AsBytes;
@@ -17,7 +17,7 @@ use crate::explaining::explain_in;
 use crate::fault::Fault;
 use crate::laws::headline_of_tree;
 use crate::recorded::Recorded;
-use crate::telling::{Telling, text_of_lacks};
+use crate::telling::{Telling, text_of_omissions};
 use index_hooks::Chooses;
 use index_pool::Gate;
 use scip_build::{BuiltParts, Parts, Run, Settings, build_in_form};
@@ -34,8 +34,8 @@ use streams::Sink;
 ///
 /// `TooLarge`: it has more than `MAX_INDEX_LEN`. `Write(count)`: a write failed after `count` of them.
 fn write_spelled<W: Sink>(parts: &Parts<DocumentRecord>, out: &mut W) -> Result<(), Fault>
-    ensures { (index : Index) → ArePartsOf IsRecordOf index parts.now → WritesIndex W.contents W.failures index out.old
-        out.new result }
+    ensures { (index : Index) → ArePartsOf IsRecordOf index parts.now → WritesIndex index (writer W.Sink out)
+        result }
 {
     spelling_is_of_pieces();
     spelling_decodes_to_its_index();
@@ -70,21 +70,21 @@ pub fn index_and_tell<'a, R: Threads + Wait, C: Chooses + Sync, G: Gate, W: Sink
     out: &mut W,
 ) -> Result<KeptIndex<'a>, Fault>
     ensures indexed { MatchResult result
-        (λ kept. Indexes W.contents W.failures (C.allows chooser.now) settings.now tree.now run.now.workers out.old
-        out.new (Ok (recorded_of kept.built.choices kept.built.told)))
-        (λ fault. Indexes W.contents W.failures (C.allows chooser.now) settings.now tree.now run.now.workers out.old
-        out.new (Err fault)) }
+        (λ kept. Indexes (C.allows chooser.now) settings.now tree.now run.now.workers (writer W.Sink out)
+        (Ok (recorded_of kept.built.choices kept.built.told)))
+        (λ fault. Indexes (C.allows chooser.now) settings.now tree.now run.now.workers (writer W.Sink out)
+        (Err fault)) }
     ensures navigable { IfOk result (λ kept. IsNavigable
-        (λ bytes _. IsWritten W.contents W.failures out.old out.new bytes) (C.allows chooser.now) settings.now tree.now
+        (λ bytes _. IsWritten (writer W.Sink out) bytes) (C.allows chooser.now) settings.now tree.now
         (recorded_of kept.built.choices kept.built.told)) }
     ensures files { IfErr result (HasFilesOf tree.now) }
     ensures told { IfOk result (λ kept. HaveFilesOf tree.now kept.built.told) }
-    ensures said { IfOk result (λ kept. IsTextOfAllLacks telling.now.explain tree.now (map string_bytes
+    ensures said { IfOk result (λ kept. IsTextOfAllOmissions telling.now.explain tree.now (map string_bytes
         telling.now.unread.now) kept.built.told (option_map string_bytes kept.text)) }
 {
     headline_of_tree(chooser, tree, settings);
     let built = build_in_form(run, tree, chooser, settings, &AsBytes)?;
-    let text = text_of_lacks(run.alloc, tree, built.told.as_slice(), telling)?;
+    let text = text_of_omissions(run.alloc, tree, built.told.as_slice(), telling)?;
     write_spelled(&built.parts, out)?;
     Ok(KeptIndex { built, text })
 }
@@ -100,16 +100,16 @@ pub fn index_and_keep<'a, R: Threads + Wait, C: Chooses + Sync, G: Gate, W: Sink
     out: &mut W,
 ) -> Result<KeptIndex<'a>, Fault>
     ensures indexed { MatchResult result
-        (λ kept. Indexes W.contents W.failures (C.allows chooser.now) settings.now tree.now run.now.workers out.old
-        out.new (Ok (recorded_of kept.built.choices kept.built.told)))
-        (λ fault. Indexes W.contents W.failures (C.allows chooser.now) settings.now tree.now run.now.workers out.old
-        out.new (Err fault)) }
+        (λ kept. Indexes (C.allows chooser.now) settings.now tree.now run.now.workers (writer W.Sink out)
+        (Ok (recorded_of kept.built.choices kept.built.told)))
+        (λ fault. Indexes (C.allows chooser.now) settings.now tree.now run.now.workers (writer W.Sink out)
+        (Err fault)) }
     ensures navigable { IfOk result (λ kept. IsNavigable
-        (λ bytes _. IsWritten W.contents W.failures out.old out.new bytes) (C.allows chooser.now) settings.now tree.now
+        (λ bytes _. IsWritten (writer W.Sink out) bytes) (C.allows chooser.now) settings.now tree.now
         (recorded_of kept.built.choices kept.built.told)) }
     ensures files { IfErr result (HasFilesOf tree.now) }
     ensures told { IfOk result (λ kept. HaveFilesOf tree.now kept.built.told) }
-    ensures said { IfOk result (λ kept. IsTextOfLacks (explain_in explain settings.now.dialect) tree.now
+    ensures said { IfOk result (λ kept. IsTextOfOmissions (explain_in explain settings.now.dialect) tree.now
         kept.built.told (option_map string_bytes kept.text)) }
 {
     let telling = Telling {
@@ -131,10 +131,10 @@ pub fn index_tree<R: Threads + Wait, C: Chooses + Sync, G: Gate, W: Sink>(
     settings: &Settings,
     out: &mut W,
 ) -> Result<Recorded, Fault>
-    ensures indexed { Indexes W.contents W.failures (C.allows chooser.now) settings.now tree.now run.now.workers out.old
-        out.new result }
+    ensures indexed { Indexes (C.allows chooser.now) settings.now tree.now run.now.workers (writer W.Sink out)
+        result }
     ensures navigable { IfOk result (λ recorded. IsNavigable
-        (λ bytes _. IsWritten W.contents W.failures out.old out.new bytes) (C.allows chooser.now) settings.now tree.now
+        (λ bytes _. IsWritten (writer W.Sink out) bytes) (C.allows chooser.now) settings.now tree.now
         recorded) }
     ensures files { IfErr result (HasFilesOf tree.now) }
     ensures told { IfOk result (λ recorded. HaveFilesOf tree.now recorded.told) }

@@ -92,6 +92,7 @@ pub(crate) fn headline_of_tree<C: Chooses>(chooser: &C, tree: &Tree, settings: &
     ensures { HeadlineOfTree (C.allows chooser.now) settings.now tree.now }
 {
     headline(chooser);
+    // From here on it is known that the files are those of a tree.
     tree.file_count();
     settings.package.run();
 }

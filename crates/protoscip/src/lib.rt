@@ -18,14 +18,17 @@ mod answering;
 mod reading_back;
 mod sessions;
 
-// Why a run stops.
-mod explaining;
+// Why a run stops: the fault, its name, sentence and status (`fault_texts`), and the line that says it.
 mod fault;
 mod fault_lines;
+mod fault_texts;
 mod lines;
+mod statuses;
+
+// What is added to that line if it is to be explained.
+mod explaining;
 mod required;
 mod sentences;
-mod statuses;
 mod tree_counter;
 
 // What an index lacks.
@@ -56,19 +59,19 @@ pub use sessions::session;
 pub use statuses::{MEMORY_STATUS, SOURCES_STATUS, STREAM_STATUS};
 pub use telling::{
     Telling, count_imports, count_left_out, count_skipped, count_skipped_sources, count_uses,
-    lacks_nothing, told_text, told_text_with,
+    omits_nothing, told_text, told_text_with,
 };
 pub use told_lines::told_line;
 pub use told_trees::told_of_tree;
 
 // What is made below, for whoever embeds the indexer. (To read an index, `scip_wire` and `scip_query` are needed, too.)
 // Sources and settings,
+pub use basics::{OwnedText, Sequence};
 pub use proto_lex::Encoding;
 pub use proto_parse::{CustomOptions, Dialect};
 pub use scip_build::{Built, Faulty, Run, Settings, build};
 pub use scip_model::{Choices, FilePackages, RootPackage};
 pub use scip_symbol::{BadPart, PackageId};
-pub use sequences::{OwnedText, Sequence};
 pub use source_tree::{Source, Tree, TreeFault, is_good_path};
 
 // reports,
@@ -78,16 +81,16 @@ pub use fault_reports::{Counts, Finding, FindingKind, Place, ReportFormat, repor
 pub use index_hooks::{
     AnyAnswer, BoxedFilter, BoxedRule, Choice, Chooses, DocAlways, DocCallback, DocChoice, DocHook,
     DocOneOf, DocPromise, DocRule, Filter, FilterCallback, FilterHook, FilterPromise, HookFault,
-    KindIn, Kinds, NamePrefix, Registry, Ticket, WithComment,
+    KindIn, Kinds, NamePrefix, Registry, Turn, WithComment,
 };
 pub use proto_decl::{DeclView, DeclarationKind};
 
 // threads and streams,
-pub use index_pool::{Gate, NoGate, Workers};
+pub use index_pool::{Gate, MAX_WORKERS, NoGate, Workers};
 pub use streams::{Failed, Feed, Sink, Std};
 
 // and what a fault holds.
 pub use proto_lex::{LexFault, Span};
 pub use proto_link::FilePlace;
 pub use proto_parse::SyntaxFault;
-pub use scip_build::{BuildFault, FileFault};
+pub use scip_build::{BuildFault, FileFault, Omission};

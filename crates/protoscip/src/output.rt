@@ -1,5 +1,6 @@
 //! Writing to the program's output.
 
+ghost use Rattle.streams.specs.Writers.{writer};
 ghost use Rattle.protoscip.specs.Output.{Writes};
 
 use crate::fault::Fault;
@@ -9,7 +10,7 @@ use streams::{Sink, write_all};
 ///
 /// - `Write(count)`: a write failed after `count` bytes of the text were written.
 pub fn write_text<W: Sink>(out: &mut W, text: &str) -> Result<(), Fault>
-    ensures { Writes W.contents W.failures out.old out.new text.now result }
+    ensures { Writes (writer W.Sink out) text.now result }
 {
     match write_all(out, text.as_bytes()) {
         Ok(()) => Ok(()),

@@ -11,6 +11,7 @@ use scip_wire::{
 use std::alloc::Global;
 
 /// A copy of an index, decoded from its bytes.
+#[tactic(auto, using(crate::proofs::WritingRules::of_reading))]
 fn decoded(alloc: Global, index: &Index) -> Result<Index, Fault>
     ensures { MatchResult result (IsReadBack index.now) (IsNotReadBack index.now) }
 {

@@ -1,8 +1,8 @@
 //! What is known of an index beside its bytes.
 
-use scip_build::BuildFault;
+use basics::Sequence;
+use scip_build::Omission;
 use scip_model::Choices;
-use sequences::Sequence;
 
 /// What the index of a tree was made by, and what has no part in it.
 #[derive(Debug, Drop)]
@@ -11,5 +11,5 @@ pub struct Recorded {
     pub choices: Choices,
     /// What was left out, and what has no target, each by the fault for which it would be refused, in order of file
     /// and place; nothing if faults are refused. File numbers are those of the tree.
-    pub told: Sequence<BuildFault>,
+    pub told: Sequence<Omission>,
 }

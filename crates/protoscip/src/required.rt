@@ -19,7 +19,7 @@ ghost use Rattle.protoscip.specs.Required.{
 };
 
 use crate::explaining::{head, tail};
-use excerpts::{behind_gap, is_joined};
+use diagnostics::{behind_gap, is_joined};
 
 /// What is behind a text, if the bytes begin with it.
 fn behind_text<'a>(text: &[u8], bytes: &'a [u8]) -> &'a [u8]

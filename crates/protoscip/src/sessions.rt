@@ -1,6 +1,8 @@
 //! From a tree to answers to commands about its index.
 
 ghost use Rattle.std.specs.Prelude.{Ok, IfErr, IfOk};
+ghost use Rattle.streams.specs.Readers.{reader};
+ghost use Rattle.streams.specs.Writers.{writer};
 ghost use Rattle.protoscip.specs.FaultLines.{HasFilesOf, HaveFilesOf};
 ghost use Rattle.protoscip.specs.Conversing.{Converses};
 ghost use Rattle.protoscip.specs.Headline.{IsNavigable};
@@ -22,14 +24,14 @@ use std::thread::Threads;
 use streams::{Feed, Sink};
 
 /// Answers commands about the index that an index's bytes decode to: itself.
+#[tactic(auto, using(crate::proofs::ConversingRules::of_unread))]
 fn converse<F: Feed, W: Sink>(
     alloc: Global,
     index: Index,
     commands: &mut F,
     answers: &mut W,
 ) -> Result<(), Fault>
-    ensures { Converses F.remaining F.failures F.reads F.ends W.contents W.failures index commands.old commands.new
-        answers.old answers.new result }
+    ensures { Converses (reader F.Feed commands) (writer W.Sink answers) index result }
 {
     let read = read_back(alloc, index)?;
     answer_commands(alloc, read, commands, answers)?;
@@ -51,11 +53,11 @@ pub fn session<R: Threads + Wait, C: Chooses + Sync, G: Gate, F: Feed, W: Sink>(
     commands: &mut F,
     answers: &mut W,
 ) -> Result<Recorded, Fault>
-    ensures served { Serves F.remaining F.failures F.reads F.ends W.contents W.failures (C.allows chooser.now)
-        settings.now tree.now run.now.workers commands.old commands.new answers.old answers.new result }
+    ensures served { Serves (reader F.Feed commands) (writer W.Sink answers) (C.allows chooser.now)
+        settings.now tree.now run.now.workers result }
     ensures navigable { IfOk result (λ recorded. IsNavigable
-        (λ _ index. AreAnswered F.remaining F.failures F.reads F.ends W.contents W.failures index commands.old
-        commands.new answers.old answers.new (Ok tt)) (C.allows chooser.now) settings.now tree.now recorded) }
+        (λ _ index. AreAnswered (reader F.Feed commands) (writer W.Sink answers) index (Ok tt)) (C.allows chooser.now)
+        settings.now tree.now recorded) }
     ensures files { IfErr result (HasFilesOf tree.now) }
     ensures told { IfOk result (λ recorded. HaveFilesOf tree.now recorded.told) }
 {

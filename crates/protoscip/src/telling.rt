@@ -12,7 +12,7 @@ ghost use Rattle.protoscip.specs.ToldLines.{
   is_skipped,
   is_skipped_source,
   is_use,
-  IsTextOfAllLacks,
+  IsTextOfAllOmissions,
   IsToldText,
   IsToldTextWith,
   left_out,
@@ -23,7 +23,7 @@ use crate::told_lines::push_told;
 use crate::tree_counter::TreeCounter;
 use crate::unread::push_unread;
 use proto_parse::Dialect;
-use scip_build::BuildFault;
+use scip_build::Omission;
 use source_tree::Tree;
 use std::alloc::{AllocError, Global};
 
@@ -37,72 +37,72 @@ pub struct Telling<'a> {
 }
 
 /// Whether a file is left out.
-fn is_skipped(fault: &BuildFault) -> bool
-    ensures { result ≡ is_skipped fault.now }
+fn is_skipped(omission: &Omission) -> bool
+    ensures { result ≡ is_skipped omission.now }
 {
-    matches!(fault, BuildFault::File(..) | BuildFault::Duplicate(..))
+    matches!(omission, Omission::File(..) | Omission::Duplicate(..))
 }
 
 /// Whether it is a source, by how many the tree has.
-fn is_skipped_source(sources: usize, fault: &BuildFault) -> bool
-    ensures { result ≡ is_skipped_source sources fault.now }
+fn is_skipped_source(sources: usize, omission: &Omission) -> bool
+    ensures { result ≡ is_skipped_source sources omission.now }
 {
-    match fault {
-        BuildFault::File(number, _) => *number < sources,
-        BuildFault::Duplicate(_, second) => second.file < sources,
+    match omission {
+        Omission::File(number, _) => *number < sources,
+        Omission::Duplicate(_, second) => second.file < sources,
         _ => false,
     }
 }
 
 /// Whether an import has no target.
-fn is_import(fault: &BuildFault) -> bool
-    ensures { result ≡ is_import fault.now }
+fn is_import(omission: &Omission) -> bool
+    ensures { result ≡ is_import omission.now }
 {
-    matches!(fault, BuildFault::MissingImport(_))
+    matches!(omission, Omission::MissingImport(_))
 }
 
 /// Whether a use has none.
-fn is_use(fault: &BuildFault) -> bool
-    ensures { result ≡ is_use fault.now }
+fn is_use(omission: &Omission) -> bool
+    ensures { result ≡ is_use omission.now }
 {
-    matches!(fault, BuildFault::Unresolved(_))
+    matches!(omission, Omission::Unresolved(_))
 }
 
 /// How many files are left out.
-pub fn count_skipped(told: &[BuildFault]) -> usize
+pub fn count_skipped(told: &[Omission]) -> usize
     ensures { result ≡ count_by is_skipped told.now }
 {
-    told.iter().filter(|fault| is_skipped(*fault)).count()
+    told.iter().filter(|omission| is_skipped(*omission)).count()
 }
 
 /// How many files are left out, with what couldn't be read.
-pub fn count_left_out(unread: &[String], told: &[BuildFault]) -> usize
+pub fn count_left_out(unread: &[String], told: &[Omission]) -> usize
     ensures { result ≡ left_out (map string_bytes unread.now) told.now }
 {
     unread.len() + count_skipped(told)
 }
 
 /// How many sources are left out, by how many the tree has.
-pub fn count_skipped_sources(sources: usize, told: &[BuildFault]) -> usize
+pub fn count_skipped_sources(sources: usize, told: &[Omission]) -> usize
     ensures { result ≡ count_by (is_skipped_source sources) told.now }
 {
     told.iter()
-        .filter(|fault| is_skipped_source(sources, *fault))
+        .filter(|omission| is_skipped_source(sources, *omission))
         .count()
 }
 
 /// How many imports have no target.
-pub fn count_imports(told: &[BuildFault]) -> usize
+pub fn count_imports(told: &[Omission]) -> usize
     ensures { result ≡ count_by is_import told.now }
 {
-    told.iter().filter(|fault| is_import(*fault)).count()
+    told.iter().filter(|omission| is_import(*omission)).count()
 }
 
 /// How many uses have none.
-pub fn count_uses(told: &[BuildFault]) -> usize
+pub fn count_uses(told: &[Omission]) -> usize
     ensures { result ≡ count_by is_use told.now }
 {
-    told.iter().filter(|fault| is_use(*fault)).count()
+    told.iter().filter(|omission| is_use(*omission)).count()
 }
 
 /// `protoscip: N sources indexed, N skipped, N imports and N uses without a target`
@@ -125,7 +125,7 @@ fn counts_line(
     alloc: Global,
     sources: usize,
     unread: &[String],
-    told: &[BuildFault],
+    told: &[Omission],
 ) -> Result<String, AllocError>
     ensures { IfOk result (λ line. string_bytes line
         ≡ counts_line_with sources (map string_bytes unread.now) told.now) }
@@ -144,7 +144,7 @@ fn push_lines(
     alloc: Global,
     out: &mut String,
     tree: &Tree,
-    told: &[BuildFault],
+    told: &[Omission],
     explain: Option<Dialect>,
 ) -> Result<(), AllocError>
     requires { HaveFilesOf tree.now told.now }
@@ -152,8 +152,8 @@ fn push_lines(
         × (string_bytes out.new ≡ string_bytes out.old ++ lines)) }
 {
     let mut counter = TreeCounter::new(tree);
-    for fault in told {
-        push_told(alloc, out, tree, &mut counter, *fault, explain)?;
+    for omission in told {
+        push_told(alloc, out, tree, &mut counter, *omission, explain)?;
     }
     Ok(())
 }
@@ -164,7 +164,7 @@ fn text_of(
     alloc: Global,
     tree: &Tree,
     sources: usize,
-    told: &[BuildFault],
+    told: &[Omission],
     telling: &Telling<'_>,
 ) -> Result<String, AllocError>
     requires { HaveFilesOf tree.now told.now }
@@ -187,7 +187,7 @@ fn text_of(
 pub fn told_text_with(
     alloc: Global,
     tree: &Tree,
-    told: &[BuildFault],
+    told: &[Omission],
     telling: &Telling<'_>,
 ) -> Result<String, AllocError>
     requires { HaveFilesOf tree.now told.now }
@@ -206,7 +206,7 @@ pub fn told_text_with(
 pub fn told_text(
     alloc: Global,
     tree: &Tree,
-    told: &[BuildFault],
+    told: &[Omission],
     explain: Option<Dialect>,
 ) -> Result<String, AllocError>
     requires { HaveFilesOf tree.now told.now }
@@ -225,24 +225,24 @@ pub fn told_text(
 }
 
 /// Whether an index lacks nothing, and all could be read.
-pub fn lacks_nothing(unread: &[String], told: &[BuildFault]) -> bool
+pub fn omits_nothing(unread: &[String], told: &[Omission]) -> bool
     ensures { result ≡ (length unread.now == 0 && length told.now == 0) }
 {
     unread.is_empty() && told.is_empty()
 }
 
 /// The report of an index that lacks something; for one that lacks nothing there is nothing to report.
-pub(crate) fn text_of_lacks(
+pub(crate) fn text_of_omissions(
     alloc: Global,
     tree: &Tree,
-    told: &[BuildFault],
+    told: &[Omission],
     telling: &Telling<'_>,
 ) -> Result<Option<String>, AllocError>
     requires { HaveFilesOf tree.now told.now }
-    ensures { IfOk result (λ text. IsTextOfAllLacks telling.now.explain tree.now (map string_bytes
+    ensures { IfOk result (λ text. IsTextOfAllOmissions telling.now.explain tree.now (map string_bytes
         telling.now.unread.now) told.now (option_map string_bytes text)) }
 {
-    if lacks_nothing(telling.unread, told) {
+    if omits_nothing(telling.unread, told) {
         return Ok(None);
     }
     Ok(Some(told_text_with(alloc, tree, told, telling)?))

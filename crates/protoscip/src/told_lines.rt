@@ -2,7 +2,7 @@
 
 ghost use Rattle.std.specs.Prelude.{◌≡◌, ◌++◌, ℕ, List, IfOk, OnOk, string_bytes};
 ghost use Rattle.protoscip.specs.FaultLines.{HasFilesOf};
-ghost use Rattle.protoscip.specs.Faults.{fault_of_build};
+ghost use Rattle.protoscip.specs.Faults.{fault_of_omission};
 ghost use Rattle.protoscip.specs.ToldLines.{IsEndedLine, IsToldLine, told_line};
 
 use crate::explaining::with_explanation;
@@ -10,7 +10,7 @@ use crate::fault::Fault;
 use crate::fault_lines::line_with;
 use crate::tree_counter::TreeCounter;
 use proto_parse::Dialect;
-use scip_build::BuildFault;
+use scip_build::Omission;
 use source_tree::Tree;
 use std::alloc::{AllocError, Global};
 
@@ -49,16 +49,16 @@ pub(crate) fn push_told(
     out: &mut String,
     tree: &Tree,
     counter: &mut TreeCounter<'_>,
-    fault: BuildFault,
+    omission: Omission,
     explain: Option<Dialect>,
 ) -> Result<(), AllocError>
-    requires files { HasFilesOf tree.now (fault_of_build fault) }
+    requires files { HasFilesOf tree.now (fault_of_omission omission) }
     requires counter { counter.old ≡ tree.now }
-    ensures told { OnOk result ((line : List ℕ) × IsEndedLine explain tree.now fault line
+    ensures told { OnOk result ((line : List ℕ) × IsEndedLine explain tree.now omission line
         × (string_bytes out.new ≡ string_bytes out.old ++ line)) }
     ensures counter { counter.new ≡ tree.now }
 {
-    let line = explained_line(alloc, tree, counter, &Fault::from(fault), explain)?;
+    let line = explained_line(alloc, tree, counter, &Fault::from(omission), explain)?;
     out.push_str(line.as_str())?;
     out.push_str("\n")
 }

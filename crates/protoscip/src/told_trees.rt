@@ -6,12 +6,12 @@ ghost use Rattle.protoscip.specs.ToldTrees.{IsToldOf, MayNotTell, skipping};
 
 use crate::dumping::dump_settings;
 use crate::fault::Fault;
+use basics::Sequence;
 use index_hooks::Chooses;
 use index_pool::Gate;
 use proto_parse::Dialect;
-use scip_build::{BuildFault, DocumentForm, Faulty, Run, Settings, build_in_form};
+use scip_build::{DocumentForm, Faulty, Omission, Run, Settings, build_in_form};
 use scip_model::DocumentPlan;
-use sequences::Sequence;
 use source_tree::Tree;
 use std::alloc::{AllocError, Global};
 use std::sync::Wait;
@@ -46,12 +46,13 @@ fn skipping(alloc: Global, dialect: Dialect) -> Result<Settings, AllocError>
 /// index is built and let go of, so a run that was refused can say each of its faults.
 ///
 /// `Spawn`, `Memory`: that can't be had. File numbers are those of the tree.
+#[tactic(auto, using(crate::proofs::ToldTreeRules::of_tree))]
 pub fn told_of_tree<R: Threads + Wait, C: Chooses + Sync, G: Gate>(
     run: &Run<'_, R, G>,
     tree: &Tree,
     chooser: &C,
     dialect: Dialect,
-) -> Result<Sequence<BuildFault>, Fault>
+) -> Result<Sequence<Omission>, Fault>
     ensures told { IfOk result (IsToldOf (C.allows chooser.now) dialect tree.now) }
     ensures files { IfOk result (HaveFilesOf tree.now) }
     ensures stops { IfErr result (MayNotTell run.now.workers) }

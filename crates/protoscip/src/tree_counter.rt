@@ -6,7 +6,7 @@ ghost use Rattle.protoscip.specs.FaultLines.{HasFile, path_of};
 ghost use Rattle.protoscip.specs.Findings.{place_in};
 
 use crate::fault_lines::path_of;
-use excerpts::{LineCounter, push_excerpt, push_place};
+use diagnostics::{LineCounter, push_excerpt, push_place};
 use fault_reports::Place;
 use source_tree::Tree;
 use std::alloc::{AllocError, Global};

@@ -12,7 +12,7 @@ ghost use Rattle.protoscip.specs.Unread.{
 };
 
 use crate::lines::path_line;
-use excerpts::LineCounter;
+use diagnostics::LineCounter;
 use fault_reports::{Finding, FindingKind, Place};
 use proto_parse::Dialect;
 use std::alloc::{AllocError, Global};

@@ -1,6 +1,7 @@
 //! What several tests share.
 
 use crate::faulty_streams::{AT_ONCE, Failing, PACES, Pace};
+use basics::OwnedText;
 use index_hooks::Registry;
 use index_pool::{NoGate, Workers};
 use proto_lex::Encoding;
@@ -9,7 +10,6 @@ use protoscip::Fault;
 use scip_build::{Faulty, Run, Settings};
 use scip_model::FilePackages;
 use scip_symbol::PackageId;
-use sequences::OwnedText;
 use source_tree::Tree;
 use std::alloc::{AllocError, Global};
 use std::process::Abort;

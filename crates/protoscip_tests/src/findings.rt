@@ -4,14 +4,14 @@ ghost use Rattle.std.specs.Prelude.{IfOk};
 ghost use Rattle.protoscip.specs.FaultLines.{HasFilesOf, HaveFilesOf};
 
 use crate::calls::{Desk, Given, WANT, see, writer};
+use basics::Sequence;
 use index_hooks::Registry;
 use proto_lex::Encoding;
 use protoscip::{
     Fault, Finding, ReportFormat, counts_of, findings_come_once, index_tree, refused_findings,
     report_bytes, told_findings, told_of_tree,
 };
-use scip_build::{BuildFault, Faulty};
-use sequences::Sequence;
+use scip_build::{Faulty, Omission};
 use source_tree::Tree;
 use std::alloc::{AllocError, Global};
 use std::process::Abort;
@@ -70,7 +70,7 @@ fn report_of(
     alloc: Global,
     tree: &Tree,
     findings: &[Finding<'_>],
-    told: &[BuildFault],
+    told: &[Omission],
     status: u8,
 ) -> Result<Vec<u8>, AllocError> {
     let counts = counts_of(tree.source_count(), told, status);
@@ -78,7 +78,7 @@ fn report_of(
 }
 
 /// The report of a tree whose faults are skipped.
-fn skipped(alloc: Global, tree: &Tree, told: &[BuildFault]) -> Result<Vec<u8>, AllocError>
+fn skipped(alloc: Global, tree: &Tree, told: &[Omission]) -> Result<Vec<u8>, AllocError>
     requires { HaveFilesOf tree.now told.now }
 {
     let findings = told_findings(alloc, tree, told)?;
@@ -90,7 +90,7 @@ fn refused(
     alloc: Global,
     tree: &Tree,
     fault: &Fault,
-    told: &[BuildFault],
+    told: &[Omission],
 ) -> Result<Vec<u8>, AllocError>
     requires fault { HasFilesOf tree.now fault.now }
     requires told { HaveFilesOf tree.now told.now }
@@ -101,7 +101,7 @@ fn refused(
 
 impl<'a, R: Threads + Wait + Abort> Desk<'a, R> {
     /// What is told of a tree if faults are skipped; none for want of memory or of a thread.
-    pub(crate) fn told(&self, given: &Given) -> Result<Sequence<BuildFault>, AllocError>
+    pub(crate) fn told(&self, given: &Given) -> Result<Sequence<Omission>, AllocError>
         ensures { IfOk result (HaveFilesOf given.now.tree) }
     {
         let dialect = given.settings.dialect;

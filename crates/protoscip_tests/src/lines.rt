@@ -7,7 +7,7 @@ use crate::calls::{COUNTS, Desk, Given, WANT, see, writer};
 use index_hooks::Registry;
 use proto_lex::Encoding;
 use protoscip::{Fault, fault_line, index_tree, told_text};
-use scip_build::{BuildFault, Faulty};
+use scip_build::{Faulty, Omission};
 use source_tree::Tree;
 use std::alloc::{AllocError, Global};
 use std::process::Abort;
@@ -109,7 +109,7 @@ fn said(alloc: Global, tree: &Tree, fault: &Fault) -> Result<Said, AllocError>
 }
 
 /// What is said of an index that was written, with status 0.
-fn said_of_index(alloc: Global, tree: &Tree, told: &[BuildFault]) -> Result<Said, AllocError>
+fn said_of_index(alloc: Global, tree: &Tree, told: &[Omission]) -> Result<Said, AllocError>
     requires { HaveFilesOf tree.now told.now }
 {
     if told.is_empty() {

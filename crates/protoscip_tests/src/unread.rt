@@ -9,7 +9,7 @@ use protoscip::{
     ReportFormat, Telling, all_findings, counts_with, explain_in, index_and_tell, report_bytes,
     told_text_with,
 };
-use scip_build::{BuildFault, Faulty};
+use scip_build::{Faulty, Omission};
 use source_tree::Tree;
 use std::alloc::{AllocError, Global};
 use std::process::Abort;
@@ -91,7 +91,7 @@ fn report_of(
     alloc: Global,
     tree: &Tree,
     unread: &[String],
-    told: &[BuildFault],
+    told: &[Omission],
 ) -> Result<Vec<u8>, AllocError>
     requires { HaveFilesOf tree.now told.now }
 {

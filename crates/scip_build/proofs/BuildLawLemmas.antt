@@ -6,21 +6,21 @@ use Rattle.std.proofs.lemmas.Bool.{cases_order}
 use Rattle.std.proofs.lemmas.Option.{same_Some, slice_get_within}
 use Rattle.std.proofs.lemmas.List.Elements.{All-head, All-tail, Contains-push, Contains-append_left}
 use Rattle.std.proofs.lemmas.List.Elements.{Contains-append_right}
-use Rattle.proto_parse.specs.tree.Dialect.{Dialect}
+use Rattle.basics.proofs.ListLemmas.{item_at}
+use Rattle.proto_parse.specs.dialect.Dialect.{Dialect}
 use Rattle.proto_lex.specs.declared.span.Span.{Span}
 use Rattle.proto_decl.specs.Facts.{Facts}
-use Rattle.proto_decl.specs.Seen.{Seen}
-use Rattle.proto_decl.specs.declared.type_use.Use.{Use}
+use Rattle.proto_decl.specs.Values.{Seen}
+use Rattle.proto_decl.specs.declared.uses.Use.{Use}
 use Rattle.index_hooks.specs.declared.choice.Choice.{Choice}
 use Rattle.proto_visibility.specs.Files.{File, HaveOrigins}
 use Rattle.proto_link.specs.Laws.{OneRefusal}
 use Rattle.proto_visibility.specs.Linked.{CanBeLinked, MayRefuse}
-use Rattle.proto_visibility.specs.declared.place.FilePlace.{FilePlace}
+use Rattle.proto_visibility.specs.Linked.MayRefuse.{broken_file, clashing, absent_import, lacks_memory}
+use Rattle.proto_visibility.specs.declared.files.FilePlace.{FilePlace}
 use Rattle.proto_visibility.specs.declared.fault.LinkFault.{LinkFault}
 use Rattle.proto_visibility.specs.declared.fault.LinkFault.TheVariants as link
-use Rattle.proto_visibility.proofs.FirstLemmas.{item_at}
-use Rattle.scip_model.specs.Conditions.{IsResolved, AllResolve, IsFirstUnresolved}
-use Rattle.scip_model.specs.Uses.{UsesResolve}
+use Rattle.scip_model.specs.Conditions.{IsResolved, AllResolve, IsFirstUnresolved, UsesResolve}
 use Rattle.source_tree.specs.Files.{TreeFile}
 use Rattle.scip_build.specs.declared.faulty.Faulty.{Faulty}
 use Rattle.scip_build.specs.declared.faulty.Faulty.TheVariants.{Refuse}
@@ -29,11 +29,12 @@ use Rattle.scip_build.specs.declared.fault.BuildFault.{BuildFault}
 use Rattle.scip_build.specs.declared.fault.BuildFault.TheVariants as build
 use Rattle.scip_build.specs.Parsed.{IsUnreadable}
 use Rattle.scip_build.specs.Files.{FileContents}
-use Rattle.scip_build.specs.Readings.{HasContents, AreReadingsOf, IsFirstFaulty}
+use Rattle.scip_build.specs.ParsedFiles.{HasContents, AreParsedFiles, IsFirstFaulty}
 use Rattle.scip_build.specs.Linking.{linked_files}
+use Rattle.scip_build.specs.Linking.MayRefuseParsed.{is_unread, is_duplicate, is_missing}
 use Rattle.scip_build.specs.Documents.{IsLeastUnresolved}
-use Rattle.scip_build.specs.Builds.{OfReadings, IsBuildFault}
-use Rattle.scip_build.specs.Laws.{OneFileFault, OneFirstFaulty, OneLinking, NoReadingsWhereFaulty}
+use Rattle.scip_build.specs.Builds.{OfParsed, IsBuildFault}
+use Rattle.scip_build.specs.Laws.{OneFileFault, OneFirstFaulty, OneLinking, NoParsedFilesWhereFaulty}
 use Rattle.scip_build.specs.BuildLaws.{cause_of, BuiltHasNoFault, OneBuildFault}
 use Rattle.scip_build.proofs.ReadyLemmas.{whole_at, have_origins}
 
@@ -116,12 +117,10 @@ module _ (files : List File) where
       ⊎ (CanBeLinked files × (place : FilePlace) × (fault ≡ link.Unresolved place) × IsLeastUnresolved files place)
 
   linked_is_linked : CanBeLinked files → (fault : LinkFault) → MayRefuse files fault → fault ≢ link.Memory → ⊥
-  linked_is_linked can (link.Broken number) wrong other = can.read number wrong.unread
-  linked_is_linked can (link.Duplicate first second) wrong other =
-      can.clear wrong.1.earlier wrong.1.later wrong.1.exclude
-  linked_is_linked can (link.MissingImport place) wrong other = can.complete place wrong.2.missing
-  linked_is_linked can (link.Unresolved place) wrong other = absurd wrong
-  linked_is_linked can link.Memory wrong other = absurd (other refl)
+  linked_is_linked can _ (broken_file {number = number} wrong) other = can.read number wrong.unread
+  linked_is_linked can _ (clashing read clash) other = can.clear clash.earlier clash.later clash.exclude
+  linked_is_linked can _ (absent_import {place = place} read clear absent) other = can.complete place absent.missing
+  linked_is_linked can _ lacks_memory other = absurd (other refl)
 
   one_cause : OneRefusal → HaveOrigins files → (a b : LinkFault) → Refuses a → Refuses b → a ≢ link.Memory
       → b ≢ link.Memory → a ≡ b
@@ -140,7 +139,7 @@ module _ (files : List File) where
 abbrev Reason : Dialect → (allows : Seen → Choice → Type 0) → List TreeFile → LinkFault → Type 0
 Reason dialect allows tree cause =
     ((number : ℕ) × (fault : FileFault) × (cause ≡ link.Broken number) × IsFirstFaulty dialect tree number fault)
-    ⊎ OfReadings dialect allows tree (λ readings. Refuses (linked_files readings) cause)
+    ⊎ OfParsed dialect allows tree (λ parsed. Refuses (linked_files parsed) cause)
 
 reason : (faulty : Faulty) (dialect : Dialect) (allows : Seen → Choice → Type 0) (tree : List TreeFile)
     (workers : ℕ) (fault : BuildFault) → IsBuildFault allows faulty dialect tree workers fault
@@ -149,12 +148,12 @@ reason faulty dialect allows tree workers build.Spawn is not = absurd (not refl)
 reason faulty dialect allows tree workers build.Memory is not = absurd (not refl)
 reason faulty dialect allows tree workers (build.File number fault) (refuse, inl first) not =
     (refuse, inl (number, fault, refl, first))
-reason faulty dialect allows tree workers (build.File number fault) (refuse, inr later) not =
-    (refuse, inr (later.0, later.1, inl later.2.0))
-reason faulty dialect allows tree workers (build.Duplicate first second) (refuse, is) not =
-    (refuse, inr (is.0, is.1, inl is.2))
-reason faulty dialect allows tree workers (build.MissingImport place) (refuse, is) not =
-    (refuse, inr (is.0, is.1, inl is.2))
+reason faulty dialect allows tree workers (build.File number fault) (refuse, inr (parsed, are, is_unread broken has))
+    not = (refuse, inr (parsed, are, inl (broken_file broken)))
+reason faulty dialect allows tree workers (build.Duplicate first second) (refuse, (parsed, are, is_duplicate is))
+    not = (refuse, inr (parsed, are, inl is))
+reason faulty dialect allows tree workers (build.MissingImport place) (refuse, (parsed, are, is_missing is)) not =
+    (refuse, inr (parsed, are, inl is))
 reason faulty dialect allows tree workers (build.Unresolved place) (refuse, is) not =
     (refuse, inr (is.0, is.1, inr (is.2.0, place, refl, is.2.1)))
 
@@ -166,11 +165,11 @@ OneCause allows others =
     → cause_of fault ≢ link.Memory → cause_of other ≢ link.Memory → cause_of fault ≡ cause_of other
 
 module _ (allows others : Seen → Choice → Type 0) (one_linking : OneLinking allows others)
-    (none : NoReadingsWhereFaulty allows) (none_others : NoReadingsWhereFaulty others) where
+    (none : NoParsedFilesWhereFaulty allows) (none_others : NoParsedFilesWhereFaulty others) where
   pub built_has_no_fault : BuiltHasNoFault allows others
   built_has_no_fault settings tree workers built fault is wrong not =
       let why = reason settings.faulty settings.dialect others tree workers fault wrong not in
-      let Read : Faulty → Type 0 = λ f. AreReadingsOf f settings.dialect allows tree is.all in
+      let Read : Faulty → Type 0 = λ f. AreParsedFiles f settings.dialect allows tree is.all in
       let read : Read Refuse = subst Read why.0 is.read in
       let good = is.of_files.refused why.0 in
       elim why.1 [
@@ -209,13 +208,12 @@ named : (faulty : Faulty) (dialect : Dialect) (allows : Seen → Choice → Type
     → IsBuildFault allows faulty dialect tree workers (build.File number fault) → IsNamed dialect tree number fault
 named faulty dialect allows tree workers number fault (refuse, inl first) =
     record { file = first.file; numbered = first.numbered; unreadable = first.faulty.unreadable }
-named faulty dialect allows tree workers number fault (refuse, inr later) =
-    let has = later.2.1 in
+named faulty dialect allows tree workers number fault (refuse, inr (parsed, are, is_unread broken has)) =
     let within : number < length tree =
-    rw (sym later.1.one_each) (slice_get_within later.0 number has.reading has.numbered) in
+    rw (sym are.one_each) (slice_get_within parsed number has.parsed_file has.numbered) in
     let there = item_at tree number within in
     let Contents : Result FileContents FileFault → Type 0 = HasContents Refuse dialect allows number there.0 in
-    let contents = subst Contents has.unread (later.1.each number there.0 has.reading there.1 has.numbered).contents in
+    let contents = subst Contents has.unread (are.each number there.0 has.parsed_file there.1 has.numbered).contents in
     record { file = there.0; numbered = there.1; unreadable = contents.1 }
 
 -- two faults of the file that is named are one
@@ -292,7 +290,7 @@ module _ (one : OneFileFault) (allows others : Seen → Choice → Type 0) (faul
   ]
 
 module _ (allows others : Seen → Choice → Type 0) (one_linking : OneLinking allows others)
-    (none : NoReadingsWhereFaulty allows) (none_others : NoReadingsWhereFaulty others) where
+    (none : NoParsedFilesWhereFaulty allows) (none_others : NoParsedFilesWhereFaulty others) where
   pub one_build_fault : OneFirstFaulty → OneRefusal → OneFileFault → OneBuildFault allows others
   one_build_fault one_first one_refusal one faulty dialect tree workers more fault other is also not nor =
       of_one_cause one allows others faulty dialect tree workers more fault other is also not nor

@@ -4,34 +4,34 @@ use Rattle.std.specs.Prelude.{Result, Ok, Err, MatchResult, IfOk, IfErr}
 use Rattle.std.specs.List.{Contains}
 use Rattle.std.specs.List.Sorted.{IsStrictlySortedBy}
 use Rattle.std.proofs.lemmas.List.{length-map}
-use Rattle.proto_visibility.specs.declared.place.FilePlace.{FilePlace}
+use Rattle.basics.proofs.ListLemmas.{in_nothing}
+use Rattle.proto_visibility.specs.declared.files.FilePlace.{FilePlace}
 use Rattle.proto_visibility.specs.Files.{HaveOwnPaths}
 use Rattle.proto_visibility.specs.Absences.{AreMissing}
 use Rattle.proto_visibility.specs.Linked.{HaveClearNames}
 use Rattle.proto_visibility.specs.Kept.{Omissions, AreOmissions, kept_of, KeptFilesAreClear}
-use Rattle.proto_decl.specs.Seen.{Seen}
+use Rattle.proto_decl.specs.Values.{Seen}
 use Rattle.index_hooks.specs.declared.choice.Choice.{Choice}
 use Rattle.scip_records.specs.declared.records.Document.{Document}
 use Rattle.scip_model.specs.Chosen.{Chosen}
 use Rattle.source_tree.specs.Files.{TreeFile}
-use Rattle.source_tree.proofs.OrderLemmas.{in_nothing}
 use Rattle.scip_build.specs.declared.settings.Settings.{Settings}
 use Rattle.scip_build.specs.declared.made.Made.{Made}
 use Rattle.scip_build.specs.declared.parts.Parts.{Parts}
 use Rattle.scip_build.specs.declared.faulty.Faulty.TheVariants.{Refuse, Skip}
-use Rattle.scip_build.specs.declared.fault.BuildFault.{BuildFault}
+use Rattle.scip_build.specs.declared.omission.Omission.{Omission}
 use Rattle.scip_build.specs.Files.{ReadFile}
 use Rattle.scip_build.specs.Linking.{linked_file, linked_files}
-use Rattle.scip_build.specs.Readings.{AreReadingsOf}
+use Rattle.scip_build.specs.ParsedFiles.{AreParsedFiles}
 use Rattle.scip_build.specs.Ready.{AreOfTree}
 use Rattle.scip_build.specs.Documents.{IsUnresolvedAt}
 use Rattle.scip_build.specs.Kept.{told_cmp, AreKept}
 use Rattle.scip_build.specs.Telling.{AreInOrder, all_told, AreKeptFiles}
 use Rattle.scip_build.specs.Forms.{IsMadeOf, IsLinkedAndMade, IsBuiltOfInForm, IsBuiltInForm}
-use Rattle.scip_build.proofs.RefusalLemmas.{not_both}
+use Rattle.scip_build.proofs.BuildsRefusalLemmas.{not_both}
 use Rattle.scip_build.proofs.KeptTreeLemmas.{map_kept, kept_tree, all_of}
-use Rattle.scip_build.proofs.ToldLemmas.{is_told, told_is, own_keys}
-use Rattle.scip_build.proofs.GoodTreeLemmas.{all_kept, good_files_are_kept, are_all_kept, none_told}
+use Rattle.scip_build.proofs.KeptToldLemmas.{is_told, told_is, own_keys}
+use Rattle.scip_build.proofs.BuildLawGoodTreeLemmas.{all_kept, good_files_are_kept, are_all_kept, none_told}
 
 none_ascends : IsStrictlySortedBy told_cmp []
 unfolding IsStrictlySortedBy
@@ -40,7 +40,7 @@ none_ascends = tt
 -- ---- where faults are refused
 
 pub whole_built : {Out : Type 0} (Is : Document → Out → Type 0) (all : List ReadFile) (settings : Settings)
-    (made : Made Out) (told : List BuildFault) → settings.faulty ≡ Refuse → told ≡ []
+    (made : Made Out) (told : List Omission) → settings.faulty ≡ Refuse → told ≡ []
     → IsLinkedAndMade Is all settings made → IsBuiltOfInForm Is all settings made.choices told made.parts
 whole_built {Out} Is all settings made told refuse none of =
     let files = linked_files all in
@@ -64,7 +64,7 @@ whole_built {Out} Is all settings made told refuse none of =
     record {
       index = in_form.index;
       built = record {
-        readings = all;
+        parsed = all;
         kept = subst (AreKept all all) (sym none) kept;
         clear = clear;
         refused = λ _. record { none = none; all_kept = refl; linked = of.linked; resolved = resolved };
@@ -77,13 +77,13 @@ whole_built {Out} Is all settings made told refuse none of =
 -- ---- where they are skipped
 
 -- the files that are kept are those that are linked, of a tree and without a clash
-pub record AreKeptOf (all readings : List ReadFile) : Type 0 where
-  pub tree : AreOfTree readings
-  pub clear : HaveClearNames (linked_files readings)
+pub record AreKeptOf (all parsed : List ReadFile) : Type 0 where
+  pub tree : AreOfTree parsed
+  pub clear : HaveClearNames (linked_files parsed)
 
-pub kept_ready : KeptFilesAreClear → (all readings : List ReadFile) (omissions : Omissions) → AreOfTree all
-    → AreOmissions (linked_files all) omissions → readings ≡ kept_of omissions all → AreKeptOf all readings
-kept_ready kept_clear all readings omissions tree are kept =
+pub kept_ready : KeptFilesAreClear → (all parsed : List ReadFile) (omissions : Omissions) → AreOfTree all
+    → AreOmissions (linked_files all) omissions → parsed ≡ kept_of omissions all → AreKeptOf all parsed
+kept_ready kept_clear all parsed omissions tree are kept =
     let (own, clear) = kept_clear (linked_files all) omissions are tree.own in
     let files : linked_files (kept_of omissions all) ≡ kept_of omissions (linked_files all) =
     map_kept linked_file omissions all in
@@ -93,24 +93,26 @@ kept_ready kept_clear all readings omissions tree are kept =
     } in
     subst (AreKeptOf all) (sym kept) of
 
-pub kept_built : {Out : Type 0} (Is : Document → Out → Type 0) (all readings : List ReadFile) (settings : Settings)
-    (made : Made Out) (numbers : List ℕ) (left once : List BuildFault) (missing : List FilePlace)
-    → settings.faulty ≡ Skip → (of_files : AreKeptFiles all readings numbers left)
-    → IsMadeOf Is readings settings made → AreMissing (linked_files readings) missing
-    → AreInOrder (all_told left numbers missing made.gaps) once
+pub kept_built : {Out : Type 0} (Is : Document → Out → Type 0) (all parsed : List ReadFile) (settings : Settings)
+    (made : Made Out) (numbers : List ℕ) (left once : List Omission) (missing : List FilePlace)
+    → settings.faulty ≡ Skip → (of_files : AreKeptFiles all parsed numbers left)
+    → IsMadeOf Is parsed settings made → AreMissing (linked_files parsed) missing
+    → AreInOrder (all_told left numbers missing made.unresolved_uses) once
     → IsBuiltOfInForm Is all settings made.choices once made.parts
-kept_built Is all readings settings made numbers left once missing skip kept of missing_are order =
+kept_built Is all parsed settings made numbers left once missing skip kept of missing_are order =
     let omissions = kept.omissions in
     let missing_too = subst (λ (rs : List ReadFile). AreMissing (linked_files rs) missing) kept.kept missing_are in
     let Gaps : List ReadFile → Type 0 = λ rs. (place : FilePlace)
-    → Contains made.gaps place ↔ IsUnresolvedAt (linked_files rs) place in
-    let gaps_too = subst Gaps kept.kept of.in_form.made.unresolved in
-    let order_too = subst (λ ns. AreInOrder (all_told left ns missing made.gaps) once) kept.numbers_are order in
-    let own = own_keys all omissions kept.left_out left missing made.gaps kept.left_are missing_too gaps_too in
+    → Contains made.unresolved_uses place ↔ IsUnresolvedAt (linked_files rs) place in
+    let unresolved_too = subst Gaps kept.kept of.in_form.made.unresolved in
+    let order_too = subst (λ ns. AreInOrder (all_told left ns missing made.unresolved_uses) once)
+    kept.numbers_are order in
+    let own = own_keys all omissions kept.left_out left missing made.unresolved_uses kept.left_are missing_too
+    unresolved_too in
     record {
       index = of.in_form.index;
       built = record {
-        readings = readings;
+        parsed = parsed;
         kept = record {
           omissions = omissions;
           left_out = kept.left_out;
@@ -118,10 +120,11 @@ kept_built Is all readings settings made numbers left once missing skip kept of 
           decided = of.in_form.made.decided;
           told_is = record {
             exact = λ fault. (
-              λ there. is_told all omissions kept.left_out left missing made.gaps kept.left_are missing_too gaps_too
+              λ there. is_told all omissions kept.left_out left missing made.unresolved_uses kept.left_are missing_too
+                  unresolved_too
                   fault ((order_too.same own fault).0 there),
-              λ is. (order_too.same own fault).1 (told_is all omissions kept.left_out left missing made.gaps
-                  kept.left_are missing_too gaps_too fault is),
+              λ is. (order_too.same own fault).1 (told_is all omissions kept.left_out left missing made.unresolved_uses
+                  kept.left_are missing_too unresolved_too fault is),
             );
             ascends = order_too.rising;
           };
@@ -137,8 +140,8 @@ kept_built Is all readings settings made numbers left once missing skip kept of 
 -- ---- of a tree
 
 pub tree_built : {Out : Type 0} (Is : Document → Out → Type 0) (allows : Seen → Choice → Type 0) (settings : Settings)
-    (tree : List TreeFile) (all : List ReadFile) (choices : Chosen) (told : List BuildFault) (parts : Parts Out)
-    → AreReadingsOf settings.faulty settings.dialect allows tree all
+    (tree : List TreeFile) (all : List ReadFile) (choices : Chosen) (told : List Omission) (parts : Parts Out)
+    → AreParsedFiles settings.faulty settings.dialect allows tree all
     → IsBuiltOfInForm Is all settings choices told parts → IsBuiltInForm Is allows settings tree choices told parts
 tree_built Is allows settings tree all choices told parts read of = record {
   index = of.index;

@@ -4,45 +4,46 @@ use Rattle.std.specs.List.{Contains, slice_get}
 use Rattle.std.specs.Option.{option_map}
 use Rattle.std.specs.declared.cmp.Ordering.TheVariants.{Less}
 use Rattle.std.proofs.lemmas.Option.{same_Some, slice_get-map, slice_get_within}
+use Rattle.basics.proofs.ListLemmas.{item_at}
 use Rattle.proto_visibility.specs.Files.{File, IsSource}
-use Rattle.proto_visibility.proofs.FirstLemmas.{contained, item_at, at_contained}
+use Rattle.basics.proofs.FirstLemmas.{contained, at_contained}
 use Rattle.index_pool.specs.Phase.{AnswersEach, IsLeastFault}
 use Rattle.scip_records.specs.declared.records.Document.{Document}
 use Rattle.scip_model.specs.Chosen.{Chosen}
-use Rattle.scip_model.specs.Conditions.{IsFirstUnresolved}
+use Rattle.scip_model.specs.Conditions.{IsFirstUnresolved, UsesResolve}
 use Rattle.scip_model.specs.Indexes.{IsAscendingListOf, IsDocumentOf, HasDocument, HaveDocuments, document_cmp}
-use Rattle.scip_model.specs.Uses.{UsesResolve}
 use Rattle.scip_model.specs.declared.source_document.SourceDocument.{SourceDocument}
-use Rattle.scip_model.proofs.GapLemmas.{all_resolve}
+use Rattle.scip_model.proofs.ConditionUnresolvedLemmas.{all_resolve}
 use Rattle.scip_model.specs.Laws.{OneDocument}
 use Rattle.scip_build.specs.declared.faulty.Faulty.TheVariants.{Refuse}
 use Rattle.scip_build.specs.declared.settings.Settings.{Settings}
-use Rattle.scip_build.specs.declared.fault.BuildFault.{BuildFault}
-use Rattle.scip_build.specs.declared.fault.BuildFault.TheVariants as build
+use Rattle.scip_build.specs.declared.source_document.NoDocument.{NoDocument}
+use Rattle.scip_build.specs.declared.source_document.NoDocument.TheVariants as lacking
 use Rattle.scip_build.specs.Files.{ReadFile}
 use Rattle.scip_build.specs.Documents.{text_in, text_of, texts_of, HasReadText, AreReady, IsDocumentAt, GivesDocument}
-use Rattle.scip_build.specs.Documents.{MayRefuseDocuments}
+use Rattle.scip_build.specs.Documents.{fault_of_source, MayRefuseDocuments}
+use Rattle.scip_build.specs.Documents.MayRefuseDocuments.{documents_lack_memory, first_is_unresolved}
 use Rattle.scip_build.proofs.LinkingLemmas.{mapped_at}
-use Rattle.scip_build.proofs.PlaceLemmas.{rising_from_places}
+use Rattle.basics.proofs.PlaceLemmas.{rising_from_places}
 
 -- the documents of what was made
 abbrev pub document_in : SourceDocument → Document
 document_in made = made.document
 
-module _ (readings : List ReadFile) (files : List File) (chosen : Chosen) (settings : Settings) (count : ℕ)
-    (ready : AreReady readings files chosen count) where
-  text_listed : (number : ℕ) (text : List ℕ) → HasReadText readings number text
-      → slice_get (texts_of readings) number ≡ Some text
+module _ (parsed : List ReadFile) (files : List File) (chosen : Chosen) (settings : Settings) (count : ℕ)
+    (ready : AreReady parsed files chosen count) where
+  text_listed : (number : ℕ) (text : List ℕ) → HasReadText parsed number text
+      → slice_get (texts_of parsed) number ≡ Some text
   text_listed number text has =
-      slice_get-map text_of readings number
+      slice_get-map text_of parsed number
       ∙ (ap (option_map text_of) has.numbered ∙ (ap (λ c. Some (text_in c)) has.read ∙ ap Some has.text_is))
 
   module _ (one : OneDocument) (made : List SourceDocument)
-      (answers : AnswersEach (GivesDocument readings files chosen settings) count made) where
+      (answers : AnswersEach (GivesDocument parsed files chosen settings) count made) where
     -- what was made of a source
     pub made_at : (number : ℕ) → IsSource files number
         → (document : SourceDocument) × (slice_get made number ≡ Some document)
-        × IsDocumentAt readings files chosen settings number document
+        × IsDocumentAt parsed files chosen settings number document
     made_at number is =
         let below = (ready.sources number).1 is in
         let within : number < length made = rw answers.0 below in
@@ -59,7 +60,7 @@ module _ (readings : List ReadFile) (files : List File) (chosen : Chosen) (setti
     documents = map document_in made
 
     found : (document : Document) → Contains documents document
-        → HasDocument files (texts_of readings) chosen settings.package settings.encoding document
+        → HasDocument files (texts_of parsed) chosen settings.package settings.encoding document
     found document listed =
         let of = mapped_at document_in made listed.0 document (at_contained documents document listed) in
         let is = answers.1 listed.0 of.0 of.1 in
@@ -76,7 +77,7 @@ module _ (readings : List ReadFile) (files : List File) (chosen : Chosen) (setti
     listed_at number of at = slice_get-map document_in made number ∙ ap (option_map document_in) at
 
     only : (document : Document)
-        → HasDocument files (texts_of readings) chosen settings.package settings.encoding document
+        → HasDocument files (texts_of parsed) chosen settings.package settings.encoding document
         → Contains documents document
     only document has =
         let source : IsSource files has.source =
@@ -104,13 +105,13 @@ module _ (readings : List ReadFile) (files : List File) (chosen : Chosen) (setti
         rw (x.2, y.2, first.is.relative_path, second.is.relative_path) rises
 
     pub list_of : IsAscendingListOf document_cmp
-        (HasDocument files (texts_of readings) chosen settings.package settings.encoding) documents
+        (HasDocument files (texts_of parsed) chosen settings.package settings.encoding) documents
     list_of = record {
       exact = λ document. (found document, only document);
       ascends = rising_from_places document_cmp documents ascending;
     }
 
-    pub each_of : HaveDocuments files (texts_of readings) chosen settings.package settings.encoding documents
+    pub each_of : HaveDocuments files (texts_of parsed) chosen settings.package settings.encoding documents
     each_of source is =
         let here = made_at source is in
         let of = here.2 in (
@@ -122,31 +123,21 @@ module _ (readings : List ReadFile) (files : List File) (chosen : Chosen) (setti
 
   -- a source without a use that is refused has none that names no type
   pub resolves : (number : ℕ) (made : SourceDocument)
-      → IsDocumentAt readings files chosen settings number made
+      → IsDocumentAt parsed files chosen settings number made
       → settings.faulty ≡ Refuse → UsesResolve files number
   resolves number made is refuse =
       let none : slice_get made.unresolved 0 ≡ None = rw (is.refused refuse) refl in
-      all_resolve files number made.unresolved is.gaps none
+      all_resolve files number made.unresolved is.unresolved_uses none
 
   -- why a source has no document, the first of those that have none, is why there are no documents
-  pub refused_of : (workers number : ℕ) (fault : BuildFault)
-      → IsLeastFault (GivesDocument readings files chosen settings) count number fault
-      → MayRefuseDocuments settings.faulty files workers fault
-  refused_of workers number build.Spawn least = absurd least.1
-  refused_of workers number build.Memory least = tt
-  refused_of workers number (build.File other fault) least = absurd least.1
-  refused_of workers number (build.Duplicate first second) least = absurd least.1
-  refused_of workers number (build.MissingImport place) least = absurd least.1
-  refused_of workers number (build.Unresolved place) least =
-      let (refuse, same, is_first) = least.1 in
-      let First : ℕ → Type 0 = λ k. IsFirstUnresolved files k place.span in (
-        refuse,
-        record {
-          source = subst (IsSource files) (sym same) ((ready.sources number).0 least.0);
-          first = subst First (sym same) is_first;
-          before = λ lesser less is.
-              let Below : ℕ → Type 0 = λ k. lesser < k in
-              let of = least.2 lesser (subst Below same less) in
-              resolves lesser of.0 of.1 refuse;
-        },
-      )
+  pub refused_of : (workers number : ℕ) (fault : NoDocument)
+      → IsLeastFault (GivesDocument parsed files chosen settings) count number fault
+      → MayRefuseDocuments settings.faulty files workers (fault_of_source number fault)
+  refused_of workers number lacking.Memory least = documents_lack_memory
+  refused_of workers number (lacking.Unresolved span) least =
+      let (refuse, is_first) = least.1 in
+      first_is_unresolved refuse (record {
+        source = (ready.sources number).0 least.0;
+        first = is_first;
+        before = λ lesser less is. let of = least.2 lesser less in resolves lesser of.0 of.1 refuse;
+      })

@@ -4,7 +4,7 @@ use Rattle.std.proofs.Common.{arith}
 use Rattle.std.specs.List.{AllZip, Contains, slice_get, each_same}
 use Rattle.std.proofs.lemmas.Option.{same_Some, none-some}
 use Rattle.proto_lex.specs.declared.span.Span.{Span}
-use Rattle.proto_visibility.specs.declared.place.FilePlace.{FilePlace}
+use Rattle.proto_visibility.specs.declared.files.FilePlace.{FilePlace}
 use Rattle.proto_visibility.specs.Files.{File, IsSource}
 use Rattle.proto_visibility.specs.Linked.{HaveClearNames}
 use Rattle.index_pool.specs.Phase.{AnswersEach, IsLeastFault}
@@ -16,21 +16,22 @@ use Rattle.scip_model.specs.Indexes.{metadata_of, AreExternals}
 use Rattle.scip_model.specs.Laws.{OneDocument}
 use Rattle.scip_model.specs.declared.source_document.SourceDocument.{SourceDocument}
 use Rattle.scip_build.specs.declared.faulty.Faulty.TheVariants.{Refuse}
-use Rattle.scip_build.specs.declared.fault.BuildFault.{BuildFault}
+use Rattle.scip_build.specs.declared.source_document.NoDocument.{NoDocument}
 use Rattle.scip_build.specs.declared.made.MadeDocument.{MadeDocument}
 use Rattle.scip_build.specs.declared.made.Made.{Made}
 use Rattle.scip_build.specs.declared.parts.Parts.{Parts}
 use Rattle.scip_build.specs.declared.settings.Settings.{Settings}
 use Rattle.scip_build.specs.Files.{ReadFile}
 use Rattle.scip_build.specs.Documents.{AreReady, IsDocumentAt, GivesDocument, AllAreDecided, IsUnresolvedAt}
-use Rattle.scip_build.specs.Documents.{MayRefuseDocuments}
+use Rattle.scip_build.specs.Documents.{fault_of_source, MayRefuseDocuments}
 use Rattle.scip_build.specs.Documents.{texts_of}
 use Rattle.scip_build.specs.Linking.{linked_files, choices_of}
 use Rattle.scip_build.specs.Making.{IsMade}
 use Rattle.scip_build.specs.Forms.{index_of, ArePartsOf, GivesKept, AreMade, IsMadeInForm, IsMadeOf}
-use Rattle.scip_build.specs.Made.{place_in, gaps_from}
+use Rattle.scip_build.specs.Made.{place_in, unresolved_from}
 use Rattle.scip_build.proofs.DocumentLemmas.{document_in, made_at, is_source_at, list_of, each_of, resolves, refused_of}
-use Rattle.scip_build.proofs.GapLemmas.{use_decided, unresolved_at, gap_listed, place_at, listed_from, none_from}
+use Rattle.scip_build.proofs.UnresolvedUseLemmas.{use_decided, unresolved_at, unresolved_listed, place_at, listed_from}
+use Rattle.scip_build.proofs.UnresolvedUseLemmas.{none_from}
 
 -- ---- where something is kept of what stands in each place, it is kept of a list
 
@@ -72,7 +73,7 @@ module _ {Out : Type 0} (Is : Document → Out → Type 0) where
   -- a document of which this is kept, with its uses that name no type
   record IsMadeFrom (document : SourceDocument) (out : MadeDocument Out) : Type 0 where
     pub kept : Is document.document out.kept
-    pub gaps : out.unresolved ≡ document.unresolved
+    pub unresolved_uses : out.unresolved ≡ document.unresolved
 
   abbrev kept_in : MadeDocument Out → Out
   kept_in out = out.kept
@@ -104,10 +105,10 @@ module _ {Out : Type 0} (Is : Document → Out → Type 0) where
       (o, refl, subst (λ (y : SourceDocument). IsMadeFrom y o) (same_Some x m at) all.0)
   to_zip (x ∷ made) (o ∷ outs) all (suc k) m at = to_zip made outs all.1 k m at
 
-module _ {Out : Type 0} (Is : Document → Out → Type 0) (readings : List ReadFile) (files : List File)
-    (chosen : Chosen) (settings : Settings) (count : ℕ) (ready : AreReady readings files chosen count) where
+module _ {Out : Type 0} (Is : Document → Out → Type 0) (parsed : List ReadFile) (files : List File)
+    (chosen : Chosen) (settings : Settings) (count : ℕ) (ready : AreReady parsed files chosen count) where
   abbrev At : ℕ → SourceDocument → Type 0
-  At = IsDocumentAt readings files chosen settings
+  At = IsDocumentAt parsed files chosen settings
 
   module _ (made : List SourceDocument) (outs : List (MadeDocument Out)) (zip : AllZip (IsMadeFrom Is) made outs)
       (sourced : (number : ℕ) (m : SourceDocument) → slice_get made number ≡ Some m → IsSource files number)
@@ -117,99 +118,102 @@ module _ {Out : Type 0} (Is : Document → Out → Type 0) (readings : List Read
     decide : AllAreDecided files
     decide source facts type_use is known listed =
         let there = made_at source is in
-        use_decided files source there.0.unresolved there.2.gaps facts type_use known listed
+        use_decided files source there.0.unresolved there.2.unresolved_uses facts type_use known listed
 
-    gap_there : (place : FilePlace) → Contains (gaps_from 0 outs) place → IsUnresolvedAt files place
-    gap_there place there =
+    unresolved_there : (place : FilePlace) → Contains (unresolved_from 0 outs) place → IsUnresolvedAt files place
+    unresolved_there place there =
         let of = place_at 0 outs place there in
         let m = from_zip Is made outs zip of.number of.document of.numbered in
         let listed : Contains m.0.unresolved place.span =
-        subst (λ (spans : List Span). Contains spans place.span) m.2.gaps of.listed in
-        let is = unresolved_at files of.number m.0.unresolved (each of.number m.0 m.1).gaps
+        subst (λ (spans : List Span). Contains spans place.span) m.2.unresolved_uses of.listed in
+        let is = unresolved_at files of.number m.0.unresolved (each of.number m.0 m.1).unresolved_uses
         (sourced of.number m.0 m.1) place.span listed in
         let file : of.number ≡ place.file = let e = of.file in omega (arith, e) in
         let same : place_in of.number place.span ≡ place = ap (λ n. place_in n place.span) file in
         subst (IsUnresolvedAt files) same is
 
-    gap_back : (place : FilePlace) → IsUnresolvedAt files place → Contains (gaps_from 0 outs) place
-    gap_back place is =
+    unresolved_back : (place : FilePlace) → IsUnresolvedAt files place → Contains (unresolved_from 0 outs) place
+    unresolved_back place is =
         let there = made_at place.file is.source in
         let out = to_zip Is made outs zip place.file there.0 there.1 in
         let listed : Contains there.0.unresolved place.span =
         subst (Contains there.0.unresolved) is.stands
-        (gap_listed files place.file there.0.unresolved there.2.gaps is.facts is.type_use is.known is.listed
+        (unresolved_listed files place.file there.0.unresolved there.2.unresolved_uses is.facts is.type_use
+        is.known is.listed
         is.unresolved) in
         let kept : Contains out.0.unresolved place.span =
-        subst (λ (spans : List Span). Contains spans place.span) (sym out.2.gaps) listed in
+        subst (λ (spans : List Span). Contains spans place.span) (sym out.2.unresolved_uses) listed in
         let file : 0 + place.file ≡ place.file = omega arith in
         let same : place_in (0 + place.file) place.span ≡ place = ap (λ n. place_in n place.span) file in
-        subst (Contains (gaps_from 0 outs)) same (listed_from 0 outs place.file out.0 out.1 place.span kept)
+        subst (Contains (unresolved_from 0 outs)) same (listed_from 0 outs place.file out.0 out.1 place.span kept)
 
-    none_refused : settings.faulty ≡ Refuse → AllResolve files × (gaps_from 0 outs ≡ [])
+    none_refused : settings.faulty ≡ Refuse → AllResolve files × (unresolved_from 0 outs ≡ [])
     none_refused refuse = (
       λ source facts type_use is known listed.
           let there = made_at source is in
-          resolves readings files chosen settings count ready source there.0 there.2 refuse facts type_use
+          resolves parsed files chosen settings count ready source there.0 there.2 refuse facts type_use
           known listed,
       none_from 0 outs (λ number out at.
           let m = from_zip Is made outs zip number out at in
-          m.2.gaps ∙ (each number m.0 m.1).refused refuse),
+          m.2.unresolved_uses ∙ (each number m.0 m.1).refused refuse),
     )
 
   pub kept_of : OneDocument → (outs : List (MadeDocument Out))
-      → AnswersEach (GivesKept Is readings files chosen settings) count outs
-      → AreMade Is readings files chosen settings outs
+      → AnswersEach (GivesKept Is parsed files chosen settings) count outs
+      → AreMade Is parsed files chosen settings outs
   kept_of one outs answers =
       let of = kept_of_list (IsMadeFrom Is) At outs
       (λ k out at. let kept = answers.1 k out at in
       record {
         item = kept.document;
         at = kept.made;
-        kept = record { kept = kept.kept; gaps = kept.gaps };
+        kept = record { kept = kept.kept; unresolved_uses = kept.unresolved_uses };
       }) in
-      let made : AnswersEach (GivesDocument readings files chosen settings) count of.items =
+      let made : AnswersEach (GivesDocument parsed files chosen settings) count of.items =
       (of.count ∙ answers.0, of.each) in
-      let sourced = is_source_at readings files chosen settings count ready one of.items made in
-      let made_there = made_at readings files chosen settings count ready one of.items made in
+      let sourced = is_source_at parsed files chosen settings count ready one of.items made in
+      let made_there = made_at parsed files chosen settings count ready one of.items made in
       record {
         documents = map document_in of.items;
         made = record {
           decided = decide of.items outs of.kept sourced of.each made_there;
           unresolved = λ place. (
-            gap_there of.items outs of.kept sourced of.each made_there place,
-            gap_back of.items outs of.kept sourced of.each made_there place,
+            unresolved_there of.items outs of.kept sourced of.each made_there place,
+            unresolved_back of.items outs of.kept sourced of.each made_there place,
           );
           refused = none_refused of.items outs of.kept sourced of.each made_there;
-          list = list_of readings files chosen settings count ready one of.items made;
-          each = each_of readings files chosen settings count ready one of.items made;
+          list = list_of parsed files chosen settings count ready one of.items made;
+          each = each_of parsed files chosen settings count ready one of.items made;
         };
         kept = each_kept Is of.items outs of.kept;
       }
 
-  pub not_kept_of : (workers number : ℕ) (fault : BuildFault)
-      → IsLeastFault (GivesKept Is readings files chosen settings) count number fault
-      → MayRefuseDocuments settings.faulty files workers fault
+  pub not_kept_of : (workers number : ℕ) (fault : NoDocument)
+      → IsLeastFault (GivesKept Is parsed files chosen settings) count number fault
+      → MayRefuseDocuments settings.faulty files workers (fault_of_source number fault)
   not_kept_of workers number fault least =
-      let made : IsLeastFault (GivesDocument readings files chosen settings) count number fault =
+      let made : IsLeastFault (GivesDocument parsed files chosen settings) count number fault =
       (least.0, least.1, λ lesser less. let of = least.2 lesser less in (of.1.document, of.1.made)) in
-      refused_of readings files chosen settings count ready workers number fault made
+      refused_of parsed files chosen settings count ready workers number fault made
 
 -- ---- the parts of an index
 
-pub parts_of : {Out : Type 0} (Is : Document → Out → Type 0) (readings : List ReadFile) (files : List File)
-    (chosen : Chosen) (settings : Settings) (outs : List (MadeDocument Out)) (parts : Parts Out) (gaps : List FilePlace)
-    → AreMade Is readings files chosen settings outs
-    → length (texts_of readings) ≡ length files → parts.metadata ≡ Some (metadata_of settings.project_root)
+pub parts_of : {Out : Type 0} (Is : Document → Out → Type 0) (parsed : List ReadFile) (files : List File)
+    (chosen : Chosen) (settings : Settings) (outs : List (MadeDocument Out)) (parts : Parts Out)
+    (unresolved_uses : List FilePlace)
+    → AreMade Is parsed files chosen settings outs
+    → length (texts_of parsed) ≡ length files → parts.metadata ≡ Some (metadata_of settings.project_root)
     → parts.documents ≡ map (λ (out : MadeDocument Out). out.kept) outs
-    → AreExternals files chosen settings.package parts.external_symbols → gaps ≡ gaps_from 0 outs
-    → IsMadeInForm Is readings files chosen settings parts gaps
-parts_of {Out} Is readings files chosen settings outs parts gaps are texts metadata documents externals places =
+    → AreExternals files chosen settings.package parts.external_symbols → unresolved_uses ≡ unresolved_from 0 outs
+    → IsMadeInForm Is parsed files chosen settings parts unresolved_uses
+parts_of {Out} Is parsed files chosen settings outs parts unresolved_uses are texts metadata documents
+    externals places =
     let index : Index = record {
       metadata = Some (metadata_of settings.project_root);
       documents = are.documents;
       external_symbols = parts.external_symbols;
     } in
-    let made : IsMade readings files chosen settings index (gaps_from 0 outs) = record {
+    let made : IsMade parsed files chosen settings index (unresolved_from 0 outs) = record {
       decided = are.made.decided;
       unresolved = are.made.unresolved;
       refused = are.made.refused;
@@ -224,7 +228,7 @@ parts_of {Out} Is readings files chosen settings outs parts gaps are texts metad
     let Kept : List Out → Type 0 = λ kept. AllZip Is are.documents kept in
     record {
       index = index;
-      made = subst (IsMade readings files chosen settings index) (sym places) made;
+      made = subst (IsMade parsed files chosen settings index) (sym places) made;
       are = record {
         metadata = metadata;
         documents = subst Kept (sym documents) are.kept;
@@ -233,12 +237,14 @@ parts_of {Out} Is readings files chosen settings outs parts gaps are texts metad
     }
 
 -- of files that were linked
-pub in_form_of : {Out : Type 0} (Is : Document → Out → Type 0) (readings : List ReadFile) (files : List File)
-    (settings : Settings) (made : Made Out) → files ≡ linked_files readings → HaveClearNames files
-    → made.choices ≡ map choices_of readings
-    → IsMadeInForm Is readings files made.choices settings made.parts made.gaps → IsMadeOf Is readings settings made
-in_form_of Is readings files settings made linked clear choices is =
-    let In : List File → Type 0 = λ fs. IsMadeInForm Is readings fs made.choices settings made.parts made.gaps in
+pub in_form_of : {Out : Type 0} (Is : Document → Out → Type 0) (parsed : List ReadFile) (files : List File)
+    (settings : Settings) (made : Made Out) → files ≡ linked_files parsed → HaveClearNames files
+    → made.choices ≡ map choices_of parsed
+    → IsMadeInForm Is parsed files made.choices settings made.parts made.unresolved_uses
+    → IsMadeOf Is parsed settings made
+in_form_of Is parsed files settings made linked clear choices is =
+    let In : List File → Type 0 = λ fs. IsMadeInForm Is parsed fs made.choices settings made.parts
+    made.unresolved_uses in
     record { clear = subst HaveClearNames linked clear; choices = choices; in_form = subst In linked is }
 
 -- ---- where the documents are kept as they are, the parts are the index

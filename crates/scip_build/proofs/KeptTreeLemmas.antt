@@ -5,7 +5,7 @@ use Rattle.std.specs.List.{slice_get}
 use Rattle.std.specs.Option.{unwrap_or}
 use Rattle.std.proofs.lemmas.Option.{none-some}
 use Rattle.std.proofs.lemmas.List.Elements.{All-head, All-tail}
-use Rattle.proto_visibility.specs.declared.fault.LinkFault.{LinkFault}
+use Rattle.proto_visibility.specs.declared.omissions.FileOmission.{FileOmission}
 use Rattle.proto_visibility.specs.Files.{HaveOwnPaths}
 use Rattle.proto_visibility.specs.Kept.{Omissions, kept_of, number_among_all, AreAllKept}
 use Rattle.proto_visibility.proofs.KeptLemmas.{at_all, numbers_rise}
@@ -34,8 +34,8 @@ pub kept_tree : (all : List ReadFile) (omissions : Omissions) → AreOfTree all
     → HaveOwnPaths (linked_files (kept_of omissions all)) → AreOfTree (kept_of omissions all)
 kept_tree all omissions tree own = record {
   few = let few = tree.few in let within = kept_within omissions all in omega (arith, few, within);
-  each = λ number reading at.
-      tree.each (number_among_all omissions number) reading (at_all omissions all number reading at);
+  each = λ number parsed_file at.
+      tree.each (number_among_all omissions number) parsed_file (at_all omissions all number parsed_file at);
   own = own;
   rising = λ lesser number a b less at and.
       tree.rising (number_among_all omissions lesser) (number_among_all omissions number) a b
@@ -90,9 +90,9 @@ all_of [] (x ∷ xs) few all = absurd (omega (arith, few))
 all_of (omission ∷ omissions) [] few all = absurd (omega (arith, few))
 all_of (None ∷ omissions) (x ∷ xs) few all =
     ap (λ ys. x ∷ ys) (all_of omissions xs (omega (arith, few))
-    (All-tail (λ (o : Option LinkFault). o ≡ None) None omissions all))
+    (All-tail (λ (o : Option FileOmission). o ≡ None) None omissions all))
 all_of (Some fault ∷ omissions) (x ∷ xs) few all =
-    absurd (apart (All-head (λ (o : Option LinkFault). o ≡ None) (Some fault) omissions all))
+    absurd (apart (All-head (λ (o : Option FileOmission). o ≡ None) (Some fault) omissions all))
   where
-    apart : ◌≡◌ {A = Option LinkFault} (Some fault) None → ⊥
+    apart : ◌≡◌ {A = Option FileOmission} (Some fault) None → ⊥
     apart e = cc

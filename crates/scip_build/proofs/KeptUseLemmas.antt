@@ -5,8 +5,8 @@ use Rattle.std.proofs.lemmas.Option.{same_Some, none-some}
 use Rattle.std.proofs.lemmas.List.{length-map}
 use Rattle.proto_decl.specs.Names.{qualified, dotted}
 use Rattle.proto_decl.specs.Facts.{Facts}
-use Rattle.proto_decl.specs.declared.type_use.Use.{Use}
-use Rattle.proto_visibility.specs.declared.entities.Entity.{Entity}
+use Rattle.proto_decl.specs.declared.uses.Use.{Use}
+use Rattle.proto_visibility.specs.declared.lookup.Entity.{Entity}
 use Rattle.proto_visibility.specs.Files.{File, HasFacts, Imports}
 use Rattle.proto_visibility.specs.Sees.{LeadsTo, Sees}
 use Rattle.proto_visibility.specs.Sees.LeadsTo.{at_once, through}
@@ -78,24 +78,24 @@ module _ (files : List File) (omissions : Omissions) where
     knows_as admits name back known =
         record { kind = known.kind; known = back known.kind known.known; admitted = known.admitted }
 
-    innermost : (admits : NameKind → Bool) (word : List ℕ) {scopes : List (List ℕ)} {scope : List ℕ}
-        → Innermost files (among number) admits word scopes scope → KnowsBack (qualified scope word)
-        → Innermost kept number admits word scopes scope
+    innermost : (admits : NameKind → Bool) (word : List ℕ) {from scope : List ℕ}
+        → Innermost files (among number) admits word from scope → KnowsBack (qualified scope word)
+        → Innermost kept number admits word from scope
     innermost admits word (here {scope = scope} known) back =
         here (knows_as admits (qualified scope word) back known)
-    innermost admits word (farther {scope = scope} absent inner) back =
+    innermost admits word (farther {scope = scope} absent is inner) back =
         farther
         (λ known. absent (record {
           kind = known.kind;
           known = knows_among number (qualified scope word) known.kind known.known;
           admitted = known.admitted;
-        }))
+        })) is
         (innermost admits word inner back)
 
-    resolves : {dot : Bool} {words scopes : List (List ℕ)} {name : List ℕ}
-        → ResolvesIn files (among number) dot words scopes name
+    resolves : {dot : Bool} {words : List (List ℕ)} {from name : List ℕ}
+        → ResolvesIn files (among number) dot words from name
         → ((text : List ℕ) → IsFoundBy words name text → KnowsBack text)
-        → ResolvesIn kept number dot words scopes name
+        → ResolvesIn kept number dot words from name
     resolves (absolute {words = words} known) back =
         absolute (knows_as is_type (dotted words) (back (dotted words) whole_name) known)
     resolves (single {word = word} {scope = scope} inner) back =
@@ -149,9 +149,9 @@ names_the_same files omissions number type_use target is nothing =
     }
 
 pub kept_resolves_alike : KeptResolvesAlike
-kept_resolves_alike all readings told kept number type_use target is nothing =
+kept_resolves_alike all parsed told kept number type_use target is nothing =
     let files : List File = linked_files all in
-    let same : linked_files readings ≡ kept_of kept.omissions files =
+    let same : linked_files parsed ≡ kept_of kept.omissions files =
     ap linked_files kept.kept ∙ map_kept linked_file kept.omissions all in
     let Nothing : List File → Type 0 =
     λ fs. NamesNothingLeftOut files fs kept.omissions number type_use target is in

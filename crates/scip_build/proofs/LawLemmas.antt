@@ -11,7 +11,7 @@ use Rattle.proto_lex.specs.declared.fault.LexFault.{LexFault}
 use Rattle.proto_lex.specs.declared.fault.LexFault.TheVariants.{TooLong, NotUtf8, BadByte, OpenString, OpenComment}
 use Rattle.proto_lex.specs.declared.fault.LexFault.TheVariants.{BadEscape, BadNumber, Memory}
 use Rattle.proto_lex.specs.declared.token.Token.{Token}
-use Rattle.proto_parse.specs.tree.Dialect.{Dialect}
+use Rattle.proto_parse.specs.dialect.Dialect.{Dialect}
 use Rattle.proto_parse.specs.tree.File.{File}
 use Rattle.proto_parse.specs.fault.SyntaxFault.{SyntaxFault}
 use Rattle.proto_parse.specs.Derives.{Derives}
@@ -22,7 +22,7 @@ use Rattle.scip_build.specs.declared.fault.FileFault.{FileFault}
 use Rattle.scip_build.specs.declared.fault.FileFault.TheVariants.{Lex, Syntax}
 use Rattle.scip_build.specs.Parsed.{HasLexing, AreFactsIn, IsUnlexed, IsUnparsed}
 use Rattle.source_tree.specs.Files.{TreeFile}
-use Rattle.scip_build.specs.Readings.{IsFirstFaulty}
+use Rattle.scip_build.specs.ParsedFiles.{IsFirstFaulty}
 use Rattle.scip_build.specs.Laws.{OneListOfFacts, NoFactsWhereUnreadable, LexedWhereUnparsed, OneFileFault}
 use Rattle.scip_build.specs.Laws.{OneFirstFaulty}
 

@@ -1,26 +1,37 @@
--- one more choice
-mod ChosenLemmas
--- files as they are linked
-pub mod LinkingLemmas
--- proofs of the laws
-mod LawLemmas
--- what the phase answers, file by file
-mod ReadingLemmas
--- the second phase: lists by their places, what it stands on, and what it answers
-pub mod PlaceLemmas
-mod ReadyLemmas
-mod DocumentLemmas
-mod GapLemmas
-mod KeptLemmas
--- what is kept of a tree, and what is told of the rest
-mod KeptTreeLemmas
-mod AddLemmas
-mod ToldLemmas
-mod GoodTreeLemmas
-mod KeptUseLemmas
-mod BuiltLemmas
--- a refusal of a stage is one of the whole
-mod RefusalLemmas
--- the laws of what is built
+-- Each file is named after the spec or source that it serves.
+-- Nothing is told of a tree without faults, and of no other
+mod BuildLawGoodTreeLemmas
+-- A tree is built, or has one fault of its files
 mod BuildLawLemmas
-mod OneBuiltLemmas
+-- What is built by the same choices is one, and where one choice alone may come for what is seen, the choices are
+mod BuildLawOneBuiltLemmas
+-- A refusal of a stage is one of the whole
+mod BuildsRefusalLemmas
+-- What is built of files that were read
+mod BuiltLemmas
+-- One more choice, for the next declaration
+mod ChosenLemmas
+-- What the second phase answers
+mod DocumentLemmas
+-- What is kept of documents, in a form
+mod KeptLemmas
+-- What is told of a tree: just what is left out and what has no target, each once
+mod KeptToldLemmas
+-- What holds of the files of a tree holds of those that are kept
+mod KeptTreeLemmas
+-- A use that names nothing of a file that is left out names among the kept files what it names among all
+mod KeptUseLemmas
+-- Proofs of the laws
+mod LawLemmas
+-- Files as they are linked
+pub mod LinkingLemmas
+-- What a stage may refuse, for functions that refuse
+pub mod LinkingRefusalRules
+-- What the phase answers, file by file
+mod ParsedFileLemmas
+-- Files that were read are ready for their documents
+mod ReadyLemmas
+-- What is added to a list of what is told
+mod TellingAddLemmas
+-- The uses that name no type, of all sources
+mod UnresolvedUseLemmas

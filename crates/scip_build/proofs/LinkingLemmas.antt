@@ -3,18 +3,18 @@ use Rattle.std.proofs.Common.{◌≡◌, ◌∙◌, ℕ, zero, suc, ◌<◌, Lis
 use Rattle.std.proofs.Common.{ap, sym, refl, arith}
 use Rattle.std.specs.List.{slice_get}
 use Rattle.std.proofs.lemmas.Option.{slice_get_within, none-some, same_Some}
+use Rattle.basics.proofs.ListLemmas.{item_at}
 use Rattle.proto_visibility.specs.Files.{File}
 use Rattle.proto_visibility.specs.Files as link
-use Rattle.proto_visibility.proofs.FirstLemmas.{item_at}
-use Rattle.proto_parse.specs.tree.Dialect.{Dialect}
-use Rattle.proto_decl.specs.Seen.{Seen}
+use Rattle.proto_parse.specs.dialect.Dialect.{Dialect}
+use Rattle.proto_decl.specs.Values.{Seen}
 use Rattle.index_hooks.specs.declared.choice.Choice.{Choice}
 use Rattle.source_tree.specs.Files.{TreeFile}
 use Rattle.source_tree.specs.Trees.{HaveOwnPaths}
 use Rattle.scip_build.specs.declared.faulty.Faulty.{Faulty}
 use Rattle.scip_build.specs.declared.fault.FileFault.{FileFault}
 use Rattle.scip_build.specs.Files.{FileContents, ReadFile}
-use Rattle.scip_build.specs.Readings.{HasContents, IsReadingOf, AreReadingsOf}
+use Rattle.scip_build.specs.ParsedFiles.{HasContents, IsParsedFile, AreParsedFiles}
 use Rattle.scip_build.specs.Laws.{OneListOfFacts, NoFactsWhereUnreadable}
 use Rattle.scip_build.specs.Linking.{facts_in, linked_file, linked_files}
 
@@ -26,17 +26,17 @@ mapped_at f (x ∷ xs) zero y at = (x, refl, sym (same_Some (f x) y at))
 mapped_at f (x ∷ xs) (suc k) y at = mapped_at f xs k y at
 
 module _ (faulty : Faulty) (dialect : Dialect) (allows : Seen → Choice → Type 0) (files : List TreeFile)
-    (readings : List ReadFile) (are : AreReadingsOf faulty dialect allows files readings) where
+    (parsed : List ReadFile) (are : AreParsedFiles faulty dialect allows files parsed) where
   -- the file of the tree that a linked file is
-  pub in_tree : (number : ℕ) (file : File) → slice_get (linked_files readings) number ≡ Some file
+  pub in_tree : (number : ℕ) (file : File) → slice_get (linked_files parsed) number ≡ Some file
       → (of : TreeFile) × (slice_get files number ≡ Some of) × (file.path ≡ of.path)
   in_tree number file at =
-      let read = mapped_at linked_file readings number file at in
-      let within : number < length files = rw (sym are.one_each) (slice_get_within readings number read.0 read.1) in
+      let read = mapped_at linked_file parsed number file at in
+      let within : number < length files = rw (sym are.one_each) (slice_get_within parsed number read.0 read.1) in
       let there = item_at files number within in
       (there.0, there.1, ap (λ (f : File). f.path) read.2 ∙ (are.each number there.0 read.0 there.1 read.1).path)
 
-  pub own_paths : HaveOwnPaths files → link.HaveOwnPaths (linked_files readings)
+  pub own_paths : HaveOwnPaths files → link.HaveOwnPaths (linked_files parsed)
   own_paths own i j a b at_i at_j same =
       let first = in_tree i a at_i in
       let second = in_tree j b at_j in
@@ -55,7 +55,7 @@ same_mapped f (x ∷ xs) (y ∷ ys) few each =
 
 module _ (one : OneListOfFacts) (apart : NoFactsWhereUnreadable) (faulty other : Faulty) (dialect : Dialect)
     (allows others : Seen → Choice → Type 0) where
-  -- two readings of a file have the same facts, or both none
+  -- two parsed files of one file have the same facts, or both none
   pub same_facts : (number : ℕ) (file : TreeFile) (a b : Result FileContents FileFault)
       → HasContents faulty dialect allows number file a → HasContents other dialect others number file b
       → facts_in a ≡ facts_in b
@@ -67,19 +67,19 @@ module _ (one : OneListOfFacts) (apart : NoFactsWhereUnreadable) (faulty other :
       absurd (apart dialect number file.bytes b.facts f also.1.facts_in has.1)
   same_facts number file (Err f) (Err g) has also = refl
 
-  same_linked : (number : ℕ) (file : TreeFile) (a b : ReadFile) → IsReadingOf faulty dialect allows number file a
-      → IsReadingOf other dialect others number file b → linked_file a ≡ linked_file b
+  same_linked : (number : ℕ) (file : TreeFile) (a b : ReadFile) → IsParsedFile faulty dialect allows number file a
+      → IsParsedFile other dialect others number file b → linked_file a ≡ linked_file b
   same_linked number file a b reads again =
       let path = reads.path ∙ sym again.path in
       let facts = same_facts number file a.contents b.contents reads.contents again.contents in
       let is_included = reads.is_included ∙ sym again.is_included in
       λ i. record { path = path i; facts = facts i; is_included = is_included i }
 
-  pub one_linking : (files : List TreeFile) (readings again : List ReadFile)
-      → AreReadingsOf faulty dialect allows files readings → AreReadingsOf other dialect others files again
-      → linked_files readings ≡ linked_files again
-  one_linking files readings again are also =
-      same_mapped linked_file readings again (are.one_each ∙ sym also.one_each) (λ k a b at and.
-      let within : k < length files = rw (sym are.one_each) (slice_get_within readings k a at) in
+  pub one_linking : (files : List TreeFile) (parsed again : List ReadFile)
+      → AreParsedFiles faulty dialect allows files parsed → AreParsedFiles other dialect others files again
+      → linked_files parsed ≡ linked_files again
+  one_linking files parsed again are also =
+      same_mapped linked_file parsed again (are.one_each ∙ sym also.one_each) (λ k a b at and.
+      let within : k < length files = rw (sym are.one_each) (slice_get_within parsed k a at) in
       let there = item_at files k within in
       same_linked k there.0 a b (are.each k there.0 a there.1 at) (also.each k there.0 b there.1 and))

@@ -10,33 +10,32 @@ use Rattle.std.specs.Cmp.Lexicographic.{slice_cmp}
 use Rattle.std.proofs.lemmas.List.{length-map}
 use Rattle.std.proofs.lemmas.Option.{same_Some, none-some, slice_get-map, slice_get_within, get_or_from_slice_get}
 use Rattle.std.proofs.lemmas.Bool.{not-true}
-use Rattle.proto_parse.specs.tree.Dialect.{Dialect}
+use Rattle.basics.proofs.ListLemmas.{item_at}
+use Rattle.proto_parse.specs.dialect.Dialect.{Dialect}
 use Rattle.proto_decl.specs.Facts.{Facts, AreFactsOf, AreOfSomeFile}
-use Rattle.proto_decl.specs.Seen.{Seen}
+use Rattle.proto_decl.specs.Values.{Seen}
 use Rattle.proto_decl.specs.declared.declaration.Declaration.{Declaration}
 use Rattle.index_hooks.specs.declared.choice.Choice.{Choice}
 use Rattle.proto_visibility.specs.Files.{File, HasFacts, HaveOrigins, IsSource}
-use Rattle.proto_visibility.specs.Sees.Counts.{seen}
+use Rattle.proto_visibility.specs.Sees.IsReachable.{seen}
 use Rattle.proto_visibility.specs.Sees.SeesBy.{itself}
 use Rattle.proto_visibility.specs.Linked.{HaveClearNames}
-use Rattle.proto_visibility.proofs.FirstLemmas.{item_at}
 use Rattle.scip_symbol.specs.Path.{IsGoodPath}
 use Rattle.scip_model.specs.Chosen.{HaveChoices}
-use Rattle.scip_model.specs.Conditions.{HaveGoodPaths}
-use Rattle.scip_model.specs.Texts.{AreOfText, HasText}
+use Rattle.scip_model.specs.Conditions.{HaveGoodPaths, AreOfText, HasText}
 use Rattle.source_tree.specs.Files.{TreeFile, file_cmp}
 use Rattle.source_tree.specs.Trees.{IsTree}
 use Rattle.scip_build.specs.declared.faulty.Faulty.{Faulty}
 use Rattle.scip_build.specs.declared.fault.FileFault.{FileFault}
 use Rattle.scip_build.specs.Parsed.{AreFactsIn}
 use Rattle.scip_build.specs.Files.{FileContents, ReadFile}
-use Rattle.scip_build.specs.Readings.{seen_of, HasContents, IsReadingOf, AreReadingsOf}
+use Rattle.scip_build.specs.ParsedFiles.{seen_of, HasContents, IsParsedFile, AreParsedFiles}
 use Rattle.scip_build.specs.Linking.{facts_in, linked_file, linked_files, choices_in, choices_of}
-use Rattle.scip_build.specs.Ready.{AreWhole, AreWholeIfRead, reading_cmp, AreOfTree}
+use Rattle.scip_build.specs.Ready.{AreWhole, AreWholeIfRead, parsed_file_cmp, AreOfTree}
 use Rattle.scip_build.specs.Keeping.{is_source}
 use Rattle.scip_build.specs.Documents.{text_of, HasReadText, IsRead, AreReady}
 use Rattle.scip_build.proofs.LinkingLemmas.{mapped_at, own_paths}
-use Rattle.scip_build.proofs.PlaceLemmas.{beside, rising_at}
+use Rattle.basics.proofs.PlaceLemmas.{beside, rising_at}
 
 mapped : {A B : Type 0} (f : A → B) (xs : List A) (k : ℕ) (x : A) → slice_get xs k ≡ Some x
     → slice_get (map f xs) k ≡ Some (f x)
@@ -53,9 +52,8 @@ of_text dialect number bytes facts has =
       origin = record {
         lexed = has.lexed;
         file = has.tree;
-        dialect = dialect;
         is_lexed = has.lexing.is_lexed;
-        derives = has.derives;
+        derives = (dialect, has.derives);
         of_file = subst Of (sym has.of_tree.numbered) has.of_tree;
       };
       text_is = has.lexing.of_bytes;
@@ -75,37 +73,39 @@ whole faulty dialect allows number file (Ok contents) has =
 whole faulty dialect allows number file (Err fault) has = tt
 
 module _ (faulty : Faulty) (dialect : Dialect) (allows : Seen → Choice → Type 0) (tree : List TreeFile)
-    (readings : List ReadFile) (are : AreReadingsOf faulty dialect allows tree readings) where
+    (parsed : List ReadFile) (are : AreParsedFiles faulty dialect allows tree parsed) where
   -- the file that a reading is one of
-  record IsReadAt (number : ℕ) (reading : ReadFile) : Type 0 where
+  record IsReadAt (number : ℕ) (parsed_file : ReadFile) : Type 0 where
     file : TreeFile
     numbered : slice_get tree number ≡ Some file
-    is : IsReadingOf faulty dialect allows number file reading
+    is : IsParsedFile faulty dialect allows number file parsed_file
 
-  read_at : (number : ℕ) (reading : ReadFile) → slice_get readings number ≡ Some reading → IsReadAt number reading
-  read_at number reading at =
-      let within : number < length tree = rw (sym are.one_each) (slice_get_within readings number reading at) in
+  read_at : (number : ℕ) (parsed_file : ReadFile) → slice_get parsed number ≡ Some parsed_file
+      → IsReadAt number parsed_file
+  read_at number parsed_file at =
+      let within : number < length tree = rw (sym are.one_each) (slice_get_within parsed number parsed_file at) in
       let there = item_at tree number within in
-      record { file = there.0; numbered = there.1; is = are.each number there.0 reading there.1 at }
+      record { file = there.0; numbered = there.1; is = are.each number there.0 parsed_file there.1 at }
 
-  pub whole_at : (number : ℕ) (reading : ReadFile) → slice_get readings number ≡ Some reading
-      → AreWholeIfRead reading.contents
-  whole_at number reading at =
-      let read = read_at number reading at in
-      whole faulty dialect allows number read.file reading.contents read.is.contents
+  pub whole_at : (number : ℕ) (parsed_file : ReadFile) → slice_get parsed number ≡ Some parsed_file
+      → AreWholeIfRead parsed_file.contents
+  whole_at number parsed_file at =
+      let read = read_at number parsed_file at in
+      whole faulty dialect allows number read.file parsed_file.contents read.is.contents
 
   module _ (is_tree : IsTree tree) where
-    good_at : (number : ℕ) (reading : ReadFile) → slice_get readings number ≡ Some reading → IsGoodPath reading.path
-    good_at number reading at =
-        let read = read_at number reading at in
+    good_at : (number : ℕ) (parsed_file : ReadFile) → slice_get parsed number ≡ Some parsed_file
+        → IsGoodPath parsed_file.path
+    good_at number parsed_file at =
+        let read = read_at number parsed_file at in
         let Good : TreeFile → Type 0 = λ f. IsGoodPath f.path in
         let good : IsGoodPath read.file.path =
         subst Good (get_or_from_slice_get tree number read.file read.file read.numbered)
         (is_tree.good number read.file (slice_get_within tree number read.file read.numbered)) in
         subst IsGoodPath (sym read.is.path) good
 
-    rises : (lesser number : ℕ) (a b : ReadFile) → lesser < number → slice_get readings lesser ≡ Some a
-        → slice_get readings number ≡ Some b → reading_cmp a b ≡ Less
+    rises : (lesser number : ℕ) (a b : ReadFile) → lesser < number → slice_get parsed lesser ≡ Some a
+        → slice_get parsed number ≡ Some b → parsed_file_cmp a b ≡ Less
     rises lesser number a b less at and =
         let first = read_at lesser a at in
         let second = read_at number b and in
@@ -120,60 +120,61 @@ module _ (faulty : Faulty) (dialect : Dialect) (allows : Seen → Choice → Typ
         let by_p = subst (λ p. There p second.file.path a.is_included b.is_included) (sym first.is.path) by_y in
         subst (λ q. There a.path q a.is_included b.is_included) (sym second.is.path) by_p
 
-    pub of_tree : AreOfTree readings
+    pub of_tree : AreOfTree parsed
     of_tree = record {
       few = rw are.one_each is_tree.few;
-      each = λ number reading at.
-          record { good = good_at number reading at; contents = whole_at number reading at };
-      own = own_paths faulty dialect allows tree readings are is_tree.own;
+      each = λ number parsed_file at.
+          record { good = good_at number parsed_file at; contents = whole_at number parsed_file at };
+      own = own_paths faulty dialect allows tree parsed are is_tree.own;
       rising = rises;
     }
 
 -- ---- their facts
 
 -- the reading of a file with facts
-pub record HasReading (readings : List ReadFile) (number : ℕ) (facts : Facts) : Type 0 where
-  pub reading : ReadFile
-  pub at : slice_get readings number ≡ Some reading
+pub record HasParsedFile (parsed : List ReadFile) (number : ℕ) (facts : Facts) : Type 0 where
+  pub parsed_file : ReadFile
+  pub at : slice_get parsed number ≡ Some parsed_file
   pub contents : FileContents
-  pub read : reading.contents ≡ Ok contents
+  pub read : parsed_file.contents ≡ Ok contents
   pub facts_are : contents.facts ≡ facts
 
-module _ (readings : List ReadFile)
-    (whole : (number : ℕ) (reading : ReadFile) → slice_get readings number ≡ Some reading
-    → AreWholeIfRead reading.contents) where
-  with_contents : (number : ℕ) (facts : Facts) (reading : ReadFile) → slice_get readings number ≡ Some reading
-      → (contents : Result FileContents FileFault) → reading.contents ≡ contents
-      → facts_in contents ≡ Some facts → HasReading readings number facts
-  with_contents number facts reading at (Ok contents) is known = record {
-    reading = reading;
+module _ (parsed : List ReadFile)
+    (whole : (number : ℕ) (parsed_file : ReadFile) → slice_get parsed number ≡ Some parsed_file
+    → AreWholeIfRead parsed_file.contents) where
+  with_contents : (number : ℕ) (facts : Facts) (parsed_file : ReadFile) → slice_get parsed number ≡ Some parsed_file
+      → (contents : Result FileContents FileFault) → parsed_file.contents ≡ contents
+      → facts_in contents ≡ Some facts → HasParsedFile parsed number facts
+  with_contents number facts parsed_file at (Ok contents) is known = record {
+    parsed_file = parsed_file;
     at = at;
     contents = contents;
     read = is;
     facts_are = same_Some contents.facts facts known;
   }
-  with_contents number facts reading at (Err fault) is known = absurd (none-some facts known)
+  with_contents number facts parsed_file at (Err fault) is known = absurd (none-some facts known)
 
-  pub reading_of : (number : ℕ) (facts : Facts) → HasFacts (linked_files readings) number facts
-      → HasReading readings number facts
-  reading_of number facts has =
-      let read = mapped_at linked_file readings number has.file has.numbered in
+  pub parsed_file_of : (number : ℕ) (facts : Facts) → HasFacts (linked_files parsed) number facts
+      → HasParsedFile parsed number facts
+  parsed_file_of number facts has =
+      let read = mapped_at linked_file parsed number has.file has.numbered in
       with_contents number facts read.0 read.1 read.0.contents refl
       (sym (ap (λ (f : File). f.facts) read.2) ∙ has.known)
 
-  whole_of : (number : ℕ) (facts : Facts) (of : HasReading readings number facts) → AreWhole of.contents
-  whole_of number facts of = subst AreWholeIfRead of.read (whole number of.reading of.at)
+  whole_of : (number : ℕ) (facts : Facts) (of : HasParsedFile parsed number facts) → AreWhole of.contents
+  whole_of number facts of = subst AreWholeIfRead of.read (whole number of.parsed_file of.at)
 
-  pub have_origins : HaveOrigins (linked_files readings)
+  pub have_origins : HaveOrigins (linked_files parsed)
   have_origins number facts known =
-      let of = reading_of number facts known in
+      let of = parsed_file_of number facts known in
       subst AreOfSomeFile of.facts_are (whole_of number facts of).of_text.origin
 
-  has_text : (number : ℕ) (text : List ℕ) → HasReadText readings number text
-      → HasText (linked_files readings) number text
+  has_text : (number : ℕ) (text : List ℕ) → HasReadText parsed number text
+      → HasText (linked_files parsed) number text
   has_text number text has facts known =
-      let of = reading_of number facts known in
-      let same : of.reading ≡ has.reading = same_Some of.reading has.reading (sym of.at ∙ has.numbered) in
+      let of = parsed_file_of number facts known in
+      let same : of.parsed_file ≡ has.parsed_file = same_Some of.parsed_file has.parsed_file
+      (sym of.at ∙ has.numbered) in
       let contents : of.contents ≡ has.contents =
       one_ok of.contents has.contents (sym of.read ∙ (ap (λ (r : ReadFile). r.contents) same ∙ has.read)) in
       let Of : List ℕ → Type 0 = λ t. AreOfText t facts in
@@ -184,15 +185,15 @@ module _ (readings : List ReadFile)
       one_ok : (a b : FileContents) → ◌≡◌ {A = Result FileContents FileFault} (Ok a) (Ok b) → a ≡ b
       one_ok a b e = cc
 
-  has_choices : HaveChoices (linked_files readings) (map choices_of readings)
+  has_choices : HaveChoices (linked_files parsed) (map choices_of parsed)
   has_choices number index facts declared has =
-      let of = reading_of number facts has.has_facts in
+      let of = parsed_file_of number facts has.has_facts in
       let In : Facts → Type 0 = λ f. slice_get f.declarations index ≡ Some declared in
       let chosen = (whole_of number facts of).chosen index declared (subst In (sym of.facts_are) has.numbered) in (
         chosen.0,
         record {
           of_file = of.contents.choices;
-          file_is = mapped choices_of readings number of.reading of.at ∙ ap (λ c. Some (choices_in c)) of.read;
+          file_is = mapped choices_of parsed number of.parsed_file of.at ∙ ap (λ c. Some (choices_in c)) of.read;
           declaration_is = chosen.1;
         },
       )
@@ -257,7 +258,7 @@ module _ {X : Type 0} (p : X → Bool) where
 -- ---- they are ready
 
 -- the order of two files of which the later one is a source
-source_first : (a b : ReadFile) → reading_cmp a b ≡ Less → b.is_included ≡ false → a.is_included ≡ false
+source_first : (a b : ReadFile) → parsed_file_cmp a b ≡ Less → b.is_included ≡ false → a.is_included ≡ false
 source_first a b less source = by a.is_included refl
   where
     There : Bool → Bool → Type 0
@@ -270,90 +271,98 @@ source_first a b less source = by a.is_included refl
         let all : There true false = subst (λ y. There true y) source half in
         cc
 
-by_path : (a b : ReadFile) → a.is_included ≡ false → b.is_included ≡ false → reading_cmp a b ≡ Less
+by_path : (a b : ReadFile) → a.is_included ≡ false → b.is_included ≡ false → parsed_file_cmp a b ≡ Less
     → slice_cmp nat_cmp a.path b.path ≡ Less
 by_path a b first second less =
     let There : Bool → Bool → Type 0 = λ x y. ordering_then (bool_cmp x y) (slice_cmp nat_cmp a.path b.path) ≡ Less in
     let half : There false b.is_included = subst (λ x. There x b.is_included) first less in
     subst (λ y. There false y) second half
 
-module _ (readings : List ReadFile) (tree : AreOfTree readings) (clear : HaveClearNames (linked_files readings)) where
+module _ (parsed : List ReadFile) (tree : AreOfTree parsed) (clear : HaveClearNames (linked_files parsed)) where
   abbrev count : ℕ
-  count = prefix_len is_source readings
+  count = prefix_len is_source parsed
 
-  is_below : (number : ℕ) → IsSource (linked_files readings) number → number < count
+  is_below : (number : ℕ) → IsSource (linked_files parsed) number → number < count
   is_below number is =
-      let read = mapped_at linked_file readings number is.file is.numbered in
+      let read = mapped_at linked_file parsed number is.file is.numbered in
       let source : read.0.is_included ≡ false = sym (ap (λ (f : File). f.is_included) read.2) ∙ is.source in
-      in_front is_source readings
+      in_front is_source parsed
       (λ i j a b less at and passes. not_false a.is_included
       (source_first a b (tree.rising i j a b less at and) (not-true b.is_included passes)))
       number read.0 read.1 (not_false read.0.is_included source)
 
   source_at : (number : ℕ) → number < count
-      → (reading : ReadFile) × (slice_get readings number ≡ Some reading) × (reading.is_included ≡ false)
+      → (parsed_file : ReadFile) × (slice_get parsed number ≡ Some parsed_file) × (parsed_file.is_included ≡ false)
   source_at number below =
-      let there = item_at readings number (front_within is_source readings number below) in (
+      let there = item_at parsed number (front_within is_source parsed number below) in (
         there.0,
         there.1,
-        not-true there.0.is_included (front_passes is_source readings number there.0 there.1 below),
+        not-true there.0.is_included (front_passes is_source parsed number there.0 there.1 below),
       )
 
-  is_source_at : (number : ℕ) → number < count → IsSource (linked_files readings) number
+  is_source_at : (number : ℕ) → number < count → IsSource (linked_files parsed) number
   is_source_at number below =
       let there = source_at number below in
       record {
         file = linked_file there.0;
-        numbered = mapped linked_file readings number there.0 there.1;
+        numbered = mapped linked_file parsed number there.0 there.1;
         source = there.2;
       }
 
-  read_in : (number : ℕ) (reading : ReadFile) → slice_get readings number ≡ Some reading
-      → (reading.is_included ≡ false) → (contents : Result FileContents FileFault) → reading.contents ≡ contents
-      → IsRead readings number
-  read_in number reading at source (Ok contents) is =
-      (contents.text, record { reading = reading; contents = contents; numbered = at; read = is; text_is = refl })
-  read_in number reading at source (Err fault) is =
-      let file = linked_file reading in
-      let numbered = mapped linked_file readings number reading at in
+  read_in : (number : ℕ) (parsed_file : ReadFile) → slice_get parsed number ≡ Some parsed_file
+      → (parsed_file.is_included ≡ false) → (contents : Result FileContents FileFault) → parsed_file.contents ≡ contents
+      → IsRead parsed number
+  read_in number parsed_file at source (Ok contents) is = (
+    contents.text,
+    record {
+      parsed_file = parsed_file;
+      contents = contents;
+      numbered = at;
+      read = is;
+      text_is = refl;
+    },
+  )
+  read_in number parsed_file at source (Err fault) is =
+      let file = linked_file parsed_file in
+      let numbered = mapped linked_file parsed number parsed_file at in
       absurd (clear.read number (record {
         file = file;
-        counts = seen (record { file = file; numbered = numbered; source = source }) itself;
+        is_reachable = seen (record { file = file; numbered = numbered; source = source }) itself;
         numbered = numbered;
         unread = ap facts_in is;
       }))
 
-  reads : (number : ℕ) → number < count → IsRead readings number
+  reads : (number : ℕ) → number < count → IsRead parsed number
   reads number below =
       let there = source_at number below in read_in number there.0 there.1 there.2 there.0.contents refl
 
   ascends : (lesser number : ℕ) (a b : File) → lesser < number → number < count
-      → slice_get (linked_files readings) lesser ≡ Some a → slice_get (linked_files readings) number ≡ Some b
+      → slice_get (linked_files parsed) lesser ≡ Some a → slice_get (linked_files parsed) number ≡ Some b
       → slice_cmp nat_cmp a.path b.path ≡ Less
   ascends lesser number a b less below at and =
-      let first = mapped_at linked_file readings lesser a at in
-      let second = mapped_at linked_file readings number b and in
+      let first = mapped_at linked_file parsed lesser a at in
+      let second = mapped_at linked_file parsed number b and in
       let source = not-true second.0.is_included
-      (front_passes is_source readings number second.0 second.1 below) in
+      (front_passes is_source parsed number second.0 second.1 below) in
       let up = tree.rising lesser number first.0 second.0 less first.1 second.1 in
       rw (first.2, second.2) (by_path first.0 second.0 (source_first first.0 second.0 up source) source up)
 
-  good_paths : HaveGoodPaths (linked_files readings)
+  good_paths : HaveGoodPaths (linked_files parsed)
   good_paths number file at =
-      let read = mapped_at linked_file readings number file at in
+      let read = mapped_at linked_file parsed number file at in
       rw read.2 (tree.each number read.0 read.1).good
 
-  whole_each : (number : ℕ) (reading : ReadFile) → slice_get readings number ≡ Some reading
-      → AreWholeIfRead reading.contents
-  whole_each number reading at = (tree.each number reading at).contents
+  whole_each : (number : ℕ) (parsed_file : ReadFile) → slice_get parsed number ≡ Some parsed_file
+      → AreWholeIfRead parsed_file.contents
+  whole_each number parsed_file at = (tree.each number parsed_file at).contents
 
-  pub are_ready : AreReady readings (linked_files readings) (map choices_of readings) count
+  pub are_ready : AreReady parsed (linked_files parsed) (map choices_of parsed) count
   are_ready = record {
     sources = λ number. (is_source_at number, is_below number);
     read = reads;
-    texts = has_text readings whole_each;
+    texts = has_text parsed whole_each;
     good = good_paths;
     rising = ascends;
-    choices = has_choices readings whole_each;
-    one_text_each = length-map readings text_of ∙ sym (length-map readings linked_file);
+    choices = has_choices parsed whole_each;
+    one_text_each = length-map parsed text_of ∙ sym (length-map parsed linked_file);
   }

@@ -1,7 +1,7 @@
 -- What the definitions say about builds, whatever the code does.
 use Rattle.std.specs.Prelude.{◌≡◌, ◌≢◌, ℕ, List, []}
-use Rattle.proto_parse.specs.tree.Dialect.{Dialect}
-use Rattle.proto_decl.specs.Seen.{Seen}
+use Rattle.proto_parse.specs.dialect.Dialect.{Dialect}
+use Rattle.proto_decl.specs.Values.{Seen}
 use Rattle.proto_visibility.specs.declared.fault.LinkFault.{LinkFault}
 use Rattle.proto_visibility.specs.declared.fault.LinkFault.TheVariants as link
 use Rattle.index_hooks.specs.declared.choice.Choice.{Choice}

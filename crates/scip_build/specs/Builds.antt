@@ -1,7 +1,7 @@
 -- What is built from a tree, and why nothing is.
 use Rattle.std.specs.Prelude.{◌≡◌, ◌⊎◌, ◌<◌, ℕ, ⊤, List, map}
-use Rattle.proto_parse.specs.tree.Dialect.{Dialect}
-use Rattle.proto_decl.specs.Seen.{Seen}
+use Rattle.proto_parse.specs.dialect.Dialect.{Dialect}
+use Rattle.proto_decl.specs.Values.{Seen}
 use Rattle.index_hooks.specs.declared.choice.Choice.{Choice}
 use Rattle.proto_visibility.specs.Linked.{CanBeLinked, HaveClearNames}
 use Rattle.scip_model.specs.Indexes.{IsIndexOf}
@@ -14,8 +14,8 @@ use Rattle.scip_build.specs.declared.fault.BuildFault.{BuildFault}
 use Rattle.scip_build.specs.declared.fault.BuildFault.TheVariants.{Spawn, Memory, File, Duplicate, MissingImport}
 use Rattle.scip_build.specs.declared.fault.BuildFault.TheVariants.{Unresolved}
 use Rattle.scip_build.specs.Files.{ReadFile}
-use Rattle.scip_build.specs.Readings.{AreReadingsOf, IsFirstFaulty}
-use Rattle.scip_build.specs.Linking.{linked_files, choices_of, MayRefuseReadings}
+use Rattle.scip_build.specs.ParsedFiles.{AreParsedFiles, IsFirstFaulty}
+use Rattle.scip_build.specs.Linking.{linked_files, choices_of, MayRefuseParsed}
 use Rattle.scip_build.specs.Documents.{texts_of, IsLeastUnresolved}
 use Rattle.scip_build.specs.Kept.{AreKept, IsWithoutFault}
 
@@ -23,26 +23,26 @@ use Rattle.scip_build.specs.Kept.{AreKept, IsWithoutFault}
 -- choices, and the settings; of the rest it is told why. If faults are refused, nothing is told: so all files are
 -- kept, they can be linked, and each use of each source names a type.
 pub record IsBuiltOf (all : List ReadFile) (settings : Settings) (built : Built) : Type 0 where
-  pub readings : List ReadFile
-  pub kept : AreKept all readings built.told
-  pub clear : HaveClearNames (linked_files readings)
-  pub refused : settings.faulty ≡ Refuse → IsWithoutFault all readings built.told
-  pub choices : built.choices ≡ map choices_of readings
-  pub index : IsIndexOf (linked_files readings)
-      (texts_of readings) built.choices settings.package settings.encoding settings.project_root built.index
+  pub parsed : List ReadFile
+  pub kept : AreKept all parsed built.told
+  pub clear : HaveClearNames (linked_files parsed)
+  pub refused : settings.faulty ≡ Refuse → IsWithoutFault all parsed built.told
+  pub choices : built.choices ≡ map choices_of parsed
+  pub index : IsIndexOf (linked_files parsed)
+      (texts_of parsed) built.choices settings.package settings.encoding settings.project_root built.index
 
 -- The index of a tree, the choices that it is made by, and what is told of files that have no part in it.
 pub record IsBuilt (allows : Seen → Choice → Type 0) (settings : Settings) (tree : List TreeFile)
     (built : Built) : Type 0 where
   pub all : List ReadFile
-  pub read : AreReadingsOf settings.faulty settings.dialect allows tree all
+  pub read : AreParsedFiles settings.faulty settings.dialect allows tree all
   pub of_files : IsBuiltOf all settings built
 
--- this holds of some readings of the tree: so each source could be read
-abbrev pub OfReadings : (dialect : Dialect) → (allows : Seen → Choice → Type 0) → List TreeFile
+-- this holds of some parsed files of the tree: so each source could be read
+abbrev pub OfParsed : (dialect : Dialect) → (allows : Seen → Choice → Type 0) → List TreeFile
     → (List ReadFile → Type 0) → Type 0
-OfReadings dialect allows tree Holds =
-    (readings : List ReadFile) × AreReadingsOf Refuse dialect allows tree readings × Holds readings
+OfParsed dialect allows tree Holds =
+    (parsed : List ReadFile) × AreParsedFiles Refuse dialect allows tree parsed × Holds parsed
 
 -- Why a tree has no index: the first source that can't be read; else what the linking of its files refuses; else the
 -- first use that names no type; all this only if faults are refused. A thread is refused only if one is to be
@@ -53,11 +53,11 @@ IsBuildFault allows faulty dialect tree workers Spawn = 1 < workers
 IsBuildFault allows faulty dialect tree workers Memory = ⊤
 IsBuildFault allows faulty dialect tree workers (File number fault) =
     (faulty ≡ Refuse) × (IsFirstFaulty dialect tree number fault
-    ⊎ OfReadings dialect allows tree (λ readings. MayRefuseReadings readings (File number fault)))
+    ⊎ OfParsed dialect allows tree (λ parsed. MayRefuseParsed parsed (File number fault)))
 IsBuildFault allows faulty dialect tree workers (Duplicate first second) =
-    (faulty ≡ Refuse) × OfReadings dialect allows tree (λ readings. MayRefuseReadings readings (Duplicate first second))
+    (faulty ≡ Refuse) × OfParsed dialect allows tree (λ parsed. MayRefuseParsed parsed (Duplicate first second))
 IsBuildFault allows faulty dialect tree workers (MissingImport place) =
-    (faulty ≡ Refuse) × OfReadings dialect allows tree (λ readings. MayRefuseReadings readings (MissingImport place))
+    (faulty ≡ Refuse) × OfParsed dialect allows tree (λ parsed. MayRefuseParsed parsed (MissingImport place))
 IsBuildFault allows faulty dialect tree workers (Unresolved place) =
-    (faulty ≡ Refuse) × OfReadings dialect allows tree
-    (λ readings. CanBeLinked (linked_files readings) × IsLeastUnresolved (linked_files readings) place)
+    (faulty ≡ Refuse) × OfParsed dialect allows tree
+    (λ parsed. CanBeLinked (linked_files parsed) × IsLeastUnresolved (linked_files parsed) place)

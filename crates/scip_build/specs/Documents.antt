@@ -6,24 +6,24 @@ use Rattle.std.specs.Ordering.{nat_cmp}
 use Rattle.std.specs.Cmp.Lexicographic.{slice_cmp}
 use Rattle.std.specs.List.{slice_get}
 use Rattle.proto_decl.specs.Facts.{Facts}
-use Rattle.proto_decl.specs.declared.type_use.Use.{Use}
+use Rattle.proto_decl.specs.declared.uses.Use.{Use}
 use Rattle.proto_link.specs.Targets.{IsUnresolved}
-use Rattle.proto_visibility.specs.declared.place.FilePlace.{FilePlace}
+use Rattle.proto_visibility.specs.declared.files.FilePlace.{FilePlace}
 use Rattle.proto_visibility.specs.Files.{File, HasFacts, IsSource}
 use Rattle.scip_records.specs.declared.records.Document.{Document}
 use Rattle.scip_model.specs.Chosen.{Chosen, HaveChoices}
-use Rattle.scip_model.specs.Conditions.{HaveGoodPaths, IsResolved, AllResolve, IsFirstUnresolved}
-use Rattle.scip_model.specs.Uses.{UsesResolve}
-use Rattle.scip_model.specs.Texts.{HasText}
+use Rattle.scip_model.specs.Conditions.{HaveGoodPaths, IsResolved, AllResolve, IsFirstUnresolved, UsesResolve, HasText}
 use Rattle.scip_model.specs.Indexes.{IsAscendingListOf, IsDocumentOf, document_cmp, HasDocument, HaveDocuments}
 use Rattle.scip_build.specs.declared.settings.Settings.{Settings}
-use Rattle.scip_model.specs.Gaps.{AreGaps}
+use Rattle.scip_model.specs.Conditions.{AreUnresolvedUses}
 use Rattle.scip_model.specs.declared.source_document.SourceDocument.{SourceDocument}
 use Rattle.scip_build.specs.declared.faulty.Faulty.{Faulty}
 use Rattle.scip_build.specs.declared.faulty.Faulty.TheVariants.{Refuse}
 use Rattle.scip_build.specs.declared.fault.FileFault.{FileFault}
 use Rattle.scip_build.specs.declared.fault.BuildFault.{BuildFault}
 use Rattle.scip_build.specs.declared.fault.BuildFault.TheVariants as build
+use Rattle.scip_build.specs.declared.source_document.NoDocument.{NoDocument}
+use Rattle.scip_build.specs.declared.source_document.NoDocument.TheVariants as lacking
 use Rattle.scip_build.specs.Files.{FileContents, ReadFile}
 
 -- a file's text; none if it has no contents
@@ -32,67 +32,67 @@ text_in (Ok contents) = contents.text
 text_in (Err fault) = []
 
 abbrev pub text_of : ReadFile → List ℕ
-text_of reading = text_in reading.contents
+text_of parsed_file = text_in parsed_file.contents
 
 abbrev pub texts_of : List ReadFile → List (List ℕ)
-texts_of readings = map text_of readings
+texts_of parsed = map text_of parsed
 
 -- the file with this number has contents, with this text
-pub record HasReadText (readings : List ReadFile) (number : ℕ) (text : List ℕ) : Type 0 where
-  pub reading : ReadFile
+pub record HasReadText (parsed : List ReadFile) (number : ℕ) (text : List ℕ) : Type 0 where
+  pub parsed_file : ReadFile
   pub contents : FileContents
-  pub numbered : slice_get readings number ≡ Some reading
-  pub read : reading.contents ≡ Ok contents
+  pub numbered : slice_get parsed number ≡ Some parsed_file
+  pub read : parsed_file.contents ≡ Ok contents
   pub text_is : contents.text ≡ text
 
 abbrev pub IsRead : List ReadFile → (number : ℕ) → Type 0
-IsRead readings number = (text : List ℕ) × HasReadText readings number text
+IsRead parsed number = (text : List ℕ) × HasReadText parsed number text
 
--- What is asked of the linker's files, of the readings and of the choices for documents of the sources, so many, to be
--- made.
-pub record AreReady (readings : List ReadFile) (files : List File) (chosen : Chosen) (count : ℕ) : Type 0 where
+-- What is asked of the linker's files, of the parsed files and of the choices for documents of the sources, so many, to
+-- be made.
+pub record AreReady (parsed : List ReadFile) (files : List File) (chosen : Chosen) (count : ℕ) : Type 0 where
   pub sources : (number : ℕ) → (number < count) ↔ IsSource files number
-  pub read : (number : ℕ) → number < count → IsRead readings number
-  pub texts : (number : ℕ) (text : List ℕ) → HasReadText readings number text → HasText files number text
+  pub read : (number : ℕ) → number < count → IsRead parsed number
+  pub texts : (number : ℕ) (text : List ℕ) → HasReadText parsed number text → HasText files number text
   pub good : HaveGoodPaths files
   pub rising : (lesser number : ℕ) (a b : File) → lesser < number → number < count → slice_get files lesser ≡ Some a
       → slice_get files number ≡ Some b
       → slice_cmp nat_cmp a.path b.path ≡ Less
   pub choices : HaveChoices files chosen
-  pub one_text_each : length (texts_of readings) ≡ length files
+  pub one_text_each : length (texts_of parsed) ≡ length files
 
 -- what the second phase works on
 pub record SourceWork : Type 0 where
-  pub readings : List ReadFile
+  pub parsed : List ReadFile
   pub files : List File
   pub chosen : Chosen
   pub settings : Settings
   pub count : ℕ
 
 -- the document of the source with this number, and its uses that name no type; none if such are refused
-pub record IsDocumentAt (readings : List ReadFile) (files : List File) (chosen : Chosen) (settings : Settings)
+pub record IsDocumentAt (parsed : List ReadFile) (files : List File) (chosen : Chosen) (settings : Settings)
     (number : ℕ) (made : SourceDocument) : Type 0 where
   pub text : List ℕ
-  pub has_text : HasReadText readings number text
+  pub has_text : HasReadText parsed number text
   pub is : IsDocumentOf files chosen settings.package settings.encoding number text made.document
-  pub gaps : AreGaps files number made.unresolved
+  pub unresolved_uses : AreUnresolvedUses files number made.unresolved
   pub refused : settings.faulty ≡ Refuse → made.unresolved ≡ []
 
 -- why a source has no document: its first use that names no type, if such are refused; nothing is said about memory
-abbrev pub MayRefuseSource : Faulty → List File → (number : ℕ) → BuildFault → Type 0
-MayRefuseSource faulty files number build.Spawn = ⊥
-MayRefuseSource faulty files number build.Memory = ⊤
-MayRefuseSource faulty files number (build.File other fault) = ⊥
-MayRefuseSource faulty files number (build.Duplicate first second) = ⊥
-MayRefuseSource faulty files number (build.MissingImport place) = ⊥
-MayRefuseSource faulty files number (build.Unresolved place) =
-    (faulty ≡ Refuse) × (place.file ≡ number) × IsFirstUnresolved files number place.span
+abbrev pub MayRefuseSource : Faulty → List File → (number : ℕ) → NoDocument → Type 0
+MayRefuseSource faulty files number lacking.Memory = ⊤
+MayRefuseSource faulty files number (lacking.Unresolved span) = (faulty ≡ Refuse) × IsFirstUnresolved files number span
+
+-- the fault of a build that stops since the source with this number has no document
+abbrev pub fault_of_source : (number : ℕ) → NoDocument → BuildFault
+fault_of_source number lacking.Memory = build.Memory
+fault_of_source number (lacking.Unresolved span) = build.Unresolved (record { file = number; span = span })
 
 -- what the making of a document gives
 abbrev pub GivesDocument : List ReadFile → List File → Chosen → Settings → (number : ℕ)
-    → Result SourceDocument BuildFault → Type 0
-GivesDocument readings files chosen settings number result =
-    MatchResult result (IsDocumentAt readings files chosen settings number)
+    → Result SourceDocument NoDocument → Type 0
+GivesDocument parsed files chosen settings number result =
+    MatchResult result (IsDocumentAt parsed files chosen settings number)
     (MayRefuseSource settings.faulty files number)
 
 -- each use of each source names a type, or none
@@ -113,14 +113,14 @@ pub record IsUnresolvedAt (files : List File) (place : FilePlace) : Type 0 where
 
 -- The documents of all sources, one of each, by path, and all uses of the sources that name no type; none if such are
 -- refused.
-pub record AreDocuments (readings : List ReadFile) (files : List File) (chosen : Chosen) (settings : Settings)
-    (documents : List Document) (gaps : List FilePlace) : Type 0 where
+pub record AreDocuments (parsed : List ReadFile) (files : List File) (chosen : Chosen) (settings : Settings)
+    (documents : List Document) (unresolved_uses : List FilePlace) : Type 0 where
   pub decided : AllAreDecided files
-  pub unresolved : (place : FilePlace) → Contains gaps place ↔ IsUnresolvedAt files place
-  pub refused : settings.faulty ≡ Refuse → AllResolve files × (gaps ≡ [])
+  pub unresolved : (place : FilePlace) → Contains unresolved_uses place ↔ IsUnresolvedAt files place
+  pub refused : settings.faulty ≡ Refuse → AllResolve files × (unresolved_uses ≡ [])
   pub list : IsAscendingListOf document_cmp
-      (HasDocument files (texts_of readings) chosen settings.package settings.encoding) documents
-  pub each : HaveDocuments files (texts_of readings) chosen settings.package settings.encoding documents
+      (HasDocument files (texts_of parsed) chosen settings.package settings.encoding) documents
+  pub each : HaveDocuments files (texts_of parsed) chosen settings.package settings.encoding documents
 
 -- the first use that names no type, of the first source in which one does
 pub record IsLeastUnresolved (files : List File) (place : FilePlace) : Type 0 where
@@ -130,10 +130,8 @@ pub record IsLeastUnresolved (files : List File) (place : FilePlace) : Type 0 wh
 
 -- Why the documents aren't made: a use, if such are refused. A thread is refused only if one is to be started;
 -- nothing is said about memory.
-abbrev pub MayRefuseDocuments : Faulty → List File → (workers : ℕ) → BuildFault → Type 0
-MayRefuseDocuments faulty files workers build.Spawn = 1 < workers
-MayRefuseDocuments faulty files workers build.Memory = ⊤
-MayRefuseDocuments faulty files workers (build.File other fault) = ⊥
-MayRefuseDocuments faulty files workers (build.Duplicate first second) = ⊥
-MayRefuseDocuments faulty files workers (build.MissingImport place) = ⊥
-MayRefuseDocuments faulty files workers (build.Unresolved place) = (faulty ≡ Refuse) × IsLeastUnresolved files place
+pub data MayRefuseDocuments (faulty : Faulty) (files : List File) (workers : ℕ) : BuildFault → Type 0 where
+  documents_lack_thread : 1 < workers → MayRefuseDocuments faulty files workers build.Spawn
+  documents_lack_memory : MayRefuseDocuments faulty files workers build.Memory
+  first_is_unresolved : {place : FilePlace} → faulty ≡ Refuse → IsLeastUnresolved files place
+      → MayRefuseDocuments faulty files workers (build.Unresolved place)

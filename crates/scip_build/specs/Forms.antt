@@ -1,8 +1,8 @@
 -- An index in a form: what is kept of its documents. `Is document out` says that this is kept of a document.
 use Rattle.std.specs.Prelude.{◌≡◌, ℕ, List, map, Result, MatchResult}
 use Rattle.std.specs.List.{AllZip}
-use Rattle.proto_decl.specs.Seen.{Seen}
-use Rattle.proto_visibility.specs.declared.place.FilePlace.{FilePlace}
+use Rattle.proto_decl.specs.Values.{Seen}
+use Rattle.proto_visibility.specs.declared.files.FilePlace.{FilePlace}
 use Rattle.proto_visibility.specs.Files.{File}
 use Rattle.proto_visibility.specs.Linked.{HaveClearNames, CanBeLinked}
 use Rattle.index_hooks.specs.declared.choice.Choice.{Choice}
@@ -15,11 +15,12 @@ use Rattle.scip_build.specs.declared.settings.Settings.{Settings}
 use Rattle.scip_build.specs.declared.parts.Parts.{Parts}
 use Rattle.scip_build.specs.declared.made.Made.{Made}
 use Rattle.scip_build.specs.declared.made.MadeDocument.{MadeDocument}
-use Rattle.scip_build.specs.declared.fault.BuildFault.{BuildFault}
+use Rattle.scip_build.specs.declared.source_document.NoDocument.{NoDocument}
+use Rattle.scip_build.specs.declared.omission.Omission.{Omission}
 use Rattle.scip_build.specs.Files.{ReadFile}
 use Rattle.scip_build.specs.Documents.{IsDocumentAt, MayRefuseSource, AreDocuments}
 use Rattle.scip_build.specs.Linking.{linked_files, choices_of}
-use Rattle.scip_build.specs.Made.{gaps_from}
+use Rattle.scip_build.specs.Made.{unresolved_from}
 use Rattle.scip_build.specs.Making.{IsMade}
 use Rattle.scip_build.specs.Builds.{IsBuiltOf, IsBuilt}
 
@@ -32,47 +33,47 @@ module _ {Out : Type 0} (Is : Document → Out → Type 0) where
     pub external_symbols : parts.external_symbols ≡ index.external_symbols
 
   -- what the making of a source's document gives, of which this is kept
-  pub record IsKeptAt (readings : List ReadFile) (files : List File) (chosen : Chosen) (settings : Settings)
+  pub record IsKeptAt (parsed : List ReadFile) (files : List File) (chosen : Chosen) (settings : Settings)
       (number : ℕ) (out : MadeDocument Out) : Type 0 where
     pub document : SourceDocument
-    pub made : IsDocumentAt readings files chosen settings number document
+    pub made : IsDocumentAt parsed files chosen settings number document
     pub kept : Is document.document out.kept
-    pub gaps : out.unresolved ≡ document.unresolved
+    pub unresolved_uses : out.unresolved ≡ document.unresolved
 
   abbrev pub GivesKept : List ReadFile → List File → Chosen → Settings → (number : ℕ)
-      → Result (MadeDocument Out) BuildFault → Type 0
-  GivesKept readings files chosen settings number result =
-      MatchResult result (IsKeptAt readings files chosen settings number)
+      → Result (MadeDocument Out) NoDocument → Type 0
+  GivesKept parsed files chosen settings number result =
+      MatchResult result (IsKeptAt parsed files chosen settings number)
       (MayRefuseSource settings.faulty files number)
 
   -- what is kept of the documents of all sources, in order, and all uses that name no type
-  pub record AreMade (readings : List ReadFile) (files : List File) (chosen : Chosen) (settings : Settings)
+  pub record AreMade (parsed : List ReadFile) (files : List File) (chosen : Chosen) (settings : Settings)
       (outs : List (MadeDocument Out)) : Type 0 where
     pub documents : List Document
-    pub made : AreDocuments readings files chosen settings documents (gaps_from 0 outs)
+    pub made : AreDocuments parsed files chosen settings documents (unresolved_from 0 outs)
     pub kept : AllZip Is documents (map (λ (out : MadeDocument Out). out.kept) outs)
 
   -- there is an index, as linked files make it, and these are its parts
-  pub record IsMadeInForm (readings : List ReadFile) (files : List File) (chosen : Chosen) (settings : Settings)
-      (parts : Parts Out) (gaps : List FilePlace) : Type 0 where
+  pub record IsMadeInForm (parsed : List ReadFile) (files : List File) (chosen : Chosen) (settings : Settings)
+      (parts : Parts Out) (unresolved_uses : List FilePlace) : Type 0 where
     pub index : Index
-    pub made : IsMade readings files chosen settings index gaps
+    pub made : IsMade parsed files chosen settings index unresolved_uses
     pub are : ArePartsOf index parts
 
   -- it is made by the choices for the files that were read
-  pub record IsMadeOf (readings : List ReadFile) (settings : Settings) (made : Made Out) : Type 0 where
-    pub clear : HaveClearNames (linked_files readings)
-    pub choices : made.choices ≡ map choices_of readings
-    pub in_form : IsMadeInForm readings (linked_files readings) made.choices settings made.parts made.gaps
+  pub record IsMadeOf (parsed : List ReadFile) (settings : Settings) (made : Made Out) : Type 0 where
+    pub clear : HaveClearNames (linked_files parsed)
+    pub choices : made.choices ≡ map choices_of parsed
+    pub in_form : IsMadeInForm parsed (linked_files parsed) made.choices settings made.parts made.unresolved_uses
 
   -- the files can be linked, too
-  pub record IsLinkedAndMade (readings : List ReadFile) (settings : Settings) (made : Made Out) : Type 0 where
-    pub linked : CanBeLinked (linked_files readings)
-    pub made_of : IsMadeOf readings settings made
+  pub record IsLinkedAndMade (parsed : List ReadFile) (settings : Settings) (made : Made Out) : Type 0 where
+    pub linked : CanBeLinked (linked_files parsed)
+    pub made_of : IsMadeOf parsed settings made
 
   -- there is an index of what is kept of files that were read, made by these choices, this is told of the rest, and
   -- these are its parts
-  pub record IsBuiltOfInForm (all : List ReadFile) (settings : Settings) (choices : Chosen) (told : List BuildFault)
+  pub record IsBuiltOfInForm (all : List ReadFile) (settings : Settings) (choices : Chosen) (told : List Omission)
       (parts : Parts Out) : Type 0 where
     pub index : Index
     pub built : IsBuiltOf all settings (record { index = index; choices = choices; told = told })
@@ -80,7 +81,7 @@ module _ {Out : Type 0} (Is : Document → Out → Type 0) where
 
   -- the same for a tree
   pub record IsBuiltInForm (allows : Seen → Choice → Type 0) (settings : Settings) (tree : List TreeFile)
-      (choices : Chosen) (told : List BuildFault) (parts : Parts Out) : Type 0 where
+      (choices : Chosen) (told : List Omission) (parts : Parts Out) : Type 0 where
     pub index : Index
     pub built : IsBuilt allows settings tree (record { index = index; choices = choices; told = told })
     pub are : ArePartsOf index parts

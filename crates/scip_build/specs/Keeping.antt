@@ -10,4 +10,4 @@ kept_numbers number (None ∷ omissions) = number ∷ kept_numbers (number + 1) 
 kept_numbers number (Some fault ∷ omissions) = kept_numbers (number + 1) omissions
 
 abbrev pub is_source : ReadFile → Bool
-is_source reading = not reading.is_included
+is_source parsed_file = not parsed_file.is_included

@@ -3,29 +3,26 @@ use Rattle.std.specs.Prelude.{◌≡◌, ◌↔◌, ℕ, Bool, true, false, Opti
 use Rattle.std.specs.declared.cmp.Ordering.{Ordering}
 use Rattle.std.specs.Ordering.{nat_cmp, bool_cmp, on, ordering_then}
 use Rattle.std.specs.List.{slice_get}
-use Rattle.proto_visibility.specs.declared.place.FilePlace.{FilePlace}
-use Rattle.proto_visibility.specs.declared.fault.LinkFault.{LinkFault}
-use Rattle.proto_visibility.specs.declared.fault.LinkFault.TheVariants as link
+use Rattle.proto_visibility.specs.declared.files.FilePlace.{FilePlace}
+use Rattle.proto_visibility.specs.declared.omissions.FileOmission.{FileOmission}
+use Rattle.proto_visibility.specs.declared.omissions.FileOmission.TheVariants as left_for
 use Rattle.proto_visibility.specs.Absences.{IsMissing}
 use Rattle.proto_visibility.specs.Linked.{CanBeLinked}
 use Rattle.proto_visibility.specs.Kept.{Omissions, AreOmissions, kept_of, number_among_all}
 use Rattle.scip_model.specs.Conditions.{AllResolve}
 use Rattle.scip_model.specs.Indexes.{IsAscendingListOf}
 use Rattle.scip_build.specs.declared.fault.FileFault.{FileFault}
-use Rattle.scip_build.specs.declared.fault.BuildFault.{BuildFault}
-use Rattle.scip_build.specs.declared.fault.BuildFault.TheVariants.{Spawn, Memory, File, Duplicate, MissingImport}
-use Rattle.scip_build.specs.declared.fault.BuildFault.TheVariants.{Unresolved}
+use Rattle.scip_build.specs.declared.omission.Omission.{Omission}
+use Rattle.scip_build.specs.declared.omission.Omission.TheVariants.{File, Duplicate, MissingImport, Unresolved}
 use Rattle.scip_build.specs.Files.{ReadFile}
 use Rattle.scip_build.specs.Linking.{linked_files, HasFault}
 use Rattle.scip_build.specs.Documents.{AllAreDecided, IsUnresolvedAt}
 
--- Why a file is left out, as it is told: it can't be read, or one of its names clashes with another of its own, or with
--- one of a file kept before it.
-abbrev pub IsLeftFor : (all : List ReadFile) → Option LinkFault → BuildFault → Type 0
-IsLeftFor all (Some (link.Broken number)) told =
-    (fault : FileFault) × HasFault all number fault × (told ≡ File number fault)
-IsLeftFor all (Some (link.Duplicate first second)) told = told ≡ Duplicate first second
-IsLeftFor all omission told = ⊥
+-- Why the file with this number is left out, as it is told: it can't be read, or one of its names clashes with another
+-- of its own, or with one of a file kept before it.
+abbrev pub IsLeftFor : (all : List ReadFile) → (number : ℕ) → FileOmission → Omission → Type 0
+IsLeftFor all number left_for.Broken told = (fault : FileFault) × HasFault all number fault × (told ≡ File number fault)
+IsLeftFor all number (left_for.Duplicate first second) told = told ≡ Duplicate first second
 
 -- a place of a kept file, by the file's number among all
 abbrev pub place_among_all : Omissions → FilePlace → FilePlace
@@ -33,10 +30,10 @@ place_among_all omissions place = record { file = number_among_all omissions pla
 
 -- What is told of files that were read, of which some are left out: just this, each by the fault for which it would be
 -- refused.
-pub data IsTold (all : List ReadFile) (omissions : Omissions) : BuildFault → Type 0 where
+pub data IsTold (all : List ReadFile) (omissions : Omissions) : Omission → Type 0 where
   -- A file is left out;
-  of_file : (number : ℕ) (omission : Option LinkFault) {told : BuildFault}
-      → slice_get omissions number ≡ Some omission → IsLeftFor all omission told
+  of_file : (number : ℕ) (omission : FileOmission) {told : Omission}
+      → slice_get omissions number ≡ Some (Some omission) → IsLeftFor all number omission told
       → IsTold all omissions told
   -- an import that has to be there names no file that is kept;
   of_import : (place : FilePlace) → IsMissing (linked_files (kept_of omissions all)) place
@@ -50,9 +47,7 @@ pub data IsTold (all : List ReadFile) (omissions : Omissions) : BuildFault → T
 abbrev pub Key : Type 0
 Key = (ℕ × ℕ) × (ℕ × Bool)
 
-abbrev pub told_key : BuildFault → Key
-told_key Spawn = ((0, 0), (0, false))
-told_key Memory = ((0, 0), (0, false))
+abbrev pub told_key : Omission → Key
 told_key (File number fault) = ((number, 0), (0, false))
 told_key (Duplicate first second) = ((second.file, 0), (0, false))
 told_key (MissingImport place) = ((place.file, place.span.start), (place.span.end, false))
@@ -63,25 +58,25 @@ abbrev pub key_cmp : Key → Key → Ordering
 key_cmp x y = ordering_then (ordering_then (nat_cmp x.0.0 y.0.0) (nat_cmp x.0.1 y.0.1))
     (ordering_then (nat_cmp x.1.0 y.1.0) (bool_cmp x.1.1 y.1.1))
 
-abbrev pub told_cmp : BuildFault → BuildFault → Ordering
+abbrev pub told_cmp : Omission → Omission → Ordering
 told_cmp = on told_key key_cmp
 
 -- Of all that was read this is kept, and this is told of the rest, each once, in order of file and place.
-pub record AreKept (all readings : List ReadFile) (told : List BuildFault) : Type 0 where
+pub record AreKept (all parsed : List ReadFile) (told : List Omission) : Type 0 where
   pub omissions : Omissions
   pub left_out : AreOmissions (linked_files all) omissions
-  pub kept : readings ≡ kept_of omissions all
-  pub decided : AllAreDecided (linked_files readings)
+  pub kept : parsed ≡ kept_of omissions all
+  pub decided : AllAreDecided (linked_files parsed)
   pub told_is : IsAscendingListOf told_cmp (IsTold all omissions) told
 
 -- nothing is told: all are kept, they can be linked, and each use of each source names a type
-pub record IsWithoutFault (all readings : List ReadFile) (told : List BuildFault) : Type 0 where
+pub record IsWithoutFault (all parsed : List ReadFile) (told : List Omission) : Type 0 where
   pub none : told ≡ []
-  pub all_kept : readings ≡ all
+  pub all_kept : parsed ≡ all
   pub linked : CanBeLinked (linked_files all)
   pub resolved : AllResolve (linked_files all)
 
 -- Nothing is told if and only if a tree wouldn't be refused.
 abbrev pub NothingIsToldOfAGoodTree : Type 0
-NothingIsToldOfAGoodTree = (all readings : List ReadFile) (told : List BuildFault) → AreKept all readings told
+NothingIsToldOfAGoodTree = (all parsed : List ReadFile) (told : List Omission) → AreKept all parsed told
     → (told ≡ []) ↔ (CanBeLinked (linked_files all) × AllResolve (linked_files all))

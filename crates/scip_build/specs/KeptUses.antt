@@ -2,16 +2,16 @@
 use Rattle.std.specs.Prelude.{◌≡◌, ℕ, ◌+◌, Some, List, ◌∷◌, map}
 use Rattle.std.specs.List.{slice_get}
 use Rattle.proto_decl.specs.Names.{qualified, dotted}
-use Rattle.proto_decl.specs.declared.type_use.Use.{Use}
-use Rattle.proto_visibility.specs.declared.entities.Entity.{Entity}
-use Rattle.proto_visibility.specs.declared.entities.Entity.TheVariants.{Package, Declared}
+use Rattle.proto_decl.specs.declared.uses.Use.{Use}
+use Rattle.proto_visibility.specs.declared.lookup.Entity.{Entity}
+use Rattle.proto_visibility.specs.declared.lookup.Entity.TheVariants.{Package, Declared}
 use Rattle.proto_visibility.specs.Files.{File}
 use Rattle.proto_visibility.specs.Knows.{NameKind, Knows}
 use Rattle.proto_visibility.specs.Kept.{Omissions, number_among_all}
 use Rattle.proto_link.specs.declared.target.Target.{Target}
 use Rattle.proto_link.specs.Resolves.{words_of}
 use Rattle.proto_link.specs.Targets.{IsNamed, IsTarget}
-use Rattle.scip_build.specs.declared.fault.BuildFault.{BuildFault}
+use Rattle.scip_build.specs.declared.omission.Omission.{Omission}
 use Rattle.scip_build.specs.Files.{ReadFile}
 use Rattle.scip_build.specs.Linking.{linked_files}
 use Rattle.scip_build.specs.Kept.{AreKept}
@@ -54,8 +54,8 @@ pub record NamesTheSame (kept : List File) (omissions : Omissions) (number : ℕ
 
 -- A use of a kept file that names nothing of a file that is left out names what it named before.
 abbrev pub KeptResolvesAlike : Type 0
-KeptResolvesAlike = (all readings : List ReadFile) (told : List BuildFault) (kept : AreKept all readings told)
+KeptResolvesAlike = (all parsed : List ReadFile) (told : List Omission) (kept : AreKept all parsed told)
     → (number : ℕ) (type_use : Use) (target : Target)
     → (is : IsTarget (linked_files all) (number_among_all kept.omissions number) type_use target)
-    → NamesNothingLeftOut (linked_files all) (linked_files readings) kept.omissions number type_use target is
-    → NamesTheSame (linked_files readings) kept.omissions number type_use target
+    → NamesNothingLeftOut (linked_files all) (linked_files parsed) kept.omissions number type_use target is
+    → NamesTheSame (linked_files parsed) kept.omissions number type_use target

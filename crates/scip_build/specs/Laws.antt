@@ -1,10 +1,10 @@
--- What the definitions say about readings and faults, whatever the code does.
+-- What the definitions say about parsed files and faults, whatever the code does.
 use Rattle.std.specs.Prelude.{◌≡◌, ℕ, List}
 use Rattle.proto_lex.specs.declared.fault.LexFault.{LexFault}
-use Rattle.proto_parse.specs.tree.Dialect.{Dialect}
+use Rattle.proto_parse.specs.dialect.Dialect.{Dialect}
 use Rattle.proto_parse.specs.fault.SyntaxFault.{SyntaxFault}
 use Rattle.proto_decl.specs.Facts.{Facts}
-use Rattle.proto_decl.specs.Seen.{Seen}
+use Rattle.proto_decl.specs.Values.{Seen}
 use Rattle.index_hooks.specs.declared.choice.Choice.{Choice}
 use Rattle.scip_build.specs.declared.faulty.Faulty.{Faulty}
 use Rattle.scip_build.specs.declared.faulty.Faulty.TheVariants.{Refuse}
@@ -14,7 +14,7 @@ use Rattle.proto_visibility.specs.Files as link
 use Rattle.source_tree.specs.Files.{TreeFile}
 use Rattle.source_tree.specs.Trees.{HaveOwnPaths}
 use Rattle.scip_build.specs.Files.{ReadFile}
-use Rattle.scip_build.specs.Readings.{AreReadingsOf, IsFirstFaulty}
+use Rattle.scip_build.specs.ParsedFiles.{AreParsedFiles, IsFirstFaulty}
 use Rattle.scip_build.specs.Linking.{linked_files}
 
 -- A file has one list of facts at most,
@@ -45,22 +45,22 @@ OneFirstFaulty =
     (dialect : Dialect) (files : List TreeFile) (number other : ℕ) (fault another : FileFault)
     → IsFirstFaulty dialect files number fault → IsFirstFaulty dialect files other another → number ≡ other
 
--- If there is one, the files have no readings, if it is refused.
-abbrev pub NoReadingsWhereFaulty : (allows : Seen → Choice → Type 0) → Type 0
-NoReadingsWhereFaulty allows =
-    (dialect : Dialect) (files : List TreeFile) (readings : List ReadFile) (number : ℕ) (fault : FileFault)
-    → AreReadingsOf Refuse dialect allows files readings → IsFirstFaulty dialect files number fault → ⊥
+-- If there is one, the files have no parsed files, if it is refused.
+abbrev pub NoParsedFilesWhereFaulty : (allows : Seen → Choice → Type 0) → Type 0
+NoParsedFilesWhereFaulty allows =
+    (dialect : Dialect) (files : List TreeFile) (parsed : List ReadFile) (number : ℕ) (fault : FileFault)
+    → AreParsedFiles Refuse dialect allows files parsed → IsFirstFaulty dialect files number fault → ⊥
 
 -- Files that were read have paths of their own, as the tree's have, so that they can be handed to the linker.
-abbrev pub ReadingsHaveOwnPaths : (allows : Seen → Choice → Type 0) → Type 0
-ReadingsHaveOwnPaths allows =
-    (faulty : Faulty) (dialect : Dialect) (files : List TreeFile) (readings : List ReadFile)
-    → AreReadingsOf faulty dialect allows files readings → HaveOwnPaths files
-    → link.HaveOwnPaths (linked_files readings)
+abbrev pub ParsedFilesHaveOwnPaths : (allows : Seen → Choice → Type 0) → Type 0
+ParsedFilesHaveOwnPaths allows =
+    (faulty : Faulty) (dialect : Dialect) (files : List TreeFile) (parsed : List ReadFile)
+    → AreParsedFiles faulty dialect allows files parsed → HaveOwnPaths files
+    → link.HaveOwnPaths (linked_files parsed)
 
 -- Files that were read link as one list of files, whatever was chosen.
 abbrev pub OneLinking : (allows others : Seen → Choice → Type 0) → Type 0
 OneLinking allows others =
-    (faulty other : Faulty) (dialect : Dialect) (files : List TreeFile) (readings again : List ReadFile)
-    → AreReadingsOf faulty dialect allows files readings → AreReadingsOf other dialect others files again
-    → linked_files readings ≡ linked_files again
+    (faulty other : Faulty) (dialect : Dialect) (files : List TreeFile) (parsed again : List ReadFile)
+    → AreParsedFiles faulty dialect allows files parsed → AreParsedFiles other dialect others files again
+    → linked_files parsed ≡ linked_files again

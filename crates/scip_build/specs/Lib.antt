@@ -3,7 +3,7 @@ pub mod Parsed
 -- what is known of a file after it was read
 pub mod Files
 -- what files are read as, and the first that can't be
-pub mod Readings
+pub mod ParsedFiles
 -- why a file can't be read
 pub mod FileFaults
 -- what is linked of files that were read
@@ -26,6 +26,8 @@ pub mod Made
 pub mod Making
 -- an index in a form
 pub mod Forms
+-- the same of linked sources as one
+pub mod Works
 -- the laws
 pub mod Laws
 pub mod BuildLaws

@@ -1,8 +1,9 @@
 -- What is linked of files that were read, and why they can't be.
-use Rattle.std.specs.Prelude.{◌≡◌, ℕ, ⊤, Option, Some, None, Result, Ok, Err, List, [], map}
+use Rattle.std.specs.Prelude.{◌≡◌, ℕ, Option, Some, None, Result, Ok, Err, List, [], map}
 use Rattle.std.specs.List.{slice_get}
 use Rattle.proto_decl.specs.Facts.{Facts}
 use Rattle.proto_visibility.specs.declared.fault.LinkFault.TheVariants as link
+use Rattle.proto_visibility.specs.declared.files.FilePlace.{FilePlace}
 use Rattle.proto_visibility.specs.Files.{File}
 use Rattle.proto_visibility.specs.Absences.{Broken}
 use Rattle.proto_visibility.specs.Linked.{CanBeLinked, MayRefuse}
@@ -19,11 +20,11 @@ facts_in (Err fault) = None
 
 -- a file as it is linked
 abbrev pub linked_file : ReadFile → File
-linked_file reading = record
-    { path = reading.path; facts = facts_in reading.contents; is_included = reading.is_included }
+linked_file parsed_file = record
+    { path = parsed_file.path; facts = facts_in parsed_file.contents; is_included = parsed_file.is_included }
 
 abbrev pub linked_files : List ReadFile → List File
-linked_files readings = map linked_file readings
+linked_files parsed = map linked_file parsed
 
 -- the choices for a file's declarations; none if it has no contents
 abbrev pub choices_in : Result FileContents FileFault → List Choice
@@ -31,27 +32,26 @@ choices_in (Ok contents) = contents.choices
 choices_in (Err fault) = []
 
 abbrev pub choices_of : ReadFile → List Choice
-choices_of reading = choices_in reading.contents
+choices_of parsed_file = choices_in parsed_file.contents
 
 -- the file with this number has no contents, for this fault
-pub record HasFault (readings : List ReadFile) (number : ℕ) (fault : FileFault) : Type 0 where
-  pub reading : ReadFile
-  pub numbered : slice_get readings number ≡ Some reading
-  pub unread : reading.contents ≡ Err fault
+pub record HasFault (parsed : List ReadFile) (number : ℕ) (fault : FileFault) : Type 0 where
+  pub parsed_file : ReadFile
+  pub numbered : slice_get parsed number ≡ Some parsed_file
+  pub unread : parsed_file.contents ≡ Err fault
 
 -- Why files that were read can't be linked: the least of the sources and included sources that has no contents, and
 -- the fault of that; else what the linker refuses. Nothing is said about memory, and threads and uses are no matter
 -- of it.
-abbrev pub MayRefuseReadings : List ReadFile → BuildFault → Type 0
-MayRefuseReadings readings build.Spawn = ⊥
-MayRefuseReadings readings build.Memory = ⊤
-MayRefuseReadings readings (build.File number fault) =
-    Broken (linked_files readings) number × HasFault readings number fault
-MayRefuseReadings readings (build.Duplicate first second) =
-    MayRefuse (linked_files readings) (link.Duplicate first second)
-MayRefuseReadings readings (build.MissingImport place) = MayRefuse (linked_files readings) (link.MissingImport place)
-MayRefuseReadings readings (build.Unresolved place) = ⊥
+pub data MayRefuseParsed (parsed : List ReadFile) : BuildFault → Type 0 where
+  linking_lacks_memory : MayRefuseParsed parsed build.Memory
+  is_unread : {number : ℕ} {fault : FileFault} → Broken (linked_files parsed) number
+      → HasFault parsed number fault → MayRefuseParsed parsed (build.File number fault)
+  is_duplicate : {first second : FilePlace} → MayRefuse (linked_files parsed) (link.Duplicate first second)
+      → MayRefuseParsed parsed (build.Duplicate first second)
+  is_missing : {place : FilePlace} → MayRefuse (linked_files parsed) (link.MissingImport place)
+      → MayRefuseParsed parsed (build.MissingImport place)
 
 -- the files can be linked, and are those of the linker
 abbrev pub AreLinked : List ReadFile → List File → Type 0
-AreLinked readings files = (files ≡ linked_files readings) × CanBeLinked (linked_files readings)
+AreLinked parsed files = (files ≡ linked_files parsed) × CanBeLinked (linked_files parsed)

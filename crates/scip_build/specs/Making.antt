@@ -6,39 +6,35 @@ use Rattle.scip_records.specs.declared.records.Index.{Index}
 use Rattle.scip_model.specs.Chosen.{Chosen}
 use Rattle.scip_model.specs.Conditions.{AllResolve}
 use Rattle.scip_model.specs.Indexes.{IsIndexOf}
-use Rattle.proto_visibility.specs.declared.place.FilePlace.{FilePlace}
+use Rattle.proto_visibility.specs.declared.files.FilePlace.{FilePlace}
 use Rattle.scip_build.specs.declared.settings.Settings.{Settings}
 use Rattle.scip_build.specs.declared.faulty.Faulty.TheVariants.{Refuse}
 use Rattle.scip_build.specs.declared.fault.BuildFault.{BuildFault}
 use Rattle.scip_build.specs.declared.fault.BuildFault.TheVariants as build
 use Rattle.scip_build.specs.Files.{ReadFile}
-use Rattle.scip_build.specs.Linking.{linked_files, MayRefuseReadings}
+use Rattle.scip_build.specs.Linking.{linked_files, MayRefuseParsed}
 use Rattle.scip_build.specs.Documents.{texts_of, AllAreDecided, IsUnresolvedAt, IsLeastUnresolved}
 
 -- The index is that of the files, and these are the uses of sources that name no type: none if such are refused.
-pub record IsMade (readings : List ReadFile) (files : List File) (chosen : Chosen) (settings : Settings)
-    (index : Index) (gaps : List FilePlace) : Type 0 where
+pub record IsMade (parsed : List ReadFile) (files : List File) (chosen : Chosen) (settings : Settings)
+    (index : Index) (unresolved_uses : List FilePlace) : Type 0 where
   pub decided : AllAreDecided files
-  pub unresolved : (place : FilePlace) → Contains gaps place ↔ IsUnresolvedAt files place
-  pub refused : settings.faulty ≡ Refuse → AllResolve files × (gaps ≡ [])
-  pub is : IsIndexOf files (texts_of readings) chosen settings.package settings.encoding settings.project_root index
+  pub unresolved : (place : FilePlace) → Contains unresolved_uses place ↔ IsUnresolvedAt files place
+  pub refused : settings.faulty ≡ Refuse → AllResolve files × (unresolved_uses ≡ [])
+  pub is : IsIndexOf files (texts_of parsed) chosen settings.package settings.encoding settings.project_root index
 
 -- why files that were read make no index
 abbrev pub MayRefuseMaking : List ReadFile → (workers : ℕ) → BuildFault → Type 0
-MayRefuseMaking readings workers build.Spawn = 1 < workers
-MayRefuseMaking readings workers build.Memory = ⊤
-MayRefuseMaking readings workers (build.File number fault) = MayRefuseReadings readings (build.File number fault)
-MayRefuseMaking readings workers (build.Duplicate first second) =
-    MayRefuseReadings readings (build.Duplicate first second)
-MayRefuseMaking readings workers (build.MissingImport place) = MayRefuseReadings readings (build.MissingImport place)
-MayRefuseMaking readings workers (build.Unresolved place) =
-    CanBeLinked (linked_files readings) × IsLeastUnresolved (linked_files readings) place
+MayRefuseMaking parsed workers build.Spawn = 1 < workers
+MayRefuseMaking parsed workers build.Memory = ⊤
+MayRefuseMaking parsed workers (build.File number fault) = MayRefuseParsed parsed (build.File number fault)
+MayRefuseMaking parsed workers (build.Duplicate first second) =
+    MayRefuseParsed parsed (build.Duplicate first second)
+MayRefuseMaking parsed workers (build.MissingImport place) = MayRefuseParsed parsed (build.MissingImport place)
+MayRefuseMaking parsed workers (build.Unresolved place) =
+    CanBeLinked (linked_files parsed) × IsLeastUnresolved (linked_files parsed) place
 
 -- why what is kept of a tree makes no index
-abbrev pub MayRefuseSkipping : (workers : ℕ) → BuildFault → Type 0
-MayRefuseSkipping workers build.Spawn = 1 < workers
-MayRefuseSkipping workers build.Memory = ⊤
-MayRefuseSkipping workers (build.File number fault) = ⊥
-MayRefuseSkipping workers (build.Duplicate first second) = ⊥
-MayRefuseSkipping workers (build.MissingImport place) = ⊥
-MayRefuseSkipping workers (build.Unresolved place) = ⊥
+pub data MayRefuseSkipping (workers : ℕ) : BuildFault → Type 0 where
+  skipping_lacks_thread : 1 < workers → MayRefuseSkipping workers build.Spawn
+  skipping_lacks_memory : MayRefuseSkipping workers build.Memory

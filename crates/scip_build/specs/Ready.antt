@@ -10,7 +10,7 @@ use Rattle.index_hooks.specs.declared.choice.Choice.{Choice}
 use Rattle.index_pool.specs.declared.workers.TheConstants.{MAX_INPUTS}
 use Rattle.proto_visibility.specs.Files as link
 use Rattle.scip_symbol.specs.Path.{IsGoodPath}
-use Rattle.scip_model.specs.Texts.{AreOfText}
+use Rattle.scip_model.specs.Conditions.{AreOfText}
 use Rattle.scip_build.specs.declared.fault.FileFault.{FileFault}
 use Rattle.scip_build.specs.Files.{FileContents, ReadFile}
 use Rattle.scip_build.specs.Linking.{linked_files}
@@ -25,17 +25,17 @@ abbrev pub AreWholeIfRead : Result FileContents FileFault → Type 0
 AreWholeIfRead (Ok contents) = AreWhole contents
 AreWholeIfRead (Err fault) = ⊤
 
-pub record IsOfTree (reading : ReadFile) : Type 0 where
-  pub good : IsGoodPath reading.path
-  pub contents : AreWholeIfRead reading.contents
+pub record IsOfTree (parsed_file : ReadFile) : Type 0 where
+  pub good : IsGoodPath parsed_file.path
+  pub contents : AreWholeIfRead parsed_file.contents
 
 -- sources before included files, and each of these by path
-abbrev pub reading_cmp : ReadFile → ReadFile → Ordering
-reading_cmp a b = ordering_then (bool_cmp a.is_included b.is_included) (slice_cmp nat_cmp a.path b.path)
+abbrev pub parsed_file_cmp : ReadFile → ReadFile → Ordering
+parsed_file_cmp a b = ordering_then (bool_cmp a.is_included b.is_included) (slice_cmp nat_cmp a.path b.path)
 
-pub record AreOfTree (readings : List ReadFile) : Type 0 where
-  pub few : length readings ≤ MAX_INPUTS
-  pub each : (number : ℕ) (reading : ReadFile) → slice_get readings number ≡ Some reading → IsOfTree reading
-  pub own : link.HaveOwnPaths (linked_files readings)
-  pub rising : (lesser number : ℕ) (a b : ReadFile) → lesser < number → slice_get readings lesser ≡ Some a
-      → slice_get readings number ≡ Some b → reading_cmp a b ≡ Less
+pub record AreOfTree (parsed : List ReadFile) : Type 0 where
+  pub few : length parsed ≤ MAX_INPUTS
+  pub each : (number : ℕ) (parsed_file : ReadFile) → slice_get parsed number ≡ Some parsed_file → IsOfTree parsed_file
+  pub own : link.HaveOwnPaths (linked_files parsed)
+  pub rising : (lesser number : ℕ) (a b : ReadFile) → lesser < number → slice_get parsed lesser ≡ Some a
+      → slice_get parsed number ≡ Some b → parsed_file_cmp a b ≡ Less

@@ -7,41 +7,42 @@ ghost use Rattle.proto_visibility.specs.Linked.{HaveClearNames};
 ghost use Rattle.scip_model.specs.Indexes.{metadata_of};
 ghost use Rattle.scip_build.specs.declared.faulty.Faulty.TheVariants.{Refuse, Skip};
 ghost use Rattle.scip_build.specs.Linking.{linked_files};
-ghost use Rattle.scip_build.specs.Documents.{AreReady, MayRefuseDocuments};
+ghost use Rattle.scip_build.specs.Documents.{MayRefuseDocuments};
 ghost use Rattle.scip_build.specs.Ready.{AreOfTree};
 ghost use Rattle.scip_build.specs.Making.{MayRefuseMaking, MayRefuseSkipping};
-ghost use Rattle.scip_build.specs.Forms.{index_of, IsMadeInForm, IsMadeOf, IsLinkedAndMade, IsBuiltOfInForm};
+ghost use Rattle.scip_build.specs.Forms.{index_of, IsMadeOf, IsLinkedAndMade, IsBuiltOfInForm};
 ghost use Rattle.scip_build.specs.Forms.{IsBuiltInForm};
 ghost use Rattle.scip_build.specs.Builds.{IsBuilt, IsBuildFault};
+ghost use Rattle.scip_build.specs.Works.{IsReady, MayRefuseAny, IsMadeFrom};
 
 use crate::built::Built;
 use crate::chosen::chosen_lists;
 use crate::document_form::{AsRecords, DocumentForm};
 use crate::fault::BuildFault;
 use crate::faulty::Faulty;
-use crate::gaps::{documents_of, gaps_of};
 use crate::keeping::{keep_files, sources_among};
 use crate::linked_sources::LinkedSources;
 use crate::linking::{link, linked_files};
 use crate::made::Made;
+use crate::parsed_file::ParsedFile;
 use crate::parts::{BuiltParts, Parts};
-use crate::phase_one::read_files;
+use crate::phase_one::parse_files;
 use crate::phase_two::make_documents;
-use crate::reading::Reading;
 use crate::run::Run;
 use crate::settings::Settings;
 use crate::telling::tell;
+use crate::unresolved_uses::{documents_of, unresolved_of};
+use basics::tool::{NAME, VERSION};
+use basics::{OwnedText, Sequence};
 use index_hooks::Chooses;
 use index_pool::Gate;
 use proto_link::{FilePlace, Linker, kept_files_are_clear};
 use scip_model::{Choices, externals_in_packages};
 use scip_records::{Document, Index, Metadata, ToolInfo};
-use sequences::{OwnedText, Sequence};
 use source_tree::Tree;
 use std::alloc::{AllocError, Global};
 use std::sync::Wait;
 use std::thread::Threads;
-use tool::{NAME, VERSION};
 
 /// What the index says about itself.
 fn metadata(alloc: Global, project_root: &OwnedText) -> Result<Metadata, AllocError>
@@ -62,22 +63,21 @@ fn metadata(alloc: Global, project_root: &OwnedText) -> Result<Metadata, AllocEr
 
 /// The parts of the index of linked files, and the uses that name no type: the documents come by path, so
 /// none is looked for.
+#[tactic(auto, using(crate::proofs::LinkingRefusalRules::of_documents))]
 fn make_parts<R: Threads + Wait, G: Gate, F: DocumentForm + Sync>(
     run: &Run<'_, R, G>,
     sources: &LinkedSources<'_, '_, '_, '_>,
     form: &F,
 ) -> Result<(Parts<F::Kept>, Sequence<FilePlace>), BuildFault>
     requires few { sources.now.count ≤ MAX_INPUTS }
-    requires ready { AreReady
-        sources.now.readings.now sources.now.linker.now sources.now.choices.now sources.now.count }
+    requires ready { IsReady sources.now }
     ensures { MatchResult result
-        (λ made. IsMadeInForm F.is_kept sources.now.readings.now sources.now.linker.now sources.now.choices.now
-        sources.now.settings.now made.0 made.1)
-        (MayRefuseDocuments sources.now.settings.now.faulty sources.now.linker.now run.now.workers) }
+        (λ made. IsMadeFrom sources.now F.is_kept made.0 made.1)
+        (MayRefuseAny sources.now run.now.workers) }
 {
     let settings = sources.settings;
     let made = make_documents(run, sources, form)?;
-    let gaps = gaps_of(run.alloc, made.as_slice())?;
+    let unresolved_uses = unresolved_of(run.alloc, made.as_slice())?;
     let documents = documents_of(run.alloc, made)?;
     let external_symbols = externals_in_packages(
         run.alloc,
@@ -91,85 +91,88 @@ fn make_parts<R: Threads + Wait, G: Gate, F: DocumentForm + Sync>(
         documents: Sequence::from_vec(documents),
         external_symbols,
     };
-    Ok((parts, Sequence::from_vec(gaps)))
+    Ok((parts, Sequence::from_vec(unresolved_uses)))
 }
 
 /// What is made of linked files that were read.
+#[tactic(auto, using(crate::proofs::LinkingRefusalRules::of_documents))]
 fn make_linked<R: Threads + Wait, G: Gate, F: DocumentForm + Sync>(
     run: &Run<'_, R, G>,
     linker: &Linker<'_, '_>,
-    readings: &[Reading<'_>],
+    parsed: &[ParsedFile<'_>],
     settings: &Settings,
     form: &F,
 ) -> Result<Made<F::Kept>, BuildFault>
-    requires files { linker.now ≡ linked_files readings.now }
-    requires tree { AreOfTree readings.now }
+    requires files { linker.now ≡ linked_files parsed.now }
+    requires tree { AreOfTree parsed.now }
     ensures { MatchResult result
-        (IsMadeOf F.is_kept readings.now settings.now)
-        (MayRefuseDocuments settings.now.faulty (linked_files readings.now) run.now.workers) }
+        (IsMadeOf F.is_kept parsed.now settings.now)
+        (MayRefuseDocuments settings.now.faulty (linked_files parsed.now) run.now.workers) }
 {
+    // From here on it is known that no names of the files clash, and that their facts are those of texts.
     linker.linked();
-    let choices = Choices::new(chosen_lists(run.alloc, readings)?);
+    let choices = Choices::new(chosen_lists(run.alloc, parsed)?);
     let sources = LinkedSources {
         alloc: run.alloc,
         linker,
-        readings,
+        parsed,
         choices: &choices,
         settings,
-        count: sources_among(readings),
+        count: sources_among(parsed),
     };
     let made = make_parts(run, &sources, form)?;
     Ok(Made {
         parts: made.0,
         choices,
-        gaps: made.1,
+        unresolved_uses: made.1,
     })
 }
 
 /// What is made of all files that were read, if faults are refused.
 fn make_whole<R: Threads + Wait, G: Gate, F: DocumentForm + Sync>(
     run: &Run<'_, R, G>,
-    readings: &[Reading<'_>],
+    parsed: &[ParsedFile<'_>],
     settings: &Settings,
     form: &F,
 ) -> Result<Made<F::Kept>, BuildFault>
-    requires tree { AreOfTree readings.now }
+    requires tree { AreOfTree parsed.now }
     requires refuse { settings.now.faulty ≡ Refuse }
     ensures { MatchResult result
-        (IsLinkedAndMade F.is_kept readings.now settings.now)
-        (MayRefuseMaking readings.now run.now.workers) }
+        (IsLinkedAndMade F.is_kept parsed.now settings.now)
+        (MayRefuseMaking parsed.now run.now.workers) }
 {
-    let files = linked_files(run.alloc, readings)?;
-    let linker = link(run, readings, files.as_slice())?;
-    make_linked(run, &linker, readings, settings, form)
+    let files = linked_files(run.alloc, parsed)?;
+    let linker = link(run, parsed, files.as_slice())?;
+    make_linked(run, &linker, parsed, settings, form)
 }
 
 /// What is made of the files that are kept, and the imports of them that name no file.
+#[tactic(auto, using(crate::proofs::LinkingRefusalRules::of_skipping))]
 fn make_kept<R: Threads + Wait, G: Gate, F: DocumentForm + Sync>(
     run: &Run<'_, R, G>,
-    readings: &[Reading<'_>],
+    parsed: &[ParsedFile<'_>],
     settings: &Settings,
     form: &F,
 ) -> Result<(Made<F::Kept>, Vec<FilePlace>), BuildFault>
-    requires tree { AreOfTree readings.now }
-    requires clear { HaveClearNames (linked_files readings.now) }
+    requires tree { AreOfTree parsed.now }
+    requires clear { HaveClearNames (linked_files parsed.now) }
     requires skip { settings.now.faulty ≡ Skip }
     ensures { MatchResult result
-        (λ made. IsMadeOf F.is_kept readings.now settings.now made.0 × AreMissing (linked_files readings.now)
+        (λ made. IsMadeOf F.is_kept parsed.now settings.now made.0 × AreMissing (linked_files parsed.now)
         made.1.items)
         (MayRefuseSkipping run.now.workers) }
 {
-    let files = linked_files(run.alloc, readings)?;
+    let files = linked_files(run.alloc, parsed)?;
     let linker = Linker::of_kept(run.alloc, files.as_slice())?;
     let missing = linker.missing_imports(run.alloc)?;
-    let made = make_linked(run, &linker, readings, settings, form)?;
+    let made = make_linked(run, &linker, parsed, settings, form)?;
     Ok((made, missing))
 }
 
 /// The parts of the index of a tree that was read, if faults are refused.
 fn build_whole<'a, R: Threads + Wait, G: Gate, F: DocumentForm + Sync>(
     run: &Run<'_, R, G>,
-    all: Vec<Reading<'a>>,
+    all: Vec<ParsedFile<'a>>,
     settings: &Settings,
     form: &F,
 ) -> Result<BuiltParts<'a, F::Kept>, BuildFault>
@@ -183,15 +186,16 @@ fn build_whole<'a, R: Threads + Wait, G: Gate, F: DocumentForm + Sync>(
     Ok(BuiltParts {
         parts: made.parts,
         choices: made.choices,
-        readings: all,
+        parsed: all,
         told: Sequence::new(run.alloc),
     })
 }
 
 /// The parts of the index of what is kept of a tree that was read, and what is told of the rest.
+#[tactic(auto, using(crate::proofs::LinkingRefusalRules::of_skipping))]
 fn build_kept<'a, R: Threads + Wait, G: Gate, F: DocumentForm + Sync>(
     run: &Run<'_, R, G>,
-    all: Vec<Reading<'a>>,
+    all: Vec<ParsedFile<'a>>,
     settings: &Settings,
     form: &F,
 ) -> Result<BuiltParts<'a, F::Kept>, BuildFault>
@@ -203,17 +207,17 @@ fn build_kept<'a, R: Threads + Wait, G: Gate, F: DocumentForm + Sync>(
 {
     kept_files_are_clear();
     let kept = keep_files(run.alloc, all)?;
-    let made = make_kept(run, kept.readings.as_slice(), settings, form)?;
+    let made = make_kept(run, kept.parsed.as_slice(), settings, form)?;
     let told = tell(
         kept.told,
         kept.numbers.as_slice(),
         made.1.as_slice(),
-        made.0.gaps.as_slice(),
+        made.0.unresolved_uses.as_slice(),
     )?;
     Ok(BuiltParts {
         parts: made.0.parts,
         choices: made.0.choices,
-        readings: kept.readings,
+        parsed: kept.parsed,
         told: Sequence::from_vec(told),
     })
 }
@@ -232,8 +236,9 @@ pub fn build_in_form<'a, R: Threads + Wait, C: Chooses + Sync, G: Gate, F: Docum
     ensures refused { IfErr result (IsBuildFault (C.allows chooser.now) settings.now.faulty settings.now.dialect
         tree.now run.now.workers) }
 {
+    // From here on it is known that the files are those of a tree.
     tree.file_count();
-    let all = read_files(run, tree, chooser, settings.dialect, settings.faulty)?;
+    let all = parse_files(run, tree, chooser, settings.dialect, settings.faulty)?;
     match settings.faulty {
         Faulty::Refuse => build_whole(run, all, settings, form),
         Faulty::Skip => build_kept(run, all, settings, form),

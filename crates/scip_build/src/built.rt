@@ -1,9 +1,9 @@
 //! What is built from a tree.
 
-use crate::fault::BuildFault;
+use crate::omission::Omission;
+use basics::Sequence;
 use scip_model::Choices;
 use scip_records::Index;
-use sequences::Sequence;
 
 /// The index of a tree, and what was chosen for each declaration of its files.
 #[derive(Debug, Drop)]
@@ -12,7 +12,7 @@ pub struct Built {
     pub index: Index,
     /// For each file that is kept, by its number among these, the choice for each of its declarations.
     pub choices: Choices,
-    /// What was left out, and what has no target, each by the fault for which it would be refused, in order of file
-    /// and place; nothing if faults are refused. File numbers are those of the tree.
-    pub told: Sequence<BuildFault>,
+    /// What was left out, and what has no target, in order of file and place; nothing if faults are refused. File
+    /// numbers are those of the tree.
+    pub told: Sequence<Omission>,
 }

@@ -1,11 +1,11 @@
 //! The choices for declarations.
 
 ghost use Rattle.std.specs.Prelude.{IfOk};
-ghost use Rattle.scip_build.specs.Readings.{AreChosen, seen_of};
+ghost use Rattle.scip_build.specs.ParsedFiles.{AreChosen, seen_of};
 
+use basics::Sequence;
 use index_hooks::{Choice, Chooses};
 use proto_decl::Declaration;
-use sequences::Sequence;
 use std::alloc::{AllocError, Global};
 
 /// The choice for a declaration. Takes memory for its full name, which is let go.

@@ -22,8 +22,7 @@ pub enum FileFault {
 /// Why a tree has no index. The first of those that hold is answered, in this order; but `Spawn` and
 /// `Memory` also come again, before what the same step would answer.
 ///
-/// A file is named by its number in the tree. `Built::told` has such faults, too: there each is that of one file, one
-/// import or one use, and needn't be the first.
+/// A file is named by its number in the tree.
 #[derive(Clone, Copy, Debug, Drop, PartialEq, Eq, Error)]
 pub enum BuildFault {
     /// A thread could not be started.

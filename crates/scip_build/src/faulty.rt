@@ -1,7 +1,7 @@
 //! What is done with a tree that has faults.
 
 ghost use Rattle.std.specs.Prelude.{◌≡◌};
-ghost use Rattle.scip_build.specs.Readings.{may_be_unread};
+ghost use Rattle.scip_build.specs.ParsedFiles.{may_be_unread};
 
 /// What is done with a tree that has faults.
 #[derive(Clone, Copy, Debug, Drop, PartialEq, Eq)]

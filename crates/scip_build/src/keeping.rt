@@ -8,27 +8,27 @@ ghost use Rattle.scip_build.specs.Linking.{linked_files};
 ghost use Rattle.scip_build.specs.Keeping.{kept_numbers, is_source};
 ghost use Rattle.scip_build.specs.Telling.{AreKeptFiles};
 
-use crate::fault::BuildFault;
 use crate::linking::linked_files;
-use crate::reading::Reading;
+use crate::omission::Omission;
+use crate::parsed_file::ParsedFile;
 use crate::telling::push_omissions;
-use proto_link::{LinkFault, left_out};
+use proto_link::{FileOmission, left_out};
 use std::alloc::{AllocError, Global};
 
 /// For each of the files that were read, by its number, why it is left out; `None` of a file that is kept.
 fn omissions_of(
     alloc: Global,
-    readings: &[Reading<'_>],
-) -> Result<Vec<Option<LinkFault>>, AllocError>
-    requires { HaveOwnPaths (linked_files readings.now) }
-    ensures { IfOk result (λ omissions. AreOmissions (linked_files readings.now) omissions.items) }
+    parsed: &[ParsedFile<'_>],
+) -> Result<Vec<Option<FileOmission>>, AllocError>
+    requires { HaveOwnPaths (linked_files parsed.now) }
+    ensures { IfOk result (λ omissions. AreOmissions (linked_files parsed.now) omissions.items) }
 {
-    let files = linked_files(alloc, readings)?;
+    let files = linked_files(alloc, parsed)?;
     left_out(alloc, files.as_slice())
 }
 
 /// The numbers of the files that are kept, in order.
-fn kept_numbers(alloc: Global, omissions: &[Option<LinkFault>]) -> Result<Vec<usize>, AllocError>
+fn kept_numbers(alloc: Global, omissions: &[Option<FileOmission>]) -> Result<Vec<usize>, AllocError>
     ensures { IfOk result (λ numbers. numbers.items ≡ kept_numbers 0 omissions.now) }
 {
     let mut numbers = Vec::new(alloc);
@@ -40,60 +40,60 @@ fn kept_numbers(alloc: Global, omissions: &[Option<LinkFault>]) -> Result<Vec<us
     Ok(numbers)
 }
 
-/// The readings of the files that are kept, in order.
-fn kept_readings<'a>(
+/// The parsed files of the files that are kept, in order.
+fn kept_parsed<'a>(
     alloc: Global,
-    all: Vec<Reading<'a>>,
-    omissions: Vec<Option<LinkFault>>,
-) -> Result<Vec<Reading<'a>>, AllocError>
+    all: Vec<ParsedFile<'a>>,
+    omissions: Vec<Option<FileOmission>>,
+) -> Result<Vec<ParsedFile<'a>>, AllocError>
     requires { length omissions.items ≡ length all.items }
-    ensures { IfOk result (λ readings. readings.items ≡ kept_of omissions.items all.entry.items) }
+    ensures { IfOk result (λ parsed. parsed.items ≡ kept_of omissions.items all.entry.items) }
 {
-    let mut readings = Vec::with_capacity(alloc, all.len())?;
-    for (reading, omission) in all.into_iter().zip(omissions) {
+    let mut parsed = Vec::with_capacity(alloc, all.len())?;
+    for (parsed_file, omission) in all.into_iter().zip(omissions) {
         if omission.is_none() {
-            readings.push_reserved(reading);
+            parsed.push_reserved(parsed_file);
         }
     }
-    Ok(readings)
+    Ok(parsed)
 }
 
 /// The files of a tree that are kept, by their number among these, and what is told of the others.
 #[derive(Drop)]
 pub(crate) struct KeptFiles<'a> {
-    pub(crate) readings: Vec<Reading<'a>>,
+    pub(crate) parsed: Vec<ParsedFile<'a>>,
     /// The number that each has among all files.
     pub(crate) numbers: Vec<usize>,
-    pub(crate) told: Vec<BuildFault>,
+    pub(crate) told: Vec<Omission>,
 }
 
 /// Leaves out the files that can't be read, and those of which a name clashes with one of a file before.
 pub(crate) fn keep_files<'a>(
     alloc: Global,
-    all: Vec<Reading<'a>>,
+    all: Vec<ParsedFile<'a>>,
 ) -> Result<KeptFiles<'a>, AllocError>
     requires { HaveOwnPaths (linked_files all.items) }
-    ensures { IfOk result (λ kept. AreKeptFiles all.entry.items kept.readings.items kept.numbers.items
+    ensures { IfOk result (λ kept. AreKeptFiles all.entry.items kept.parsed.items kept.numbers.items
         kept.told.items) }
 {
     let mut told = Vec::new(alloc);
     let omissions = omissions_of(alloc, all.as_slice())?;
     push_omissions(&mut told, all.as_slice(), omissions.as_slice())?;
     let numbers = kept_numbers(alloc, omissions.as_slice())?;
-    let readings = kept_readings(alloc, all, omissions)?;
+    let parsed = kept_parsed(alloc, all, omissions)?;
     Ok(KeptFiles {
-        readings,
+        parsed,
         numbers,
         told,
     })
 }
 
 /// How many files are in front of the first that is included.
-pub(crate) fn sources_among(readings: &[Reading<'_>]) -> usize
-    ensures { result ≡ prefix_len is_source readings.now }
+pub(crate) fn sources_among(parsed: &[ParsedFile<'_>]) -> usize
+    ensures { result ≡ prefix_len is_source parsed.now }
 {
-    readings
+    parsed
         .iter()
-        .take_while(|reading| !reading.is_included)
+        .take_while(|parsed_file| !parsed_file.is_included)
         .count()
 }

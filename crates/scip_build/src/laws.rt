@@ -1,11 +1,11 @@
-//! Laws: what the definitions say about readings and faults, whatever the code does.
+//! Laws: what the definitions say about parsed files and faults, whatever the code does.
 
 ghost use Rattle.scip_build.specs.BuildLaws.{BuiltHasNoFault, OneBuildFault, OneBuilt};
 ghost use Rattle.scip_build.specs.BuildLaws.{OneBuiltOfChoices, BuiltWhereNothingIsTold};
 ghost use Rattle.scip_build.specs.Kept.{NothingIsToldOfAGoodTree};
 ghost use Rattle.scip_build.specs.KeptUses.{KeptResolvesAlike};
 ghost use Rattle.scip_build.specs.Laws.{OneListOfFacts, NoFactsWhereUnreadable, LexedWhereUnparsed, OneFileFault};
-ghost use Rattle.scip_build.specs.Laws.{OneFirstFaulty, NoReadingsWhereFaulty, ReadingsHaveOwnPaths, OneLinking};
+ghost use Rattle.scip_build.specs.Laws.{OneFirstFaulty, NoParsedFilesWhereFaulty, ParsedFilesHaveOwnPaths, OneLinking};
 
 use index_hooks::Chooses;
 use proto_decl::one_list_of_facts;
@@ -50,16 +50,16 @@ pub fn one_first_faulty()
     faults_exclude_facts();
 }
 
-/// If a source can't be read, the files have no readings, whatever is chosen.
-pub fn readings_exclude_faults<C: Chooses>(chooser: &C)
-    ensures { NoReadingsWhereFaulty (C.allows chooser.now) }
+/// If a source can't be read, the files have no parsed files, whatever is chosen.
+pub fn parsed_files_exclude_faults<C: Chooses>(chooser: &C)
+    ensures { NoParsedFilesWhereFaulty (C.allows chooser.now) }
 {
     faults_exclude_facts();
 }
 
 /// Files that were read have paths of their own, as `link` needs it.
-pub fn readings_have_own_paths<C: Chooses>(chooser: &C)
-    ensures { ReadingsHaveOwnPaths (C.allows chooser.now) }
+pub fn parsed_files_have_own_paths<C: Chooses>(chooser: &C)
+    ensures { ParsedFilesHaveOwnPaths (C.allows chooser.now) }
 {}
 
 /// Files that were read link as one list of files, whatever was chosen.
@@ -75,8 +75,8 @@ pub fn built_has_no_fault<C: Chooses, D: Chooses>(chooser: &C, other: &D)
     ensures { BuiltHasNoFault (C.allows chooser.now) (D.allows other.now) }
 {
     one_linking(chooser, other);
-    readings_exclude_faults(chooser);
-    readings_exclude_faults(other);
+    parsed_files_exclude_faults(chooser);
+    parsed_files_exclude_faults(other);
 }
 
 /// The files of a tree have one fault at most, whatever was chosen.
@@ -84,8 +84,8 @@ pub fn one_build_fault<C: Chooses, D: Chooses>(chooser: &C, other: &D)
     ensures { OneBuildFault (C.allows chooser.now) (D.allows other.now) }
 {
     one_linking(chooser, other);
-    readings_exclude_faults(chooser);
-    readings_exclude_faults(other);
+    parsed_files_exclude_faults(chooser);
+    parsed_files_exclude_faults(other);
     one_first_faulty();
     one_refusal();
     one_fault_a_file();

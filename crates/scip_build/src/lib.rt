@@ -2,28 +2,44 @@
 //! of each source is made.
 #![tactic(auto)]
 
+// From a tree to its index.
 mod building;
 mod built;
-mod choosing;
-mod chosen;
-mod document_form;
-mod fault;
-mod faulty;
-mod file_reading;
-mod gaps;
-mod keeping;
-mod laws;
-mod linked_sources;
-mod linking;
-mod made;
-mod parts;
-mod phase_one;
-mod phase_two;
-mod reading;
 mod run;
 mod settings;
-mod source_document;
+
+// Why there is none, and what is done with faults.
+mod fault;
+mod faulty;
+mod keeping;
 mod telling;
+
+// The first phase: files are parsed, and choices made.
+mod choosing;
+mod chosen;
+mod file_parsing;
+mod parsed_file;
+mod phase_one;
+
+// The link.
+mod linking;
+
+// The second phase: documents are made.
+mod document_form;
+mod linked_sources;
+mod phase_two;
+mod source_document;
+
+// What was made, put together.
+mod made;
+mod parts;
+mod unresolved_uses;
+
+// The laws.
+mod laws;
+
+// What an index lacks.
+mod omission;
 
 pub use building::{build, build_in_form};
 pub use built::Built;
@@ -34,12 +50,13 @@ pub use faulty::Faulty;
 pub use laws::{
     built_has_no_fault, faults_exclude_facts, kept_resolves_alike,
     nothing_is_left_out_of_a_good_tree, one_build_fault, one_built, one_fault_a_file,
-    one_first_faulty, one_linking, one_list_of_facts_a_file, readings_exclude_faults,
-    readings_have_own_paths,
+    one_first_faulty, one_linking, one_list_of_facts_a_file, parsed_files_exclude_faults,
+    parsed_files_have_own_paths,
 };
 pub use linking::{link, linked_files};
+pub use omission::Omission;
+pub use parsed_file::{Contents, ParsedFile};
 pub use parts::{BuiltParts, Parts};
-pub use phase_one::read_files;
-pub use reading::{Contents, Reading};
+pub use phase_one::parse_files;
 pub use run::Run;
 pub use settings::Settings;

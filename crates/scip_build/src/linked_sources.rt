@@ -1,6 +1,6 @@
 //! What the documents of sources are made from.
 
-use crate::reading::Reading;
+use crate::parsed_file::ParsedFile;
 use crate::settings::Settings;
 use proto_link::Linker;
 use scip_model::Choices;
@@ -12,7 +12,7 @@ use std::alloc::Global;
 pub(crate) struct LinkedSources<'a, 'l, 'f, 'r> {
     pub(crate) alloc: Global,
     pub(crate) linker: &'a Linker<'l, 'f>,
-    pub(crate) readings: &'a [Reading<'r>],
+    pub(crate) parsed: &'a [ParsedFile<'r>],
     pub(crate) choices: &'a Choices,
     pub(crate) settings: &'a Settings,
     pub(crate) count: usize,

@@ -4,10 +4,10 @@ ghost use Rattle.std.specs.Prelude.{◌≡◌, IfOk, IfErr, MatchResult};
 ghost use Rattle.proto_visibility.specs.Files.{HaveOwnPaths};
 ghost use Rattle.proto_visibility.specs.Absences.{IsUnread};
 ghost use Rattle.proto_visibility.specs.Linked.{CanBeLinked, MayRefuse};
-ghost use Rattle.scip_build.specs.Linking.{linked_file, linked_files, HasFault, MayRefuseReadings, AreLinked};
+ghost use Rattle.scip_build.specs.Linking.{linked_file, linked_files, HasFault, MayRefuseParsed, AreLinked};
 
 use crate::fault::{BuildFault, FileFault};
-use crate::reading::Reading;
+use crate::parsed_file::ParsedFile;
 use crate::run::Run;
 use index_pool::Workers;
 use proto_link::{CheckedFiles, LinkFault, LinkFile, Linker, ListedNames};
@@ -15,62 +15,64 @@ use std::alloc::{AllocError, Global};
 use std::thread::{Threads, join};
 
 /// A file as it is linked.
-fn linked_file<'a, 'r>(reading: &'a Reading<'r>) -> LinkFile<'a, 'r>
-    ensures { result ≡ linked_file reading.now }
+fn linked_file<'a, 'r>(parsed_file: &'a ParsedFile<'r>) -> LinkFile<'a, 'r>
+    ensures { result ≡ linked_file parsed_file.now }
 {
-    let facts = match &reading.contents {
+    let facts = match &parsed_file.contents {
         Ok(contents) => Some(&contents.facts),
         Err(_) => None,
     };
     LinkFile {
-        path: reading.path,
+        path: parsed_file.path,
         facts,
-        included: reading.is_included,
+        included: parsed_file.is_included,
     }
 }
 
 /// The files as they are linked, each under its number. An error means that memory was refused.
 pub fn linked_files<'a, 'r>(
     alloc: Global,
-    readings: &'a [Reading<'r>],
+    parsed: &'a [ParsedFile<'r>],
 ) -> Result<Vec<LinkFile<'a, 'r>>, AllocError>
-    ensures { IfOk result (λ files. files.items ≡ linked_files readings.now) }
+    ensures { IfOk result (λ files. files.items ≡ linked_files parsed.now) }
 {
-    let mut files = Vec::with_capacity(alloc, readings.len())?;
-    for reading in readings {
-        files.push(linked_file(reading))?;
+    let mut files = Vec::with_capacity(alloc, parsed.len())?;
+    for parsed_file in parsed {
+        files.push(linked_file(parsed_file))?;
     }
     Ok(files)
 }
 
 /// Why a file has no contents.
-pub(crate) fn fault_at(readings: &[Reading<'_>], number: usize) -> FileFault
-    requires unread { IsUnread (linked_files readings.now) number }
-    ensures { HasFault readings.now number result }
+pub(crate) fn fault_at(parsed: &[ParsedFile<'_>], number: usize) -> FileFault
+    requires unread { IsUnread (linked_files parsed.now) number }
+    ensures { HasFault parsed.now number result }
 {
-    let reading = &readings[number];
-    match &reading.contents {
+    let parsed_file = &parsed[number];
+    match &parsed_file.contents {
         Err(fault) => *fault,
         Ok(_) => unreachable!(),
     }
 }
 
 /// Why files that were read can't be linked, by the linker's fault.
-fn refusal(readings: &[Reading<'_>], fault: LinkFault) -> BuildFault
-    requires { MayRefuse (linked_files readings.now) fault }
-    ensures { MayRefuseReadings readings.now result }
+#[tactic(auto, using(crate::proofs::LinkingRefusalRules::of_linking))]
+fn refusal(parsed: &[ParsedFile<'_>], fault: LinkFault) -> BuildFault
+    requires { MayRefuse (linked_files parsed.now) fault }
+    ensures { MayRefuseParsed parsed.now result }
 {
     match fault {
-        LinkFault::Broken(number) => BuildFault::File(number, fault_at(readings, number)),
+        LinkFault::Broken(number) => BuildFault::File(number, fault_at(parsed, number)),
         LinkFault::Duplicate(first, second) => BuildFault::Duplicate(first, second),
         LinkFault::MissingImport(place) => BuildFault::MissingImport(place),
-        LinkFault::Unresolved(place) => BuildFault::Unresolved(place),
         LinkFault::Memory => BuildFault::Memory,
+        LinkFault::Unresolved(_) => unreachable!(),
     }
 }
 
 /// The linker of files, of which two parts are made at once. Another thread checks them, since listing names takes more
 /// memory, which the calling thread gets in larger steps; if none can be started, the calling thread does both.
+#[tactic(auto, using(crate::proofs::LinkingRefusalRules::of_linker))]
 fn linker_in_parts<'a, 'r, R: Threads>(
     rt: &R,
     alloc: Global,
@@ -117,22 +119,22 @@ fn linker_of<'a, 'r, R: Threads>(
 
 /// Links files that were read, given as they are linked. If there is more than one worker, two threads link.
 ///
-/// `files` has to be what `linked_files` gives for `readings`, and no two may have one path.
+/// `files` has to be what `linked_files` gives for `parsed`, and no two may have one path.
 ///
 /// Of the refusals `File` comes first: the least included file that some source sees and that
 /// couldn't be read. Then `Duplicate`, then `MissingImport`. `Memory` comes at any growth. `Spawn` never comes: if no
 /// thread can be started, the calling one does all.
 pub fn link<'a, 'r, R: Threads, G>(
     run: &Run<'_, R, G>,
-    readings: &[Reading<'_>],
+    parsed: &[ParsedFile<'_>],
     files: &'a [LinkFile<'a, 'r>],
 ) -> Result<Linker<'a, 'r>, BuildFault>
-    requires same { files.now ≡ linked_files readings.now }
+    requires same { files.now ≡ linked_files parsed.now }
     requires own { HaveOwnPaths files.now }
-    ensures { MatchResult result (AreLinked readings.now) (MayRefuseReadings readings.now) }
+    ensures { MatchResult result (AreLinked parsed.now) (MayRefuseParsed parsed.now) }
 {
     match linker_of(run.rt, run.alloc, run.workers, files) {
         Ok(linker) => Ok(linker),
-        Err(fault) => Err(refusal(readings, fault)),
+        Err(fault) => Err(refusal(parsed, fault)),
     }
 }

@@ -1,10 +1,10 @@
 //! What is made of files that were linked.
 
 use crate::parts::Parts;
+use basics::Sequence;
 use proto_lex::Span;
 use proto_link::FilePlace;
 use scip_model::Choices;
-use sequences::Sequence;
 
 /// What is kept of a source's document, and the places of its uses that name no type, in order.
 #[derive(Drop)]
@@ -20,5 +20,5 @@ pub(crate) struct Made<T> {
     /// For each file, by its number, the choice for each of its declarations.
     pub(crate) choices: Choices,
     /// The places of the uses of sources that name no type; none if such are refused.
-    pub(crate) gaps: Sequence<FilePlace>,
+    pub(crate) unresolved_uses: Sequence<FilePlace>,
 }

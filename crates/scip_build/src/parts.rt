@@ -1,10 +1,10 @@
 //! The parts of an index.
 
-use crate::fault::BuildFault;
-use crate::reading::Reading;
+use crate::omission::Omission;
+use crate::parsed_file::ParsedFile;
+use basics::Sequence;
 use scip_model::Choices;
 use scip_records::{Metadata, SymbolInformation};
-use sequences::Sequence;
 
 /// The parts of an index, of whose documents something is kept: one of each, in their order.
 #[derive(Drop)]
@@ -27,7 +27,7 @@ pub struct BuiltParts<'a, T> {
     pub choices: Choices,
     /// What is known of the files that are kept. It is of no further use, but letting it go takes time, which
     /// a program that ends can save.
-    pub readings: Vec<Reading<'a>>,
+    pub parsed: Vec<ParsedFile<'a>>,
     /// What was left out, and what has no target, as `Built` has it.
-    pub told: Sequence<BuildFault>,
+    pub told: Sequence<Omission>,
 }

@@ -1,12 +1,13 @@
 //! The first phase: the files of a tree are read, on workers.
 
-ghost use Rattle.std.specs.Prelude.{MatchResult};
-ghost use Rattle.scip_build.specs.Readings.{AreReadingsOf, MayRefuseFiles};
+ghost use Rattle.std.specs.Prelude.{◌≡◌, MatchResult};
+ghost use Rattle.scip_build.specs.FileFaults.{fault_of_file};
+ghost use Rattle.scip_build.specs.ParsedFiles.{AreParsedFiles, MayRefuseFiles};
 
 use crate::fault::BuildFault;
 use crate::faulty::Faulty;
-use crate::file_reading::{Reader, read_file};
-use crate::reading::Reading;
+use crate::file_parsing::{NoContents, Reader, read_file};
+use crate::parsed_file::ParsedFile;
 use crate::run::Run;
 use index_hooks::Chooses;
 use index_pool::{Gate, Job, PoolFault, Ticket, run_phase};
@@ -15,7 +16,7 @@ use source_tree::Tree;
 use std::sync::Wait;
 use std::thread::Threads;
 
-/// The reading of each file.
+/// The parsed file of each file.
 #[derive(Drop)]
 struct PhaseOne<'a, 'c, C: Chooses + Sync> {
     reader: Reader<'c, C>,
@@ -24,19 +25,29 @@ struct PhaseOne<'a, 'c, C: Chooses + Sync> {
 
 impl<'a, 'c, C: Chooses + Sync> Job for PhaseOne<'a, 'c, C> {
     ghost use Rattle.std.specs.Prelude.{length};
-    ghost use Rattle.scip_build.specs.Readings.{GivesReading};
+    ghost use Rattle.scip_build.specs.ParsedFiles.{GivesParsedFile};
 
-    type Out = Reading<'a>;
+    type Out = ParsedFile<'a>;
 
-    type Fault = BuildFault;
+    type Fault = NoContents;
 
     ghost inputs = { λ s. length s.tree.now };
 
-    ghost gives = { λ s number result. GivesReading s.reader.faulty s.reader.dialect (C.allows s.reader.chooser.now)
+    ghost gives = { λ s number result. GivesParsedFile s.reader.faulty s.reader.dialect (C.allows s.reader.chooser.now)
         s.tree.now number result };
 
-    fn run(&self, ticket: Ticket) -> Result<Reading<'a>, BuildFault> {
+    fn run(&self, ticket: Ticket) -> Result<ParsedFile<'a>, NoContents> {
         read_file(&self.reader, ticket.number(), self.tree)
+    }
+}
+
+/// Why the files aren't read, by why the one with this number has no contents.
+fn refusal(number: usize, fault: NoContents) -> BuildFault
+    ensures { result ≡ fault_of_file number fault }
+{
+    match fault {
+        NoContents::Memory => BuildFault::Memory,
+        NoContents::Unreadable(fault) => BuildFault::File(number, fault),
     }
 }
 
@@ -45,21 +56,22 @@ impl<'a, 'c, C: Chooses + Sync> Job for PhaseOne<'a, 'c, C> {
 ///
 /// A source that isn't text, or has no lexing or no tree, is refused, unless faulty files are skipped: `File` names
 /// the first of them, and memory sufficed for every file before it. An included file like that isn't refused, and no
-/// file is if faulty ones are skipped: its reading has the fault. The chooser is asked once about each declaration of
-/// a file that can be read, included or not.
+/// file is if faulty ones are skipped: its parsed file has the fault. The chooser is asked once about each declaration
+/// of a file that can be read, included or not.
 ///
 /// `Spawn` comes before `Memory`, and `Memory` before `File`. `Memory` is for what all files share, or
 /// for the least file that stops the run, be it an included one. `Duplicate`, `MissingImport`,
 /// `Unresolved` and the `File` of an included file never come: linking answers those.
-pub fn read_files<'a, R: Threads + Wait, C: Chooses + Sync, G: Gate>(
+#[tactic(auto, using(crate::proofs::LinkingRefusalRules::of_files))]
+pub fn parse_files<'a, R: Threads + Wait, C: Chooses + Sync, G: Gate>(
     run: &Run<'_, R, G>,
     tree: &'a Tree,
     chooser: &C,
     dialect: Dialect,
     faulty: Faulty,
-) -> Result<Vec<Reading<'a>>, BuildFault>
+) -> Result<Vec<ParsedFile<'a>>, BuildFault>
     ensures { MatchResult result
-        (λ readings. AreReadingsOf faulty dialect (C.allows chooser.now) tree.now readings.items)
+        (λ parsed. AreParsedFiles faulty dialect (C.allows chooser.now) tree.now parsed.items)
         (MayRefuseFiles faulty dialect tree.now run.now.workers) }
 {
     let reader = Reader {
@@ -77,9 +89,9 @@ pub fn read_files<'a, R: Threads + Wait, C: Chooses + Sync, G: Gate>(
         run.workers,
         run.gate,
     ) {
-        Ok(readings) => Ok(readings),
+        Ok(parsed) => Ok(parsed),
         Err(PoolFault::Spawn) => Err(BuildFault::Spawn),
         Err(PoolFault::Memory) => Err(BuildFault::Memory),
-        Err(PoolFault::Job(_, fault)) => Err(fault),
+        Err(PoolFault::Job(number, fault)) => Err(refusal(number, fault)),
     }
 }

@@ -1,17 +1,18 @@
 //! The second phase: the documents of the sources are made, on workers, and what is wanted of each is kept.
 
-ghost use Rattle.std.specs.Prelude.{◌≤◌, MatchResult};
+ghost use Rattle.std.specs.Prelude.{◌≡◌, ◌≤◌, MatchResult};
 ghost use Rattle.index_pool.specs.declared.workers.TheConstants.{MAX_INPUTS};
-ghost use Rattle.scip_build.specs.Documents.{AreReady, MayRefuseDocuments};
-ghost use Rattle.scip_build.specs.Forms.{AreMade};
+ghost use Rattle.scip_build.specs.Documents.{fault_of_source};
+ghost use Rattle.scip_build.specs.Works.{IsReady, MayRefuseAny, AreMadeFrom};
 
 use crate::document_form::DocumentForm;
 use crate::fault::BuildFault;
 use crate::linked_sources::LinkedSources;
 use crate::made::MadeDocument;
 use crate::run::Run;
-use crate::source_document::make_document;
+use crate::source_document::{NoDocument, make_document};
 use index_pool::{Gate, Job, PoolFault, Ticket, run_phase};
+use proto_link::FilePlace;
 use scip_model::one_document_a_source;
 use std::marker::Model;
 use std::sync::Wait;
@@ -25,20 +26,14 @@ struct PhaseTwo<'a, 'b, 'l, 'f, 'r, F: DocumentForm + Sync> {
 }
 
 impl<'a, 'b, 'l, 'f, 'r, F: DocumentForm + Sync> Model for PhaseTwo<'a, 'b, 'l, 'f, 'r, F> {
-    ghost use Rattle.scip_build.specs.Documents.{AreReady, SourceWork};
+    ghost use Rattle.scip_build.specs.Documents.{SourceWork};
+    ghost use Rattle.scip_build.specs.Works.{IsReady, work_of};
 
     ghost Value = { SourceWork };
 
-    ghost view = { λ job. record {
-      readings = job.sources.now.readings.now;
-      files = job.sources.now.linker.now;
-      chosen = job.sources.now.choices.now;
-      settings = job.sources.now.settings.now;
-      count = job.sources.now.count;
-    } };
+    ghost view = { λ job. work_of job.sources.now };
 
-    ghost invariant = { λ job. AreReady
-        job.sources.now.readings.now job.sources.now.linker.now job.sources.now.choices.now job.sources.now.count };
+    ghost invariant = { λ job. IsReady job.sources.now };
 }
 
 impl<'a, 'b, 'l, 'f, 'r, F: DocumentForm + Sync> Job for PhaseTwo<'a, 'b, 'l, 'f, 'r, F> {
@@ -46,18 +41,28 @@ impl<'a, 'b, 'l, 'f, 'r, F: DocumentForm + Sync> Job for PhaseTwo<'a, 'b, 'l, 'f
 
     type Out = MadeDocument<F::Kept>;
 
-    type Fault = BuildFault;
+    type Fault = NoDocument;
 
     ghost inputs = { λ work. work.count };
 
     ghost gives = { λ work number result.
-        GivesKept F.is_kept work.readings work.files work.chosen work.settings number result };
+        GivesKept F.is_kept work.parsed work.files work.chosen work.settings number result };
 
-    fn run(&self, ticket: Ticket) -> Result<MadeDocument<F::Kept>, BuildFault> {
+    fn run(&self, ticket: Ticket) -> Result<MadeDocument<F::Kept>, NoDocument> {
         let made = make_document(self.sources, ticket.number())?;
         let (document, unresolved) = made.into_parts();
         let kept = self.form.keep(self.sources.alloc, document)?;
         Ok(MadeDocument { kept, unresolved })
+    }
+}
+
+/// Why the documents aren't made, by why the source with this number has none.
+fn refusal(number: usize, fault: NoDocument) -> BuildFault
+    ensures { result ≡ fault_of_source number fault }
+{
+    match fault {
+        NoDocument::Memory => BuildFault::Memory,
+        NoDocument::Unresolved(span) => BuildFault::Unresolved(FilePlace { file: number, span }),
     }
 }
 
@@ -67,18 +72,17 @@ impl<'a, 'b, 'l, 'f, 'r, F: DocumentForm + Sync> Job for PhaseTwo<'a, 'b, 'l, 'f
 /// Of the refusals, `Spawn` comes before `Memory`, and `Memory` before `Unresolved`, which is of the first source,
 /// and comes only if such uses are refused; but if the least source that has no document lacks memory, it is
 /// `Memory`.
+#[tactic(auto, using(crate::proofs::LinkingRefusalRules::of_documents))]
 pub(crate) fn make_documents<R: Threads + Wait, G: Gate, F: DocumentForm + Sync>(
     run: &Run<'_, R, G>,
     sources: &LinkedSources<'_, '_, '_, '_>,
     form: &F,
 ) -> Result<Vec<MadeDocument<F::Kept>>, BuildFault>
     requires few { sources.now.count ≤ MAX_INPUTS }
-    requires ready { AreReady
-        sources.now.readings.now sources.now.linker.now sources.now.choices.now sources.now.count }
+    requires ready { IsReady sources.now }
     ensures { MatchResult result
-        (λ made. AreMade F.is_kept sources.now.readings.now sources.now.linker.now sources.now.choices.now
-        sources.now.settings.now made.items)
-        (MayRefuseDocuments sources.now.settings.now.faulty sources.now.linker.now run.now.workers) }
+        (λ made. AreMadeFrom sources.now F.is_kept made.items)
+        (MayRefuseAny sources.now run.now.workers) }
 {
     one_document_a_source();
     let job = PhaseTwo { sources, form };
@@ -93,6 +97,6 @@ pub(crate) fn make_documents<R: Threads + Wait, G: Gate, F: DocumentForm + Sync>
         Ok(made) => Ok(made),
         Err(PoolFault::Spawn) => Err(BuildFault::Spawn),
         Err(PoolFault::Memory) => Err(BuildFault::Memory),
-        Err(PoolFault::Job(_, fault)) => Err(fault),
+        Err(PoolFault::Job(number, fault)) => Err(refusal(number, fault)),
     }
 }

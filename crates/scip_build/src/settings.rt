@@ -1,10 +1,10 @@
 //! What a user sets of an index.
 
 use crate::faulty::Faulty;
+use basics::OwnedText;
 use proto_lex::Encoding;
 use proto_parse::Dialect;
 use scip_model::FilePackages;
-use sequences::OwnedText;
 
 /// What an index is made by, beside the files and what is chosen for declarations.
 #[derive(Debug, Drop)]

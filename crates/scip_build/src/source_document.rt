@@ -1,29 +1,45 @@
 //! The document of a source that was read.
 
-ghost use Rattle.proto_visibility.specs.Files.{IsSource};
-ghost use Rattle.scip_model.specs.Chosen.{HaveChoices};
-ghost use Rattle.scip_model.specs.Conditions.{HaveGoodPaths};
-ghost use Rattle.scip_model.specs.Texts.{HasText};
-ghost use Rattle.std.specs.Prelude.{ℕ, List, [], ◌≡◌, Some, MatchOption};
+ghost use Rattle.std.specs.Prelude.{[], ◌≡◌, Some, MatchOption};
 ghost use Rattle.std.specs.List.{slice_get};
 ghost use Rattle.scip_build.specs.declared.faulty.Faulty.TheVariants.{Refuse};
-ghost use Rattle.scip_build.specs.Documents.{IsRead, HasReadText, GivesDocument};
+ghost use Rattle.scip_build.specs.Documents.{IsRead, HasReadText};
+ghost use Rattle.scip_build.specs.Works.{HasSource, HasReadSource, HasTextRead, GivesDocumentOf, HasGoodPaths};
+ghost use Rattle.scip_build.specs.Works.{HasChosen};
 
-use crate::fault::BuildFault;
 use crate::faulty::Faulty;
 use crate::linked_sources::LinkedSources;
-use crate::reading::Reading;
+use crate::parsed_file::ParsedFile;
 use proto_lex::{Span, Text};
-use proto_link::FilePlace;
 use scip_model::{DocumentMaker, PlannedDocument, plan_document};
+use std::alloc::AllocError;
+
+/// Why a source has no document.
+#[derive(Clone, Copy, Debug, Drop)]
+pub(crate) enum NoDocument {
+    /// Memory ran out.
+    Memory,
+    /// Its first use that names no type, if such are refused.
+    Unresolved(Span),
+}
+
+impl From<AllocError> for NoDocument {
+    ghost use Rattle.scip_build.specs.declared.source_document.NoDocument.TheVariants.{Memory};
+
+    ghost from_gives = { λ _ e. e ≡ Memory };
+
+    fn from(_refused: AllocError) -> NoDocument {
+        NoDocument::Memory
+    }
+}
 
 /// The text of a file that was read.
-fn text_at<'a, 'r>(readings: &'a [Reading<'r>], number: usize) -> &'a Text<'r>
-    requires { IsRead readings.now number }
-    ensures { HasReadText readings.now number result.now }
+fn text_at<'a, 'r>(parsed: &'a [ParsedFile<'r>], number: usize) -> &'a Text<'r>
+    requires { IsRead parsed.now number }
+    ensures { HasReadText parsed.now number result.now }
 {
-    let reading = &readings[number];
-    match &reading.contents {
+    let parsed_file = &parsed[number];
+    match &parsed_file.contents {
         Ok(contents) => &contents.text,
         Err(_) => unreachable!(),
     }
@@ -46,17 +62,15 @@ fn first_refused(faulty: Faulty, unresolved: &[Span]) -> Option<Span>
 pub(crate) fn make_document<'a, 'f>(
     sources: &LinkedSources<'a, '_, 'f, '_>,
     number: usize,
-) -> Result<PlannedDocument<'a, 'f>, BuildFault>
-    requires source { IsSource sources.now.linker.now number }
-    requires read { IsRead sources.now.readings.now number }
-    requires texts { (text : List ℕ) → HasReadText sources.now.readings.now number text
-        → HasText sources.now.linker.now number text }
-    requires good { HaveGoodPaths sources.now.linker.now }
-    requires choices { HaveChoices sources.now.linker.now sources.now.choices.now }
-    ensures { GivesDocument sources.now.readings.now sources.now.linker.now sources.now.choices.now
-        sources.now.settings.now number result }
+) -> Result<PlannedDocument<'a, 'f>, NoDocument>
+    requires source { HasSource sources.now number }
+    requires read { HasReadSource sources.now number }
+    requires texts { HasTextRead sources.now number }
+    requires good { HasGoodPaths sources.now }
+    requires choices { HasChosen sources.now }
+    ensures { GivesDocumentOf sources.now number result }
 {
-    let text = text_at(sources.readings, number);
+    let text = text_at(sources.parsed, number);
     let maker = DocumentMaker {
         alloc: sources.alloc,
         linker: sources.linker,
@@ -68,10 +82,10 @@ pub(crate) fn make_document<'a, 'f>(
     };
     let made = match plan_document(&maker) {
         Ok(made) => made,
-        Err(_) => return Err(BuildFault::Memory),
+        Err(_) => return Err(NoDocument::Memory),
     };
     if let Some(span) = first_refused(sources.settings.faulty, made.unresolved()) {
-        return Err(BuildFault::Unresolved(FilePlace { file: number, span }));
+        return Err(NoDocument::Unresolved(span));
     }
     Ok(made)
 }

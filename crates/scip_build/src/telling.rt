@@ -5,57 +5,56 @@ ghost use Rattle.std.specs.Ordering.{eq_by_cmp};
 ghost use Rattle.proto_visibility.specs.Kept.{AreOmissions};
 ghost use Rattle.scip_build.specs.Linking.{linked_files};
 ghost use Rattle.scip_build.specs.Kept.{IsLeftFor, told_key, told_cmp};
-ghost use Rattle.scip_build.specs.Telling.{Adds, FromFront, IsSomeOmission, number_in, told_import, told_use};
+ghost use Rattle.scip_build.specs.Telling.{Adds, FromFront, IsLeftIf, IsSomeOmission, number_in, told_import, told_use};
 ghost use Rattle.scip_build.specs.Telling.{AreInOrder, all_told};
 
-use crate::fault::BuildFault;
 use crate::linking::fault_at;
-use crate::reading::Reading;
-use proto_link::{FilePlace, LinkFault};
+use crate::omission::Omission;
+use crate::parsed_file::ParsedFile;
+use proto_link::{FileOmission, FilePlace};
 use std::alloc::AllocError;
 use std::cmp::Ordering;
 
-/// Why a file is left out, as it is told.
-fn left_fault(readings: &[Reading<'_>], number: usize, fault: LinkFault) -> BuildFault
-    requires { IsSomeOmission (linked_files readings.now) number (Some fault) }
-    ensures { IsLeftFor readings.now (Some fault) result }
+/// Why the file with this number is left out, as it is told.
+fn left_for(parsed: &[ParsedFile<'_>], number: usize, omission: FileOmission) -> Omission
+    requires { IsSomeOmission (linked_files parsed.now) number (Some omission) }
+    ensures { IsLeftFor parsed.now number omission result }
 {
-    match fault {
-        LinkFault::Broken(other) => BuildFault::File(other, fault_at(readings, other)),
-        LinkFault::Duplicate(first, second) => BuildFault::Duplicate(first, second),
-        _ => unreachable!(),
+    match omission {
+        FileOmission::Broken => Omission::File(number, fault_at(parsed, number)),
+        FileOmission::Duplicate(first, second) => Omission::Duplicate(first, second),
     }
 }
 
 /// Adds why a file is left out, if it is.
 fn push_omission(
-    told: &mut Vec<BuildFault>,
-    readings: &[Reading<'_>],
+    told: &mut Vec<Omission>,
+    parsed: &[ParsedFile<'_>],
     number: usize,
-    omission: &Option<LinkFault>,
+    omission: &Option<FileOmission>,
 ) -> Result<(), AllocError>
-    requires { IsSomeOmission (linked_files readings.now) number omission.now }
-    ensures { OnOk result (Adds (IsLeftFor readings.now omission.now) told.old.items told.new.items) }
+    requires { IsSomeOmission (linked_files parsed.now) number omission.now }
+    ensures { OnOk result (Adds (IsLeftIf parsed.now number omission.now) told.old.items told.new.items) }
 {
-    if let Some(fault) = omission {
-        told.push(left_fault(readings, number, *fault))?;
+    if let Some(omission) = omission {
+        told.push(left_for(parsed, number, *omission))?;
     }
     Ok(())
 }
 
 /// Adds why each file that is left out is.
 pub(crate) fn push_omissions(
-    told: &mut Vec<BuildFault>,
-    readings: &[Reading<'_>],
-    omissions: &[Option<LinkFault>],
+    told: &mut Vec<Omission>,
+    parsed: &[ParsedFile<'_>],
+    omissions: &[Option<FileOmission>],
 ) -> Result<(), AllocError>
-    requires { AreOmissions (linked_files readings.now) omissions.now }
+    requires { AreOmissions (linked_files parsed.now) omissions.now }
     ensures { OnOk result (Adds
-        (FromFront (IsLeftFor readings.now) omissions.now (length omissions.now)) told.old.items told.new.items) }
+        (FromFront (IsLeftIf parsed.now) omissions.now (length omissions.now)) told.old.items told.new.items) }
 {
     for number in 0..omissions.len() {
         let omission = &omissions[number];
-        push_omission(told, readings, number, omission)?;
+        push_omission(told, parsed, number, omission)?;
     }
     Ok(())
 }
@@ -76,45 +75,44 @@ fn moved(numbers: &[usize], place: &FilePlace) -> FilePlace
 
 /// Adds the imports at these places of kept files.
 fn push_imports(
-    told: &mut Vec<BuildFault>,
+    told: &mut Vec<Omission>,
     numbers: &[usize],
     places: &[FilePlace],
 ) -> Result<(), AllocError>
     ensures { OnOk result (told.new.items ≡ told.old.items ++ map (told_import numbers.now) places.now) }
 {
     for place in places {
-        told.push(BuildFault::MissingImport(moved(numbers, place)))?;
+        told.push(Omission::MissingImport(moved(numbers, place)))?;
     }
     Ok(())
 }
 
 /// Adds the uses at these places of kept files.
 fn push_uses(
-    told: &mut Vec<BuildFault>,
+    told: &mut Vec<Omission>,
     numbers: &[usize],
     places: &[FilePlace],
 ) -> Result<(), AllocError>
     ensures { OnOk result (told.new.items ≡ told.old.items ++ map (told_use numbers.now) places.now) }
 {
     for place in places {
-        told.push(BuildFault::Unresolved(moved(numbers, place)))?;
+        told.push(Omission::Unresolved(moved(numbers, place)))?;
     }
     Ok(())
 }
 
-/// Where in the tree a fault is told.
-fn told_key(fault: &BuildFault) -> ((usize, usize), (usize, bool))
-    ensures { result ≡ told_key fault.now }
+/// Where in the tree an omission is told.
+fn told_key(omission: &Omission) -> ((usize, usize), (usize, bool))
+    ensures { result ≡ told_key omission.now }
 {
-    match fault {
-        BuildFault::Spawn | BuildFault::Memory => ((0, 0), (0, false)),
-        BuildFault::File(number, _) => ((*number, 0), (0, false)),
-        BuildFault::Duplicate(_, second) => ((second.file, 0), (0, false)),
-        BuildFault::MissingImport(place) => (
+    match omission {
+        Omission::File(number, _) => ((*number, 0), (0, false)),
+        Omission::Duplicate(_, second) => ((second.file, 0), (0, false)),
+        Omission::MissingImport(place) => (
             (place.file, place.span.start as usize),
             (place.span.end as usize, false),
         ),
-        BuildFault::Unresolved(place) => (
+        Omission::Unresolved(place) => (
             (place.file, place.span.start as usize),
             (place.span.end as usize, true),
         ),
@@ -122,21 +120,21 @@ fn told_key(fault: &BuildFault) -> ((usize, usize), (usize, bool))
 }
 
 /// The order in which what a run lacks is told.
-fn compare_told(a: &BuildFault, b: &BuildFault) -> Ordering
+fn compare_told(a: &Omission, b: &Omission) -> Ordering
     ensures { result ≡ told_cmp a.now b.now }
 {
     told_key(a).cmp(&told_key(b))
 }
 
 /// Whether two have one place in that order, so that one of them is told.
-fn are_told_together(a: &BuildFault, b: &BuildFault) -> bool
+fn are_told_together(a: &Omission, b: &Omission) -> bool
     ensures { result ≡ eq_by_cmp told_cmp a.now b.now }
 {
     compare_told(a, b) == Ordering::Equal
 }
 
 /// The same, in order, each once.
-fn in_order(told: Vec<BuildFault>) -> Result<Vec<BuildFault>, AllocError>
+fn in_order(told: Vec<Omission>) -> Result<Vec<Omission>, AllocError>
     ensures { IfOk result (λ once. AreInOrder told.items once.items) }
 {
     let mut told = told;
@@ -148,11 +146,11 @@ fn in_order(told: Vec<BuildFault>) -> Result<Vec<BuildFault>, AllocError>
 /// All that is told: what is left out, and the imports and uses of kept files without a target, which have
 /// these numbers among all.
 pub(crate) fn tell(
-    left: Vec<BuildFault>,
+    left: Vec<Omission>,
     numbers: &[usize],
     imports: &[FilePlace],
     uses: &[FilePlace],
-) -> Result<Vec<BuildFault>, AllocError>
+) -> Result<Vec<Omission>, AllocError>
     ensures { IfOk result (λ once. AreInOrder (all_told left.items numbers.now imports.now uses.now) once.items) }
 {
     let mut told = left;

@@ -1,6 +1,7 @@
 //! What is built from trees, and why nothing is.
 
 use crate::asking::Asking;
+use basics::OwnedText;
 use index_hooks::Registry;
 use index_pool::{Gate, Workers};
 use proto_lex::Encoding;
@@ -9,7 +10,6 @@ use scip_build::{BuildFault, Built, Faulty, Run, Settings, build};
 use scip_model::FilePackages;
 use scip_records::{Document, Occurrence};
 use scip_symbol::PackageId;
-use sequences::OwnedText;
 use source_tree::Tree;
 use std::alloc::{AllocError, Global};
 use std::process::Abort;
@@ -43,11 +43,11 @@ fn push_document(text: &mut String, document: &Document) -> Result<(), AllocErro
     Ok(())
 }
 
-/// A line for each fault that is told, and then the documents.
+/// A line for each thing that is told, and then the documents.
 fn listing_of(alloc: Global, built: &Built) -> Result<String, AllocError> {
     let mut text = String::new(alloc);
-    for fault in built.told.as_slice() {
-        writeln!(text, "{fault:?}")?;
+    for omission in built.told.as_slice() {
+        writeln!(text, "{omission:?}")?;
     }
     for document in built.index.documents.as_slice() {
         push_document(&mut text, document)?;

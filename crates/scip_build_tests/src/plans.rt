@@ -2,6 +2,7 @@
 
 use crate::asking::Asking;
 use crate::built::{Site, run_of, see, site_of};
+use basics::Sequence;
 use index_hooks::{AnyAnswer, Filter, FilterCallback, Registry};
 use index_pool::NoGate;
 use proto_decl::{DeclView, DeclarationKind};
@@ -9,7 +10,6 @@ use scip_build::{BuildFault, DocumentForm, Faulty, build_in_form};
 use scip_model::DocumentPlan;
 use scip_records::{Document, Index, records_of};
 use scip_wire::{DocumentRecord, spell_document, spell_index, write_pieces};
-use sequences::Sequence;
 use std::alloc::{AllocError, Global};
 use std::process::Abort;
 use std::sync::Wait;

@@ -7,17 +7,16 @@ use Rattle.std.proofs.lemmas.Cmp.{nat_list_eq_equiv}
 use Rattle.std.proofs.lemmas.Slice.Eq.{bytes_eq-Decides}
 use Rattle.std.proofs.lemmas.Map.Views.{list_any-from_Contains, Contains-from_any}
 use Rattle.std.proofs.lemmas.List.Elements.{All-nil, All-cons, All-head, All-tail}
+use Rattle.basics.proofs.ListLemmas.{item_at}
 use Rattle.proto_lex.specs.Lexed.{IsPart}
 use Rattle.proto_decl.specs.Facts.{Facts, component_spans, use_spans}
 use Rattle.proto_decl.specs.Laws.{StandInText, FactsStandInText}
-use Rattle.proto_decl.specs.declared.type_use.Component.{Component}
-use Rattle.proto_decl.specs.declared.type_use.Use.{Use}
+use Rattle.proto_decl.specs.declared.uses.Component.{Component}
+use Rattle.proto_decl.specs.declared.uses.Use.{Use}
 use Rattle.scip_symbol.specs.Path.{IsGoodPath}
 use Rattle.proto_visibility.specs.Files.{File, HasFacts, HasPath}
-use Rattle.proto_visibility.proofs.FirstLemmas.{item_at}
 use Rattle.scip_model.specs.Chosen.{Chosen, HasChoice, HaveChoices}
-use Rattle.scip_model.specs.Conditions.{HaveGoodPaths}
-use Rattle.scip_model.specs.Texts.{AreOfText}
+use Rattle.scip_model.specs.Conditions.{HaveGoodPaths, AreOfText}
 use Rattle.scip_records.specs.declared.records.Occurrence.{Occurrence}
 use Rattle.scip_model.specs.OccurrenceOrder.{occurrence_cmp}
 use Rattle.scip_model.specs.Tables.Listing.{has_path}

@@ -8,16 +8,15 @@ use Rattle.std.proofs.lemmas.List.FromFn.{length-map-range_with_len, get_or-map-
 use Rattle.std.proofs.lemmas.List.Elements.{Contains-get_or, Contains-append_left, Contains-append_right}
 use Rattle.std.proofs.lemmas.List.Elements.{Contains-append_cases, Contains-push}
 use Rattle.std.proofs.lemmas.Option.{same_Some, none-some}
+use Rattle.basics.proofs.ListLemmas.{only, in_nothing}
 use Rattle.index_hooks.specs.declared.choice.Choice.{Choice}
 use Rattle.proto_decl.specs.Facts.{Facts}
 use Rattle.proto_decl.specs.declared.declaration.Declaration.{Declaration}
 use Rattle.scip_records.specs.declared.records.SymbolInformation.{SymbolInformation}
 use Rattle.scip_symbol.specs.Package.{Package}
-use Rattle.scip_symbol.proofs.ClashLemmas.{in_nothing}
 use Rattle.scip_model.specs.Chosen.{Chosen, IsChosen}
 use Rattle.scip_model.specs.Entries.{package_entry, declaration_entry}
 use Rattle.scip_model.specs.Tables.EntryLists.{package_entries_up_to, entry_if_kept, kept_entries, choices_for}
-use Rattle.proto_visibility.proofs.ImportTableLemmas.{only}
 
 -- ---- packages
 

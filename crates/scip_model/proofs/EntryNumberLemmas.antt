@@ -22,7 +22,7 @@ use Rattle.scip_model.specs.Named.{text_of, package_at, declaration_at}
 use Rattle.scip_model.specs.Entries.{file_entry, package_entry}
 use Rattle.scip_model.specs.Indexes.{info_cmp}
 use Rattle.scip_model.specs.Tables.EntryLists.{package_entries, kept_entries, source_entries}
-use Rattle.scip_model.specs.Tables.EntryNumbers.{package_names, AreNumbered}
+use Rattle.scip_model.specs.Tables.EntryLists.{package_names, AreNumbered}
 use Rattle.scip_model.specs.Tables.Plans.{Grown, text_at, own_texts, declaration_number, entry_of, undocumented}
 use Rattle.scip_model.specs.Tables.Plans.{documented, shown_as}
 use Rattle.scip_model.proofs.PlanLemmas.{file_number, package_number, declared_number}

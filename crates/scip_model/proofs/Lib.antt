@@ -1,39 +1,61 @@
--- occurrences in order, and two lists of them made one
-pub mod OrderLemmas
-pub mod MergeLemmas
-pub mod ListingLemmas
-pub mod NamedLemmas
-pub mod OccursLemmas
-pub mod DocumentLemmas
-pub mod TieLemmas
-pub mod GapLemmas
-pub mod TargetLemmas
-pub mod NameableLemmas
+-- Each file is named after the spec or source that it serves.
+-- What the facts of a source give to the functions that list its occurrences
 pub mod ConditionLemmas
--- Packages of files
-pub mod PackageLemmas
-pub mod MeetLemmas
--- Entities of facts
-pub mod EntityLemmas
--- Texts of own declarations
-pub mod OwnTextLemmas
--- Texts that are parts of one, and the order of texts in two parts
-pub mod JoinedLemmas
-pub mod PartOrderLemmas
--- Texts with numbers
-pub mod PlanLemmas
--- Lists of entries
+-- Sources of files that can be linked: they count, and have facts
+pub mod ConditionLinkedLemmas
+-- The uses of a source that name no type, and what follows where there are none
+pub mod ConditionUnresolvedLemmas
+-- The lists of entries: what they have
 pub mod EntryLemmas
+-- Entries that have numbers
 pub mod EntryNumberLemmas
-pub mod ApartLemmas
-pub mod LinkedLemmas
-pub mod ExternalLemmas
-pub mod PairLemmas
-pub mod SortLemmas
-pub mod SourceEntryLemmas
-pub mod ExternalEntryLemmas
--- Pieces of an index
+-- The entries of a source, in the code's list: just those that it has, and no two with one symbol
+pub mod EntrySourceLemmas
+-- The entries of declarations of included files that uses in sources name: just those, and no two with one symbol
+pub mod ExternalSymbolEntryLemmas
+-- Which declarations of included files the uses in sources name
+pub mod ExternalSymbolLemmas
+-- Pairs of numbers in order, each once
+pub mod ExternalSymbolPairLemmas
+-- The ascending list of a set: what a sort leaves of elements that differ
+pub mod IndexSortLemmas
+-- Of a source's facts: its lists of occurrences ascend, and merged they are the list of what occurs
+pub mod ListingDocumentLemmas
+-- The lists that make up a document's occurrences have what they give, and ascend
+pub mod ListingLemmas
+-- What the parts of a target name has symbols
+pub mod ListingNameableLemmas
+-- Merging two ascending lists
+pub mod MergeLemmas
+-- In files that can be linked a symbol's text is that of one entity
+pub mod NamedApartLemmas
+-- The packages and declarations of facts have symbols
+pub mod NamedEntityLemmas
+-- What parts of a full name name
+pub mod NamedLemmas
+-- Of what occurs in a document no two tie: over one range there is one role
+pub mod OccurTieLemmas
+-- The order of occurrences is a total one, in which those are tied that have one range and one symbol
+pub mod OccurrenceOrderLemmas
+-- The lists that a document's occurrences are made of have just what occurs
+pub mod OccursLemmas
+-- Texts in one, one behind the other
+pub mod OwnTextJoinedLemmas
+-- The texts of the symbols of a file's own declarations
+pub mod OwnTextLemmas
+-- The packages of files, and symbols in several packages
+pub mod PackageLemmas
+-- What two trees share has one symbol in both
+pub mod PackageMeetLemmas
+-- Pieces of an index: which paths are marked, and what a sort by path leaves
 pub mod PieceLemmas
-pub mod RefusalLemmas
--- What there is one of
-pub mod OneListLemmas
+-- What there is one of: merged lists of pieces, documents of a source, lists of external entries, indexes
+pub mod PieceOneListLemmas
+-- Pieces are refused for one reason
+pub mod PieceRefusalLemmas
+-- Texts with numbers, and what is planned by them
+pub mod PlanLemmas
+-- The order of texts in two parts
+pub mod SymbolTableOrderLemmas
+-- Lists that go side by side, and what is found by the linker's answer
+pub mod TargetLemmas

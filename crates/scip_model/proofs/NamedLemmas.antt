@@ -5,6 +5,7 @@ use Rattle.std.specs.List.{slice_get}
 use Rattle.std.specs.Option.{IsSome, option_map}
 use Rattle.std.proofs.lemmas.List.{take-map, length-map}
 use Rattle.std.proofs.lemmas.Option.{slice_get_within, same_Some}
+use Rattle.proto_visibility.proofs.FileFactLemmas.{one_list_of_facts as same_facts}
 use denote.Ref.{Bor}
 use Rattle.proto_decl.specs.Facts.{Facts}
 use Rattle.proto_decl.specs.declared.declaration.Declaration.{Declaration}
@@ -35,12 +36,6 @@ pub given_facts : (files : List File) (number : ℕ) (r : Option (Bor Facts)) (f
 given_facts files number r f e says =
     subst (λ (o : Option (Bor Facts)). MatchOption o ((f : Facts) → HasFacts files number f → ⊥)
     (λ f. HasFacts files number f.now)) e says
-
-pub same_facts : (files : List File) (number : ℕ) (a b : Facts) → HasFacts files number a → HasFacts files number b
-    → a ≡ b
-same_facts files number a b first second =
-    let file = same_Some _ _ (sym first.numbered ∙ second.numbered) in
-    same_Some _ _ (sym first.known ∙ (ap (λ (f : File). f.facts) file ∙ second.known))
 
 -- a declaration that is there
 pub is_within : (files : List File) (number index : ℕ) (facts known : Facts) (declared : Declaration)

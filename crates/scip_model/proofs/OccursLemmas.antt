@@ -5,27 +5,28 @@ use Rattle.std.specs.Prelude.{if◌then◌else◌}
 use Rattle.std.specs.List.{AllZip, Contains, slice_get}
 use Rattle.std.specs.Option.{option_and_then, option_map}
 use Rattle.std.proofs.lemmas.Option.{none-some, same_Some}
+use Rattle.proto_visibility.proofs.FileFactLemmas.{one_list_of_facts as same_facts}
+use Rattle.basics.proofs.ListLemmas.{only}
 use Rattle.proto_lex.specs.declared.position.Encoding.{Encoding}
 use Rattle.scip_records.specs.declared.records.Occurrence.{Occurrence}
 use Rattle.index_hooks.specs.declared.choice.Choice.{Choice}
 use Rattle.proto_decl.specs.Facts.{Facts}
 use Rattle.proto_decl.specs.declared.declaration.Declaration.{Declaration}
-use Rattle.proto_decl.specs.declared.type_use.Component.{Component}
-use Rattle.proto_decl.specs.declared.type_use.Use.{Use}
-use Rattle.proto_decl.proofs.BoolLemmas.{never}
+use Rattle.proto_decl.specs.declared.uses.Component.{Component}
+use Rattle.proto_decl.specs.declared.uses.Use.{Use}
+use Rattle.basics.proofs.BoolLemmas.{never}
 use Rattle.scip_symbol.specs.Entities.{OfFile}
 use Rattle.scip_symbol.specs.Entities as symbols
 use Rattle.scip_symbol.specs.Package.{Package}
 use Rattle.proto_visibility.specs.Files.{File, HasFacts}
 use Rattle.proto_link.specs.Targets.{IsTarget}
 use Rattle.proto_link.specs.declared.target.Target.{Target}
-use Rattle.proto_visibility.specs.declared.entities.Entity.{Entity}
-use Rattle.proto_visibility.specs.declared.entities.Entity.TheVariants as link
-use Rattle.proto_visibility.proofs.FirstLemmas.{contained, contained_at}
-use Rattle.proto_visibility.proofs.ImportTableLemmas.{only}
+use Rattle.proto_visibility.specs.declared.lookup.Entity.{Entity}
+use Rattle.proto_visibility.specs.declared.lookup.Entity.TheVariants as link
+use Rattle.basics.proofs.FirstLemmas.{contained, contained_at}
 use Rattle.scip_model.specs.Packages.{Packages, package_of_path, package_of_file, package_of_part}
-use Rattle.scip_model.specs.Chosen.{Chosen, IsKept}
-use Rattle.scip_model.specs.Gaps.{IsFound}
+use Rattle.scip_model.specs.Chosen.{Chosen, IsKeptDeclaration}
+use Rattle.scip_model.specs.Conditions.{IsFound}
 use Rattle.scip_model.specs.Named.{IsDeclaredAs, IsNamedAs, NamesIn, package_at, declaration_at}
 use Rattle.scip_model.specs.Occurs.{Occurs, IsShown, no_role, definition_role, import_role, occurrence_over}
 use Rattle.scip_model.specs.Occurs.Occurs.{of_file, of_import, of_package, of_declaration, of_component}
@@ -35,7 +36,7 @@ use Rattle.scip_model.specs.Tables.Listing.{at_part, at_component, at_target, at
 use Rattle.scip_model.proofs.MergeLemmas.{at_head, not_in_none}
 use Rattle.scip_model.proofs.ListingLemmas.{given_by, gives_it}
 use Rattle.scip_model.proofs.ConditionLemmas.{path_from, path_to}
-use Rattle.scip_model.proofs.NamedLemmas.{same_facts, declared_is}
+use Rattle.scip_model.proofs.NamedLemmas.{declared_is}
 
 -- what a list gives, from its start
 record IsGivenAt {A B : Type 0} (gives : ℕ → A → List B) (xs : List A) (o : B) : Type 0 where
@@ -81,21 +82,21 @@ so false xs o e h = never e
 -- choices
 
 kept_by : (chosen : Chosen) (file index : ℕ) (choices : List Choice) → slice_get chosen file ≡ Some choices
-    → (c : Option Choice) → slice_get choices index ≡ c → keeps_by c ≡ true → IsKept chosen file index
+    → (c : Option Choice) → slice_get choices index ≡ c → keeps_by c ≡ true → IsKeptDeclaration chosen file index
 kept_by chosen file index choices at None e k = never k
 kept_by chosen file index choices at (Some choice) e k =
     record { choice = choice; is_chosen = record { of_file = choices; file_is = at; declaration_is = e }; keeps = k }
 
 kept_of : (chosen : Chosen) (file index : ℕ) (l : Option (List Choice)) → slice_get chosen file ≡ l
     → keeps_by (option_and_then (λ (choices : List Choice). slice_get choices index) l) ≡ true
-    → IsKept chosen file index
+    → IsKeptDeclaration chosen file index
 kept_of chosen file index None e k = never k
 kept_of chosen file index (Some choices) e k = kept_by chosen file index choices e (slice_get choices index) refl k
 
-kept_from : (chosen : Chosen) (file index : ℕ) → keeps chosen file index ≡ true → IsKept chosen file index
+kept_from : (chosen : Chosen) (file index : ℕ) → keeps chosen file index ≡ true → IsKeptDeclaration chosen file index
 kept_from chosen file index k = kept_of chosen file index (slice_get chosen file) refl k
 
-kept_to : (chosen : Chosen) (file index : ℕ) → IsKept chosen file index → keeps chosen file index ≡ true
+kept_to : (chosen : Chosen) (file index : ℕ) → IsKeptDeclaration chosen file index → keeps chosen file index ≡ true
 kept_to chosen file index kept = rw (kept.is_chosen.file_is, kept.is_chosen.declaration_is) kept.keeps
 
 shown_from : (chosen : Chosen) (part : Entity) → is_shown chosen part ≡ true → IsShown chosen part

@@ -6,6 +6,7 @@ use Rattle.std.specs.List.{slice_get, list_any}
 use Rattle.std.specs.Str.{bytes_eq}
 use Rattle.std.proofs.lemmas.List.{map-append}
 use Rattle.std.proofs.lemmas.List.Elements.{All-head, All-tail}
+use Rattle.scip_symbol.proofs.OneEntityLemmas.{entity-symbol as symbol-of-entity}
 use Rattle.scip_symbol.specs.Parts.{IsSymbol}
 use Rattle.scip_symbol.specs.Package.{Package, IsPackage}
 use Rattle.scip_symbol.specs.SpellsSymbol.{SpellsSymbol}
@@ -70,12 +71,6 @@ by_its_path files ids path number has =
     ap (package_of_path ids) (sym has.2) ∙ sym (by_path files ids number has.0 has.1)
 
 -- ---- symbols in two packages
-
-symbol-of-entity : (p : Package) (e : Entity) → IsPackage p → IsEntity e → IsSymbol (symbol_in p e)
-symbol-of-entity p e is of =
-    let has = entity-has e (descriptors_of e) of refl in
-    global-is p scheme_text p.manager p.name p.version (descriptors_of e)
-    (descriptors_of e) is refl refl refl refl refl has.0 has.1
 
 list_in : SymbolParts → List Descriptor
 list_in (Local name) = []

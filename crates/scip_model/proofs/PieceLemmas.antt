@@ -25,15 +25,16 @@ use Rattle.std.proofs.lemmas.Map.Lookups.{exact_bytes}
 use Rattle.std.proofs.lemmas.Cmp.{eq_by_cmp_equiv}
 use Rattle.std.proofs.lemmas.Option.{slice_get-map, slice_get_within, slice_get-get_or, get_or_from_slice_get}
 use Rattle.std.proofs.lemmas.Option.{same_Some}
-use Rattle.proto_visibility.proofs.FirstLemmas.{contained, position-none, item_at}
+use Rattle.basics.proofs.ListLemmas.{item_at}
+use Rattle.basics.proofs.FirstLemmas.{contained, position-none}
 use Rattle.scip_records.specs.declared.records.Document.{Document}
 use Rattle.scip_model.specs.Indexes.{document_cmp}
 use Rattle.scip_model.specs.Pieces.{IsRising, paths_of, AreMerged, IsStranger, IsTwice, AreFine, IsFirstMissing}
 use Rattle.scip_model.specs.Pieces.{MayRefuseMerge, texts}
 use Rattle.scip_model.specs.Tables.TakenPaths.{IsMarked, IsNotMarked, AreMarked}
-use Rattle.scip_model.specs.declared.merge_fault.MergeFault.{MergeFault}
-use Rattle.scip_model.specs.declared.merge_fault.MergeFault.TheVariants.{Stranger, Twice, Missing, Memory}
-use Rattle.scip_model.proofs.SortLemmas.{rises, one-ascending, keys-ascend}
+use Rattle.scip_model.specs.declared.pieces.MergeFault.{MergeFault}
+use Rattle.scip_model.specs.declared.pieces.MergeFault.TheVariants.{Stranger, Twice, Missing, Memory}
+use Rattle.scip_model.proofs.IndexSortLemmas.{rises, one-ascending, keys-ascend}
 
 -- ---- a path among rising ones
 

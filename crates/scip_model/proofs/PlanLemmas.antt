@@ -16,12 +16,13 @@ use Rattle.std.proofs.lemmas.List.{get_or-append-add, get_or_append_left, get_or
 use Rattle.std.proofs.lemmas.List.FromFn.{get_or-map-range_with_len, length-map-range_with_len}
 use Rattle.std.proofs.lemmas.List.Quantifiers.{position-Some}
 use Rattle.std.proofs.lemmas.Option.{get_or_from_slice_get, slice_get_within, slice_get-map, none-some, same_Some}
+use Rattle.proto_visibility.proofs.FileFactLemmas.{one_list_of_facts as same_facts}
+use Rattle.basics.proofs.ListLemmas.{item_at}
 use Rattle.proto_lex.specs.declared.span.Span.{Span}
 use Rattle.proto_lex.specs.declared.position.Encoding.{Encoding}
 use Rattle.proto_decl.specs.Facts.{Facts}
 use Rattle.proto_decl.specs.declared.declaration.Declaration.{Declaration}
 use Rattle.proto_visibility.specs.Files.{File, HasFacts}
-use Rattle.proto_visibility.proofs.FirstLemmas.{item_at}
 use Rattle.scip_records.specs.declared.records.Occurrence.{Occurrence}
 use Rattle.scip_symbol.specs.Entities.{OfFile}
 use Rattle.scip_symbol.specs.Entities as symbols
@@ -36,8 +37,8 @@ use Rattle.scip_model.specs.Tables.Merges.{TakesLeast, fronts_cmp, first_of}
 use Rattle.scip_model.specs.Tables.OwnTexts.{declaration_texts, occurrence_with}
 use Rattle.scip_model.specs.Tables.Plans.{text_at, Grown, IsNumberOf, IsNumberIn, HasOwnTexts, AreAdded}
 use Rattle.scip_model.specs.Tables.Plans.{occurrence_of, package_texts_up_to, own_texts, declaration_number}
-use Rattle.scip_model.specs.declared.planned.PlannedOccurrence.{PlannedOccurrence}
-use Rattle.scip_model.proofs.NamedLemmas.{same_facts, declared_is}
+use Rattle.scip_model.specs.declared.document_plan.PlannedOccurrence.{PlannedOccurrence}
+use Rattle.scip_model.proofs.NamedLemmas.{declared_is}
 
 -- ---- texts that grow
 

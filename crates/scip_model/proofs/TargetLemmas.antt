@@ -6,17 +6,17 @@ use Rattle.std.specs.declared.alloc.AllocError.{AllocError}
 use Rattle.std.specs.List.{AllZip, slice_get}
 use Rattle.std.proofs.lemmas.List.{append_assoc, append-nil}
 use Rattle.std.proofs.lemmas.Option.{slice_get-get_or}
-use Rattle.proto_decl.specs.declared.type_use.Use.{Use}
-use Rattle.proto_decl.proofs.FactLemmas.{AllZip-push}
-use Rattle.proto_visibility.proofs.FirstLemmas.{take_next}
+use Rattle.basics.proofs.ListLemmas.{zip_push as AllZip-push}
+use Rattle.proto_decl.specs.declared.uses.Use.{Use}
+use Rattle.basics.proofs.FirstLemmas.{take_next}
 use Rattle.proto_visibility.proofs.SeeingLemmas.{slice_get_prefix}
-use Rattle.proto_visibility.proofs.AllItemsLemmas.{slice_get_last}
+use Rattle.proto_visibility.proofs.ItemAllLemmas.{slice_get_last}
 use Rattle.proto_link.specs.Targets.{IsTarget, MayRefuseUse}
 use Rattle.proto_link.specs.declared.target.Target.{Target}
 use Rattle.proto_visibility.specs.Files.{File}
 use Rattle.proto_visibility.specs.declared.fault.LinkFault.{LinkFault}
 use Rattle.proto_visibility.specs.declared.fault.LinkFault.TheVariants as fault
-use Rattle.scip_model.specs.Gaps.{IsFound}
+use Rattle.scip_model.specs.Conditions.{IsFound}
 use Rattle.scip_model.specs.Tables.Listing.{each_from, found_at, Finds}
 
 module _ (files : List File) (file : ℕ) (type_use : Use) where

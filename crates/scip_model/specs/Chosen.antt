@@ -27,7 +27,7 @@ HaveChoices files chosen = (file index : ℕ) (facts : Facts) (declared : Declar
     → HasDeclaration files file index facts declared → HasChoice chosen file index
 
 -- the declaration is kept
-pub record IsKept (chosen : Chosen) (file declaration : ℕ) : Type 0 where
+pub record IsKeptDeclaration (chosen : Chosen) (file declaration : ℕ) : Type 0 where
   pub choice : Choice
   pub is_chosen : IsChosen chosen file declaration choice
   pub keeps : choice.keep ≡ true

@@ -1,23 +1,35 @@
 -- The symbol entries of the document of a source, and those of included files (`scip.proto`, SymbolInformation; which
--- symbols have one, and the names that they are shown by, is the profile's).
-use Rattle.std.specs.Prelude.{◌≡◌, ℕ, ◌+◌, true, Some, List, []}
+-- symbols have one, the texts that document them, and the names that they are shown by, is the profile's).
+use Rattle.std.specs.Prelude.{ℕ, List, [], ◌++◌, ◌≡◌, ◌+◌, true, Some}
 use Rattle.std.specs.List.{slice_get}
-use Rattle.scip_records.specs.declared.records.SymbolInformation.{SymbolInformation}
-use Rattle.index_hooks.specs.declared.choice.Choice.{Choice}
+use Rattle.proto_decl.specs.declared.declaration.Declaration.{Declaration}
 use Rattle.proto_decl.specs.Declares.{simple_name}
 use Rattle.proto_decl.specs.Names.{package_of}
 use Rattle.proto_decl.specs.Facts.{Facts}
-use Rattle.proto_decl.specs.declared.declaration.Declaration.{Declaration}
-use Rattle.proto_decl.specs.declared.type_use.Component.{Component}
-use Rattle.scip_symbol.specs.Entities.{OfFile}
-use Rattle.scip_symbol.specs.Entities as symbols
-use Rattle.scip_symbol.specs.Package.{Package}
+use Rattle.proto_decl.specs.declared.uses.Component.{Component}
 use Rattle.proto_visibility.specs.Files.{File, HasFacts, IsSource}
-use Rattle.proto_visibility.specs.declared.entities.Entity.TheVariants as link
+use Rattle.proto_visibility.specs.declared.lookup.Entity.TheVariants as link
+use Rattle.index_hooks.specs.declared.choice.DocChoice.{DocChoice}
+use Rattle.index_hooks.specs.declared.choice.DocChoice.TheVariants.{Pass, Nothing, Leading, Trailing, Both}
+use Rattle.index_hooks.specs.declared.choice.Choice.{Choice}
+use Rattle.scip_symbol.specs.Entities.{OfFile}
+use Rattle.scip_symbol.specs.Package.{Package}
+use Rattle.scip_symbol.specs.Entities as symbols
+use Rattle.scip_records.specs.declared.records.SymbolInformation.{SymbolInformation}
 use Rattle.scip_model.specs.Packages.{Packages, package_of_file}
 use Rattle.scip_model.specs.Chosen.{Chosen, IsChosen}
-use Rattle.scip_model.specs.Documentation.{documentation_of}
 use Rattle.scip_model.specs.Named.{HasDeclaration, NamesIn, text_of, package_at, declaration_at}
+-- an empty text is left out
+pub use Rattle.scip_records.specs.Texts.{unless_empty}
+
+-- the texts that document a declaration (`scip.proto`, SymbolInformation.documentation; which they are is the
+-- profile's)
+abbrev pub documentation_of : DocChoice → Declaration → List (List ℕ)
+documentation_of Pass declaration = []
+documentation_of Nothing declaration = []
+documentation_of Leading declaration = unless_empty declaration.leading
+documentation_of Trailing declaration = unless_empty declaration.trailing
+documentation_of Both declaration = unless_empty declaration.leading ++ unless_empty declaration.trailing
 
 -- of a file, shown by its path
 abbrev pub file_entry : Package → (path : List ℕ) → SymbolInformation

@@ -4,10 +4,10 @@ use Rattle.std.specs.Prelude.{◌≡◌, ℕ, Some, List}
 use Rattle.std.specs.List.{slice_get}
 use Rattle.proto_decl.specs.Facts.{Facts}
 use Rattle.proto_decl.specs.declared.declaration.Declaration.{Declaration}
-use Rattle.proto_decl.specs.declared.type_use.Component.{Component}
+use Rattle.proto_decl.specs.declared.uses.Component.{Component}
 use Rattle.proto_lex.specs.declared.position.Encoding.{Encoding}
 use Rattle.proto_visibility.specs.Files.{File}
-use Rattle.proto_visibility.specs.declared.entities.Entity.TheVariants as link
+use Rattle.proto_visibility.specs.declared.lookup.Entity.TheVariants as link
 use Rattle.scip_records.specs.declared.records.Document.{Document}
 use Rattle.scip_records.specs.declared.records.Occurrence.{Occurrence}
 use Rattle.scip_records.specs.declared.records.Index.{Index}
@@ -22,7 +22,7 @@ use Rattle.scip_model.specs.Named.{HasDeclaration, NamesIn, text_of, declaration
 use Rattle.scip_model.specs.Entries.{IsKeptEntry}
 use Rattle.scip_model.specs.Indexes.{AreExternals, IsDocumentOf, IsIndexOf}
 use Rattle.scip_model.specs.Occurs.{Occurs}
-use Rattle.scip_model.specs.Texts.{HasText}
+use Rattle.scip_model.specs.Conditions.{HasText}
 
 -- a source with a text has one document at most
 abbrev pub OneDocument : Type 0

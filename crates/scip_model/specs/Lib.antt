@@ -7,25 +7,21 @@ pub use Rattle.streams.specs.Streams
 pub use Rattle.streams.specs.StdStreams
 -- which package a file's symbols belong to
 pub mod Packages
--- the entities that have symbols, what was chosen for declarations, and what documents them
+-- the entities that have symbols, and what was chosen for declarations
 pub mod Named
 pub mod Chosen
-pub mod Documentation
 -- what occurs in the document of a source, in which order, and its symbol entries
 pub mod Occurs
 pub mod OccurrenceOrder
 pub mod Entries
--- what is asked of files, and why a document is refused
+-- what is asked of files, which uses name no type, and why a document is refused
 pub mod Conditions
-pub mod Texts
-pub mod Uses
--- what has no target
-pub mod Gaps
 -- documents, external entries, and the index of a tree
 pub mod Indexes
+-- the same of what a document is made from
+pub mod Makers
 -- documents put together, and what is said about why they are not
 pub mod Pieces
-pub mod MergeFaults
 -- what is law of them
 pub mod Laws
 -- what the code lists and marks

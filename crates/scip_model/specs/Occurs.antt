@@ -8,17 +8,17 @@ use Rattle.proto_lex.specs.Position.{position_of}
 use Rattle.scip_records.specs.Range.{RangeNumbers}
 use Rattle.scip_records.specs.declared.records.Occurrence.{Occurrence}
 use Rattle.proto_decl.specs.Facts.{Facts}
-use Rattle.proto_decl.specs.declared.imported.Imported.{Imported}
+use Rattle.proto_decl.specs.declared.imports.Imported.{Imported}
 use Rattle.proto_decl.specs.declared.declaration.Declaration.{Declaration}
-use Rattle.proto_decl.specs.declared.type_use.Component.{Component}
+use Rattle.proto_decl.specs.declared.uses.Component.{Component}
 use Rattle.scip_symbol.specs.Entities.{OfFile}
 use Rattle.scip_symbol.specs.Entities as symbols
 use Rattle.scip_symbol.specs.Package.{Package}
 use Rattle.proto_visibility.specs.Files.{File, HasFacts, HasPath}
-use Rattle.proto_visibility.specs.declared.entities.Entity.{Entity}
-use Rattle.proto_visibility.specs.declared.entities.Entity.TheVariants as link
+use Rattle.proto_visibility.specs.declared.lookup.Entity.{Entity}
+use Rattle.proto_visibility.specs.declared.lookup.Entity.TheVariants as link
 use Rattle.scip_model.specs.Packages.{Packages, package_of_path, package_of_file, package_of_part}
-use Rattle.scip_model.specs.Chosen.{Chosen, IsKept}
+use Rattle.scip_model.specs.Chosen.{Chosen, IsKeptDeclaration}
 use Rattle.scip_model.specs.Named.{HasDeclaration, NamesIn, text_of, package_at, declaration_at}
 
 -- (`scip.proto`, SymbolRole: UnspecifiedSymbolRole, Definition and Import)
@@ -46,7 +46,7 @@ start_of_text = record { start_line = 0; start_column = 0; end_line = 0; end_col
 -- A package that a component names occurs always, a declaration if it is kept.
 abbrev pub IsShown : Chosen → Entity → Type 0
 IsShown chosen (link.Package count) = Unit {0}
-IsShown chosen (link.Declared file declaration) = IsKept chosen file declaration
+IsShown chosen (link.Declared file declaration) = IsKeptDeclaration chosen file declaration
 
 -- an entity's symbol over a span
 abbrev pub occurrence_over : Encoding → (text : List ℕ) → Package → Span → symbols.Entity → ℤ → Occurrence
@@ -77,7 +77,7 @@ pub data Occurs (files : List File) (chosen : Chosen) (ids : Packages) (encoding
       (occurrence_over encoding text ids.run component.span (package_at facts (index + 1)) definition_role)
   -- each declaration that is kept, over its name
   of_declaration : {facts : Facts} (index : ℕ) {declared : Declaration}
-      → HasDeclaration files source index facts declared → IsKept chosen source index
+      → HasDeclaration files source index facts declared → IsKeptDeclaration chosen source index
       → Occurs files chosen ids encoding source text
       (occurrence_over encoding text (package_of_file files ids source) declared.name (declaration_at facts declared)
       definition_role)

@@ -6,8 +6,8 @@ use Rattle.std.specs.List.{slice_get, list_any}
 use Rattle.std.specs.Str.{bytes_eq}
 use Rattle.scip_symbol.specs.Package.{Package, IsPackage}
 use Rattle.proto_visibility.specs.Files.{File}
-use Rattle.proto_visibility.specs.declared.entities.Entity.{Entity}
-use Rattle.proto_visibility.specs.declared.entities.Entity.TheVariants as link
+use Rattle.proto_visibility.specs.declared.lookup.Entity.{Entity}
+use Rattle.proto_visibility.specs.declared.lookup.Entity.TheVariants as link
 
 -- an included root with a package of its own, and the paths of its files
 pub record Root : Type 0 where

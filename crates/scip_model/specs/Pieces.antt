@@ -1,13 +1,13 @@
 -- Documents, which are pieces of an index, put in the order of paths, of which each has one; and why they can't be.
-use Rattle.std.specs.Prelude.{◌≡◌, ◌≢◌, ◌<◌, ⊤, ℕ, Some, List, length, map, Contains}
+use Rattle.std.specs.Prelude.{◌≡◌, ◌≢◌, ◌<◌, ⊤, ℕ, Some, List, length, map, Contains, Option, None, codes}
 use Rattle.std.specs.List.{slice_get}
-use denote.Ref.{Bor}
 use Rattle.std.specs.Ordering.{nat_cmp}
 use Rattle.std.specs.Cmp.Lexicographic.{slice_cmp}
 use Rattle.std.specs.List.Sorted.{IsPermutation, IsStrictlySortedBy}
+use denote.Ref.{Bor}
 use Rattle.scip_records.specs.declared.records.Document.{Document}
-use Rattle.scip_model.specs.declared.merge_fault.MergeFault.{MergeFault}
-use Rattle.scip_model.specs.declared.merge_fault.MergeFault.TheVariants.{Stranger, Twice, Missing, Memory}
+use Rattle.scip_model.specs.declared.pieces.MergeFault.{MergeFault}
+use Rattle.scip_model.specs.declared.pieces.MergeFault.TheVariants.{Stranger, Twice, Missing, Memory}
 
 -- the texts of paths
 abbrev pub texts : List (Bor (List ℕ)) → List (List ℕ)
@@ -75,3 +75,18 @@ OneMergeRefusal = (paths : List (List ℕ)) (pieces : List Document) (fault othe
 abbrev pub OneMergedList : Type 0
 OneMergedList = (paths : List (List ℕ)) (pieces documents others : List Document) → IsRising paths
     → AreMerged paths pieces documents → AreMerged paths pieces others → documents ≡ others
+
+-- ---- what is said about why they make no index
+
+abbrev pub name_of : MergeFault → List ℕ
+name_of (Stranger piece) = codes "Stranger"
+name_of (Twice piece) = codes "Twice"
+name_of (Missing path) = codes "Missing"
+name_of Memory = codes "Memory"
+
+-- the piece or the path that it names
+abbrev pub number_of : MergeFault → Option ℕ
+number_of (Stranger piece) = Some piece
+number_of (Twice piece) = Some piece
+number_of (Missing path) = Some path
+number_of Memory = None

@@ -4,14 +4,11 @@ pub mod KnownFacts
 -- the lists that make up what occurs, and two lists in order made one
 pub mod Listing
 pub mod Merges
--- the lists by which entries are found
+-- the lists by which entries are found, and their numbers
 pub mod EntryLists
 pub mod ExternalLists
--- the texts of own declarations, and texts that are parts of one
+-- the texts of own declarations, and numbers for texts
 pub mod OwnTexts
-pub mod JoinedTexts
--- numbers for texts
 pub mod Plans
-pub mod EntryNumbers
 -- the marks of paths that pieces have
 pub mod TakenPaths

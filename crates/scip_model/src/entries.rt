@@ -1,34 +1,30 @@
-//! The symbol entries of the document of a source, and one of a declaration.
+//! The symbol entries of the document of a source, and one of a declaration, with the texts that document it.
 
 ghost use Rattle.std.specs.Prelude.{ℕ, ◌≡◌, ◌+◌, ◌<◌, ◌≤◌, ◌∷◌, [], ◌++◌, IfOk, OnOk, Contains, length, map};
 ghost use Rattle.std.specs.Prelude.{if◌then◌else◌};
 ghost use Rattle.std.specs.List.{range_with_len};
 ghost use Rattle.proto_decl.specs.Names.{dotted, package_of};
-ghost use Rattle.proto_decl.specs.Ancestors.{component_names};
-ghost use Rattle.proto_visibility.specs.Files.{HasFacts, HasPathAt, IsSource};
-ghost use Rattle.scip_records.specs.declared.records.SymbolInformation.{SymbolInformation};
+ghost use Rattle.proto_decl.specs.Laws.{component_names};
 ghost use Rattle.scip_symbol.specs.Package.{Package};
-ghost use Rattle.scip_model.specs.Packages.{package_of_file};
-ghost use Rattle.scip_model.specs.Chosen.{HasChoice, HaveChoices};
-ghost use Rattle.scip_model.specs.Conditions.{HaveGoodPaths};
-ghost use Rattle.scip_model.specs.Entries.{declaration_entry, HasEntry};
-ghost use Rattle.scip_model.specs.Tables.EntryLists.{kept_entries, choices_for};
+ghost use Rattle.scip_records.specs.declared.records.SymbolInformation.{SymbolInformation};
+ghost use Rattle.scip_model.specs.Entries.{declaration_entry, documentation_of};
+ghost use Rattle.scip_model.specs.Tables.EntryLists.{kept_entries, package_names, AreNumbered};
 ghost use Rattle.scip_model.specs.Tables.OwnTexts.{entry_with};
-ghost use Rattle.scip_model.specs.Tables.EntryNumbers.{package_names, AreNumbered};
-ghost use Rattle.scip_model.specs.Tables.Plans.{Grown, own_texts, entry_of};
+ghost use Rattle.scip_model.specs.Tables.Plans.{Grown, entry_of};
 ghost use Rattle.scip_model.specs.Indexes.{info_cmp, IsAscendingListOf};
+ghost use Rattle.scip_model.specs.Makers.{HasChosen, HasChosenFor, HasGoodPaths, HasSourceFacts, HasSourcePath};
+ghost use Rattle.scip_model.specs.Makers.{IsItsEntry, IsOfSource, choices_of, source_texts};
 
 use crate::document_maker::DocumentMaker;
-use crate::documentation::documentation_of;
 use crate::entry_order::{compare_texts, put_near};
 use crate::known_facts::symbols_stand_apart;
 use crate::symbol_table::{SymbolTable, declaration_number, number_at};
 use crate::symbol_texts::declaration_text;
-use index_hooks::Choice;
+use basics::OwnedText;
+use index_hooks::{Choice, DocChoice};
 use proto_decl::{Component, Declaration, FileFacts};
-use scip_records::{LentInformation, LentSymbol, SymbolInformation};
+use scip_records::{InformationRef, SymbolInformation, SymbolRef, TextsRef};
 use scip_symbol::PackageId;
-use sequences::OwnedText;
 use std::alloc::{AllocError, Global};
 use std::cmp::Ordering;
 
@@ -87,14 +83,14 @@ pub(crate) fn package_names(
 }
 
 /// The entry of a declaration whose symbol has this text.
-pub(crate) fn lent_entry<'a>(
-    symbol: LentSymbol<'a>,
+pub(crate) fn ref_entry<'a>(
+    symbol: SymbolRef<'a>,
     declaration: &'a Declaration,
     choice: Choice,
-) -> LentInformation<'a>
+) -> InformationRef<'a>
     ensures { result ≡ entry_with symbol.entry declaration.now choice }
 {
-    LentInformation {
+    InformationRef {
         symbol,
         documentation: documentation_of(choice.doc, declaration),
         display_name: declaration.simple_name(),
@@ -113,7 +109,7 @@ pub(crate) fn declaration_entry(
     ensures { IfOk result (λ entry. entry ≡ declaration_entry id.now facts.now declaration.now choice) }
 {
     let symbol = declaration_text(alloc, id, facts, declaration)?;
-    let entry = lent_entry(LentSymbol::whole(symbol.as_str()), declaration, choice);
+    let entry = ref_entry(SymbolRef::whole(symbol.as_str()), declaration, choice);
     entry.to_record(alloc)
 }
 
@@ -148,11 +144,11 @@ fn push_declarations(
     facts: &FileFacts,
 ) -> Result<(), AllocError>
     requires { (index : ℕ) → index < length facts.now.declarations
-        → HasChoice maker.now.choices.now maker.now.source index }
+        → HasChosenFor maker.now index }
     ensures { OnOk result ((id : Package) (entry : ℕ → SymbolInformation)
-        → AreNumbered id facts.now (choices_for maker.now.choices.now maker.now.source) entry
+        → AreNumbered id facts.now (choices_of maker.now) entry
         → map entry numbers.new.items ≡ map entry numbers.old.items
-        ++ kept_entries id facts.now facts.now.declarations (choices_for maker.now.choices.now maker.now.source)) }
+        ++ kept_entries id facts.now facts.now.declarations (choices_of maker.now)) }
 {
     for index in 0..facts.declarations().len() {
         let choice = maker.choices.of(maker.source, index);
@@ -176,17 +172,16 @@ pub(crate) fn entry_numbers(
     texts: &SymbolTable,
     facts: &FileFacts,
 ) -> Result<Vec<u32>, AllocError>
-    requires source { IsSource maker.now.linker.now maker.now.source }
-    requires path { HasPathAt maker.now.linker.now path.now maker.now.source }
-    requires known { HasFacts maker.now.linker.now maker.now.source facts.now }
-    requires paths { HaveGoodPaths maker.now.linker.now }
-    requires choices { HaveChoices maker.now.linker.now maker.now.choices.now }
-    requires texts { Grown (own_texts (package_of_file maker.now.linker.now maker.now.package.now maker.now.source)
-        maker.now.package.now.run path.now facts.now) texts.now }
+    requires source { IsOfSource maker.now }
+    requires path { HasSourcePath maker.now path.now }
+    requires known { HasSourceFacts maker.now facts.now }
+    requires paths { HasGoodPaths maker.now }
+    requires choices { HasChosen maker.now }
+    requires texts { Grown (source_texts maker.now path.now facts.now) texts.now }
     ensures { IfOk result (λ numbers. IsAscendingListOf info_cmp
-        (HasEntry maker.now.linker.now maker.now.choices.now maker.now.package.now maker.now.source)
+        (IsItsEntry maker.now)
         (map (entry_of texts.now path.now (package_names facts.now.package_name) facts.now
-        (choices_for maker.now.choices.now maker.now.source)) numbers.items)) }
+        (choices_of maker.now)) numbers.items)) }
 {
     symbols_stand_apart(maker.linker, maker.package);
     let mut numbers = first_numbers(maker.alloc, facts)?;
@@ -194,4 +189,19 @@ pub(crate) fn entry_numbers(
     put_near(maker.alloc, &mut numbers, texts, facts)?;
     numbers.sort_unstable_by(|a, b| compare_texts(texts, *a, *b));
     Ok(numbers)
+}
+
+/// Those chosen of a declaration's texts, without empty ones.
+fn documentation_of<'a>(choice: DocChoice, declaration: &'a Declaration) -> TextsRef<'a>
+    ensures { result ≡ documentation_of choice declaration.now }
+{
+    let leading = declaration.leading();
+    let trailing = declaration.trailing();
+    match choice {
+        DocChoice::Pass => TextsRef::of_list(&[]),
+        DocChoice::Nothing => TextsRef::of_list(&[]),
+        DocChoice::Leading => TextsRef::of_two(leading, ""),
+        DocChoice::Trailing => TextsRef::of_two(trailing, ""),
+        DocChoice::Both => TextsRef::of_two(leading, trailing),
+    }
 }

@@ -4,7 +4,7 @@ ghost use Rattle.std.specs.Prelude.{◌<◌, ◌↔◌, [], OnOk, IfOk, MatchBoo
 ghost use Rattle.std.specs.List.{AllZip};
 ghost use Rattle.std.specs.List.Sorted.{IsStrictlySortedBy};
 ghost use Rattle.proto_visibility.specs.Files.{IsSource};
-ghost use Rattle.proto_visibility.specs.declared.entities.Entity.TheVariants.{Declared};
+ghost use Rattle.proto_visibility.specs.declared.lookup.Entity.TheVariants.{Declared};
 ghost use Rattle.scip_model.specs.Chosen.{HasChoice, HaveChoices};
 ghost use Rattle.scip_model.specs.Entries.{IsKeptEntry};
 ghost use Rattle.scip_model.specs.Tables.ExternalLists.{Pair, pair_cmp, IsEntryAt, IsEntryOf, Adds, FromFront};
@@ -12,16 +12,16 @@ ghost use Rattle.scip_model.specs.Tables.ExternalLists.{IsKnownPart, IsOfPart, I
 ghost use Rattle.scip_model.specs.Tables.ExternalLists.{HasIncluded, NoneIncluded};
 ghost use Rattle.scip_model.specs.Indexes.{AreExternals};
 
-use crate::choices::Choices;
+use crate::document_maker::Choices;
 use crate::entries::{compare_symbols, declaration_entry};
 use crate::known_facts::symbols_stand_apart;
 use crate::packages::{FilePackages, package_of_file};
 use crate::targets::{parts_of, target_of};
+use basics::Sequence;
 use proto_decl::{FileFacts, Use};
 use proto_link::{Entity, Linker, one_target_a_use};
 use scip_records::SymbolInformation;
 use scip_symbol::PackageId;
-use sequences::Sequence;
 use std::alloc::{AllocError, Global};
 
 /// Adds a declaration, if its file is included and it is kept.
@@ -94,6 +94,7 @@ fn push_use(
     requires choices { HaveChoices linker.now choices.now }
     ensures { OnOk result (Adds (IsOfUse linker.now choices.now source type_use.now) named.old.items named.new.items) }
 {
+    // From here on it is known that no names of the files clash, and that their facts are those of texts.
     linker.linked();
     one_target_a_use();
     let found = target_of(alloc, linker, source, type_use)?;
@@ -133,6 +134,7 @@ fn push_source(
     requires choices { HaveChoices linker.now choices.now }
     ensures { OnOk result (Adds (IsOfSource linker.now choices.now source) named.old.items named.new.items) }
 {
+    // From here on it is known that no names of the files clash, and that their facts are those of texts.
     linker.linked();
     if linker.is_included(source) {
         return Ok(());

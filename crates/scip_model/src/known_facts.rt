@@ -28,6 +28,7 @@ pub(crate) fn facts_occur_in_order(linker: &Linker<'_, '_>)
     ensures targets { OneTargetAUse }
     ensures characters { CharactersRise }
 {
+    // From here on it is known that no names of the files clash, and that their facts are those of texts.
     linker.linked();
     facts_in_order();
     facts_stand_in_text();
@@ -47,6 +48,7 @@ pub(crate) fn symbols_stand_apart(linker: &Linker<'_, '_>, packages: &FilePackag
     ensures unclashed { WithoutClash }
     ensures packages { ArePackages packages.now }
 {
+    // From here on it is known that no names of the files clash, and that their facts are those of texts.
     linker.linked();
     one_declaration_a_name();
     names_are_identifiers();

@@ -1,15 +1,19 @@
-//! The order of a document's occurrences.
+//! The order of a document's occurrences, and lists in this order made one.
 
-ghost use Rattle.std.specs.Prelude.{◌≡◌};
+ghost use Rattle.std.specs.Prelude.{◌≡◌, IfOk, map};
+ghost use Rattle.std.specs.Ordering.{on};
 ghost use Rattle.scip_model.specs.OccurrenceOrder.{occurrence_cmp};
 ghost use Rattle.scip_model.specs.Tables.Plans.{occurrence_of};
+ghost use Rattle.scip_model.specs.Tables.Merges.{IsMerged, AreUntied, TakesLeast, fronts_cmp};
 
-use crate::planned::PlannedOccurrence;
+use crate::document_plan::PlannedOccurrence;
 use crate::symbol_table::SymbolTable;
+use std::alloc::{AllocError, Global};
 use std::cmp::Ordering;
+use std::collections::VecDeque;
 
 /// By start, then end, then symbol, which has one of these texts.
-pub(crate) fn compare_occurrences(
+fn compare_occurrences(
     texts: &SymbolTable,
     a: &PlannedOccurrence,
     b: &PlannedOccurrence,
@@ -24,4 +28,61 @@ pub(crate) fn compare_occurrences(
         Ordering::Equal => texts.compare(a.symbol, b.symbol),
         apart => apart,
     }
+}
+
+/// How the first of one list compares with that of another. Nothing comes after everything.
+fn compare_fronts(
+    texts: &SymbolTable,
+    first: &VecDeque<PlannedOccurrence>,
+    second: &VecDeque<PlannedOccurrence>,
+) -> Ordering
+    ensures { result ≡ fronts_cmp (on (occurrence_of texts.now) occurrence_cmp) first.now.items second.now.items }
+{
+    match (first.front(), second.front()) {
+        (Some(a), Some(b)) => compare_occurrences(texts, a, b),
+        (Some(_), None) => Ordering::Less,
+        (None, _) => Ordering::Greater,
+    }
+}
+
+/// Takes the least occurrence of two lists in order; of two that are tied, one is let go.
+fn take_least(
+    texts: &SymbolTable,
+    first: &mut VecDeque<PlannedOccurrence>,
+    second: &mut VecDeque<PlannedOccurrence>,
+) -> Option<PlannedOccurrence>
+    ensures { TakesLeast (fronts_cmp (on (occurrence_of texts.now) occurrence_cmp) first.old.items second.old.items)
+        first.old.items second.old.items result first.new.items second.new.items }
+{
+    match compare_fronts(texts, first, second) {
+        Ordering::Less => first.pop_front(),
+        Ordering::Equal => {
+            second.pop_front();
+            first.pop_front()
+        }
+        Ordering::Greater => second.pop_front(),
+    }
+}
+
+/// Two lists in order as one, in linear time. The symbols have these texts. It is for lists of which only equal
+/// occurrences are tied: of two that are, one is let go.
+pub(crate) fn merged(
+    alloc: Global,
+    texts: &SymbolTable,
+    first: Vec<PlannedOccurrence>,
+    second: Vec<PlannedOccurrence>,
+) -> Result<Vec<PlannedOccurrence>, AllocError>
+    ensures { IfOk result (λ both.
+        AreUntied occurrence_cmp
+        (map (occurrence_of texts.now) first.items) (map (occurrence_of texts.now) second.items)
+        → IsMerged occurrence_cmp (map (occurrence_of texts.now) first.items)
+        (map (occurrence_of texts.now) second.items) (map (occurrence_of texts.now) both.items)) }
+{
+    let mut both = Vec::with_capacity(alloc, first.len().saturating_add(second.len()))?;
+    let mut first_left = VecDeque::from_vec(first);
+    let mut second_left = VecDeque::from_vec(second);
+    while let Some(next) = take_least(texts, &mut first_left, &mut second_left) {
+        both.push(next)?;
+    }
+    Ok(both)
 }

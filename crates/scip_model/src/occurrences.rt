@@ -4,29 +4,22 @@ ghost use Rattle.std.specs.Prelude.{◌≡◌, ◌<◌, ◌∷◌, [], ℕ, List
 ghost use Rattle.std.specs.List.{slice_get};
 ghost use Rattle.proto_lex.specs.Lexed.{IsPart};
 ghost use Rattle.proto_decl.specs.Facts.{Facts};
-ghost use Rattle.proto_decl.specs.declared.type_use.Component.{Component};
+ghost use Rattle.proto_decl.specs.declared.uses.Component.{Component};
 ghost use Rattle.proto_decl.specs.declared.declaration.Declaration.{Declaration};
-ghost use Rattle.proto_decl.specs.declared.imported.Imported.{Imported};
+ghost use Rattle.proto_decl.specs.declared.imports.Imported.{Imported};
 ghost use Rattle.scip_symbol.specs.Entities.{OfFile};
 ghost use Rattle.scip_symbol.specs.Package.{Package};
 ghost use Rattle.scip_symbol.specs.Path.{IsGoodPath};
-ghost use Rattle.scip_model.specs.Chosen.{HasChoice};
 ghost use Rattle.scip_model.specs.Conditions.{HaveGoodPaths};
 ghost use Rattle.scip_model.specs.Named.{text_of};
 ghost use Rattle.scip_model.specs.Occurs.{range_over, start_of_text};
 ghost use Rattle.scip_model.specs.Packages.{package_of_path};
-ghost use Rattle.scip_model.specs.Tables.Listing.{
-  own_occurrence,
-  each_from,
-  has_path,
-  at_import,
-  at_package,
-  at_declaration,
-};
+ghost use Rattle.scip_model.specs.Tables.Listing.{own_occurrence, each_from, has_path, at_package};
 ghost use Rattle.scip_model.specs.Tables.Plans.{own_texts, Grown, IsNumberOf, ArePlanned, AreAdded};
+ghost use Rattle.scip_model.specs.Makers.{HasChosenFor, HasGoodPaths, HasPart, at_its_declaration, at_its_import};
 
 use crate::document_maker::DocumentMaker;
-use crate::planned::PlannedOccurrence;
+use crate::document_plan::PlannedOccurrence;
 use crate::symbol_table::{SymbolTable, declaration_number, number_at};
 use crate::symbol_texts::file_text;
 use proto_decl::{Declaration, FileFacts, Imported};
@@ -49,6 +42,7 @@ fn range_over(text: &Text<'_>, encoding: Encoding, span: Span) -> Range
     requires { IsPart text.now span }
     ensures { result ≡ range_over encoding text.now span }
 {
+    // From here on it is known that the bytes are those of a text.
     text.as_str();
     positions_fit();
     let start = text.position(span.start as usize, encoding);
@@ -63,7 +57,7 @@ pub(crate) fn planned_over(
     symbol: u32,
     symbol_roles: i32,
 ) -> PlannedOccurrence
-    requires { IsPart maker.now.text.now span }
+    requires { HasPart maker.now span }
     ensures { result ≡ record {
       range = range_over maker.now.encoding maker.now.text.now span;
       symbol = symbol;
@@ -130,11 +124,11 @@ fn add_import(
     imported: &Imported,
     texts: &mut SymbolTable,
 ) -> Result<(), AllocError>
-    requires part { IsPart maker.now.text.now imported.now.span }
-    requires paths { HaveGoodPaths maker.now.linker.now }
+    requires part { HasPart maker.now imported.now.span }
+    requires paths { HasGoodPaths maker.now }
     ensures grown { OnOk result (Grown texts.old texts.new) }
-    ensures added { OnOk result (AreAdded texts.new list.old.items list.new.items (at_import maker.now.package.now
-        maker.now.encoding maker.now.text.now maker.now.linker.now 0 imported.now)) }
+    ensures added { OnOk result (AreAdded texts.new list.old.items list.new.items
+        (at_its_import maker.now 0 imported.now)) }
 {
     if !has_file(maker.linker, imported) {
         return Ok(());
@@ -150,11 +144,11 @@ pub(crate) fn import_occurrences(
     imports: &[Imported],
     texts: &mut SymbolTable,
 ) -> Result<Vec<PlannedOccurrence>, AllocError>
-    requires parts { All (λ (imported : Imported). IsPart maker.now.text.now imported.span) imports.now }
-    requires paths { HaveGoodPaths maker.now.linker.now }
+    requires parts { All (λ (imported : Imported). HasPart maker.now imported.span) imports.now }
+    requires paths { HasGoodPaths maker.now }
     ensures grown { OnOk result (Grown texts.old texts.new) }
     ensures planned { IfOk result (λ list. ArePlanned texts.new list.items (each_from
-        (at_import maker.now.package.now maker.now.encoding maker.now.text.now maker.now.linker.now) 0 imports.now)) }
+        (at_its_import maker.now) 0 imports.now)) }
 {
     let mut list = Vec::with_capacity(maker.alloc, imports.len())?;
     for imported in imports {
@@ -168,7 +162,7 @@ pub(crate) fn package_occurrences(
     maker: &DocumentMaker<'_, '_, '_, '_>,
     facts: &FileFacts,
 ) -> Result<Vec<PlannedOccurrence>, AllocError>
-    requires { All (λ (component : Component). IsPart maker.now.text.now component.span) facts.now.package_name }
+    requires { All (λ (component : Component). HasPart maker.now component.span) facts.now.package_name }
     ensures { IfOk result (λ list. (id : Package) (path : List ℕ)
         → ArePlanned (own_texts id maker.now.package.now.run path facts.now) list.items (each_from
         (at_package maker.now.package.now.run maker.now.encoding maker.now.text.now facts.now)
@@ -191,11 +185,11 @@ fn add_declaration(
     declaration: &Declaration,
 ) -> Result<(), AllocError>
     requires there { slice_get facts.now.declarations index ≡ Some declaration.now }
-    requires part { IsPart maker.now.text.now declaration.now.name }
-    requires chosen { HasChoice maker.now.choices.now maker.now.source index }
+    requires part { HasPart maker.now declaration.now.name }
+    requires chosen { HasChosenFor maker.now index }
     ensures { OnOk result ((id run : Package) (path : List ℕ)
         → AreAdded (own_texts id run path facts.now) list.old.items list.new.items
-        (at_declaration id maker.now.encoding maker.now.text.now maker.now.choices.now maker.now.source facts.now
+        (at_its_declaration maker.now id facts.now
         index declaration.now)) }
 {
     let choice = maker.choices.of(maker.source, index);
@@ -212,13 +206,12 @@ pub(crate) fn declaration_occurrences(
     maker: &DocumentMaker<'_, '_, '_, '_>,
     facts: &FileFacts,
 ) -> Result<Vec<PlannedOccurrence>, AllocError>
-    requires parts { All (λ (declared : Declaration). IsPart maker.now.text.now declared.name) facts.now.declarations }
+    requires parts { All (λ (declared : Declaration). HasPart maker.now declared.name) facts.now.declarations }
     requires chosen { (index : ℕ) → index < length facts.now.declarations
-        → HasChoice maker.now.choices.now maker.now.source index }
+        → HasChosenFor maker.now index }
     ensures { IfOk result (λ list. (id run : Package) (path : List ℕ)
         → ArePlanned (own_texts id run path facts.now) list.items (each_from
-        (at_declaration id maker.now.encoding maker.now.text.now
-        maker.now.choices.now maker.now.source facts.now)
+        (at_its_declaration maker.now id facts.now)
         0 facts.now.declarations)) }
 {
     let mut list = Vec::with_capacity(maker.alloc, facts.declarations().len())?;

@@ -3,14 +3,11 @@
 ghost use Rattle.std.specs.Prelude.{◌≡◌, IfOk, IfErr};
 ghost use Rattle.proto_visibility.specs.Files.{IsSource};
 ghost use Rattle.scip_model.specs.Chosen.{HaveChoices};
-ghost use Rattle.scip_model.specs.Conditions.{HaveGoodPaths};
-ghost use Rattle.scip_model.specs.Uses.{UsesResolve};
-ghost use Rattle.scip_model.specs.Texts.{HasText, MayRefuseDocument};
+ghost use Rattle.scip_model.specs.Conditions.{HaveGoodPaths, UsesResolve, HasText, MayRefuseDocument};
 ghost use Rattle.scip_model.specs.Indexes.{AreExternals, IsDocumentOf};
 ghost use Rattle.scip_model.specs.Packages.{all_in};
 
-use crate::choices::Choices;
-use crate::document_maker::DocumentMaker;
+use crate::document_maker::{Choices, DocumentMaker};
 use crate::external_symbols::externals_in_packages;
 use crate::packages::FilePackages;
 use crate::source_document::make_document;

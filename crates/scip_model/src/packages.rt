@@ -41,6 +41,7 @@ impl RootPackage {
     pub fn new(alloc: Global, id: PackageId) -> RootPackage
         ensures { result ≡ record { id = id; paths = [] } }
     {
+        // From here on it is known that this names a package.
         id.manager();
         RootPackage {
             id,
@@ -99,6 +100,7 @@ impl FilePackages {
     pub fn of_run(alloc: Global, run: PackageId) -> FilePackages
         ensures { result ≡ record { run = run; roots = [] } }
     {
+        // From here on it is known that this names a package.
         run.manager();
         FilePackages {
             run,
@@ -114,6 +116,7 @@ impl FilePackages {
         ensures err { OnErr result (self.new ≡ self.old) }
         ensures handed_back { IfErr result (λ e. e.value ≡ root) }
     {
+        // From here on it is known that this names a package.
         root.id();
         self.roots.push(root)?;
         Ok(())

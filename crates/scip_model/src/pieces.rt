@@ -1,18 +1,84 @@
-//! Documents, put together to an index.
+//! Documents, put together to an index, and why they make none.
 
-ghost use Rattle.std.specs.Prelude.{◌≡◌, not, Some, IfOk, IfErr, OnOk, OnErr, MatchOption, Contains};
-ghost use Rattle.std.specs.Prelude.{length, map, position};
+ghost use Rattle.std.specs.Prelude.{◌≡◌, not, Some, IfOk, IfErr, OnOk, OnErr, MatchOption, Contains, length, map};
+ghost use Rattle.std.specs.Prelude.{position};
 ghost use Rattle.std.specs.String.{string_bytes};
 ghost use Rattle.std.specs.List.{slice_get};
+ghost use Rattle.scip_model.specs.Pieces.{name_of, number_of, IsRising, AreMerged, MayRefuseMerge, texts};
 ghost use Rattle.scip_model.specs.Indexes.{document_cmp};
-ghost use Rattle.scip_model.specs.Pieces.{IsRising, AreMerged, MayRefuseMerge, texts};
 ghost use Rattle.scip_model.specs.Tables.TakenPaths.{AreClear, IsMarked, IsNotMarked, AreMarked};
 
-use crate::merge_fault::{MergeFault, Unmerged};
+use basics::Sequence;
 use scip_records::{Document, Index, Metadata, SymbolInformation};
-use sequences::Sequence;
 use std::alloc::{AllocError, Global};
 use std::cmp::Ordering;
+use thiserror::Error;
+
+/// Why documents, the pieces of an index, aren't put together. Of the first two the one of the earlier piece is
+/// answered, and `Missing` if no piece has either.
+#[derive(Clone, Copy, Debug, Drop, PartialEq, Eq, Error)]
+pub enum MergeFault {
+    /// The piece with this number has a path that isn't one of those given.
+    #[error("piece {0} has a path that isn't one of those given")]
+    Stranger(usize),
+    /// The piece with this number has the path of an earlier one.
+    #[error("piece {0} has the path of an earlier one")]
+    Twice(usize),
+    /// No piece has the path with this number, the least such.
+    #[error("no piece has path {0}")]
+    Missing(usize),
+    /// Memory ran out.
+    #[error("memory ran out")]
+    Memory,
+}
+
+impl MergeFault {
+    /// The variant's name.
+    pub fn name(&self) -> &'static str
+        ensures { result.now ≡ name_of self.now }
+    {
+        match self {
+            MergeFault::Stranger(_) => "Stranger",
+            MergeFault::Twice(_) => "Twice",
+            MergeFault::Missing(_) => "Missing",
+            MergeFault::Memory => "Memory",
+        }
+    }
+
+    /// The number of the piece or the path that it names.
+    pub fn number(&self) -> Option<usize>
+        ensures { result ≡ number_of self.now }
+    {
+        match *self {
+            MergeFault::Stranger(number)
+            | MergeFault::Twice(number)
+            | MergeFault::Missing(number) => Some(number),
+            MergeFault::Memory => None,
+        }
+    }
+}
+
+impl From<AllocError> for MergeFault {
+    ghost use Rattle.scip_model.specs.declared.pieces.MergeFault.TheVariants.{Memory};
+
+    ghost from_gives = { λ _ e. e ≡ Memory };
+
+    fn from(_refused: AllocError) -> MergeFault {
+        MergeFault::Memory
+    }
+}
+
+/// Pieces that weren't put together, and the external entries, as they were. The metadata isn't handed back.
+#[derive(Debug, Drop, Error)]
+#[error("the pieces make no index: {fault}")]
+pub struct Unmerged {
+    /// The pieces.
+    pub pieces: Vec<Document>,
+    /// The external entries.
+    pub externals: Vec<SymbolInformation>,
+    /// Why they weren't put together.
+    pub fault: MergeFault,
+}
 
 /// The number of a path, if it is one of these.
 fn number_of(paths: &[&str], path: &str) -> Option<usize>
@@ -97,7 +163,7 @@ fn put_in_order(alloc: Global, paths: &[&str], pieces: &mut Vec<Document>) -> Re
 }
 
 /// The texts of paths.
-fn lent(alloc: Global, paths: &[String]) -> Result<Vec<&str>, AllocError>
+fn borrowed(alloc: Global, paths: &[String]) -> Result<Vec<&str>, AllocError>
     ensures { IfOk result (λ list. texts list.items ≡ map string_bytes paths.now) }
 {
     let mut list = Vec::new(alloc);
@@ -118,8 +184,8 @@ fn put_in_order_of(
     ensures kept { OnErr result (pieces.new.items ≡ pieces.old.items) }
     ensures refused { IfErr result (MayRefuseMerge (map string_bytes paths.now) pieces.old.items) }
 {
-    let lent = lent(alloc, paths)?;
-    put_in_order(alloc, lent.as_slice(), pieces)
+    let borrowed = borrowed(alloc, paths)?;
+    put_in_order(alloc, borrowed.as_slice(), pieces)
 }
 
 /// Puts pieces together: an index with a document for each path, in the order of the paths. Each path has to be after

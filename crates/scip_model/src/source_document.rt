@@ -2,68 +2,72 @@
 
 ghost use Rattle.std.specs.Prelude.{◌≡◌, [], IfOk, IfErr, OnOk, map};
 ghost use Rattle.std.specs.List.{slice_get};
-ghost use Rattle.proto_visibility.specs.Files.{HasFacts, HasPathAt, IsSource};
 ghost use Rattle.proto_visibility.specs.declared.fault.LinkFault.TheVariants.{Memory};
-ghost use Rattle.scip_model.specs.Gaps.{AreGaps};
-ghost use Rattle.scip_model.specs.Chosen.{HaveChoices};
-ghost use Rattle.scip_model.specs.Conditions.{HaveGoodPaths};
-ghost use Rattle.scip_model.specs.Uses.{UsesResolve};
-ghost use Rattle.scip_model.specs.Texts.{AreOfText, HasText, MayRefuseDocument};
-ghost use Rattle.scip_model.specs.Occurs.{Occurs};
-ghost use Rattle.scip_model.specs.Indexes.{IsAscendingListOf, IsDocumentOf};
+ghost use Rattle.scip_model.specs.Indexes.{IsAscendingListOf};
 ghost use Rattle.scip_model.specs.OccurrenceOrder.{occurrence_cmp};
-ghost use Rattle.scip_model.specs.Packages.{package_of_file};
-ghost use Rattle.scip_model.specs.Tables.Plans.{own_texts, Grown, occurrence_of};
+ghost use Rattle.scip_model.specs.Tables.Plans.{Grown, occurrence_of};
+ghost use Rattle.scip_model.specs.Makers.{
+  AreItsGaps,
+  HasChosen,
+  HasGoodPaths,
+  HasResolvedUses,
+  HasSourceFacts,
+  HasSourcePath,
+  HasSourceText,
+  HasTextFor,
+  IsItsDocument,
+  IsOfSource,
+  MayRefuseIts,
+  OccursIn,
+  source_texts,
+};
 
 use crate::document_maker::DocumentMaker;
-use crate::document_plan::{DocumentPlan, PlannedDocument};
+use crate::document_plan::{DocumentPlan, PlannedDocument, PlannedOccurrence};
 use crate::entries::{entry_numbers, package_names};
 use crate::known_facts::facts_occur_in_order;
-use crate::merging::merged;
+use crate::occurrence_order::merged;
 use crate::occurrences::{
     declaration_occurrences, import_occurrences, own_occurrences, package_occurrences,
 };
 use crate::packages::package_of_file;
-use crate::planned::PlannedOccurrence;
 use crate::symbol_table::SymbolTable;
 use crate::symbol_texts::own_texts;
 use crate::use_occurrences::use_occurrences;
+use basics::Sequence;
 use proto_decl::FileFacts;
 use proto_lex::Span;
 use proto_link::{FilePlace, LinkFault};
 use scip_records::{Document, records_of};
-use sequences::Sequence;
 
-/// What occurs in the source, which has this path. The places of its uses that name no type are added to `gaps`, in
-/// order. `Memory` is the only fault.
+/// What occurs in the source, which has this path. The places of its uses that name no type are added to
+/// `unresolved_uses`, in order. `Memory` is the only fault.
 fn occurrences(
     maker: &DocumentMaker<'_, '_, '_, '_>,
     path: &str,
     facts: &FileFacts,
-    gaps: &mut Vec<Span>,
+    unresolved_uses: &mut Vec<Span>,
     texts: &mut SymbolTable,
 ) -> Result<Vec<PlannedOccurrence>, LinkFault>
-    requires source { IsSource maker.now.linker.now maker.now.source }
-    requires path { HasPathAt maker.now.linker.now path.now maker.now.source }
-    requires known { HasFacts maker.now.linker.now maker.now.source facts.now }
-    requires empty { gaps.old.items ≡ [] }
-    requires text { AreOfText maker.now.text.now facts.now }
-    requires paths { HaveGoodPaths maker.now.linker.now }
-    requires choices { HaveChoices maker.now.linker.now maker.now.choices.now }
-    requires texts { Grown (own_texts (package_of_file maker.now.linker.now maker.now.package.now maker.now.source)
-        maker.now.package.now.run path.now facts.now) texts.old }
+    requires source { IsOfSource maker.now }
+    requires path { HasSourcePath maker.now path.now }
+    requires known { HasSourceFacts maker.now facts.now }
+    requires empty { unresolved_uses.old.items ≡ [] }
+    requires text { HasTextFor maker.now facts.now }
+    requires paths { HasGoodPaths maker.now }
+    requires choices { HasChosen maker.now }
+    requires texts { Grown (source_texts maker.now path.now facts.now) texts.old }
     ensures grown { OnOk result (Grown texts.old texts.new) }
-    ensures planned { IfOk result (λ list. IsAscendingListOf occurrence_cmp (Occurs
-        maker.now.linker.now maker.now.choices.now maker.now.package.now maker.now.encoding maker.now.source
-        maker.now.text.now) (map (occurrence_of texts.new) list.items)) }
-    ensures gaps { OnOk result (AreGaps maker.now.linker.now maker.now.source gaps.new.items) }
+    ensures planned { IfOk result (λ list. IsAscendingListOf occurrence_cmp (OccursIn maker.now)
+        (map (occurrence_of texts.new) list.items)) }
+    ensures unresolved_uses { OnOk result (AreItsGaps maker.now unresolved_uses.new.items) }
     ensures refused { IfErr result (λ fault. fault ≡ Memory) }
 {
     facts_occur_in_order(maker.linker);
     let alloc = maker.alloc;
     let own = own_occurrences(alloc)?;
     let imports = import_occurrences(maker, facts.imports(), texts)?;
-    let uses = use_occurrences(maker, facts.uses(), gaps, texts)?;
+    let uses = use_occurrences(maker, facts.uses(), unresolved_uses, texts)?;
     let packages = package_occurrences(maker, facts)?;
     let names = declaration_occurrences(maker, facts)?;
     let with_imports = merged(alloc, texts, own, imports)?;
@@ -89,16 +93,15 @@ pub struct SourceDocument {
 pub fn plan_document<'a, 'f>(
     maker: &DocumentMaker<'a, '_, 'f, '_>,
 ) -> Result<PlannedDocument<'a, 'f>, LinkFault>
-    requires source { IsSource maker.now.linker.now maker.now.source }
-    requires text { HasText maker.now.linker.now maker.now.source maker.now.text.now }
-    requires paths { HaveGoodPaths maker.now.linker.now }
-    requires choices { HaveChoices maker.now.linker.now maker.now.choices.now }
-    ensures document { IfOk result (λ made. IsDocumentOf
-        maker.now.linker.now maker.now.choices.now maker.now.package.now maker.now.encoding maker.now.source
-        maker.now.text.now made.document) }
-    ensures gaps { IfOk result (λ made. AreGaps maker.now.linker.now maker.now.source made.unresolved) }
+    requires source { IsOfSource maker.now }
+    requires text { HasSourceText maker.now }
+    requires paths { HasGoodPaths maker.now }
+    requires choices { HasChosen maker.now }
+    ensures document { IfOk result (λ made. IsItsDocument maker.now made.document) }
+    ensures unresolved_uses { IfOk result (λ made. AreItsGaps maker.now made.unresolved) }
     ensures refused { IfErr result (λ fault. fault ≡ Memory) }
 {
+    // From here on it is known that no names of the files clash, and that their facts are those of texts.
     maker.linker.linked();
     let alloc = maker.alloc;
     let facts = maker.linker.facts_of(maker.source).unwrap();
@@ -131,15 +134,15 @@ pub fn plan_document<'a, 'f>(
 /// declaration: what occurs in it and its symbol entries, in order. A use that names no type doesn't
 /// occur; its place is told beside the document. `Memory` is the only fault. What is asked of the maker's parts is
 /// what [`document`](crate::document) asks.
-pub fn document_and_gaps(maker: &DocumentMaker<'_, '_, '_, '_>) -> Result<SourceDocument, LinkFault>
-    requires source { IsSource maker.now.linker.now maker.now.source }
-    requires text { HasText maker.now.linker.now maker.now.source maker.now.text.now }
-    requires paths { HaveGoodPaths maker.now.linker.now }
-    requires choices { HaveChoices maker.now.linker.now maker.now.choices.now }
-    ensures document { IfOk result (λ made. IsDocumentOf
-        maker.now.linker.now maker.now.choices.now maker.now.package.now maker.now.encoding maker.now.source
-        maker.now.text.now made.document) }
-    ensures gaps { IfOk result (λ made. AreGaps maker.now.linker.now maker.now.source made.unresolved) }
+pub fn document_and_unresolved(
+    maker: &DocumentMaker<'_, '_, '_, '_>,
+) -> Result<SourceDocument, LinkFault>
+    requires source { IsOfSource maker.now }
+    requires text { HasSourceText maker.now }
+    requires paths { HasGoodPaths maker.now }
+    requires choices { HasChosen maker.now }
+    ensures document { IfOk result (λ made. IsItsDocument maker.now made.document) }
+    ensures unresolved_uses { IfOk result (λ made. AreItsGaps maker.now made.unresolved) }
     ensures refused { IfErr result (λ fault. fault ≡ Memory) }
 {
     let planned = plan_document(maker)?;
@@ -162,20 +165,18 @@ fn first_of(spans: &[Span]) -> Option<Span>
 /// or not: there is a document only where all do. `Memory` comes before it. What is asked of the maker's parts is what
 /// [`document`](crate::document) asks.
 pub fn make_document(maker: &DocumentMaker<'_, '_, '_, '_>) -> Result<Document, LinkFault>
-    requires source { IsSource maker.now.linker.now maker.now.source }
-    requires text { HasText maker.now.linker.now maker.now.source maker.now.text.now }
-    requires paths { HaveGoodPaths maker.now.linker.now }
-    requires choices { HaveChoices maker.now.linker.now maker.now.choices.now }
-    ensures document { IfOk result (IsDocumentOf
-        maker.now.linker.now maker.now.choices.now maker.now.package.now maker.now.encoding maker.now.source
-        maker.now.text.now) }
-    ensures resolved { IfOk result (λ _. UsesResolve maker.now.linker.now maker.now.source) }
-    ensures refused { IfErr result (MayRefuseDocument maker.now.linker.now maker.now.source) }
+    requires source { IsOfSource maker.now }
+    requires text { HasSourceText maker.now }
+    requires paths { HasGoodPaths maker.now }
+    requires choices { HasChosen maker.now }
+    ensures document { IfOk result (IsItsDocument maker.now) }
+    ensures resolved { IfOk result (λ _. HasResolvedUses maker.now) }
+    ensures refused { IfErr result (MayRefuseIts maker.now) }
 {
     let SourceDocument {
         document,
         unresolved,
-    } = document_and_gaps(maker)?;
+    } = document_and_unresolved(maker)?;
     match first_of(unresolved.as_slice()) {
         None => Ok(document),
         Some(span) => Err(LinkFault::Unresolved(FilePlace {

@@ -1,6 +1,6 @@
-//! The texts of a document's symbols, each once, by number.
+//! The texts of a document's symbols, each once, by number, and their order.
 
-ghost use Rattle.std.specs.Prelude.{◌≡◌, ◌<◌, ◌^◌, Some, IfOk, OnOk, length, map};
+ghost use Rattle.std.specs.Prelude.{◌≡◌, ◌<◌, ◌^◌, Some, IfOk, OnOk, length, map, ℕ, ◌≢◌, List, ◌++◌, ◌↔◌, IsTrue};
 ghost use Rattle.std.specs.List.{slice_get};
 ghost use Rattle.std.specs.Ordering.{nat_cmp};
 ghost use Rattle.std.specs.Cmp.Lexicographic.{slice_cmp};
@@ -8,10 +8,9 @@ ghost use Rattle.std.specs.String.{string_bytes};
 ghost use Rattle.scip_model.specs.Tables.Plans.{text_at, Grown, IsNumberOf, declaration_number};
 
 use crate::own_symbols::OwnSymbols;
-use crate::symbol_order::compare_symbols;
 use indexmap::IndexSet;
 use proto_decl::FileFacts;
-use scip_records::LentSymbol;
+use scip_records::SymbolRef;
 use std::alloc::{AllocError, Global};
 use std::cmp::Ordering;
 use std::marker::Model;
@@ -115,7 +114,7 @@ impl SymbolTable {
     }
 
     /// The text with a number. Where none has it, the empty one.
-    pub(crate) fn at(&self, number: u32) -> LentSymbol<'_>
+    pub(crate) fn at(&self, number: u32) -> SymbolRef<'_>
         ensures { result ≡ text_at self.now number }
     {
         let index = number as usize;
@@ -137,11 +136,60 @@ impl SymbolTable {
 }
 
 /// One of the texts of what is named elsewhere, by its place there. Where none has it, the empty one.
-fn other_symbol(others: &IndexSet<String>, index: usize) -> LentSymbol<'_>
+fn other_symbol(others: &IndexSet<String>, index: usize) -> SymbolRef<'_>
     ensures { result ≡ text_at (map string_bytes others.now.keys) index }
 {
     match others.get_index(index) {
-        Some(text) => LentSymbol::whole(text.as_str()),
-        None => LentSymbol::whole(""),
+        Some(text) => SymbolRef::whole(text.as_str()),
+        None => SymbolRef::whole(""),
+    }
+}
+
+/// A text in two parts, compared with one in one part.
+fn compare_with_whole(front: &str, rest: &str, whole: &str) -> Ordering
+    ensures { result ≡ slice_cmp nat_cmp (front.now ++ rest.now) whole.now }
+{
+    match whole.strip_prefix(front) {
+        Some(behind) => rest.cmp(behind),
+        None => front.cmp(whole),
+    }
+}
+
+/// A text in two parts, compared with another in two parts. The first part of the other doesn't begin with that of
+/// this one.
+fn compare_with_other(front: &str, rest: &str, other_front: &str, other_rest: &str) -> Ordering
+    requires { (after : List ℕ) → other_front.now ≢ front.now ++ after }
+    ensures { result ≡ slice_cmp nat_cmp (front.now ++ rest.now) (other_front.now ++ other_rest.now) }
+{
+    match front.strip_prefix(other_front) {
+        Some(behind) => compare_with_whole(behind, rest, other_rest),
+        None => front.cmp(other_front),
+    }
+}
+
+/// Two texts, each in two parts.
+fn compare_parts(front: &str, rest: &str, other_front: &str, other_rest: &str) -> Ordering
+    ensures { result ≡ slice_cmp nat_cmp (front.now ++ rest.now) (other_front.now ++ other_rest.now) }
+{
+    match other_front.strip_prefix(front) {
+        Some(behind) => compare_with_whole(behind, other_rest, rest).reverse(),
+        None => compare_with_other(front, rest, other_front, other_rest),
+    }
+}
+
+/// Symbols by their texts.
+pub(crate) fn compare_symbols(a: &SymbolRef<'_>, b: &SymbolRef<'_>) -> Ordering
+    ensures { result ≡ slice_cmp nat_cmp a.now b.now }
+{
+    compare_parts(a.front, a.rest, b.front, b.rest)
+}
+
+/// Whether a text is this one, in two parts.
+pub(crate) fn is_joined(front: &str, rest: &str, text: &str) -> bool
+    ensures { IsTrue result ↔ (front.now ++ rest.now ≡ text.now) }
+{
+    match text.strip_prefix(front) {
+        Some(behind) => behind == rest,
+        None => false,
     }
 }

@@ -2,20 +2,18 @@
 
 ghost use Rattle.std.specs.Prelude.{◌≡◌, ◌<◌, ◌≤◌, ◌++◌, ◌∷◌, [], IfOk, OnOk, Contains, length};
 ghost use Rattle.proto_decl.specs.Facts.{Facts};
-ghost use Rattle.proto_decl.specs.Ancestors.{component_names};
+ghost use Rattle.proto_decl.specs.Laws.{component_names};
 ghost use Rattle.scip_symbol.specs.Entities.{OfFile, OfPackage};
 ghost use Rattle.scip_symbol.specs.Package.{Package};
 ghost use Rattle.scip_symbol.specs.Path.{IsGoodPath};
 ghost use Rattle.scip_model.specs.Named.{text_of, package_at, declaration_at};
-ghost use Rattle.scip_model.specs.Tables.JoinedTexts.{behind};
-ghost use Rattle.scip_model.specs.Tables.OwnTexts.{declaration_texts};
+ghost use Rattle.scip_model.specs.Tables.OwnTexts.{behind, declaration_texts};
 ghost use Rattle.scip_model.specs.Tables.Plans.{package_texts_up_to, own_texts};
 
-use crate::joined_texts::JoinedTexts;
-use crate::own_symbols::OwnSymbols;
+use crate::own_symbols::{JoinedTexts, OwnSymbols};
+use basics::OwnedText;
 use proto_decl::{Declaration, FileFacts};
 use scip_symbol::{PackageId, print_below, print_declaration, print_file, print_package};
-use sequences::OwnedText;
 use std::alloc::{AllocError, Global};
 
 /// Of the file with a path.

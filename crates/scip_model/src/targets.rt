@@ -1,7 +1,7 @@
 //! What a use of a source names.
 
 ghost use Rattle.std.specs.Prelude.{◌≡◌, ◌<◌, ◌++◌, length, IfOk, OnOk};
-ghost use Rattle.scip_model.specs.Gaps.{IsFound};
+ghost use Rattle.scip_model.specs.Conditions.{IsFound};
 ghost use Rattle.scip_model.specs.Tables.Listing.{Finds, parts_of, unless_found};
 
 use proto_decl::Use;
@@ -44,7 +44,7 @@ pub(crate) fn parts_of(found: &Option<Target>) -> &[Entity]
 }
 
 /// Adds the place of a use for which nothing was found.
-pub(crate) fn add_gap(
+pub(crate) fn add_unresolved(
     spans: &mut Vec<Span>,
     found: &Option<Target>,
     span: Span,

@@ -3,51 +3,53 @@
 ghost use Rattle.std.specs.Prelude.{◌≡◌, ◌<◌, ◌≤◌, ℕ, Some, Option, List, All, IfOk, IfErr};
 ghost use Rattle.std.specs.Prelude.{OnOk, IfSome, ◌++◌, length, map, take};
 ghost use Rattle.std.specs.List.{AllZip, slice_get};
-ghost use Rattle.std.specs.Option.{option_map};
 ghost use denote.Ref.{Bor};
-ghost use Rattle.proto_lex.specs.Lexed.{IsPart};
 ghost use Rattle.proto_decl.specs.Names.{components_of};
 ghost use Rattle.proto_decl.specs.Facts.{Facts};
-ghost use Rattle.proto_decl.specs.Ancestors.{component_names};
-ghost use Rattle.proto_decl.specs.declared.declaration.Declaration.{Declaration};
-ghost use Rattle.proto_decl.specs.declared.type_use.Component.{Component};
-ghost use Rattle.proto_decl.specs.declared.type_use.Use.{Use};
+ghost use Rattle.proto_decl.specs.declared.uses.Component.{Component};
+ghost use Rattle.proto_decl.specs.declared.uses.Use.{Use};
 ghost use Rattle.proto_link.specs.declared.target.Target.{Target};
-ghost use Rattle.proto_visibility.specs.Files.{HasFacts};
-ghost use Rattle.proto_visibility.specs.declared.entities.Entity.{Entity};
-ghost use Rattle.proto_visibility.specs.declared.entities.Entity.TheVariants.{Declared, Package};
+ghost use Rattle.proto_visibility.specs.declared.lookup.Entity.{Entity};
+ghost use Rattle.proto_visibility.specs.declared.lookup.Entity.TheVariants.{Declared, Package};
 ghost use Rattle.scip_symbol.specs.Entities.{OfPackage, IsEntity};
 ghost use Rattle.proto_visibility.specs.declared.fault.LinkFault.TheVariants.{Memory};
-ghost use Rattle.scip_model.specs.Gaps.{IsFound};
-ghost use Rattle.scip_model.specs.Chosen.{HaveChoices};
-ghost use Rattle.scip_model.specs.Packages.{package_of_file, package_of_part};
-ghost use Rattle.scip_model.specs.Named.{HasDeclaration, text_of};
-ghost use Rattle.scip_model.specs.Tables.Listing.{
-  each_from,
-  declared_by,
-  entity_of,
-  is_shown,
-  IsNameable,
-  AreNameable,
-  unless_found,
-  gap_at,
-};
-ghost use Rattle.scip_model.specs.Tables.Listing.{at_entity, at_part, at_component, at_target, at_use};
-ghost use Rattle.scip_model.specs.Tables.Plans.{Grown, HasOwnTexts, IsNumberIn, ArePlanned, AreAdded};
+ghost use Rattle.scip_model.specs.Named.{text_of};
+ghost use Rattle.scip_model.specs.Tables.Listing.{each_from, is_shown, unless_found, unresolved_use_at};
+ghost use Rattle.scip_model.specs.Tables.Plans.{Grown, IsNumberIn, ArePlanned, AreAdded};
 ghost use Rattle.scip_model.specs.Tables.Plans.{declaration_number};
+ghost use Rattle.scip_model.specs.Makers.{
+  CanName,
+  CanNameParts,
+  Finds,
+  HasChosen,
+  HasDeclared,
+  HasPart,
+  HasSourceFacts,
+  HasSourceTexts,
+  IsOfFile,
+  at_its_component,
+  at_its_entity,
+  at_its_part,
+  at_its_target,
+  at_its_use,
+  declared_symbol,
+  entity_named,
+  part_package,
+  part_symbol,
+};
 
 use crate::document_maker::DocumentMaker;
+use crate::document_plan::PlannedOccurrence;
 use crate::occurrences::planned_over;
 use crate::packages::package_of_file;
-use crate::planned::PlannedOccurrence;
 use crate::symbol_table::{SymbolTable, declaration_number};
 use crate::symbol_texts::declaration_text;
-use crate::targets::{add_gap, target_of};
+use crate::targets::{add_unresolved, target_of};
+use basics::OwnedText;
 use proto_decl::{Component, Declaration, FileFacts, Use};
 use proto_lex::Span;
 use proto_link::{Entity, LinkFault, Target};
 use scip_symbol::{PackageId, print_package_named};
-use sequences::OwnedText;
 use std::alloc::{AllocError, Global};
 
 /// The role of what is neither a definition nor an import.
@@ -103,11 +105,9 @@ fn declared_text(
     file: usize,
     index: usize,
 ) -> Result<OwnedText, AllocError>
-    requires { (facts : Facts) × (declared : Declaration)
-        × HasDeclaration maker.now.linker.now file index facts declared }
+    requires { HasDeclared maker.now file index }
     ensures { IfOk result (λ text.
-        option_map (text_of (package_of_file maker.now.linker.now maker.now.package.now file))
-        (declared_by maker.now.linker.now file index) ≡ Some text) }
+        declared_symbol maker.now file index ≡ Some text) }
 {
     let facts = maker.linker.facts_of(file).unwrap();
     let declaration = declaration_of(facts, index);
@@ -121,10 +121,9 @@ fn entity_text(
     name: &str,
     part: Entity,
 ) -> Result<OwnedText, AllocError>
-    requires { IsNameable maker.now.linker.now name.now part }
+    requires { CanName maker.now name.now part }
     ensures { IfOk result (λ text.
-        option_map (text_of (package_of_part maker.now.linker.now maker.now.package.now part))
-        (entity_of maker.now.linker.now name.now part) ≡ Some text) }
+        part_symbol maker.now name.now part ≡ Some text) }
 {
     match part {
         Entity::Package(count) => named_package_text(maker.alloc, maker.package.run(), name, count),
@@ -144,9 +143,8 @@ fn own_index(part: Entity, file: usize) -> Option<usize>
 
 /// The number of the text of one of the source's own declarations.
 fn own_number(maker: &DocumentMaker<'_, '_, '_, '_>, index: usize) -> Result<u32, AllocError>
-    requires { (facts : Facts) × (declared : Declaration)
-        × HasDeclaration maker.now.linker.now maker.now.source index facts declared }
-    ensures { IfOk result (λ number. (facts : Facts) → HasFacts maker.now.linker.now maker.now.source facts
+    requires { HasDeclared maker.now maker.now.source index }
+    ensures { IfOk result (λ number. (facts : Facts) → HasSourceFacts maker.now facts
         → number ≡ declaration_number facts index) }
 {
     let facts = maker.linker.facts_of(maker.source).unwrap();
@@ -172,12 +170,12 @@ fn entity_number(
     part: Entity,
     texts: &mut SymbolTable,
 ) -> Result<u32, AllocError>
-    requires own { HasOwnTexts maker.now.linker.now maker.now.package.now maker.now.source texts.old }
-    requires nameable { IsNameable maker.now.linker.now name.now part }
+    requires own { HasSourceTexts maker.now texts.old }
+    requires nameable { CanName maker.now name.now part }
     ensures grown { OnOk result (Grown texts.old texts.new) }
     ensures number { IfOk result (IsNumberIn texts.new
-        (package_of_part maker.now.linker.now maker.now.package.now part)
-        (entity_of maker.now.linker.now name.now part)) }
+        (part_package maker.now part)
+        (entity_named maker.now name.now part)) }
 {
     if let Some(index) = own_index(part, maker.source) {
         let number = own_number(maker, index)?;
@@ -190,8 +188,8 @@ fn entity_number(
 
 /// Whether a part of a full name occurs: a package does, and a declaration where it is kept.
 fn is_shown(maker: &DocumentMaker<'_, '_, '_, '_>, name: &str, part: Entity) -> bool
-    requires chosen { HaveChoices maker.now.linker.now maker.now.choices.now }
-    requires nameable { IsNameable maker.now.linker.now name.now part }
+    requires chosen { HasChosen maker.now }
+    requires nameable { CanName maker.now name.now part }
     ensures { result ≡ is_shown maker.now.choices.now part }
 {
     match part {
@@ -209,13 +207,12 @@ fn add_entity(
     part: Entity,
     texts: &mut SymbolTable,
 ) -> Result<(), AllocError>
-    requires stands { IsPart maker.now.text.now span }
-    requires own { HasOwnTexts maker.now.linker.now maker.now.package.now maker.now.source texts.old }
-    requires nameable { IsNameable maker.now.linker.now name.now part }
+    requires stands { HasPart maker.now span }
+    requires own { HasSourceTexts maker.now texts.old }
+    requires nameable { CanName maker.now name.now part }
     ensures grown { OnOk result (Grown texts.old texts.new) }
     ensures added { OnOk result (AreAdded texts.new list.old.items list.new.items
-        (at_entity (package_of_part maker.now.linker.now maker.now.package.now part) maker.now.encoding
-        maker.now.text.now span (entity_of maker.now.linker.now name.now part))) }
+        (at_its_entity maker.now name.now span part)) }
 {
     let number = entity_number(maker, name, part, texts)?;
     list.push(planned_over(maker, span, number, NO_ROLE))?;
@@ -231,14 +228,13 @@ fn add_part(
     part: Option<Entity>,
     texts: &mut SymbolTable,
 ) -> Result<(), AllocError>
-    requires stands { IsPart maker.now.text.now span }
-    requires chosen { HaveChoices maker.now.linker.now maker.now.choices.now }
-    requires own { HasOwnTexts maker.now.linker.now maker.now.package.now maker.now.source texts.old }
-    requires nameable { (entity : Entity) → part ≡ Some entity → IsNameable maker.now.linker.now name.now entity }
+    requires stands { HasPart maker.now span }
+    requires chosen { HasChosen maker.now }
+    requires own { HasSourceTexts maker.now texts.old }
+    requires nameable { (entity : Entity) → part ≡ Some entity → CanName maker.now name.now entity }
     ensures grown { OnOk result (Grown texts.old texts.new) }
     ensures added { OnOk result (AreAdded texts.new list.old.items list.new.items
-        (at_part maker.now.package.now maker.now.encoding maker.now.text.now
-        maker.now.linker.now maker.now.choices.now name.now span part)) }
+        (at_its_part maker.now name.now span part)) }
 {
     match part {
         Some(part) => {
@@ -267,14 +263,13 @@ fn add_target(
     type_use: &Use,
     texts: &mut SymbolTable,
 ) -> Result<(), AllocError>
-    requires stand { All (λ (component : Component). IsPart maker.now.text.now component.span) type_use.now.components }
-    requires chosen { HaveChoices maker.now.linker.now maker.now.choices.now }
-    requires own { HasOwnTexts maker.now.linker.now maker.now.package.now maker.now.source texts.old }
-    requires nameable { AreNameable maker.now.linker.now target.now }
+    requires stand { All (λ (component : Component). HasPart maker.now component.span) type_use.now.components }
+    requires chosen { HasChosen maker.now }
+    requires own { HasSourceTexts maker.now texts.old }
+    requires nameable { CanNameParts maker.now target.now }
     ensures grown { OnOk result (Grown texts.old texts.new) }
     ensures added { OnOk result (AreAdded texts.new list.old.items list.new.items (each_from
-        (at_component maker.now.package.now maker.now.encoding maker.now.text.now
-        maker.now.linker.now maker.now.choices.now target.now)
+        (at_its_component maker.now target.now)
         0 type_use.now.components)) }
 {
     for (index, component) in type_use.components.as_slice().iter().enumerate() {
@@ -293,14 +288,13 @@ fn add_found(
     type_use: &Use,
     texts: &mut SymbolTable,
 ) -> Result<(), AllocError>
-    requires stand { All (λ (component : Component). IsPart maker.now.text.now component.span) type_use.now.components }
-    requires chosen { HaveChoices maker.now.linker.now maker.now.choices.now }
-    requires own { HasOwnTexts maker.now.linker.now maker.now.package.now maker.now.source texts.old }
-    requires nameable { (target : Target) → found.now ≡ Some target → AreNameable maker.now.linker.now target }
+    requires stand { All (λ (component : Component). HasPart maker.now component.span) type_use.now.components }
+    requires chosen { HasChosen maker.now }
+    requires own { HasSourceTexts maker.now texts.old }
+    requires nameable { (target : Target) → found.now ≡ Some target → CanNameParts maker.now target }
     ensures grown { OnOk result (Grown texts.old texts.new) }
     ensures added { OnOk result (AreAdded texts.new list.old.items list.new.items
-        (at_target maker.now.package.now maker.now.encoding maker.now.text.now
-        maker.now.linker.now maker.now.choices.now found.now type_use.now)) }
+        (at_its_target maker.now found.now type_use.now)) }
 {
     match found {
         Some(target) => add_target(list, maker, target, type_use, texts),
@@ -312,61 +306,59 @@ fn add_found(
 /// `Memory` is the only fault.
 fn add_use(
     list: &mut Vec<PlannedOccurrence>,
-    gaps: &mut Vec<Span>,
+    unresolved_uses: &mut Vec<Span>,
     maker: &DocumentMaker<'_, '_, '_, '_>,
     type_use: &Use,
     texts: &mut SymbolTable,
 ) -> Result<(), LinkFault>
-    requires source { maker.now.source < length maker.now.linker.now }
-    requires stand { All (λ (component : Component). IsPart maker.now.text.now component.span) type_use.now.components }
-    requires chosen { HaveChoices maker.now.linker.now maker.now.choices.now }
-    requires own { HasOwnTexts maker.now.linker.now maker.now.package.now maker.now.source texts.old }
+    requires source { IsOfFile maker.now }
+    requires stand { All (λ (component : Component). HasPart maker.now component.span) type_use.now.components }
+    requires chosen { HasChosen maker.now }
+    requires own { HasSourceTexts maker.now texts.old }
     requires nameable { (found : Option Target) (target : Target)
-        → IsFound maker.now.linker.now maker.now.source type_use.now found → found ≡ Some target
-        → AreNameable maker.now.linker.now target }
+        → Finds maker.now type_use.now found → found ≡ Some target
+        → CanNameParts maker.now target }
     ensures grown { OnOk result (Grown texts.old texts.new) }
     ensures added { OnOk result ((found : Option Target)
-        × IsFound maker.now.linker.now maker.now.source type_use.now found
+        × Finds maker.now type_use.now found
         × AreAdded texts.new list.old.items list.new.items
-        (at_target maker.now.package.now maker.now.encoding maker.now.text.now
-        maker.now.linker.now maker.now.choices.now found type_use.now)
-        × (gaps.new.items ≡ gaps.old.items ++ unless_found found type_use.now.span)) }
+        (at_its_target maker.now found type_use.now)
+        × (unresolved_uses.new.items ≡ unresolved_uses.old.items ++ unless_found found type_use.now.span)) }
     ensures refused { IfErr result (λ fault. fault ≡ Memory) }
 {
     let found = target_of(maker.alloc, maker.linker, maker.source, type_use)?;
-    add_gap(gaps, &found, type_use.span)?;
+    add_unresolved(unresolved_uses, &found, type_use.span)?;
     add_found(list, maker, &found, type_use, texts)?;
     Ok(())
 }
 
 /// Each component of a use that names a package, or a declaration that is kept. The places of uses that name no type
-/// are added to `gaps`, in order. `Memory` is the only fault.
+/// are added to `unresolved_uses`, in order. `Memory` is the only fault.
 pub(crate) fn use_occurrences(
     maker: &DocumentMaker<'_, '_, '_, '_>,
     uses: &[Use],
-    gaps: &mut Vec<Span>,
+    unresolved_uses: &mut Vec<Span>,
     texts: &mut SymbolTable,
 ) -> Result<Vec<PlannedOccurrence>, LinkFault>
-    requires source { maker.now.source < length maker.now.linker.now }
+    requires source { IsOfFile maker.now }
     requires stand { All (λ (used : Use).
-        All (λ (component : Component). IsPart maker.now.text.now component.span) used.components) uses.now }
-    requires chosen { HaveChoices maker.now.linker.now maker.now.choices.now }
-    requires own { HasOwnTexts maker.now.linker.now maker.now.package.now maker.now.source texts.old }
+        All (λ (component : Component). HasPart maker.now component.span) used.components) uses.now }
+    requires chosen { HasChosen maker.now }
+    requires own { HasSourceTexts maker.now texts.old }
     requires nameable { (used : Use) (found : Option Target) (target : Target)
-        → IsFound maker.now.linker.now maker.now.source used found → found ≡ Some target
-        → AreNameable maker.now.linker.now target }
+        → Finds maker.now used found → found ≡ Some target
+        → CanNameParts maker.now target }
     ensures grown { OnOk result (Grown texts.old texts.new) }
     ensures planned { IfOk result (λ list. (found : List (Option Target))
-        × AllZip (IsFound maker.now.linker.now maker.now.source) uses.now found
+        × AllZip (Finds maker.now) uses.now found
         × ArePlanned texts.new list.items (each_from
-        (at_use maker.now.package.now maker.now.encoding maker.now.text.now
-        maker.now.linker.now maker.now.choices.now found) 0 uses.now)
-        × (gaps.new.items ≡ gaps.old.items ++ each_from (gap_at found) 0 uses.now)) }
+        (at_its_use maker.now found) 0 uses.now)
+        × (unresolved_uses.new.items ≡ unresolved_uses.old.items ++ each_from (unresolved_use_at found) 0 uses.now)) }
     ensures refused { IfErr result (λ fault. fault ≡ Memory) }
 {
     let mut list = Vec::with_capacity(maker.alloc, uses.len())?;
     for type_use in uses {
-        add_use(&mut list, gaps, maker, type_use, texts)?;
+        add_use(&mut list, unresolved_uses, maker, type_use, texts)?;
     }
     Ok(list)
 }

@@ -7,14 +7,13 @@ use Rattle.std.proofs.lemmas.Option.{slice_get_within, none-some, same_Some}
 use Rattle.std.proofs.lemmas.List.Elements.{All-cons, All-nil, All-weaker}
 use Rattle.std.proofs.lemmas.List.Sums.{AllPass-from_list_all}
 use Rattle.std.proofs.lemmas.Bool.{leb-true}
+use Rattle.basics.proofs.ListLemmas.{item_at}
 use Rattle.index_hooks.specs.declared.choice.Choice.{Choice}
 use Rattle.proto_decl.specs.Facts.{Facts}
 use Rattle.scip_symbol.specs.Path.{IsGoodPath, IsComponent}
 use Rattle.proto_visibility.specs.Files.{File, IsSource}
-use Rattle.proto_visibility.proofs.FirstLemmas.{item_at}
 use Rattle.scip_model.specs.Chosen.{HaveChoices}
-use Rattle.scip_model.specs.Conditions.{HaveGoodPaths}
-use Rattle.scip_model.specs.Texts.{AreOfText, HasText}
+use Rattle.scip_model.specs.Conditions.{HaveGoodPaths, AreOfText, HasText}
 use Rattle.scip_model_tests.specs.OneSource.{source_with}
 
 -- what a list of one has

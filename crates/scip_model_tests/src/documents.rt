@@ -3,8 +3,7 @@
 ghost use Rattle.std.specs.Prelude.{◌≡◌, ◌∷◌, [], length, IfOk};
 ghost use Rattle.proto_visibility.specs.Files.{IsSource};
 ghost use Rattle.scip_model.specs.Chosen.{HaveChoices};
-ghost use Rattle.scip_model.specs.Conditions.{HaveGoodPaths};
-ghost use Rattle.scip_model.specs.Texts.{AreOfText, HasText};
+ghost use Rattle.scip_model.specs.Conditions.{HaveGoodPaths, AreOfText, HasText};
 ghost use Rattle.scip_model_tests.specs.OneSource.{source_with};
 
 use crate::listed::{add_document, add_externals};

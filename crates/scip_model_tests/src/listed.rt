@@ -5,8 +5,8 @@
 //! text of the documentation. Behind each stands `;`. External entries have a line that begins with `+`.
 //! Symbols stand without the scheme and the empty package.
 
+use basics::OwnedText;
 use scip_records::{Document, Occurrence, SymbolInformation};
-use sequences::OwnedText;
 use test_kit::Draft;
 
 /// Adds a number and a space.

@@ -5,11 +5,11 @@ ghost use Rattle.std.specs.String.{string_bytes};
 ghost use Rattle.scip_model.specs.Pieces.{IsRising};
 
 use crate::documents::see;
+use basics::{OwnedText, Sequence};
 use scip_model::{
     Document, Index, Info, MergeFault, Metadata, Unmerged, merge, one_merge_refusal,
     one_merged_list,
 };
-use sequences::{OwnedText, Sequence};
 use std::alloc::{AllocError, Global};
 use std::test::Fail;
 

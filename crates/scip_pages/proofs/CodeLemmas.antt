@@ -169,7 +169,7 @@ pieces_have_the_text links (byte ∷ line) (occurrence ∷ marks) same =
 
 -- ---- links of bytes
 
-marks_same : (a b : Option ℕ) → same_mark a b ≡ true → a ≡ b
+pub marks_same : (a b : Option ℕ) → same_mark a b ≡ true → a ≡ b
 marks_same None None e = refl
 marks_same None (Some b) e = absurd cc
 marks_same (Some a) None e = absurd cc

@@ -8,6 +8,7 @@ use Rattle.std.proofs.lemmas.List.Sums.{fold_more}
 use Rattle.std.proofs.lemmas.List.{take_all}
 use Rattle.std.proofs.lemmas.Bool.{cases_lt, eqb-true, eq-eqb, lt-ltb, le-ltb, le-leb, lt-leb}
 use Rattle.std.proofs.Math.Bool.{and-true, and-false}
+use Rattle.scip_pages.proofs.CodeLemmas.{marks_same as same_is}
 use Rattle.scip_pages.specs.declared.runs.Span.{Span}
 use Rattle.scip_pages.specs.declared.runs.Run.{Run}
 use Rattle.scip_pages.specs.Runs.{covers, narrower, span_at, number_of, marks_of, same_mark, onto_runs, runs_of}
@@ -61,12 +62,6 @@ pub span_at_more : (spans : List Span) (i p : ℕ) (d : Span) → i < length spa
 span_at_more spans i p d inside =
     fold_more (λ (found : Option Span) (span : Span). cond (covers span p) (Some (narrower found span)) found) None
     spans i d inside
-
-same_is : (a b : Option ℕ) → same_mark a b ≡ true → a ≡ b
-same_is None None e = refl
-same_is None (Some b) e = absurd cc
-same_is (Some a) None e = absurd cc
-same_is (Some a) (Some b) e = ap Some (eqb-true a b e)
 
 same_same : (a : Option ℕ) → same_mark a a ≡ true
 same_same None = refl

@@ -7,7 +7,7 @@ ghost use Rattle.scip_pages.specs.Code as spec;
 use crate::decimals::push_decimal;
 use crate::escapes::push_escaped;
 use crate::runs::Run;
-use sequences::Sequence;
+use basics::Sequence;
 use std::alloc::AllocError;
 
 /// Where a piece of code leads.

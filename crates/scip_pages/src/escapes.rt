@@ -5,7 +5,7 @@ ghost use Rattle.std.specs.List.{prefix_len};
 ghost use Rattle.scip_pages.specs.Escapes.{escape, escape_byte};
 ghost use Rattle.scip_pages.specs.Plainly.{is_plain};
 
-use std::alloc::{AllocError, Global};
+use std::alloc::AllocError;
 
 /// Appends a byte of a text. A page can't hold a NUL; its picture stands for it, U+2400.
 fn push_byte(page: &mut Vec<u8>, byte: u8) -> Result<(), AllocError>
@@ -59,13 +59,4 @@ pub fn push_escaped(page: &mut Vec<u8>, text: &[u8]) -> Result<(), AllocError>
         rest = push_plain(page, others)?;
     }
     Ok(())
-}
-
-/// A text as a page has it.
-pub fn escape(alloc: Global, text: &[u8]) -> Result<Vec<u8>, AllocError>
-    ensures { IfOk result (λ code. code.items ≡ escape text.now) }
-{
-    let mut code = Vec::new(alloc);
-    push_escaped(&mut code, text)?;
-    Ok(code)
 }

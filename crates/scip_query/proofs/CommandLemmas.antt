@@ -10,6 +10,7 @@ use borrow.Author.Tests.{eqb-true}
 use Rattle.std.proofs.lemmas.Bool.Decides.{nat_tests}
 use Rattle.std.proofs.lemmas.Str.{IsUtf8-from_is_utf8, is_utf8-from_IsUtf8}
 use Rattle.std.proofs.lemmas.Bool.{and_parts, leb-true}
+use Rattle.basics.proofs.ListLemmas.{map_some}
 use Rattle.scip_query.specs.Commands.{is_digit, value_of, max_digits}
 use Rattle.scip_query.specs.CommandReading.{Parts, with_first, parts_of, is_written, at_most, number_of, path_of}
 
@@ -17,11 +18,6 @@ pub bind_some : {A B : Type 0} (o : Option A) (f : A → Option B) (y : B) → o
     → (x : A) × (o ≡ Some x) × (f x ≡ Some y)
 bind_some None f y e = absurd cc
 bind_some (Some x) f y e = (x, refl, e)
-
-pub map_some : {A B : Type 0} (f : A → B) (o : Option A) (y : B) → option_map f o ≡ Some y
-    → (x : A) × (o ≡ Some x) × (f x ≡ y)
-map_some f None y e = absurd cc
-map_some f (Some x) y e = (x, refl, cc)
 
 -- Exact: a word without a space, a space and what stands behind it
 pub parts_exact : (word behind : List ℕ) → list_all (λ b. not (b == 32)) word ≡ true

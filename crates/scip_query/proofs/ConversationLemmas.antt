@@ -8,19 +8,20 @@ use Rattle.std.proofs.lemmas.List.{append-nil, length-append, take-append-drop, 
 use Rattle.std.proofs.lemmas.List.Sums.{sum_by-append}
 use Rattle.std.proofs.lemmas.Grind.{flat_map-append}
 use Rattle.streams.specs.Streams.{last_count, more_by}
-use Rattle.streams.specs.WholeReads.{IsReadThrough}
-use Rattle.streams.specs.WholeWrites.{IsWritten, IsCutOff}
+use Rattle.streams.specs.Readers.{Reader, IsReadThrough, IsUnfailed}
+use Rattle.streams.specs.Writers.{SinkOf, writing, IsWritten, IsCutOff}
 use Rattle.scip_records.specs.declared.records.Index.{Index}
 use Rattle.streams.proofs.WholeWriteLemmas.{IsWritten-nil, IsWritten-trans, IsCutOff-after}
-use Rattle.scip_query.specs.Commands.{lines_of}
+use Rattle.scip_query.specs.Commands.{command_lines}
 use Rattle.scip_query.specs.AnswerText.{answer_to, answer_text}
-use Rattle.scip_query.specs.Conversing.{is_line_end, ended_lines, Replies, IsDue, LeavesFeed, IsConversed}
+use Rattle.scip_query.specs.Conversing.{is_line_end, ended_lines, Replies, IsDue, LeavesFeed, AreAnswersTo}
 use Rattle.scip_query.specs.Tables.ConversingSteps.{kept_line, kept_with, Stands, IsCutShort, IsHalted, Goes}
 use Rattle.scip_query.specs.Tables.ConversingSteps.{AnswersNext, Concludes}
 use Rattle.scip_query.specs.declared.answer_fault.AnswerFault.{AnswerFault}
 use Rattle.scip_query.specs.declared.answer_fault.AnswerFault.TheVariants.{Read, Write, Memory}
 use Rattle.scip_query.specs.declared.conversation.Conversation.{Conversation}
-use Rattle.scip_query.proofs.LineLemmas.{line_ended, last_line, line_there, kept_with-is, kept_answer, kept_nothing}
+use Rattle.scip_query.proofs.CommandLineLemmas.{line_ended, last_line, line_there, kept_with-is, kept_answer}
+use Rattle.scip_query.proofs.CommandLineLemmas.{kept_nothing}
 
 count_after : (bytes : List ℕ) (b : ℕ)
     → count_by is_line_end (bytes ++ b ∷ []) ≡ count_by is_line_end bytes + cond (b == 10) 1 0
@@ -44,10 +45,10 @@ taken_all read bytes i within =
 counted : (a n : ℕ) (written : ℕ) → written ≡ min a last_count → more_by n written ≡ min (a + n) last_count
 counted a n written e = omega (arith, e)
 
-module _ {W : Type 0} (contents : W → Option (List ℕ)) (failures : W → ℕ) where
+module _ {W : Type 0} (sink : SinkOf W) where
   -- a text that is cut off is cut off too where more was due
-  cut_off_more : (a b : W) (due more : List ℕ) (n : ℕ) → IsCutOff contents failures a b due n
-      → IsCutOff contents failures a b (due ++ more) n
+  cut_off_more : (a b : W) (due more : List ℕ) (n : ℕ) → IsCutOff (writing sink a b) due n
+      → IsCutOff (writing sink a b) (due ++ more) n
   cut_off_more a b due more n p =
       let short : n < length due = p.short in
       record {
@@ -69,27 +70,27 @@ module _ {W : Type 0} (contents : W → Option (List ℕ)) (failures : W → ℕ
 
     -- where the answer to the line that is begun went out
     line_written : (read : List ℕ) (talk : Conversation) (before after : W)
-        (s : Stands contents failures index first read talk before)
-        → IsWritten contents failures before after (answer_to index talk.line.items)
-        → IsWritten contents failures first after (flat_map (answer_to index) (s.ended ++ s.begun ∷ []))
+        (s : Stands sink index first read talk before)
+        → IsWritten (writing sink before after) (answer_to index talk.line.items)
+        → IsWritten (writing sink first after) (flat_map (answer_to index) (s.ended ++ s.begun ∷ []))
     line_written read talk before after s p =
-        subst (IsWritten contents failures first after) (due_more s.ended s.begun)
-        (IsWritten-trans contents failures first before after _ _ s.answered
-        (subst (λ l. IsWritten contents failures before after (answer_to index l)) s.kept p))
+        subst (IsWritten (writing sink first after)) (due_more s.ended s.begun)
+        (IsWritten-trans sink first before after _ _ s.answered
+        (subst (λ l. IsWritten (writing sink before after) (answer_to index l)) s.kept p))
 
     line_cut_off : (read : List ℕ) (talk : Conversation) (before after : W) (n : ℕ)
-        (s : Stands contents failures index first read talk before)
-        → IsCutOff contents failures before after (answer_to index talk.line.items) n
-        → IsCutOff contents failures first after (flat_map (answer_to index) (s.ended ++ s.begun ∷ []))
+        (s : Stands sink index first read talk before)
+        → IsCutOff (writing sink before after) (answer_to index talk.line.items) n
+        → IsCutOff (writing sink first after) (flat_map (answer_to index) (s.ended ++ s.begun ∷ []))
         (length (flat_map (answer_to index) s.ended) + n)
     line_cut_off read talk before after n s p =
-        subst (λ l. IsCutOff contents failures first after l (length (flat_map (answer_to index) s.ended) + n))
+        subst (λ l. IsCutOff (writing sink first after) l (length (flat_map (answer_to index) s.ended) + n))
         (due_more s.ended s.begun)
-        (IsCutOff-after contents failures first before after _ _ n s.answered
-        (subst (λ l. IsCutOff contents failures before after (answer_to index l) n) s.kept p))
+        (IsCutOff-after sink first before after _ _ n s.answered
+        (subst (λ l. IsCutOff (writing sink before after) (answer_to index l) n) s.kept p))
 
     length_more : (read : List ℕ) (talk : Conversation) (now : W)
-        (s : Stands contents failures index first read talk now)
+        (s : Stands sink index first read talk now)
         → length (flat_map (answer_to index) s.ended) + length (answer_to index talk.line.items)
         ≡ length (flat_map (answer_to index) (s.ended ++ s.begun ∷ []))
     length_more read talk now s =
@@ -100,7 +101,7 @@ module _ {W : Type 0} (contents : W → Option (List ℕ)) (failures : W → ℕ
     -- ---- before the first byte
 
     pub starts : (talk : Conversation) → talk.line.items ≡ [] → talk.written ≡ 0
-        → Stands contents failures index first [] talk first
+        → Stands sink index first [] talk first
     starts talk line written = record {
       ended = [];
       begun = [];
@@ -108,22 +109,22 @@ module _ {W : Type 0} (contents : W → Option (List ℕ)) (failures : W → ℕ
       ends = refl;
       unended = refl;
       kept = line;
-      answered = IsWritten-nil contents failures first;
+      answered = IsWritten-nil sink first;
       written = written;
     }
 
     -- ---- one byte
 
     pub byte_kept : (read : List ℕ) (b : ℕ) (talk next : Conversation) (now : W) → (b == 10) ≡ false
-        → Stands contents failures index first read talk now
+        → Stands sink index first read talk now
         → next.line.items ≡ kept_with talk.line.items b → next.written ≡ talk.written
-        → Stands contents failures index first (read ++ b ∷ []) next now
+        → Stands sink index first (read ++ b ∷ []) next now
     byte_kept read b talk next now inside s line written = record {
       ended = s.ended;
       begun = s.begun ++ b ∷ [];
       lines = λ behind.
-          ap lines_of (further read b behind) ∙ s.lines (b ∷ behind)
-          ∙ ap (λ l. s.ended ++ lines_of l) (sym (further s.begun b behind));
+          ap command_lines (further read b behind) ∙ s.lines (b ∷ behind)
+          ∙ ap (λ l. s.ended ++ command_lines l) (sym (further s.begun b behind));
       ends = count_after read b ∙ ap (λ t. count_by is_line_end read + cond t 1 0) inside ∙ omega (arith, s.ends);
       unended = count_after s.begun b ∙ ap (λ t. count_by is_line_end s.begun + cond t 1 0) inside
           ∙ omega (arith, s.unended);
@@ -133,34 +134,38 @@ module _ {W : Type 0} (contents : W → Option (List ℕ)) (failures : W → ℕ
     }
 
     pub byte_refused : (read : List ℕ) (b : ℕ) (talk : Conversation) (now : W)
-        → Stands contents failures index first read talk now
-        → IsHalted contents failures index first (read ++ b ∷ []) now
+        → Stands sink index first read talk now
+        → IsHalted sink index first (read ++ b ∷ []) now
     byte_refused read b talk now s = record {
       ended = s.ended;
       lines = λ behind.
-          let line = line_there s.begun b behind in
-          (line.0, line.1, ap lines_of (further read b behind) ∙ s.lines (b ∷ behind) ∙ ap (λ l. s.ended ++ l) line.2);
+          let line = line_there s.begun b behind in (
+            line.0,
+            line.1,
+            ap command_lines (further read b behind) ∙ s.lines (b ∷ behind)
+                ∙ ap (λ l. s.ended ++ l) line.2,
+          );
       answered = s.answered;
     }
 
     -- the lines where a `\n` ends the one that is begun
     one_line_more : (read : List ℕ) (talk : Conversation) (now : W)
-        (s : Stands contents failures index first read talk now) (behind : List ℕ)
-        → lines_of ((read ++ 10 ∷ []) ++ behind) ≡ s.ended ++ s.begun ∷ lines_of behind
+        (s : Stands sink index first read talk now) (behind : List ℕ)
+        → command_lines ((read ++ 10 ∷ []) ++ behind) ≡ s.ended ++ s.begun ∷ command_lines behind
     one_line_more read talk now s behind =
-        ap lines_of (further read 10 behind) ∙ s.lines (10 ∷ behind)
+        ap command_lines (further read 10 behind) ∙ s.lines (10 ∷ behind)
         ∙ ap (λ l. s.ended ++ l) (line_ended s.begun behind s.unended)
 
     pub line_goes : (read : List ℕ) (talk next : Conversation) (before after : W)
         (result : Result (Unit {0}) AnswerFault)
-        → Stands contents failures index first read talk before
-        → AnswersNext contents failures before after talk next (answer_to index talk.line.items) result
-        → Goes contents failures index first (read ++ 10 ∷ []) next after result
+        → Stands sink index first read talk before
+        → AnswersNext (writing sink before after) talk next (answer_to index talk.line.items) result
+        → Goes sink index first (read ++ 10 ∷ []) next after result
     line_goes read talk next before after (Ok done) s p = record {
       ended = s.ended ++ s.begun ∷ [];
       begun = [];
       lines = λ behind. one_line_more read talk before s behind
-          ∙ sym (append_assoc s.ended (s.begun ∷ []) (lines_of behind));
+          ∙ sym (append_assoc s.ended (s.begun ∷ []) (command_lines behind));
       ends = count_after read 10 ∙ omega (arith, s.ends, length-append s.ended (s.begun ∷ []));
       unended = refl;
       kept = p.1;
@@ -174,29 +179,29 @@ module _ {W : Type 0} (contents : W → Option (List ℕ)) (failures : W → ℕ
       ended = s.ended ++ s.begun ∷ [];
       sent = length (flat_map (answer_to index) s.ended) + p.0;
       lines = λ behind. (
-        lines_of behind,
-        one_line_more read talk before s behind ∙ sym (append_assoc s.ended (s.begun ∷ []) (lines_of behind)),
+        command_lines behind,
+        one_line_more read talk before s behind ∙ sym (append_assoc s.ended (s.begun ∷ []) (command_lines behind)),
       );
       cut_off = line_cut_off read talk before after p.0 s p.1;
       counted = p.2 ∙ counted (length (flat_map (answer_to index) s.ended)) p.0 talk.written s.written;
     }
     line_goes read talk next before after (Err Memory) s p = record {
       ended = s.ended;
-      lines = λ behind. (s.begun, lines_of behind, one_line_more read talk before s behind);
+      lines = λ behind. (s.begun, command_lines behind, one_line_more read talk before s behind);
       answered = rw p s.answered;
     }
 
     -- what a refusal leaves stays so where more was read
     pub refused_further : (read more : List ℕ) (talk next : Conversation) (now : W) (fault : AnswerFault)
-        → Goes contents failures index first read talk now (Err fault)
-        → Goes contents failures index first (read ++ more) next now (Err fault)
+        → Goes sink index first read talk now (Err fault)
+        → Goes sink index first (read ++ more) next now (Err fault)
     refused_further read more talk next now Read p = absurd p
     refused_further read more talk next now (Write count) p = record {
       ended = p.ended;
       sent = p.sent;
       lines = λ behind.
           let found = p.lines (more ++ behind) in
-          (found.0, ap lines_of (append_assoc read more behind) ∙ found.1);
+          (found.0, ap command_lines (append_assoc read more behind) ∙ found.1);
       cut_off = p.cut_off;
       counted = p.counted;
     }
@@ -204,55 +209,56 @@ module _ {W : Type 0} (contents : W → Option (List ℕ)) (failures : W → ℕ
       ended = p.ended;
       lines = λ behind.
           let found = p.lines (more ++ behind) in
-          (found.0, found.1, ap lines_of (append_assoc read more behind) ∙ found.2);
+          (found.0, found.1, ap command_lines (append_assoc read more behind) ∙ found.2);
       answered = p.answered;
     }
 
     -- ---- the end of the bytes
 
     lines_read : (read : List ℕ) (talk : Conversation) (now : W)
-        (s : Stands contents failures index first read talk now) → lines_of read ≡ s.ended ++ lines_of s.begun
+        (s : Stands sink index first read talk now) → command_lines read ≡ s.ended ++ command_lines s.begun
     lines_read read talk now s =
-        ap lines_of (sym (append-nil read)) ∙ s.lines [] ∙ ap (λ l. s.ended ++ lines_of l) (append-nil s.begun)
+        ap command_lines (sym (append-nil read)) ∙ s.lines [] ∙ ap (λ l. s.ended ++ command_lines l)
+        (append-nil s.begun)
 
     pub nothing_begun : (read : List ℕ) (talk : Conversation) (now : W)
-        → Stands contents failures index first read talk now → talk.line.items ≡ []
-        → IsWritten contents failures first now (answer_text index read)
+        → Stands sink index first read talk now → talk.line.items ≡ []
+        → IsWritten (writing sink first now) (answer_text index read)
     nothing_begun read talk now s e =
         let none : s.begun ≡ [] = kept_nothing s.begun (sym s.kept ∙ e) in
-        let lines : lines_of read ≡ s.ended =
-        lines_read read talk now s ∙ ap (λ l. s.ended ++ lines_of l) none ∙ append-nil s.ended in
-        subst (λ l. IsWritten contents failures first now (flat_map (answer_to index) l)) (sym lines) s.answered
+        let lines : command_lines read ≡ s.ended =
+        lines_read read talk now s ∙ ap (λ l. s.ended ++ command_lines l) none ∙ append-nil s.ended in
+        subst (λ l. IsWritten (writing sink first now) (flat_map (answer_to index) l)) (sym lines) s.answered
 
-    begun_line : (begun : List ℕ) → (begun ≡ [] → ⊥) → count_by is_line_end begun ≡ 0 → lines_of begun ≡ begun ∷ []
+    begun_line : (begun : List ℕ) → (begun ≡ [] → ⊥) → count_by is_line_end begun ≡ 0 → command_lines begun ≡ begun ∷ []
     begun_line [] some none = absurd (some refl)
     begun_line (b ∷ begun) some none = last_line b begun none
 
     begun_there : (begun behind : List ℕ) → (begun ≡ [] → ⊥)
-        → (next : List ℕ) × (others : List (List ℕ)) × (lines_of (begun ++ behind) ≡ next ∷ others)
+        → (next : List ℕ) × (others : List (List ℕ)) × (command_lines (begun ++ behind) ≡ next ∷ others)
     begun_there [] behind some = absurd (some refl)
     begun_there (b ∷ begun) behind some = line_there [] b (begun ++ behind)
 
     pub last_concludes : (read : List ℕ) (talk next : Conversation) (before after : W)
         (result : Result (Unit {0}) AnswerFault)
-        → Stands contents failures index first read talk before → (talk.line.items ≡ [] → ⊥)
-        → AnswersNext contents failures before after talk next (answer_to index talk.line.items) result
-        → Concludes contents failures index first read after result
+        → Stands sink index first read talk before → (talk.line.items ≡ [] → ⊥)
+        → AnswersNext (writing sink before after) talk next (answer_to index talk.line.items) result
+        → Concludes sink index first read after result
     last_concludes read talk next before after (Ok done) s some p =
-        let lines : lines_of read ≡ s.ended ++ s.begun ∷ [] =
+        let lines : command_lines read ≡ s.ended ++ s.begun ∷ [] =
         lines_read read talk before s
         ∙ ap (λ l. s.ended ++ l) (begun_line s.begun (λ e. some (s.kept ∙ ap kept_line e)) s.unended) in
-        subst (λ l. IsWritten contents failures first after (flat_map (answer_to index) l)) (sym lines)
+        subst (λ l. IsWritten (writing sink first after) (flat_map (answer_to index) l)) (sym lines)
         (line_written read talk before after s p.0)
     last_concludes read talk next before after (Err Read) s some p = absurd p
     last_concludes read talk next before after (Err (Write count)) s some p =
-        let lines : lines_of read ≡ s.ended ++ s.begun ∷ [] =
+        let lines : command_lines read ≡ s.ended ++ s.begun ∷ [] =
         lines_read read talk before s
         ∙ ap (λ l. s.ended ++ l) (begun_line s.begun (λ e. some (s.kept ∙ ap kept_line e)) s.unended) in
         let sent = length (flat_map (answer_to index) s.ended) + p.0 in (
           sent,
           p.2 ∙ counted (length (flat_map (answer_to index) s.ended)) p.0 talk.written s.written,
-          subst (λ l. IsCutOff contents failures first after (flat_map (answer_to index) l) sent) (sym lines)
+          subst (λ l. IsCutOff (writing sink first after) (flat_map (answer_to index) l) sent) (sym lines)
               (line_cut_off read talk before after p.0 s p.1),
         )
     last_concludes read talk next before after (Err Memory) s some p = record {
@@ -265,9 +271,10 @@ module _ {W : Type 0} (contents : W → Option (List ℕ)) (failures : W → ℕ
 
     -- ---- what is due
 
-    halted_due : (all : List ℕ) (ended others : List (List ℕ)) (next : List ℕ) → lines_of all ≡ ended ++ next ∷ others
-        → (k : ℕ) × (k < length (lines_of all))
-        × (flat_map (answer_to index) ended ≡ flat_map (answer_to index) (take k (lines_of all)))
+    halted_due : (all : List ℕ) (ended others : List (List ℕ)) (next : List ℕ) → command_lines all ≡ ended
+        ++ next ∷ others
+        → (k : ℕ) × (k < length (command_lines all))
+        × (flat_map (answer_to index) ended ≡ flat_map (answer_to index) (take k (command_lines all)))
     halted_due all ended others next e = (
       length ended,
       rw e (omega (arith, length-append ended (next ∷ others))),
@@ -277,8 +284,8 @@ module _ {W : Type 0} (contents : W → Option (List ℕ)) (failures : W → ℕ
     -- at the end of the bytes
     pub concluded_due : (known left : Option (List ℕ)) (read : List ℕ) (now : W)
         (result : Result (Unit {0}) AnswerFault)
-        → ((all : List ℕ) → known ≡ Some all → all ≡ read) → Concludes contents failures index first read now result
-        → IsConversed contents failures index first now known left result
+        → ((all : List ℕ) → known ≡ Some all → all ≡ read) → Concludes sink index first read now result
+        → AreAnswersTo index known left (writing sink first now) result
     concluded_due known left read now (Ok done) is p =
         record {
           due = answer_text index read;
@@ -297,7 +304,7 @@ module _ {W : Type 0} (contents : W → Option (List ℕ)) (failures : W → ℕ
     concluded_due known left read now (Err Memory) is p =
         let found = p.lines [] in
         let of = λ (all : List ℕ) (e : all ≡ read). halted_due all p.ended found.1 found.0
-        (ap lines_of (e ∙ sym (append-nil read)) ∙ found.2) in
+        (ap command_lines (e ∙ sym (append-nil read)) ∙ found.2) in
         record {
           due = flat_map (answer_to index) p.ended;
           replies = p.answered;
@@ -308,10 +315,10 @@ module _ {W : Type 0} (contents : W → Option (List ℕ)) (failures : W → ℕ
     -- answers that are cut off before the end of the bytes are those to all of them, cut off there
     record AreCutOff (all : List ℕ) (now : W) (count : ℕ) : Type 0 where
       due : List ℕ
-      replies : Replies contents failures first now due (Err (Write count))
+      replies : Replies (writing sink first now) due (Err (Write count))
       is : due ≡ answer_text index all
 
-    all_due : (read rest : List ℕ) (now : W) (count : ℕ) → IsCutShort contents failures index first read now count
+    all_due : (read rest : List ℕ) (now : W) (count : ℕ) → IsCutShort sink index first read now count
         → AreCutOff (read ++ rest) now count
     all_due read rest now count p =
         let found = p.lines rest in
@@ -325,8 +332,8 @@ module _ {W : Type 0} (contents : W → Option (List ℕ)) (failures : W → ℕ
     pub halted_on_the_way : (known left : Option (List ℕ)) (read : List ℕ) (talk : Conversation) (now : W)
         (fault : AnswerFault)
         → ((all : List ℕ) → known ≡ Some all → (rest : List ℕ) × (all ≡ read ++ rest))
-        → Goes contents failures index first read talk now (Err fault)
-        → IsConversed contents failures index first now known left (Err fault)
+        → Goes sink index first read talk now (Err fault)
+        → AreAnswersTo index known left (writing sink first now) (Err fault)
     halted_on_the_way known left read talk now Read is p = absurd p
     halted_on_the_way None left read talk now (Write count) is p =
         let whole = all_due read [] now count p in
@@ -349,7 +356,7 @@ module _ {W : Type 0} (contents : W → Option (List ℕ)) (failures : W → ℕ
     halted_on_the_way known left read talk now Memory is p =
         let of = λ (all rest : List ℕ) (e : all ≡ read ++ rest).
         let found = p.lines rest in
-        halted_due all p.ended found.1 found.0 (ap lines_of e ∙ found.2) in
+        halted_due all p.ended found.1 found.0 (ap command_lines e ∙ found.2) in
         record {
           due = flat_map (answer_to index) p.ended;
           replies = p.answered;
@@ -360,13 +367,13 @@ module _ {W : Type 0} (contents : W → Option (List ℕ)) (failures : W → ℕ
     -- where the bytes aren't read to their end
     pub unread_due : (known left : Option (List ℕ)) (read : List ℕ) (talk : Conversation) (now : W)
         → ((all : List ℕ) → known ≡ Some all → (rest : List ℕ) × (left ≡ Some rest) × (all ≡ read ++ rest))
-        → Stands contents failures index first read talk now
-        → IsConversed contents failures index first now known left (Err Read)
+        → Stands sink index first read talk now
+        → AreAnswersTo index known left (writing sink first now) (Err Read)
     unread_due known left read talk now is s =
         let ended : ended_lines read ≡ s.ended =
         ap (take (count_by is_line_end read)) (lines_read read talk now s)
-        ∙ ap (λ n. take n (s.ended ++ lines_of s.begun)) s.ends
-        ∙ take-append_seam s.ended (lines_of s.begun) in
+        ∙ ap (λ n. take n (s.ended ++ command_lines s.begun)) s.ends
+        ∙ take-append_seam s.ended (command_lines s.begun) in
         let due = ap (flat_map (answer_to index)) (sym ended) in
         record {
           due = flat_map (answer_to index) s.ended;
@@ -377,19 +384,19 @@ module _ {W : Type 0} (contents : W → Option (List ℕ)) (failures : W → ℕ
 
     -- ---- the feed
 
-    pub concluded_feed : {R : Type 0} (faults reads ends : R → ℕ) (before after : R) (read : List ℕ) (now : W)
+    pub concluded_feed : {R : Type 0} (commands : Reader R) (read : List ℕ) (now : W)
         (result : Result (Unit {0}) AnswerFault)
-        → Concludes contents failures index first read now result → IsReadThrough faults ends before after
-        → LeavesFeed faults reads ends before after result
-    concluded_feed faults reads ends before after read now (Ok done) p through = through
-    concluded_feed faults reads ends before after read now (Err Read) p through = absurd p
-    concluded_feed faults reads ends before after read now (Err (Write count)) p through = through.0
-    concluded_feed faults reads ends before after read now (Err Memory) p through = through.0
+        → Concludes sink index first read now result → IsReadThrough commands
+        → LeavesFeed commands result
+    concluded_feed commands read now (Ok done) p through = through
+    concluded_feed commands read now (Err Read) p through = absurd p
+    concluded_feed commands read now (Err (Write count)) p through = through.0
+    concluded_feed commands read now (Err Memory) p through = through.0
 
-    pub halted_feed : {R : Type 0} (faults reads ends : R → ℕ) (before after : R) (read : List ℕ) (talk : Conversation)
-        (now : W) (fault : AnswerFault)
-        → Goes contents failures index first read talk now (Err fault) → faults after ≡ faults before
-        → LeavesFeed faults reads ends before after (Err fault)
-    halted_feed faults reads ends before after read talk now Read p same = absurd p
-    halted_feed faults reads ends before after read talk now (Write count) p same = same
-    halted_feed faults reads ends before after read talk now Memory p same = same
+    pub halted_feed : {R : Type 0} (commands : Reader R) (read : List ℕ) (talk : Conversation) (now : W)
+        (fault : AnswerFault)
+        → Goes sink index first read talk now (Err fault) → IsUnfailed commands
+        → LeavesFeed commands (Err fault)
+    halted_feed commands read talk now Read p same = absurd p
+    halted_feed commands read talk now (Write count) p same = same
+    halted_feed commands read talk now Memory p same = same

@@ -26,7 +26,7 @@ use Rattle.scip_query.specs.Tables.{numbers, IsTable}
 use Rattle.scip_query.specs.Tables.Searches.{is_behind, starts_behind, stands_or_not, stands_listed, inner_cmp}
 use Rattle.scip_query.proofs.RunLemmas.{all_fail, none_pass, find_first, filter_swap}
 use Rattle.scip_query.proofs.TableLemmas.{positions_total, inner_ranks}
-use Rattle.scip_query.proofs.ZipLemmas.{numbers_stand, zip_filter, zip_all, zip_find}
+use Rattle.scip_query.proofs.TableZipLemmas.{numbers_stand, zip_filter, zip_all, zip_find}
 
 not_true : (b : Bool) → (b ≡ true → b ≡ false) → b ≡ false
 not_true true h = h refl

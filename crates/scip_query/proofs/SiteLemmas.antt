@@ -22,8 +22,8 @@ use Rattle.scip_query.specs.Tables.{numbers, places_in, places_from, path_or_non
 use Rattle.scip_query.specs.Tables.{symbol_listed, occurrence_listed}
 use Rattle.scip_query.specs.Tables.Searches.{numbered_listed, site_or_none, site_listed}
 use Rattle.scip_query.specs.Tables.{defines_listed, definition_or_not}
-use Rattle.scip_query.proofs.RisingLemmas.{IsRising, rising_from_less, rising_same, rising_filtered}
-use Rattle.scip_query.proofs.ZipLemmas.{slice_get_at, zip_append, zip_filter, zip_find}
+use Rattle.basics.proofs.RisingLemmas.{IsRising, rising_from_less, rising_same, rising_filtered}
+use Rattle.scip_query.proofs.TableZipLemmas.{slice_get_at, zip_append, zip_filter, zip_find}
 
 zip_map : {A B : Type 0} (R : A → B → Type 0) (f : B → A) → ((a : A) (b : B) → R a b → a ≡ f b)
     → (xs : List A) (ys : List B) → AllZip R xs ys → xs ≡ map f ys

@@ -52,13 +52,6 @@ numbers_more n =
 pub map_numbers_more : {X : Type 0} (f : ℕ → X) (n : ℕ) → map f (numbers (n + 1)) ≡ map f (numbers n) ++ f n ∷ []
 map_numbers_more f n = map-range_with_len_more f 0 n n (omega arith)
 
-pub zipped_more : {A B : Type 0} (R : A → B → Type 0) (xs : List A) (ys : List B) (x : A) (y : B) → AllZip R xs ys
-    → R x y → AllZip R (xs ++ x ∷ []) (ys ++ y ∷ [])
-zipped_more R [] [] x y all r = (r, tt)
-zipped_more R [] (b ∷ ys) x y all r = absurd all
-zipped_more R (a ∷ xs) [] x y all r = absurd all
-zipped_more R (a ∷ xs) (b ∷ ys) x y all r = (all.0, zipped_more R xs ys x y all.1 r)
-
 -- a document's own table
 pub table_at : (documents : List Document) (tables : List (List ℕ)) (number : ℕ) (d : Document)
     → AllZip IsInnermostFirst documents tables → slice_get documents number ≡ Some d

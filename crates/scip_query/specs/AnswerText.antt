@@ -10,7 +10,7 @@ use Rattle.scip_query.specs.Sites.{Site}
 use Rattle.scip_query.specs.References.{definitions_at, references_at}
 use Rattle.scip_query.specs.Documentation.{documentation_at, symbols_of}
 use Rattle.scip_query.specs.declared.command.Question.TheVariants.{Definitions, References, Documentation}
-use Rattle.scip_query.specs.Commands.{Command, Ask, Symbols, space, max_command_length, lines_of}
+use Rattle.scip_query.specs.Commands.{Command, Ask, Symbols, space, max_command_length, command_lines}
 use Rattle.scip_query.specs.CommandReading.{command_of}
 use Rattle.scip_query.specs.declared.miss.Miss.{Miss}
 use Rattle.scip_query.specs.declared.miss.Miss.TheVariants.{NoDocument, NothingThere}
@@ -69,4 +69,4 @@ answer_to index line = answer_or_refusal index (cond (nat_le (length line) max_c
 
 -- the answers to lines of commands, one after another
 abbrev pub answer_text : Index → List ℕ → List ℕ
-answer_text index commands = flat_map (answer_to index) (lines_of commands)
+answer_text index commands = flat_map (answer_to index) (command_lines commands)

@@ -7,7 +7,7 @@ use Rattle.scip_records.specs.declared.records.Index.{Index}
 use Rattle.scip_records.specs.declared.records.Document.{Document}
 use Rattle.scip_query.specs.Sites.{Site}
 use Rattle.scip_query.specs.OccurrenceAt.{Subject}
-use Rattle.scip_query.specs.References.{references_of, definitions_of}
+use Rattle.scip_query.specs.References.{references_of}
 use Rattle.scip_query.specs.Documentation.{documentation_of}
 use Rattle.scip_query.specs.declared.place.Place.{Place}
 
@@ -21,12 +21,6 @@ subject_in index number symbol =
 abbrev pub references_in : Index → ℕ → List ℕ → List Place
 references_in index number symbol =
     unwrap_or (option_map (λ (s : Subject). map (λ (site : Site). site.place) (references_of index s))
-    (subject_in index number symbol)) []
-
--- those that define it
-abbrev pub definitions_in : Index → ℕ → List ℕ → List Place
-definitions_in index number symbol =
-    unwrap_or (option_map (λ (s : Subject). map (λ (site : Site). site.place) (definitions_of index s))
     (subject_in index number symbol)) []
 
 -- its documentation

@@ -61,6 +61,6 @@ pub data IsCommand : List ℕ → Command → Type 0 where
   symbols : {path : List ℕ} → IsPath path → IsCommand (codes "sym" ++ space ++ path) (Symbols path)
 
 -- the lines of bytes, each without the `\n` that ends it. The last may lack it, and is a line if it isn't empty
-abbrev pub lines_of : List ℕ → List (List ℕ)
-lines_of [] = []
-lines_of (b ∷ bytes) = cond (b == 10) ([] ∷ lines_of bytes) (onto_first b (lines_of bytes))
+abbrev pub command_lines : List ℕ → List (List ℕ)
+command_lines [] = []
+command_lines (b ∷ bytes) = cond (b == 10) ([] ∷ command_lines bytes) (onto_first b (command_lines bytes))

@@ -1,16 +1,20 @@
+-- positions, occurrences and entries of an index, and tables of them
 pub mod Positions
 pub mod Sites
 pub mod Tables
+pub mod Views
+-- what is asked, and what is due
 pub mod OccurrenceAt
 pub mod References
 pub mod Documentation
 pub mod BySymbol
+pub mod Outcomes
+-- commands
 pub mod Commands
 pub mod CommandReading
 pub mod CommandViews
+-- their answers
 pub mod AnswerText
 pub mod Answering
-pub mod Conversing
-pub mod Outcomes
 pub mod AnswerFaults
-pub mod Views
+pub mod Conversing

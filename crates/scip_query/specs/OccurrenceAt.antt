@@ -44,13 +44,13 @@ pub record Subject : Type 0 where
   pub symbol : List ℕ
 
 -- the symbol at a position of the document that a path names
-abbrev pub subject_in : Numbered → Option Occurrence → Result Subject Miss
-subject_in d None = Err NothingThere
-subject_in d (Some o) = Ok (record { asked = d; symbol = o.symbol })
+abbrev pub subject_found : Numbered → Option Occurrence → Result Subject Miss
+subject_found d None = Err NothingThere
+subject_found d (Some o) = Ok (record { asked = d; symbol = o.symbol })
 
 abbrev pub subject_of : Option Numbered → Position → Result Subject Miss
 subject_of None p = Err NoDocument
-subject_of (Some d) p = subject_in d (occurrence_in d.document p)
+subject_of (Some d) p = subject_found d (occurrence_in d.document p)
 
 abbrev pub subject_at : Index → List ℕ → Position → Result Subject Miss
 subject_at index path p = subject_of (document_named index path) p

@@ -27,6 +27,7 @@ ghost use Rattle.scip_query.specs.References.{definitions_at, references_at};
 ghost use Rattle.scip_query.specs.Documentation.{documentation_at, symbols_of};
 ghost use Rattle.scip_query.specs.Outcomes.{fault_of};
 ghost use Rattle.scip_query.specs.declared.miss.Miss.{Miss};
+ghost use Rattle.streams.specs.Writers.{writer};
 
 use crate::answer_fault::AnswerFault;
 use crate::command::{Command, MAX_COMMAND_LENGTH, Question, command_of};
@@ -291,7 +292,7 @@ impl Queries {
         line: &[u8],
         out: &mut W,
     ) -> Result<(), AnswerFault>
-        ensures { Answers W.contents W.failures out.old out.new (answer_to self.now line.now) result }
+        ensures { Answers (writer W.Sink out) (answer_to self.now line.now) result }
     {
         let text = self.answer_to(alloc, line)?;
         match write_all(out, text.as_bytes()) {

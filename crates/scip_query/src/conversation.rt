@@ -4,7 +4,8 @@ ghost use Rattle.std.specs.Prelude.{◌≡◌, ◌++◌, ◌∷◌, [], List, �
 ghost use Rattle.scip_query.specs.AnswerText.{answer_to};
 ghost use Rattle.scip_query.specs.Conversing.{IsConversed, LeavesFeed};
 ghost use Rattle.scip_query.specs.Tables.ConversingSteps.{kept_with, Stands, Goes, AnswersNext, Concludes};
-ghost use Rattle.streams.specs.WholeReads.{IsReadBriefly};
+ghost use Rattle.streams.specs.Readers.{IsReadBriefly, reader};
+ghost use Rattle.streams.specs.Writers.{writer};
 
 use crate::answer_fault::AnswerFault;
 use crate::command::MAX_COMMAND_LENGTH;
@@ -42,7 +43,7 @@ impl Queries {
         conversation: &mut Conversation,
         answers: &mut W,
     ) -> Result<(), AnswerFault>
-        ensures { AnswersNext W.contents W.failures answers.old answers.new conversation.old conversation.new
+        ensures { AnswersNext (writer W.Sink answers) conversation.old conversation.new
             (answer_to self.now conversation.old.line.items) result }
     {
         let text = self.answer_to(alloc, conversation.line.as_slice())?;
@@ -68,9 +69,8 @@ impl Queries {
         byte: u8,
         answers: &mut W,
     ) -> Result<(), AnswerFault>
-        ensures { (first : W) (read : List ℕ) → Stands W.contents W.failures self.now first read conversation.old
-            answers.old
-            → Goes W.contents W.failures self.now first (read ++ byte ∷ []) conversation.new answers.new result }
+        ensures { (first : W) (read : List ℕ) → Stands W.Sink self.now first read conversation.old answers.old
+            → Goes W.Sink self.now first (read ++ byte ∷ []) conversation.new answers.new result }
     {
         if byte == b'\n' {
             self.reply(alloc, conversation, answers)
@@ -88,9 +88,8 @@ impl Queries {
         bytes: &[u8],
         answers: &mut W,
     ) -> Result<(), AnswerFault>
-        ensures { (first : W) (read : List ℕ) → Stands W.contents W.failures self.now first read conversation.old
-            answers.old
-            → Goes W.contents W.failures self.now first (read ++ bytes.now) conversation.new answers.new result }
+        ensures { (first : W) (read : List ℕ) → Stands W.Sink self.now first read conversation.old answers.old
+            → Goes W.Sink self.now first (read ++ bytes.now) conversation.new answers.new result }
     {
         for byte in bytes {
             self.take_in(alloc, conversation, *byte, answers)?;
@@ -105,9 +104,8 @@ impl Queries {
         conversation: &mut Conversation,
         answers: &mut W,
     ) -> Result<(), AnswerFault>
-        ensures { (first : W) (read : List ℕ) → Stands W.contents W.failures self.now first read conversation.old
-            answers.old
-            → Concludes W.contents W.failures self.now first read answers.new result }
+        ensures { (first : W) (read : List ℕ) → Stands W.Sink self.now first read conversation.old answers.old
+            → Concludes W.Sink self.now first read answers.new result }
     {
         if conversation.line.is_empty() {
             Ok(())
@@ -129,10 +127,9 @@ impl Queries {
         commands: &mut R,
         answers: &mut W,
     ) -> Result<(), AnswerFault>
-        ensures replies { IsConversed W.contents W.failures self.now answers.old answers.new (R.remaining commands.old)
-            (R.remaining commands.new) result }
-        ensures feed { LeavesFeed R.failures R.reads R.ends commands.old commands.new result }
-        ensures briefly { IsReadBriefly R.reads commands.old commands.new }
+        ensures replies { IsConversed self.now (reader R.Feed commands) (writer W.Sink answers) result }
+        ensures feed { LeavesFeed (reader R.Feed commands) result }
+        ensures briefly { IsReadBriefly (reader R.Feed commands) }
     {
         let mut buffer = [0u8; BUFFER_LENGTH];
         let mut conversation = Conversation {

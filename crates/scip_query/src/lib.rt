@@ -1,22 +1,31 @@
 //! Queries over a SCIP index of any producer.
 #![tactic(auto)]
 
+// Queries over an index, and why one isn't answered.
+mod miss;
+mod queries;
+mod query_fault;
+
+// The tables.
+mod innermost;
+mod listed;
+mod place;
+mod run;
+mod search;
+mod tables;
+
+// What is asked: at a position, or about a symbol.
+mod lookups;
+mod position;
+
+// Commands and their answers.
 mod answer;
 mod answer_fault;
 mod command;
 mod conversation;
-mod innermost;
+
+// The laws.
 mod laws;
-mod listed;
-mod lookups;
-mod miss;
-mod place;
-mod position;
-mod queries;
-mod query_fault;
-mod run;
-mod search;
-mod tables;
 
 pub use answer::push_line;
 pub use answer_fault::AnswerFault;

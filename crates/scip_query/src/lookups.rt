@@ -9,7 +9,7 @@ ghost use Rattle.scip_records.specs.declared.records.SymbolInformation.{SymbolIn
 ghost use Rattle.scip_query.specs.Sites.{Site};
 ghost use Rattle.scip_query.specs.References.{references_at, definitions_of, definitions_at, site_places};
 ghost use Rattle.scip_query.specs.Documentation.{entries_for, texts_of, documentation_at, symbols_of};
-ghost use Rattle.scip_query.specs.BySymbol.{subject_in, references_in, definitions_in, documentation_in};
+ghost use Rattle.scip_query.specs.BySymbol.{subject_in, references_in, documentation_in};
 ghost use Rattle.scip_query.specs.Outcomes.{Gives};
 ghost use Rattle.std.specs.Ordering.{nat_cmp, is_eq};
 ghost use Rattle.std.specs.Cmp.Lexicographic.{slice_cmp};
@@ -24,8 +24,8 @@ use crate::position::Position;
 use crate::queries::{Named, Queries, Subject, is_local};
 use crate::query_fault::{QueryFault, fault_of};
 use crate::search::entry_places_in;
+use basics::OwnedText;
 use scip_records::{Document, SymbolInformation};
-use sequences::OwnedText;
 use std::alloc::{AllocError, Global};
 
 /// The role of a definition (`scip.proto`, `SymbolRole`).
@@ -254,22 +254,6 @@ impl Queries {
         match self.subject_in(document, symbol) {
             Some(subject) => self.places_about_near(near, &subject),
             None => &[],
-        }
-    }
-
-    /// The places where a symbol, asked for in the document with this number, is defined: those of its references
-    /// whose role has the bit of a definition.
-    pub fn definitions_in(
-        &self,
-        alloc: Global,
-        document: usize,
-        symbol: &str,
-    ) -> Result<Vec<Place>, AllocError>
-        ensures { IfOk result (λ places. places.items ≡ definitions_in self.now document symbol.now) }
-    {
-        match self.subject_in(document, symbol) {
-            Some(subject) => self.definitions_of(alloc, &subject),
-            None => Ok(Vec::new(alloc)),
         }
     }
 

@@ -31,8 +31,8 @@ use crate::search::{
     entry_places_near, entry_places_of, number_named, places_in, places_near, places_of,
 };
 use crate::tables::{Tables, tables_of};
+use basics::Sequence;
 use scip_records::{Document, Index, Occurrence, SymbolInformation};
-use sequences::Sequence;
 use std::alloc::{AllocError, AllocFailed, Global};
 use std::marker::Model;
 

@@ -13,8 +13,8 @@ ghost use Rattle.std.specs.List.{AllZip};
 
 use crate::listed::{compare_entry_symbols, compare_inner, compare_paths, compare_symbols};
 use crate::place::{EntryPlace, Place};
+use basics::Sequence;
 use scip_records::{Document, Index, Occurrence, SymbolInformation};
-use sequences::Sequence;
 use std::alloc::{AllocError, Global};
 
 /// Tables of numbers over the documents and symbol entries of an index.

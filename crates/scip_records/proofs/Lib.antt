@@ -1,2 +1,2 @@
--- Lists that are made from the front.
-pub mod FrontLemmas
+-- A list that is made from the front, an item at a time
+pub mod FromPartsLemmas

@@ -4,9 +4,9 @@ ghost use Rattle.std.specs.Prelude.{◌≡◌, ◌<◌, Some, length};
 ghost use Rattle.std.specs.List.{slice_get};
 ghost use Rattle.scip_records.specs.Documents.{without_occurrences};
 
-use crate::lent::{LentInformation, LentOccurrence};
 use crate::records::Document;
-use sequences::Sequence;
+use crate::refs::{InformationRef, OccurrenceRef};
+use basics::Sequence;
 use std::alloc::Global;
 
 /// A document whose parts are lent one at a time, be it made of records or not.
@@ -25,7 +25,7 @@ pub trait DocumentParts {
         ensures { result ≡ length (document self.now).occurrences };
 
     /// The occurrence with this number, counted from 0.
-    fn occurrence(&self, number: usize) -> LentOccurrence<'_>
+    fn occurrence(&self, number: usize) -> OccurrenceRef<'_>
         requires { number < length (document self.now).occurrences }
         ensures { slice_get (document self.now).occurrences number ≡ Some result };
 
@@ -34,7 +34,7 @@ pub trait DocumentParts {
         ensures { result ≡ length (document self.now).symbols };
 
     /// The entry with this number, counted from 0.
-    fn entry(&self, number: usize) -> LentInformation<'_>
+    fn entry(&self, number: usize) -> InformationRef<'_>
         requires { number < length (document self.now).symbols }
         ensures { slice_get (document self.now).symbols number ≡ Some result };
 
@@ -62,16 +62,16 @@ impl DocumentParts for Document {
         self.occurrences.as_slice().len()
     }
 
-    fn occurrence(&self, number: usize) -> LentOccurrence<'_> {
-        LentOccurrence::of(&self.occurrences.as_slice()[number])
+    fn occurrence(&self, number: usize) -> OccurrenceRef<'_> {
+        OccurrenceRef::of(&self.occurrences.as_slice()[number])
     }
 
     fn entry_count(&self) -> usize {
         self.symbols.as_slice().len()
     }
 
-    fn entry(&self, number: usize) -> LentInformation<'_> {
-        LentInformation::of(&self.symbols.as_slice()[number])
+    fn entry(&self, number: usize) -> InformationRef<'_> {
+        InformationRef::of(&self.symbols.as_slice()[number])
     }
 
     fn language(&self) -> &str {

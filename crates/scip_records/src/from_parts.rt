@@ -4,9 +4,9 @@ ghost use Rattle.std.specs.Prelude.{◌≡◌, ◌<◌, ◌++◌, IfOk, OnOk};
 ghost use Rattle.scip_records.specs.Texts.{unless_empty};
 
 use crate::document_parts::DocumentParts;
-use crate::lent::{LentInformation, LentOccurrence, LentSymbol, LentTexts};
 use crate::records::{Document, Occurrence, SymbolInformation};
-use sequences::{OwnedText, Sequence};
+use crate::refs::{InformationRef, OccurrenceRef, SymbolRef, TextsRef};
+use basics::{OwnedText, Sequence};
 use std::alloc::{AllocError, Global};
 
 /// How many texts a text is: none if it is empty.
@@ -47,10 +47,10 @@ fn push_listed(
 }
 
 /// Copies of texts that are lent.
-fn texts_of(alloc: Global, lent: &LentTexts<'_>) -> Result<Sequence<OwnedText>, AllocError>
-    ensures { IfOk result (λ texts. texts ≡ lent.now) }
+fn texts_of(alloc: Global, borrowed: &TextsRef<'_>) -> Result<Sequence<OwnedText>, AllocError>
+    ensures { IfOk result (λ texts. texts ≡ borrowed.now) }
 {
-    let (listed, first, second) = lent.parts();
+    let (listed, first, second) = borrowed.parts();
     let room = listed
         .len()
         .saturating_add(count_of(first) + count_of(second));
@@ -61,7 +61,7 @@ fn texts_of(alloc: Global, lent: &LentTexts<'_>) -> Result<Sequence<OwnedText>, 
     Ok(Sequence::from_vec(texts))
 }
 
-impl<'a> LentSymbol<'a> {
+impl<'a> SymbolRef<'a> {
     /// A copy of the text.
     fn to_text(&self, alloc: Global) -> Result<OwnedText, AllocError>
         ensures { IfOk result (λ made. made ≡ self.now) }
@@ -74,7 +74,7 @@ impl<'a> LentSymbol<'a> {
     }
 }
 
-impl<'a> LentOccurrence<'a> {
+impl<'a> OccurrenceRef<'a> {
     /// An occurrence with a copy of the symbol. An error means that memory was refused.
     pub fn to_record(&self, alloc: Global) -> Result<Occurrence, AllocError>
         ensures { IfOk result (λ made. made ≡ self.now) }
@@ -88,7 +88,7 @@ impl<'a> LentOccurrence<'a> {
     }
 }
 
-impl<'a> LentInformation<'a> {
+impl<'a> InformationRef<'a> {
     /// An entry with copies of the texts. An error means that memory was refused.
     pub fn to_record(&self, alloc: Global) -> Result<SymbolInformation, AllocError>
         ensures { IfOk result (λ made. made ≡ self.now) }

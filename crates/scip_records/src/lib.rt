@@ -1,14 +1,17 @@
 //! The records of a SCIP index.
 #![tactic(auto)]
 
-mod document_parts;
-mod from_parts;
-mod lent;
+// The records, and where an occurrence is.
 mod range;
 mod records;
 
+// The same without a copy: parts of a document, one at a time.
+mod document_parts;
+mod from_parts;
+mod refs;
+
 pub use document_parts::DocumentParts;
 pub use from_parts::records_of;
-pub use lent::{LentInformation, LentOccurrence, LentSymbol, LentTexts};
 pub use range::{MAX_RANGE_NUMBER, Range};
 pub use records::{Document, Index, Metadata, Occurrence, SymbolInformation, ToolInfo};
+pub use refs::{InformationRef, OccurrenceRef, SymbolRef, TextsRef};

@@ -1,7 +1,7 @@
 //! The records of an index: the fields of `scip.proto` that this project keeps.
 
 use crate::range::Range;
-use sequences::{OwnedText, Sequence};
+use basics::{OwnedText, Sequence};
 
 /// An index (`scip.proto`, `Index`).
 ///

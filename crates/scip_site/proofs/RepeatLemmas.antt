@@ -10,7 +10,7 @@ use Rattle.std.proofs.lemmas.List.FromFn.{map-range_with_len_more}
 use Rattle.scip_records.specs.declared.records.Document.{Document}
 use Rattle.scip_query.specs.Tables.{numbers, path_listed}
 use Rattle.scip_site.specs.Repeats.{has_path, is_before, is_repeated}
-use Rattle.source_page.proofs.CodeLemmas.{range_more}
+use Rattle.scip_pages.proofs.CodeTextLemmas.{range_more}
 
 -- one is there if it was, or is put there
 pub put_or_there : (b : Bool) (number : ℕ) (old : Option ℕ) → is_some (cond b (Some number) old) ≡ (b || is_some old)

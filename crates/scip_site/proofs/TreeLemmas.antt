@@ -10,7 +10,7 @@ use Rattle.std.proofs.lemmas.List.{take-map, length-map, drop_all}
 use Rattle.std.proofs.lemmas.Slice.Eq.{bytes_eq-Decides}
 use Rattle.std.proofs.Math.Numerals.{add-one}
 use Rattle.scip_site.specs.Tree.{common, same_or_not, same_at, closes, opens, but_last, leaf_with, step_with}
-use Rattle.source_page.proofs.CodeLemmas.{range_more}
+use Rattle.scip_pages.proofs.CodeTextLemmas.{range_more}
 use Rattle.scip_pages.proofs.SnapshotLemmas.{up}
 
 -- ---- names that are the same

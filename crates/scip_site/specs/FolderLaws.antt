@@ -6,12 +6,12 @@ use Rattle.scip_records.specs.declared.records.Document.{Document}
 use Rattle.source_files.specs.Made.{MadeFile}
 use Rattle.scip_pages.specs.Paths.{is_path_below}
 use Rattle.scip_pages.specs.Snapshot.{lines_of, misfit}
-use Rattle.source_page.specs.Ids.{unit_in, AllFit}
+use Rattle.scip_pages.specs.Ids.{unit_in, AllFit}
 use Rattle.scip_site.specs.Making.{site_files}
 use Rattle.scip_site.specs.Reading.{AreRead, sources_of, Read}
 use Rattle.scip_site.specs.Repeats.{is_repeated}
 use Rattle.scip_site.specs.Script.{quoted_byte, read_behind}
-use Rattle.source_page.specs.Site.{Sources, page_path}
+use Rattle.scip_pages.specs.Site.{Sources, page_path}
 
 -- What is known of a document with a number that has a page: its path is that of a page, no document before it has
 -- its path, and its ranges are ranges of its source.

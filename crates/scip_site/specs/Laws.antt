@@ -3,10 +3,10 @@ use Rattle.std.specs.Prelude.{ℕ, ◌≡◌, ◌<◌, true, List, [], map, Some
 use Rattle.std.specs.List.{AllByRecursion, slice_get}
 use Rattle.scip_pages.specs.Paths.{is_path_below}
 use Rattle.scip_pages.specs.Urls.{folder_of}
-use Rattle.source_page.specs.Crumbs.{folder_id, folders_on}
-use Rattle.source_page.specs.Site.{page_path}
-use Rattle.source_page.specs.Ids.{HasId}
-use Rattle.source_page.specs.Tags.{tags_of}
+use Rattle.scip_pages.specs.Crumbs.{folder_id, folders_on}
+use Rattle.scip_pages.specs.Site.{page_path}
+use Rattle.scip_pages.specs.Ids.{HasId}
+use Rattle.scip_pages.specs.Tags.{tags_of}
 use Rattle.scip_site.specs.Nesting.{all_open, leaf_of, leaves_behind}
 use Rattle.scip_site.specs.Tree.{first_page}
 

@@ -1,10 +1,18 @@
+-- a folder of pages: what is read, what is made, and why not all
+pub mod Reading
+pub mod Making
+pub mod SiteFaults
+-- the first page, and what all pages share
 pub mod Tree
 pub mod Nesting
 pub mod Repeats
 pub mod Script
-pub mod Reading
-pub mod SiteFaults
-pub mod Making
+-- snapshots: what becomes of each document, where they go, and why not all are shown
+pub mod LeftOuts
+pub mod Snapshots
+pub mod Showing
+pub mod ShowFaults
+-- the laws
 pub mod FolderLaws
 pub mod Laws
 pub mod UrlLaws

@@ -8,15 +8,16 @@ use Rattle.scip_records.specs.declared.records.Index.{Index}
 use Rattle.scip_records.specs.declared.records.Document.{Document}
 use Rattle.scip_query.specs.Tables.{numbers, path_listed, IsByPath}
 use Rattle.source_files.specs.Made.{MadeFile, MakesAll, StopsBehind}
+use Rattle.source_files.specs.Makers.{Maker}
+use Rattle.streams.specs.Writers.{Writer}
 use Rattle.scip_pages.specs.Snapshot.{lines_of}
-use Rattle.scip_snapshot.specs.declared.show_fault.ShowFault.{ShowFault}
-use Rattle.scip_snapshot.specs.declared.show_fault.ShowFault.TheVariants.{Write, Memory}
-use Rattle.scip_snapshot.specs.Snapshots.{path_in}
-use Rattle.scip_snapshot.specs.Showing.{Maker, Writer}
+use Rattle.scip_site.specs.declared.show_fault.ShowFault.{ShowFault}
+use Rattle.scip_site.specs.declared.show_fault.ShowFault.TheVariants.{Write, Memory}
+use Rattle.scip_site.specs.Snapshots.{path_in}
 use Rattle.scip_site.specs.declared.styles.TheConstants.{STYLE, SEARCH}
-use Rattle.source_page.specs.Ids.{unit_in}
-use Rattle.source_page.specs.Site.{Sources, has_page, page_path}
-use Rattle.source_page.specs.Page.{firsts_of, page_of}
+use Rattle.scip_pages.specs.Ids.{unit_in}
+use Rattle.scip_pages.specs.Site.{Sources, has_page, page_path}
+use Rattle.scip_pages.specs.Page.{firsts_of, page_of}
 use Rattle.scip_site.specs.Reading.{AreReadBy, AllAreKept}
 use Rattle.scip_site.specs.Script.{listing_text}
 use Rattle.scip_site.specs.Tree.{first_page}
@@ -108,11 +109,11 @@ in_folder folder made = record { path = path_in folder made.path; bytes = made.b
 -- ---- what is made
 
 abbrev pub AllOf : {O : Type 0} → Maker O → List MadeFile → Type 0
-AllOf maker files = MakesAll (maker.made maker.before) (maker.made maker.after) files
+AllOf maker files = MakesAll (maker.files.made maker.before) (maker.files.made maker.after) files
 
 -- or they are, and then one is refused
 abbrev pub AllThenNone : {O : Type 0} → Maker O → List MadeFile → Type 0
-AllThenNone maker files = StopsBehind (maker.made maker.before) (maker.made maker.after) files
+AllThenNone maker files = StopsBehind (maker.files.made maker.before) (maker.files.made maker.after) files
 
 -- This holds of a first part of some files, behind which there are others.
 pub record PartOf (Holds : List MadeFile → Type 0) (files others : List MadeFile) : Type 0 where

@@ -2,9 +2,9 @@
 use Rattle.std.specs.Prelude.{ℕ, ◌-◌, List, [], ◌∷◌, ◌++◌, cond, codes, length, map, take}
 use Rattle.std.specs.Str.{bytes_eq}
 use Rattle.scip_pages.specs.Urls.{encoded, folder_of}
-use Rattle.source_page.specs.Crumbs.{folder_id, folders_on}
-use Rattle.source_page.specs.Site.{page_path}
-use Rattle.source_page.specs.Tags.{Tag, is_id, is_url, values_of}
+use Rattle.scip_pages.specs.Crumbs.{folder_id, folders_on}
+use Rattle.scip_pages.specs.Site.{page_path}
+use Rattle.scip_pages.specs.Tags.{Tag, is_id, is_url, values_of}
 
 -- a link, and the ids of the folders that are open round it, the outermost first
 pub record Leaf : Type 0 where

@@ -10,15 +10,15 @@ use Rattle.scip_pages.specs.declared.columns.ColumnUnit.{ColumnUnit}
 use Rattle.scip_pages.specs.Columns.{unit_of}
 use Rattle.scip_pages.specs.Paths.{is_path_below}
 use Rattle.scip_pages.specs.Snapshot.{lines_of, misfit}
-use Rattle.scip_snapshot.specs.declared.show_fault.ShowFault.{ShowFault}
-use Rattle.scip_snapshot.specs.declared.show_fault.ShowFault.TheVariants.{Write, Memory}
-use Rattle.scip_snapshot.specs.LeftOuts.{line_with}
-use Rattle.scip_snapshot.specs.Snapshots.{path_in}
-use Rattle.scip_snapshot.specs.Showing.{Writer, AreTold, IsUntouched}
+use Rattle.scip_site.specs.declared.show_fault.ShowFault.{ShowFault}
+use Rattle.scip_site.specs.declared.show_fault.ShowFault.TheVariants.{Write, Memory}
+use Rattle.scip_site.specs.LeftOuts.{line_with}
+use Rattle.scip_site.specs.Snapshots.{path_in}
+use Rattle.streams.specs.Writers.{Writer, AreTold, IsUntouched}
 use Rattle.scip_site.specs.declared.no_page.NoPage.{NoPage}
 use Rattle.scip_site.specs.declared.no_page.NoPage.TheVariants.{BadPath, Repeated, Unreadable, NotText, NoUnit, Misfit}
 use Rattle.scip_site.specs.Repeats.{is_repeated}
-use Rattle.source_page.specs.Site.{Sources}
+use Rattle.scip_pages.specs.Site.{Sources}
 
 -- ---- one document
 
@@ -104,14 +104,15 @@ told reads = flat_map (λ (r : Read). told_by r.document.relative_path r.outcome
 -- ---- reading
 
 -- A source is kept, or none, and then it is told why; or memory ran out before.
-pub record IsKept {M : Type 0} (path : List ℕ) (outcome : Outcome) (old new : Sources) (messages : Writer M) : Type 0
+pub record IsSourceKept {M : Type 0} (path : List ℕ) (outcome : Outcome) (old new : Sources)
+    (messages : Writer M) : Type 0
   where
     pub kept : new ≡ old ++ source_or_none outcome ∷ []
     pub told_is : AreTold messages (told_by path outcome)
 
 abbrev pub Keeps : {M : Type 0} → (path : List ℕ) → Outcome → (old new : Sources) → Writer M
     → Result (Unit {0}) ShowFault → Type 0
-Keeps path outcome old new messages (Ok done) = IsKept path outcome old new messages
+Keeps path outcome old new messages (Ok done) = IsSourceKept path outcome old new messages
 Keeps path outcome old new messages (Err Memory) = IsUntouched messages
 Keeps path outcome old new messages (Err Write) = ⊥
 
@@ -120,7 +121,7 @@ pub record IsReadBy {M : Type 0} (gives : List ℕ → Option (List ℕ) → Typ
     (d : Document) (old new : Sources) (messages : Writer M) : Type 0 where
   pub outcome : Outcome
   pub is : IsRead gives root d (is_below d) repeated outcome
-  pub kept : IsKept d.relative_path outcome old new messages
+  pub kept : IsSourceKept d.relative_path outcome old new messages
 
 abbrev pub ReadsOne : {M : Type 0} → (gives : List ℕ → Option (List ℕ) → Type 0) → (root : List ℕ) → (repeated : Bool)
     → Document → (old new : Sources) → Writer M → Result (Unit {0}) ShowFault → Type 0

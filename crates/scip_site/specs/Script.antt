@@ -9,9 +9,9 @@ use Rattle.scip_query.specs.Tables.{occurrence_listed, symbol_listed}
 use Rattle.scip_query.specs.declared.place.Place.{Place}
 use Rattle.scip_pages.specs.declared.columns.ColumnUnit.{ColumnUnit}
 use Rattle.scip_pages.specs.Urls.{encoded}
-use Rattle.source_page.specs.Shown.{shown_symbol}
-use Rattle.source_page.specs.Site.{line_listed, page_path}
-use Rattle.source_page.specs.Uses.{name_of}
+use Rattle.scip_pages.specs.Shown.{shown_symbol}
+use Rattle.scip_pages.specs.Site.{line_listed, page_path}
+use Rattle.scip_pages.specs.Uses.{marked_text}
 
 -- a byte of a text between quotes: what ends the text or a script, and what isn't shown, is `\u` and its digits
 abbrev pub digit : ℕ → ℕ
@@ -39,7 +39,7 @@ name_text line (byte ∷ name) symbol = named_line line (byte ∷ name) symbol
 
 abbrev pub named_text : Index → ColumnUnit → List (List ℕ) → Place → List ℕ
 named_text index unit lines place =
-    name_text (line_listed index.documents place) (name_of unit lines (occurrence_listed index.documents place))
+    name_text (line_listed index.documents place) (marked_text unit lines (occurrence_listed index.documents place))
     (shown_symbol (symbol_listed index.documents place))
 
 -- a page: its URL, its path, and what it defines first

@@ -7,10 +7,10 @@ use Rattle.scip_pages.specs.Code.{attribute}
 use Rattle.scip_pages.specs.Escapes.{escape}
 use Rattle.scip_pages.specs.Paths.{components}
 use Rattle.scip_pages.specs.Urls.{encoded, folder_of}
-use Rattle.source_page.specs.Marks.{link}
-use Rattle.source_page.specs.Site.{page_path}
-use Rattle.source_page.specs.CodeText.{line_at}
-use Rattle.source_page.specs.Crumbs.{folder_id, head_text}
+use Rattle.scip_pages.specs.Marks.{link}
+use Rattle.scip_pages.specs.Site.{page_path}
+use Rattle.scip_pages.specs.CodeText.{line_at}
+use Rattle.scip_pages.specs.Crumbs.{folder_id, head_text}
 
 -- how many of the first names of two ways are the same
 abbrev pub common : (open_ names : List (List ℕ)) → ℕ

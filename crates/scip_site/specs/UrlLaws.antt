@@ -9,10 +9,10 @@ use Rattle.scip_query.specs.declared.place.Place.{Place}
 use Rattle.scip_pages.specs.Snapshot.{lines_of}
 use Rattle.scip_pages.specs.Urls.{encoded, ups}
 use Rattle.source_files.specs.Made.{MadeFile}
-use Rattle.source_page.specs.Ids.{unit_in, AllFit, HasId}
-use Rattle.source_page.specs.Page.{firsts_of, page_of}
-use Rattle.source_page.specs.Site.{Sources, line_listed, page_path}
-use Rattle.source_page.specs.Tags.{urls_of}
+use Rattle.scip_pages.specs.Ids.{unit_in, AllFit, HasId}
+use Rattle.scip_pages.specs.Page.{firsts_of, page_of}
+use Rattle.scip_pages.specs.Site.{Sources, line_listed, page_path}
+use Rattle.scip_pages.specs.Tags.{urls_of}
 use Rattle.scip_site.specs.Making.{file, paths_in, site_files}
 use Rattle.scip_site.specs.Tree.{first_page}
 

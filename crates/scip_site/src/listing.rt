@@ -2,12 +2,12 @@
 
 ghost use Rattle.std.specs.Prelude.{◌≡◌, ◌++◌, ℕ, List, map, IfOk};
 ghost use Rattle.std.specs.Borrow.{Bor};
-ghost use Rattle.source_page.specs.Facts.{AreRight};
-ghost use Rattle.source_page.specs.Page.{page_of, firsts_of};
+ghost use Rattle.scip_pages.specs.Facts.{AreRight};
+ghost use Rattle.scip_pages.specs.Page.{page_of, firsts_of};
 ghost use Rattle.scip_site.specs.Script.{listing_text};
 
 use crate::script::push_listing;
-use source_page::{Asked, Facts, Site, page_and_firsts};
+use scip_pages::{Asked, Facts, Site, page_and_firsts};
 use std::alloc::{AllocError, Global};
 
 /// The page of a document; what it defines first is appended to the list of symbols. What is known of the index's

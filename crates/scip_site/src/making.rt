@@ -5,28 +5,32 @@ ghost use Rattle.std.specs.Borrow.{Bor};
 ghost use Rattle.std.specs.List.{list_any};
 ghost use Rattle.std.specs.Option.{is_some, option_map};
 ghost use Rattle.scip_query.specs.Tables.{numbers};
-ghost use Rattle.scip_snapshot.specs.Showing.{maker, writer};
-ghost use Rattle.source_page.specs.Facts.{AreRight};
-ghost use Rattle.source_page.specs.Ids as ids;
-ghost use Rattle.source_page.specs.Page.{page_of, firsts_of};
+ghost use Rattle.source_files.specs.Makers.{maker};
+ghost use Rattle.streams.specs.Writers.{writer};
+ghost use Rattle.scip_pages.specs.Facts.{AreRight};
+ghost use Rattle.scip_pages.specs.Ids as ids;
+ghost use Rattle.scip_pages.specs.Page.{page_of, firsts_of};
 ghost use Rattle.scip_site.specs.Script.{listing_text};
 ghost use Rattle.scip_site.specs.Tree as tree_spec;
 ghost use Rattle.scip_site.specs.Making as spec;
 ghost use Rattle.scip_pages.specs.Snapshot.{lines_of};
 
+use crate::filing::Folders;
 use crate::listing::listed_page;
 use crate::order::by_path;
 use crate::reading::read_all;
+use crate::show_fault::ShowFault;
 use crate::site_fault::SiteFault;
+use crate::snapshot_outcome::path_in;
 use crate::styles::{SEARCH, STYLE};
 use crate::tree::first_page;
-use scip_pages::{ColumnUnit, lines_of, unit_of};
+use basics::OwnedText;
+use scip_pages::{
+    Asked, ColumnUnit, Facts, Site, has_page, lines_of, page_path, path_listed, unit_of,
+};
 use scip_query::Queries;
 use scip_records::Document;
-use scip_snapshot::{Folders, ShowFault, path_in};
-use sequences::OwnedText;
 use source_files::{MakeFiles, ReadFiles};
-use source_page::{Asked, Facts, Site, has_page, page_path, path_listed};
 use std::alloc::{AllocError, Global};
 use streams::Sink;
 
@@ -116,7 +120,7 @@ fn make<O: MakeFiles>(
     bytes: &[u8],
     made: &mut O,
 ) -> Result<(), ShowFault>
-    ensures { spec.MakesFiles (maker O.made made.old made.new) (map (spec.in_folder folder.now)
+    ensures { spec.MakesFiles (maker O.MakeFiles made) (map (spec.in_folder folder.now)
         (spec.file path.now bytes.now ∷ [])) result }
 {
     let file = path_in(alloc, folder, path)?;
@@ -135,7 +139,7 @@ fn make_if_some<O: MakeFiles>(
     page: Option<Vec<u8>>,
     made: &mut O,
 ) -> Result<(), ShowFault>
-    ensures { spec.MakesFiles (maker O.made made.old made.new) (map (spec.in_folder folder.now)
+    ensures { spec.MakesFiles (maker O.MakeFiles made) (map (spec.in_folder folder.now)
         (spec.page_file path.now (option_map (λ p. p.items) page))) result }
 {
     match page {
@@ -158,7 +162,7 @@ fn make_page<'a, O: MakeFiles>(
 ) -> Result<(), ShowFault>
     requires { AreRight site.now.queries.now site.now.sources.now listed.old.facts.facts.items }
     ensures right { AreRight site.now.queries.now site.now.sources.now listed.new.facts.facts.items }
-    ensures files { spec.MakesFiles (maker O.made made.old made.new) (map (spec.in_folder folder.now)
+    ensures files { spec.MakesFiles (maker O.MakeFiles made) (map (spec.in_folder folder.now)
         (spec.page_file_at site.now.queries.now site.now.sources.now number)) result }
     ensures listed { OnOk result (listed.new.script.items ≡ listed.old.script.items ++ spec.listing_at
         site.now.queries.now site.now.sources.now number) }
@@ -177,7 +181,7 @@ fn make_each<'a, O: MakeFiles>(
     made: &mut O,
 ) -> Result<(), ShowFault>
     requires { AreRight site.now.queries.now site.now.sources.now listed.old.facts.facts.items }
-    ensures files { spec.MakesFiles (maker O.made made.old made.new) (map (spec.in_folder folder.now)
+    ensures files { spec.MakesFiles (maker O.MakeFiles made) (map (spec.in_folder folder.now)
         (spec.pages site.now.queries.now site.now.sources.now (numbers (length site.now.queries.now.documents))))
         result }
     ensures listed { OnOk result (listed.new.script.items ≡ listed.old.script.items ++ spec.listings
@@ -198,7 +202,7 @@ fn make_shared<O: MakeFiles>(
     first: &[u8],
     made: &mut O,
 ) -> Result<(), ShowFault>
-    ensures { spec.MakesFiles (maker O.made made.old made.new) (map (spec.in_folder folder.now)
+    ensures { spec.MakesFiles (maker O.MakeFiles made) (map (spec.in_folder folder.now)
         (spec.shared script.now first.now)) result }
 {
     make(alloc, folder, "pages.css", STYLE.as_bytes(), made)?;
@@ -278,7 +282,7 @@ fn make_all<O: MakeFiles>(
     order: &[usize],
     made: &mut O,
 ) -> Result<(), ShowFault>
-    ensures { spec.MakesFiles (maker O.made made.old made.new) (map (spec.in_folder folder.now)
+    ensures { spec.MakesFiles (maker O.MakeFiles made) (map (spec.in_folder folder.now)
         (spec.site_files site.now.queries.now site.now.sources.now order.now)) result }
 {
     let first = first_of(alloc, site, order)?;
@@ -325,7 +329,7 @@ pub fn make_pages<F: ReadFiles, O: MakeFiles, M: Sink>(
     messages: &mut M,
 ) -> Result<(), SiteFault>
     ensures { spec.MakesSite (F.gives files.now) folders.now.root.now folders.now.to.now queries.now
-        (maker O.made made.old made.new) (writer M.contents M.failures messages.old messages.new) result }
+        (maker O.MakeFiles made) (writer M.Sink messages) result }
 {
     let documents = queries.documents();
     let order = by_path(alloc, documents)?;

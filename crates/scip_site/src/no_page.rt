@@ -1,11 +1,13 @@
 //! Why a document of an index has no page.
 
 ghost use Rattle.std.specs.Prelude.{◌≡◌};
-ghost use Rattle.scip_snapshot.specs.LeftOuts.{line_with};
-ghost use Rattle.scip_snapshot.specs.Showing.{SaysLine, writer};
+ghost use Rattle.scip_site.specs.LeftOuts.{line_with};
+ghost use Rattle.streams.specs.Writers.{writer};
+ghost use Rattle.scip_site.specs.Showing.{SaysLine};
 ghost use Rattle.scip_site.specs.Reading.{name_of};
 
-use scip_snapshot::{ShowFault, line_with, say};
+use crate::left_out::{line_with, say};
+use crate::show_fault::ShowFault;
 use std::alloc::Global;
 use streams::Sink;
 
@@ -49,7 +51,7 @@ pub(crate) fn tell<M: Sink>(
     why: NoPage,
     messages: &mut M,
 ) -> Result<(), ShowFault>
-    ensures { SaysLine (line_with path.now (name_of why)) (writer M.contents M.failures messages.old messages.new)
+    ensures { SaysLine (line_with path.now (name_of why)) (writer M.Sink messages)
         result }
 {
     let line = line_with(alloc, path, why.name())?;

@@ -3,8 +3,8 @@
 ghost use Rattle.std.specs.Prelude.{◌≡◌, IfOk};
 ghost use Rattle.scip_query.specs.Tables.{path_cmp, IsByPath};
 
+use scip_pages::{numbers, path_listed};
 use scip_records::Document;
-use source_page::{numbers, path_listed};
 use std::alloc::{AllocError, Global};
 use std::cmp::Ordering;
 

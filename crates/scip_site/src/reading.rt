@@ -3,15 +3,15 @@
 ghost use Rattle.std.specs.Prelude.{◌≡◌, ◌++◌, [], ◌∷◌, false, OnOk};
 ghost use Rattle.std.specs.List.{slice_get};
 ghost use Rattle.std.specs.Option.{unwrap_or};
-ghost use Rattle.scip_snapshot.specs.Showing.{writer};
+ghost use Rattle.streams.specs.Writers.{writer};
 ghost use Rattle.scip_site.specs.Reading as spec;
 
 use crate::no_page::{NoPage, tell};
-use crate::outcome::{Wanted, outcome_of};
+use crate::page_outcome::{Wanted, outcome_of};
 use crate::repeats::are_repeated;
+use crate::show_fault::ShowFault;
+use basics::OwnedText;
 use scip_records::Document;
-use scip_snapshot::ShowFault;
-use sequences::OwnedText;
 use source_files::ReadFiles;
 use std::alloc::{AllocError, Global};
 use streams::Sink;
@@ -46,7 +46,7 @@ fn keep<M: Sink>(
     messages: &mut M,
 ) -> Result<(), ShowFault>
     ensures { spec.Keeps path.now outcome sources.old.items sources.new.items
-        (writer M.contents M.failures messages.old messages.new) result }
+        (writer M.Sink messages) result }
 {
     match outcome {
         Ok(source) => {
@@ -69,7 +69,7 @@ fn read_one<F: ReadFiles, M: Sink>(
     messages: &mut M,
 ) -> Result<(), ShowFault>
     ensures { spec.ReadsOne (F.gives files.now) wanted.now.root.now wanted.now.repeated wanted.now.document.now
-        sources.old.items sources.new.items (writer M.contents M.failures messages.old messages.new) result }
+        sources.old.items sources.new.items (writer M.Sink messages) result }
 {
     let outcome = outcome_of(alloc, files, wanted)?;
     keep(
@@ -92,7 +92,7 @@ fn read_each<F: ReadFiles, M: Sink>(
 ) -> Result<(), ShowFault>
     requires { sources.old.items ≡ [] }
     ensures { spec.ReadsAll (F.gives files.now) root.now documents.now sources.new.items
-        (writer M.contents M.failures messages.old messages.new) result }
+        (writer M.Sink messages) result }
 {
     let repeats = are_repeated(alloc, documents)?;
     for (number, document) in documents.iter().enumerate() {
@@ -115,7 +115,7 @@ pub(crate) fn read_all<F: ReadFiles, M: Sink>(
     messages: &mut M,
 ) -> Result<Vec<Option<OwnedText>>, ShowFault>
     ensures { spec.ReadsInto (F.gives files.now) root.now documents.now
-        (writer M.contents M.failures messages.old messages.new) (spec.listed_in result) }
+        (writer M.Sink messages) (spec.listed_in result) }
 {
     let mut sources = Vec::new(alloc);
     read_each(alloc, files, root, documents, &mut sources, messages)?;

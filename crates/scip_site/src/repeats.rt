@@ -5,8 +5,8 @@ ghost use Rattle.std.specs.Str.{bytes_eq};
 ghost use Rattle.scip_query.specs.Tables.{numbers};
 ghost use Rattle.scip_site.specs.Repeats.{is_repeated, is_seen};
 
+use scip_pages::path_listed;
 use scip_records::Document;
-use source_page::path_listed;
 use std::alloc::{AllocError, Global};
 use std::collections::HashMap;
 

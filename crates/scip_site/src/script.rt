@@ -5,11 +5,11 @@ ghost use Rattle.std.specs.Borrow.{Bor};
 ghost use Rattle.std.specs.List.{flat_map};
 ghost use Rattle.scip_site.specs.Script as spec;
 
-use scip_pages::{push_decimal, push_encoded};
-use scip_query::Place;
-use source_page::{
-    Asked, Site, line_listed, name_of, occurrence_listed, page_path, shown_symbol, symbol_listed,
+use scip_pages::{
+    Asked, Site, line_listed, marked_text, occurrence_listed, page_path, push_decimal,
+    push_encoded, shown_symbol, symbol_listed,
 };
+use scip_query::Place;
 use std::alloc::{AllocError, Global};
 
 /// A hexadecimal digit.
@@ -109,7 +109,7 @@ fn push_named(
         (map (λ (l : Bor (List ℕ)). l.now) asked.now.lines.now) place) }
 {
     let documents = site.queries.documents();
-    let name = name_of(asked.unit, asked.lines, occurrence_listed(documents, place));
+    let name = marked_text(asked.unit, asked.lines, occurrence_listed(documents, place));
     let symbol = shown_symbol(symbol_listed(documents, place).as_bytes());
     push_name(script, line_listed(documents, place), name, symbol)
 }

@@ -3,7 +3,7 @@
 ghost use Rattle.std.specs.Prelude.{◌≡◌};
 ghost use Rattle.scip_site.specs.SiteFaults.{name_of};
 
-use scip_snapshot::ShowFault;
+use crate::show_fault::ShowFault;
 use std::alloc::AllocError;
 use thiserror::Error;
 
@@ -19,7 +19,7 @@ pub enum SiteFault {
 }
 
 impl From<AllocError> for SiteFault {
-    ghost use Rattle.scip_snapshot.specs.declared.show_fault.ShowFault.TheVariants.{Memory};
+    ghost use Rattle.scip_site.specs.declared.show_fault.ShowFault.TheVariants.{Memory};
     ghost use Rattle.scip_site.specs.declared.site_fault.SiteFault.TheVariants.{Show};
 
     ghost from_gives = { λ _ fault. fault ≡ Show Memory };

@@ -5,8 +5,10 @@ ghost use Rattle.std.specs.Borrow.{Bor};
 ghost use Rattle.std.specs.List.{slice_get};
 ghost use Rattle.scip_site.specs.Tree as spec;
 
-use scip_pages::{push_attribute, push_encoded, push_escaped};
-use source_page::{components_of, line_at, page_path, push_folder_id, push_head, push_link};
+use scip_pages::{
+    components_of, line_at, page_path, push_attribute, push_encoded, push_escaped, push_folder_id,
+    push_head, push_link,
+};
 use std::alloc::{AllocError, Global};
 
 /// Whether a name is that with a number.

@@ -3,8 +3,7 @@
 use crate::files::{Files, Made};
 use crate::see::{queries, see};
 use scip_query::Queries;
-use scip_site::{SiteFault, make_pages};
-use scip_snapshot::{Folders, ShowFault};
+use scip_site::{Folders, ShowFault, SiteFault, make_pages};
 use std::alloc::Global;
 use std::test::Fail;
 use streams::Std;

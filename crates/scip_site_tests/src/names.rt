@@ -1,8 +1,7 @@
 //! The texts of faults.
 
 use crate::see::see;
-use scip_site::SiteFault;
-use scip_snapshot::ShowFault;
+use scip_site::{ShowFault, SiteFault};
 use std::test::Fail;
 
 #[test]

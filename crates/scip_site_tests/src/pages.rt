@@ -1,10 +1,9 @@
 //! Pages of an index's documents.
 
 use crate::see::{queries, see};
-use scip_pages::ColumnUnit;
+use basics::OwnedText;
+use scip_pages::{Asked, ColumnUnit, Facts, Site, page};
 use scip_query::Queries;
-use sequences::OwnedText;
-use source_page::{Asked, Facts, Site, page};
 use std::alloc::{AllocError, Global};
 use std::process::Abort;
 use std::test::Fail;

@@ -10,14 +10,14 @@ use Rattle.std.specs.Str.{IsUtf8, IsCharBoundary}
 use Rattle.std.proofs.lemmas.Str.{IsCharBoundary-start, IsCharBoundary-after_ascii}
 use Rattle.std.proofs.lemmas.List.Sums.{prefix_len_passes, prefix_len-le-length}
 use Rattle.proto_lex.specs.Bytes.{starts}
-use Rattle.proto_lex.proofs.PrefixLemmas.{prefix_passes, prefix_stops, prefix_exact}
-use Rattle.proto_lex.proofs.ReadLemmas.{both}
+use Rattle.proto_lex.proofs.ReadingPrefixLemmas.{prefix_passes, prefix_stops, prefix_exact}
+use Rattle.proto_lex.proofs.ReadingTestLemmas.{both}
 use Rattle.scip_symbol.specs.Names.{is_identifier_character, is_simple_identifier, doubled, backtick}
 use Rattle.scip_symbol.specs.SpellsSymbol.{SpellsName, simple, quoted}
 use Rattle.scip_symbol.specs.Reading.{after, run_len, run_at, some_at, simple_at, name_at, undoubled_at}
-use Rattle.scip_symbol.proofs.ReadLemmas.{bind_ok, chosen, same_ok, ne-test}
-use Rattle.scip_symbol.proofs.AfterLemmas.{after-some}
-use Rattle.scip_symbol.proofs.UndoubledLemmas.{undoubled-found, undoubled-exact}
+use Rattle.scip_symbol.proofs.ReadingTestLemmas.{bind_ok, chosen, same_ok, ne-test}
+use Rattle.scip_symbol.proofs.ReadingAfterLemmas.{after-some}
+use Rattle.scip_symbol.proofs.ReadingUndoubledLemmas.{undoubled-found, undoubled-exact}
 
 pub some-found : (x y : List ℕ × List ℕ) → some_at x ≡ Ok y → (x ≡ y) × (y.0 ≢ [])
 some-found ([], rest) y e = absurd cc

@@ -7,7 +7,7 @@ use Rattle.std.proofs.lemmas.List.{append_cancel_left}
 use Rattle.std.proofs.lemmas.List.Elements.{All-head}
 use Rattle.proto_lex.specs.Bytes.{is_letter, is_word}
 use Rattle.proto_lex.specs.Lexes.{identifier, sign}
-use Rattle.proto_lex.proofs.ReadLemmas.{both}
+use Rattle.proto_lex.proofs.ReadingTestLemmas.{both}
 use Rattle.source_tree.specs.Path.{IsGoodPath}
 use Rattle.scip_symbol.specs.Parts.{IsSymbol}
 use Rattle.scip_symbol.specs.Package.{Package, IsPackage}
@@ -16,19 +16,19 @@ use Rattle.scip_symbol.specs.SymbolText.{symbol_text}
 use Rattle.scip_symbol.specs.Entities.{Entity, OfFile, OfPackage, OfDeclaration, suffix_of, namespace_of}
 use Rattle.scip_symbol.specs.Entities.{step_descriptor, descriptors_of, scheme_text, global_in, symbol_in, IsIdentifier}
 use Rattle.scip_symbol.specs.Entities.{IsEntity}
-use Rattle.proto_decl.specs.Ancestors.{scoped, names_of}
+use Rattle.proto_decl.specs.Laws.{scoped, names_of}
 use Rattle.scip_symbol.specs.OneEntity.{IsWithoutClash, IsAmong}
-use Rattle.proto_decl.specs.declared.kind.DeclarationKind.{DeclarationKind}
-use Rattle.proto_decl.specs.declared.kind.DeclarationKind.TheVariants.{Message, Enum, Service, Field, Oneof, Value}
-use Rattle.proto_decl.specs.declared.kind.DeclarationKind.TheVariants.{Method}
+use Rattle.proto_decl.specs.declared.declaration.DeclarationKind.{DeclarationKind}
+use Rattle.proto_decl.specs.declared.declaration.DeclarationKind.TheVariants.{Message, Enum, Service, Field, Oneof}
+use Rattle.proto_decl.specs.declared.declaration.DeclarationKind.TheVariants.{Value, Method}
 use Rattle.proto_decl.specs.declared.declaration.DeclarationStep.{DeclarationStep}
-use Rattle.proto_decl.proofs.AncestorLemmas.{heads, tails}
+use Rattle.proto_decl.proofs.LawAncestorLemmas.{heads, tails}
 use Rattle.scip_symbol.specs.declared.symbol.Suffix.TheVariants as suffix
 use Rattle.scip_symbol.specs.declared.symbol.Descriptor.{Descriptor}
 use Rattle.scip_symbol.specs.declared.symbol.SymbolParts.{SymbolParts}
 use Rattle.scip_symbol.specs.declared.symbol.SymbolParts.TheVariants.{Local, Global}
-use Rattle.scip_symbol.proofs.ClashLemmas.{path_in}
-use Rattle.scip_symbol.proofs.SpellingLemmas.{printed}
+use Rattle.scip_symbol.proofs.OneEntityClashLemmas.{path_in}
+use Rattle.scip_symbol.proofs.SpellsSymbolTextLemmas.{printed}
 use Rattle.scip_symbol.proofs.SymbolLemmas.{one-symbol}
 use Rattle.scip_symbol.proofs.EntityLemmas.{entity-has, global-is}
 
@@ -37,13 +37,13 @@ joined p q = cc
 
 -- ---- one text, one list of descriptors
 
-entity-symbol : (p : Package) (e : Entity) → IsPackage p → IsEntity e → IsSymbol (symbol_in p e)
+pub entity-symbol : (p : Package) (e : Entity) → IsPackage p → IsEntity e → IsSymbol (symbol_in p e)
 entity-symbol p e is of =
     let has = entity-has e (descriptors_of e) of refl in
     global-is p scheme_text p.manager p.name p.version (descriptors_of e)
     (descriptors_of e) is refl refl refl refl refl has.0 has.1
 
-list_in : SymbolParts → List Descriptor
+pub list_in : SymbolParts → List Descriptor
 list_in (Local name) = []
 list_in (Global s) = s.descriptors
 

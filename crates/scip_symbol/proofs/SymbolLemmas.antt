@@ -6,7 +6,7 @@ use Rattle.std.proofs.lemmas.Slice.Eq.{bytes_eq-Decides}
 use Rattle.std.specs.List.{list_all}
 use Rattle.std.proofs.lemmas.Bool.{cond-false}
 use Rattle.proto_lex.specs.Bytes.{starts}
-use Rattle.proto_lex.proofs.ReadLemmas.{both}
+use Rattle.proto_lex.proofs.ReadingTestLemmas.{both}
 use Rattle.scip_symbol.specs.Names.{is_identifier_character, doubled}
 use Rattle.scip_symbol.specs.Parts.{IsScheme, IsPart}
 use Rattle.scip_symbol.specs.SpellsSymbol.{SpellsScheme, scheme, SpellsPart, empty, part, SpellsName, simple, quoted}
@@ -18,12 +18,12 @@ use Rattle.scip_symbol.specs.Reading.{descriptors_at, global_at, local_of, local
 use Rattle.scip_symbol.specs.declared.symbol.GlobalSymbol.{GlobalSymbol}
 use Rattle.scip_symbol.specs.declared.symbol.SymbolParts.{SymbolParts}
 use Rattle.scip_symbol.specs.declared.symbol.SymbolParts.TheVariants.{Global}
-use Rattle.scip_symbol.proofs.ReadLemmas.{bind_ok, bind_of_ok, chosen, choose_none, same_ok, ne-test}
-use Rattle.scip_symbol.proofs.AfterLemmas.{eqb-same, after-some, after-none, after-front, expect-found}
-use Rattle.scip_symbol.proofs.DoubledLemmas.{other, mark}
-use Rattle.scip_symbol.proofs.UndoubledLemmas.{undoubled-found, undoubled-exact}
+use Rattle.scip_symbol.proofs.ReadingTestLemmas.{bind_ok, bind_of_ok, chosen, choose_none, same_ok, ne-test}
+use Rattle.scip_symbol.proofs.ReadingAfterLemmas.{eqb-same, after-some, after-none, after-front, expect-found}
+use Rattle.scip_symbol.proofs.NameDoubledLemmas.{other, mark}
+use Rattle.scip_symbol.proofs.ReadingUndoubledLemmas.{undoubled-found, undoubled-exact}
 use Rattle.scip_symbol.proofs.NameLemmas.{simple-found, simple-exact}
-use Rattle.scip_symbol.proofs.DescriptorLemmas.{descriptors-found, descriptors-exact}
+use Rattle.scip_symbol.proofs.ReadingDescriptorLemmas.{descriptors-found, descriptors-exact}
 
 -- ---- the front of a doubled text
 

@@ -5,9 +5,9 @@ use Rattle.proto_lex.specs.declared.token.TokenKind.TheVariants.{Identifier}
 use Rattle.scip_symbol.specs.SpellsSymbol.{descriptor}
 use Rattle.scip_symbol.specs.Package.{Package}
 use Rattle.source_tree.specs.Path.{IsGoodPath}
-use Rattle.proto_decl.specs.declared.kind.DeclarationKind.{DeclarationKind}
-use Rattle.proto_decl.specs.declared.kind.DeclarationKind.TheVariants.{Message, Enum, Service, Field, Oneof, Value}
-use Rattle.proto_decl.specs.declared.kind.DeclarationKind.TheVariants.{Method}
+use Rattle.proto_decl.specs.declared.declaration.DeclarationKind.{DeclarationKind}
+use Rattle.proto_decl.specs.declared.declaration.DeclarationKind.TheVariants.{Message, Enum, Service, Field, Oneof}
+use Rattle.proto_decl.specs.declared.declaration.DeclarationKind.TheVariants.{Value, Method}
 use Rattle.proto_decl.specs.declared.declaration.DeclarationStep.{DeclarationStep}
 use Rattle.scip_symbol.specs.declared.symbol.Suffix.{Suffix}
 use Rattle.scip_symbol.specs.declared.symbol.Suffix.TheVariants as suffix

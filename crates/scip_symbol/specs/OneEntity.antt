@@ -1,7 +1,7 @@
 -- Facts in which no two declarations have one full name: there a symbol names one entity.
 use Rattle.std.specs.Prelude.{◌≡◌, ◌≢◌, ℕ, List, [], ◌++◌, map, All, Contains}
 use Rattle.std.specs.List.{flat_map}
-use Rattle.proto_decl.specs.Ancestors.{names_of, component_names, AreHeld}
+use Rattle.proto_decl.specs.Laws.{names_of, component_names, AreHeld}
 use Rattle.proto_decl.specs.Facts.{Facts}
 use Rattle.proto_decl.specs.declared.declaration.DeclarationStep.{DeclarationStep}
 use Rattle.proto_decl.specs.declared.declaration.Declaration.{Declaration}

@@ -1,7 +1,7 @@
 //! The symbols of files, packages and declarations.
 
 ghost use Rattle.std.specs.Prelude.{◌≡◌, ◌≢◌, ◌++◌, ◌∷◌, [], map, All, OnOk, IfOk};
-ghost use Rattle.proto_decl.specs.Ancestors.{component_names};
+ghost use Rattle.proto_decl.specs.Laws.{component_names};
 ghost use Rattle.scip_symbol.specs.Parts.{IsDescriptor};
 ghost use Rattle.scip_symbol.specs.Entities.{
   OfFile,
@@ -17,8 +17,8 @@ ghost use Rattle.scip_symbol.specs.Entities.{
 
 use crate::package::PackageId;
 use crate::symbol::{Descriptor, GlobalSymbol, Suffix, Symbol, SymbolParts};
+use basics::{OwnedText, Sequence};
 use proto_decl::{Component, DeclarationKind, DeclarationPath, DeclarationStep};
-use sequences::{OwnedText, Sequence};
 use std::alloc::{AllocError, Global};
 
 /// The scheme of the symbols of a proto3 tree.

@@ -3,7 +3,7 @@
 ghost use Rattle.std.specs.Prelude.{◌≡◌, ◌++◌, ℕ, List, map, OnOk, IfOk};
 ghost use denote.Ref.{Bor};
 ghost use Rattle.std.specs.String.{string_bytes};
-ghost use Rattle.proto_decl.specs.Ancestors.{component_names};
+ghost use Rattle.proto_decl.specs.Laws.{component_names};
 ghost use Rattle.scip_symbol.specs.SymbolText.{descriptor_text, symbol_text};
 ghost use Rattle.scip_symbol.specs.Entities.{
   OfFile,

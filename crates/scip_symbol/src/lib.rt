@@ -1,14 +1,19 @@
 //! Symbols: their grammar (the comment of `scip.proto`'s `Symbol`), printed and read.
 #![tactic(auto)]
 
+// Symbols, and what they name.
 mod entity;
+mod package;
+mod symbol;
+
+// Symbols as text, and out of it.
 mod entity_text;
 mod fault;
-mod laws;
-mod package;
 mod printer;
 mod reader;
-mod symbol;
+
+// The laws.
+mod laws;
 
 pub use entity::{SCHEME, file_symbol, package_symbol, symbol_of};
 pub use entity_text::{

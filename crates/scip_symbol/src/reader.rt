@@ -46,7 +46,7 @@ ghost use Rattle.scip_symbol.specs.declared.fault.SymbolFault.TheVariants as fau
 use crate::fault::SymbolFault;
 use crate::printer::is_identifier_character;
 use crate::symbol::{Descriptor, GlobalSymbol, Suffix, Symbol, SymbolParts};
-use sequences::{OwnedText, Sequence};
+use basics::{OwnedText, Sequence};
 use std::alloc::{AllocError, Global};
 
 /// The text after a prefix, if it begins with that prefix.

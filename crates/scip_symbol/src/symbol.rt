@@ -3,7 +3,7 @@
 ghost use Rattle.std.specs.Prelude.{◌≡◌};
 ghost use Rattle.scip_symbol.specs.Parts.{IsSymbol};
 
-use sequences::{OwnedText, Sequence};
+use basics::{OwnedText, Sequence};
 use std::marker::Model;
 
 /// What the name of a descriptor is the name of (`scip.proto`, `Descriptor.Suffix`).

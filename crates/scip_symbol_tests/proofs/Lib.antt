@@ -1,1 +1,2 @@
+-- What the tests name are entities
 pub mod EntityConditions

@@ -1,16 +1,15 @@
 //! The symbols of a file, a package and a declaration, their texts, and the parts of a package.
 
 ghost use Rattle.std.specs.Prelude.{◌≡◌};
-ghost use Rattle.proto_decl.specs.declared.kind.DeclarationKind.TheVariants.{Message};
+ghost use Rattle.proto_decl.specs.declared.declaration.DeclarationKind.TheVariants.{Message};
 
 use crate::calls::{see, text_of_symbol};
-use lent_texts::{KeptText, LentText};
+use basics::{KeptText, OwnedText, TextRef};
 use proto_decl::{Component, DeclarationKind, DeclarationPath, DeclarationStep};
 use proto_lex::Span;
 use scip_symbol::{
     BadPart, PackageId, Symbol, SymbolParts, file_symbol, package_symbol, symbol_of,
 };
-use sequences::OwnedText;
 use std::alloc::{AllocError, Global};
 use std::test::Fail;
 
@@ -30,7 +29,7 @@ fn component(name: &str) -> Component<'_>
     ensures { result.name ≡ name.now }
 {
     Component {
-        name: LentText::new(name),
+        name: TextRef::new(name),
         span: Span { start: 0, end: 0 },
     }
 }
@@ -41,7 +40,7 @@ fn step_to(name: &str) -> DeclarationStep<'_>
 {
     DeclarationStep {
         kind: DeclarationKind::Message,
-        name: KeptText::lent(name),
+        name: KeptText::borrowed(name),
     }
 }
 

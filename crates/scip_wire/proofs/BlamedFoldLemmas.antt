@@ -7,7 +7,7 @@ use Rattle.scip_wire.specs.declared.wire_fault.WireFault.TheVariants.{Memory, Re
 use Rattle.scip_wire.specs.Fields.{Delimited}
 use Rattle.scip_wire.specs.Gives.{Fails}
 use Rattle.scip_wire.specs.Blamed.{blame, fold_fault_in, fold_fault, only_fault}
-use Rattle.scip_wire.proofs.FoldLemmas.{there_are}
+use Rattle.scip_wire.proofs.ReadingFoldLemmas.{there_are}
 
 blame_same : {A : Type 0} (o : Option A) (fault : WireFault) (f g : A → WireFault)
     → ((x : A) → o ≡ Some x → f x ≡ g x) → blame o fault f ≡ blame o fault g

@@ -25,14 +25,16 @@ use Rattle.scip_wire.specs.Reading.{tool_info_step, no_tool_info, tool_info_at, 
 use Rattle.scip_wire.specs.Reading.{packed_step, packed_at, numbers_in, fits, checked_range, range_at, occurrence_step}
 use Rattle.scip_wire.specs.Reading.{no_parts, parts_at, occurrence_of, occurrence_at, occurrence_in, document_step}
 use Rattle.scip_wire.specs.Reading.{no_document, document_at, index_step, no_index, index_at}
-use Rattle.scip_wire.proofs.OptionLemmas.{bind_some, bind_at, guard_some, split, bind_same, bind_assoc}
+use Rattle.scip_wire.proofs.ReadingOptionLemmas.{bind_some, bind_at, guard_some, split, bind_same, bind_assoc}
 use Rattle.scip_wire.proofs.GivesLemmas.{is_memory}
 use Rattle.scip_wire.proofs.FieldLemmas.{varint_found, varint_exact, varint_falls}
-use Rattle.scip_wire.proofs.FoldLemmas.{fold_done, fold_goes_on, fields_found, fields_exact, both_found, both_exact}
-use Rattle.scip_wire.proofs.FoldLemmas.{parted_found, parted_exact}
-use Rattle.scip_wire.proofs.ColumnLemmas.{text_found, text_exact, texts_found, texts_exact, number_found, number_exact}
-use Rattle.scip_wire.proofs.ColumnLemmas.{repeated_found, repeated_exact, messages_found, messages_exact}
-use Rattle.scip_wire.proofs.ColumnLemmas.{one_message_found, one_message_exact}
+use Rattle.scip_wire.proofs.ReadingFoldLemmas.{fold_done, fold_goes_on, fields_found, fields_exact, both_found}
+use Rattle.scip_wire.proofs.ReadingFoldLemmas.{both_exact}
+use Rattle.scip_wire.proofs.ReadingFoldLemmas.{parted_found, parted_exact}
+use Rattle.scip_wire.proofs.DecodesColumnLemmas.{text_found, text_exact, texts_found, texts_exact, number_found}
+use Rattle.scip_wire.proofs.DecodesColumnLemmas.{number_exact}
+use Rattle.scip_wire.proofs.DecodesColumnLemmas.{repeated_found, repeated_exact, messages_found, messages_exact}
+use Rattle.scip_wire.proofs.DecodesColumnLemmas.{one_message_found, one_message_exact}
 
 -- ---- symbol information
 

@@ -9,7 +9,7 @@ use Rattle.std.proofs.Math.Seq.{take-append_seam, drop-append_seam}
 use Rattle.scip_wire.specs.Fields.{Payload, Varint, Fixed64, Delimited, Fixed32, Field, IsVarint, last, more, IsPayload}
 use Rattle.scip_wire.specs.Fields.{varint, fixed64, delimited, fixed32, IsField, field, max_varint_len}
 use Rattle.scip_wire.specs.Reading.{varint_at, piece_at, payload_at, field_at}
-use Rattle.scip_wire.proofs.OptionLemmas.{bind_some, chosen, guard_some, guard_none}
+use Rattle.scip_wire.proofs.ReadingOptionLemmas.{bind_some, chosen, guard_some, guard_none}
 
 -- ---- varints
 

@@ -12,7 +12,7 @@ use Rattle.scip_wire.specs.Fields.{Payload, Varint, Fixed64, Delimited, Fixed32,
 use Rattle.scip_wire.specs.Reading.{◌>>=◌, both, parted, column, add_only, message_in, text_at}
 use Rattle.scip_wire.specs.Refused.{NoText, not_utf8, NoInner, NoOnly, again}
 use Rattle.scip_wire.specs.Blamed.{inner_fault, only_fault}
-use Rattle.scip_wire.proofs.OptionLemmas.{split}
+use Rattle.scip_wire.proofs.ReadingOptionLemmas.{split}
 use Rattle.scip_wire.proofs.RefusedVarintLemmas.{on_option}
 use Rattle.scip_wire.proofs.RefusedFieldLemmas.{nothing}
 

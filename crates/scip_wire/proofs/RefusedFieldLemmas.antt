@@ -12,7 +12,7 @@ use Rattle.scip_wire.specs.Refused.{other_type, NoField, tag, large_tag, number_
 use Rattle.scip_wire.specs.Blamed.{varint_fault, payload_fault, field_fault}
 use Rattle.scip_wire.specs.declared.wire_fault.WireFault.{WireFault}
 use Rattle.scip_wire.specs.declared.wire_fault.WireFault.TheVariants.{Truncated}
-use Rattle.scip_wire.proofs.OptionLemmas.{split}
+use Rattle.scip_wire.proofs.ReadingOptionLemmas.{split}
 use Rattle.scip_wire.proofs.FieldLemmas.{varint_found, varint_exact}
 use Rattle.scip_wire.proofs.RefusedVarintLemmas.{on_option, varint_refused, varint_blamed}
 

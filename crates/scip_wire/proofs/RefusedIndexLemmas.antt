@@ -24,7 +24,7 @@ use Rattle.scip_wire.specs.Refused.{NoOccurrenceField, NoOccurrence, NoDocumentF
 use Rattle.scip_wire.specs.Blamed.{inner_fault, info_fault}
 use Rattle.scip_wire.specs.Blamed.{metadata_fault, occurrence_step_fault, parts_fault}
 use Rattle.scip_wire.specs.Blamed.{occurrence_fault, document_step_fault, document_fault, index_step_fault, index_fault}
-use Rattle.scip_wire.proofs.OptionLemmas.{bind_none}
+use Rattle.scip_wire.proofs.ReadingOptionLemmas.{bind_none}
 use Rattle.scip_wire.proofs.DecodesLemmas.{range_found, range_exact, parts_found, parts_exact}
 use Rattle.scip_wire.proofs.DecodesLemmas.{document_found, document_exact, index_found, index_exact}
 use Rattle.scip_wire.proofs.RefusedVarintLemmas.{on_option}

@@ -14,9 +14,9 @@ use Rattle.scip_wire.specs.Refused.{NoMessage, record_itself, what_it_holds, NoI
 use Rattle.scip_wire.specs.Refused.{NoToolInfo, NoMetadataField, NoMetadata}
 use Rattle.scip_wire.specs.Blamed.{message_fault, text_fault, info_fault, tool_info_fault}
 use Rattle.scip_wire.specs.Blamed.{metadata_step_fault, metadata_fault}
-use Rattle.scip_wire.proofs.OptionLemmas.{bind_none}
+use Rattle.scip_wire.proofs.ReadingOptionLemmas.{bind_none}
 use Rattle.scip_wire.proofs.FieldLemmas.{field_found, field_exact, field_falls}
-use Rattle.scip_wire.proofs.FoldLemmas.{fields_found, fields_exact}
+use Rattle.scip_wire.proofs.ReadingFoldLemmas.{fields_found, fields_exact}
 use Rattle.scip_wire.proofs.DecodesLemmas.{info_found, info_exact, tool_info_found, tool_info_exact, metadata_found}
 use Rattle.scip_wire.proofs.DecodesLemmas.{metadata_exact}
 use Rattle.scip_wire.proofs.RefusedFieldLemmas.{field_refused, field_blamed}

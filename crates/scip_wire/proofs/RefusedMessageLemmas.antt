@@ -8,9 +8,9 @@ use Rattle.scip_wire.specs.Fields.{Payload, Field, IsVarint, last, more, IsPaylo
 use Rattle.scip_wire.specs.Fields.{delimited, fixed32, IsField, field, HasFields, none, next, max_varint_len}
 use Rattle.scip_wire.specs.Reading.{field_at, changed, fold_in, fold_at}
 use Rattle.scip_wire.specs.Blamed.{field_fault, fold_fault_in, fold_fault}
-use Rattle.scip_wire.proofs.OptionLemmas.{bind_some, bind_at}
+use Rattle.scip_wire.proofs.ReadingOptionLemmas.{bind_some, bind_at}
 use Rattle.scip_wire.proofs.FieldLemmas.{field_found, field_exact, field_falls}
-use Rattle.scip_wire.proofs.FoldLemmas.{fold_goes_on, fold_unread, fold_failed, field_shortens}
+use Rattle.scip_wire.proofs.ReadingFoldLemmas.{fold_goes_on, fold_unread, fold_failed, field_shortens}
 use Rattle.scip_wire.proofs.RefusedVarintLemmas.{on_option}
 use Rattle.scip_wire.proofs.BlamedFoldLemmas.{fault_goes_on, fault_unread, fault_failed}
 

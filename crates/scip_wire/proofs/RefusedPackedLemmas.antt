@@ -8,9 +8,9 @@ use Rattle.scip_wire.specs.Decodes.{ArePacked, low_32_bits}
 use Rattle.scip_wire.specs.Reading.{varint_at, fold_in, fold_at, packed_step, packed_at, numbers_in}
 use Rattle.scip_wire.specs.Refused.{NoVarint, NoNumbers, packed}
 use Rattle.scip_wire.specs.Blamed.{varint_fault, no_step_fault, fold_fault_in, fold_fault, packed_fault, inner_fault}
-use Rattle.scip_wire.proofs.OptionLemmas.{bind_none}
+use Rattle.scip_wire.proofs.ReadingOptionLemmas.{bind_none}
 use Rattle.scip_wire.proofs.FieldLemmas.{varint_found, varint_exact, varint_falls}
-use Rattle.scip_wire.proofs.FoldLemmas.{fold_goes_on, fold_unread}
+use Rattle.scip_wire.proofs.ReadingFoldLemmas.{fold_goes_on, fold_unread}
 use Rattle.scip_wire.proofs.DecodesLemmas.{varint_shortens, fold_of_packed}
 use Rattle.scip_wire.proofs.RefusedVarintLemmas.{on_option, varint_refused, varint_blamed}
 use Rattle.scip_wire.proofs.RefusedMessageLemmas.{varint_local}

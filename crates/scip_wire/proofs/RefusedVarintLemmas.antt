@@ -7,7 +7,7 @@ use Rattle.scip_wire.specs.Reading.{varint_at}
 use Rattle.scip_wire.specs.Refused.{NoVarint, cut_off, too_long, too_large, behind}
 use Rattle.scip_wire.specs.Blamed.{varint_fault}
 use Rattle.scip_wire.specs.declared.wire_fault.WireFault.{WireFault}
-use Rattle.scip_wire.proofs.OptionLemmas.{split}
+use Rattle.scip_wire.proofs.ReadingOptionLemmas.{split}
 use Rattle.scip_wire.proofs.FieldLemmas.{varint_found, varint_exact}
 
 pub on_option : {A P : Type 0} (o : Option A) → (o ≡ None → P) → ((x : A) → o ≡ Some x → P) → P

@@ -41,9 +41,6 @@ pub fit_further : {X : Type 0} (P : X → Type 0) (xs : List X) (i : ℕ) (x : X
     → All P (take i xs) → P x → All P (take (i + 1) xs)
 fit_further P xs i x inside is before here = All-more P xs i x inside before (subst P is here)
 
-pub fit_done : {X : Type 0} (P : X → Type 0) (xs : List X) (i : ℕ) → length xs ≤ i → All P (take i xs) → All P xs
-fit_done P xs i past all = All-same P xs (take i xs) (sym (take_all i xs past)) all
-
 -- ---- a message is no longer than the records of all
 
 pub message_le : (k : ℕ) (bytes : List ℕ) → length bytes ≤ fields_len (bytes_field k bytes ∷ [])

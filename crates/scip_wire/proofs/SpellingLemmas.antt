@@ -7,6 +7,7 @@ use Rattle.std.proofs.lemmas.Grind.{flat_map-append}
 use Rattle.std.proofs.lemmas.Bool.{cond-true, cond-false}
 use Rattle.std.proofs.lemmas.Bool.Decides.{nat_tests}
 use Rattle.std.proofs.lemmas.List.Elements.{All-head, All-tail}
+use Rattle.scip_wire.proofs.SpellingRefLemmas.{fields_len_append as fields_len-append}
 use Rattle.scip_records.specs.Range.{RangeNumbers, IsRange, max_range_number}
 use Rattle.scip_records.specs.declared.records.Index.{Index}
 use Rattle.scip_records.specs.declared.records.Metadata.{Metadata}
@@ -26,13 +27,15 @@ use Rattle.scip_wire.specs.Spelling.{metadata_fields, index_fields, spelling_of,
 use Rattle.scip_wire.specs.Saturated.{fields_len}
 use Rattle.scip_wire.specs.WellFormed.{IsFitOccurrence, IsFitInfo, IsFitDocument, IsFitToolInfo, IsFitMetadata}
 use Rattle.scip_wire.specs.WellFormed.{IsWellFormed}
-use Rattle.scip_wire.proofs.OptionLemmas.{split}
+use Rattle.scip_wire.proofs.ReadingOptionLemmas.{split}
 use Rattle.scip_wire.proofs.SaturatedLemmas.{fields_len_more, message_le}
-use Rattle.scip_wire.proofs.SpelledFieldLemmas.{varint_is, AreKnown, AreKnown-append, fields_are}
-use Rattle.scip_wire.proofs.SpelledPayloadLemmas.{payloads-append, other_text, other_texts, other_int, other_messages}
-use Rattle.scip_wire.proofs.SpelledPayloadLemmas.{other_message, same_text, same_texts, same_int, same_messages}
-use Rattle.scip_wire.proofs.SpelledPayloadLemmas.{text_given, texts_given, int_given, in_64_bits-lt, text_payloads}
-use Rattle.scip_wire.proofs.SpelledPayloadLemmas.{number_payloads}
+use Rattle.scip_wire.proofs.FieldSpelledLemmas.{varint_is, AreKnown, AreKnown-append, fields_are}
+use Rattle.scip_wire.proofs.DecodesSpelledPayloadLemmas.{payloads-append, other_text, other_texts, other_int}
+use Rattle.scip_wire.proofs.DecodesSpelledPayloadLemmas.{other_messages}
+use Rattle.scip_wire.proofs.DecodesSpelledPayloadLemmas.{other_message, same_text, same_texts, same_int, same_messages}
+use Rattle.scip_wire.proofs.DecodesSpelledPayloadLemmas.{text_given, texts_given, int_given, in_64_bits-lt}
+use Rattle.scip_wire.proofs.DecodesSpelledPayloadLemmas.{text_payloads}
+use Rattle.scip_wire.proofs.DecodesSpelledPayloadLemmas.{number_payloads}
 
 -- ---- the fields of a message are known
 
@@ -128,10 +131,6 @@ payloads_in n p ps r = payloads-behind n p.number p.fields ps r ∙ payloads-fir
 known_behind : (front : List Field) (ps : List Part) → AreKnown front → AreKnown (fields_behind front ps)
 known_behind front [] known = known
 known_behind front (p ∷ ps) known = known_behind (front ++ p.fields) ps (AreKnown-append front p.fields known p.known)
-
--- a part is no longer than the message
-fields_len-append : (fs gs : List Field) → fields_len (fs ++ gs) ≡ fields_len fs + fields_len gs
-fields_len-append fs gs = ap length (flat_map-append field_bytes fs gs) ∙ length-append (bytes_of fs) (bytes_of gs)
 
 front_le : (front : List Field) (ps : List Part) → fields_len front ≤ fields_len (fields_behind front ps)
 front_le front [] = omega arith

@@ -10,7 +10,7 @@ use Rattle.scip_wire.specs.Refused.{NoVarint, cut_off, too_long, too_large, behi
 use Rattle.scip_wire.specs.TenthByte.{IsByte, GoesOn, CutOrOver, cut, over}
 use Rattle.scip_wire.specs.declared.wire_fault.WireFault.{WireFault}
 use Rattle.scip_wire.specs.declared.wire_fault.WireFault.TheVariants.{Truncated, Varint}
-use Rattle.scip_wire.proofs.OptionLemmas.{split}
+use Rattle.scip_wire.proofs.ReadingOptionLemmas.{split}
 
 -- 128 times more, and one power more
 up : (n k : ℕ) → n * 128 ^ suc k ≡ n * 128 ^ k * 128

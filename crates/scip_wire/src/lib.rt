@@ -1,13 +1,18 @@
 //! The Protocol Buffers encoding of SCIP indexes.
 #![tactic(auto)]
 
-mod laws;
+// Writing an index, whole or in pieces.
 mod pieces;
-mod read;
 mod spell;
-mod wire_fault;
 mod write;
 mod write_fault;
+
+// Reading one.
+mod read;
+mod wire_fault;
+
+// The laws.
+mod laws;
 
 pub use laws::{
     bytes_decode_or_have_a_fault, bytes_decode_to_one_index, bytes_have_one_field_list,

@@ -1,7 +1,7 @@
 //! Writing an index in pieces.
 
 ghost use Rattle.std.specs.Prelude.{◌≡◌, ◌<◌, ◌≤◌, ◌↔◌, length, All, IfErr, IfSome, OnOk, Err};
-ghost use Rattle.streams.specs.WholeWrites.{IsWritten, IsCutOff};
+ghost use Rattle.streams.specs.Writers.{IsWritten, IsCutOff, writer};
 ghost use Rattle.scip_wire.specs.Spelling.{joined_pieces, max_index_len};
 ghost use Rattle.scip_wire.specs.WellFormed.{IsFitInfo, IsFitMetadata};
 ghost use Rattle.scip_wire.specs.Writing.{Leaves};
@@ -9,8 +9,8 @@ ghost use Rattle.scip_wire.specs.Writing.{Leaves};
 use crate::spell::{Buffer, DocumentRecord, encode_pieces, pieces_len};
 use crate::write::MAX_INDEX_LEN;
 use crate::write_fault::WriteFault;
+use basics::Sequence;
 use scip_records::{Metadata, SymbolInformation};
-use sequences::Sequence;
 use streams::{CutOff, Sink};
 
 /// Writes pieces that aren't too long.
@@ -21,9 +21,9 @@ fn write_in_order<W: Sink>(
     sink: &mut W,
 ) -> Result<(), CutOff>
     requires { length (joined_pieces metadata.now documents.now external_symbols.now) ≤ max_index_len }
-    ensures ok { OnOk result (IsWritten W.contents W.failures sink.old sink.new
+    ensures ok { OnOk result (IsWritten (writer W.Sink sink)
         (joined_pieces metadata.now documents.now external_symbols.now)) }
-    ensures err { IfErr result (λ e. IsCutOff W.contents W.failures sink.old sink.new
+    ensures err { IfErr result (λ e. IsCutOff (writer W.Sink sink)
         (joined_pieces metadata.now documents.now external_symbols.now) e.written) }
 {
     let mut out = Buffer::new();
@@ -40,11 +40,11 @@ pub fn write_pieces<W: Sink>(
     external_symbols: &Sequence<SymbolInformation>,
     sink: &mut W,
 ) -> Result<(), WriteFault>
-    ensures ok { OnOk result (IsWritten W.contents W.failures sink.old sink.new
+    ensures ok { OnOk result (IsWritten (writer W.Sink sink)
         (joined_pieces metadata.now documents.now external_symbols.now)) }
     ensures too_large { (result ≡ Err WriteFault.TooLarge) ↔ (max_index_len < length
         (joined_pieces metadata.now documents.now external_symbols.now)) }
-    ensures refused { IfErr result (Leaves W.contents W.failures sink.old sink.new
+    ensures refused { IfErr result (Leaves (writer W.Sink sink)
         (joined_pieces metadata.now documents.now external_symbols.now)) }
     ensures known { IfSome metadata.now IsFitMetadata }
     ensures known_externals { All IsFitInfo external_symbols.now }

@@ -1,7 +1,7 @@
 //! Writing an index.
 
 ghost use Rattle.std.specs.Prelude.{◌≡◌, ◌<◌, ◌≤◌, ◌↔◌, length, None, IfSome, IfOk, IfErr, OnOk, OkIff, Ok, Err};
-ghost use Rattle.streams.specs.WholeWrites.{IsWritten, IsCutOff};
+ghost use Rattle.streams.specs.Writers.{IsWritten, IsCutOff, writer};
 ghost use Rattle.scip_wire.specs.Spelling.{spelling_of, max_index_len};
 ghost use Rattle.scip_wire.specs.WellFormed.{IsWellFormed};
 ghost use Rattle.scip_wire.specs.Writing.{Leaves};
@@ -46,9 +46,8 @@ pub fn spell_index(alloc: Global, index: &Index) -> Result<Option<Vec<u8>>, Allo
 /// Writes the spelling of an index that isn't too long.
 fn write_spelling<W: Sink>(index: &Index, sink: &mut W) -> Result<(), CutOff>
     requires { length (spelling_of index.now) ≤ max_index_len }
-    ensures ok { OnOk result (IsWritten W.contents W.failures sink.old sink.new (spelling_of index.now)) }
-    ensures err { IfErr result (λ e. IsCutOff W.contents W.failures sink.old sink.new (spelling_of index.now)
-        e.written) }
+    ensures ok { OnOk result (IsWritten (writer W.Sink sink) (spelling_of index.now)) }
+    ensures err { IfErr result (λ e. IsCutOff (writer W.Sink sink) (spelling_of index.now) e.written) }
 {
     let mut out = Buffer::new();
     index.encode(&mut out, sink);
@@ -60,9 +59,9 @@ fn write_spelling<W: Sink>(index: &Index, sink: &mut W) -> Result<(), CutOff>
 /// - `TooLarge`: the spelling is longer than `MAX_INDEX_LEN` bytes. Nothing was written.
 /// - `Write(n)`: the first n bytes of the spelling were written, which aren't all, and then a write failed.
 pub fn write_index<W: Sink>(index: &Index, sink: &mut W) -> Result<(), WriteFault>
-    ensures ok { OnOk result (IsWritten W.contents W.failures sink.old sink.new (spelling_of index.now)) }
+    ensures ok { OnOk result (IsWritten (writer W.Sink sink) (spelling_of index.now)) }
     ensures too_large { (result ≡ Err WriteFault.TooLarge) ↔ (max_index_len < length (spelling_of index.now)) }
-    ensures refused { IfErr result (Leaves W.contents W.failures sink.old sink.new (spelling_of index.now)) }
+    ensures refused { IfErr result (Leaves (writer W.Sink sink) (spelling_of index.now)) }
     ensures known { IsWellFormed index.now }
 {
     encoded_len(index)?;

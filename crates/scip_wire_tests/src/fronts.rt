@@ -6,8 +6,8 @@ use crate::calls::{decoded, record, see};
 use crate::indexes::PREFIXED;
 use crate::pieces::see_pieces;
 use scip_records::{
-    Document, DocumentParts, Index, LentInformation, LentOccurrence, LentSymbol, Occurrence,
-    SymbolInformation,
+    Document, DocumentParts, Index, InformationRef, Occurrence, OccurrenceRef, SymbolInformation,
+    SymbolRef,
 };
 use std::alloc::{AllocError, Global};
 use std::process::Abort;
@@ -17,31 +17,31 @@ use std::test::Fail;
 const FRONT: &str = "s . . . p/";
 
 /// A symbol in two parts, if it begins with this front.
-fn in_parts<'a>(front: &'a str, text: &'a str) -> LentSymbol<'a>
+fn in_parts<'a>(front: &'a str, text: &'a str) -> SymbolRef<'a>
     ensures { result ≡ text.now }
 {
     match text.strip_prefix(front) {
-        Some(rest) => LentSymbol { front, rest },
-        None => LentSymbol::whole(text),
+        Some(rest) => SymbolRef { front, rest },
+        None => SymbolRef::whole(text),
     }
 }
 
 /// An occurrence, whose symbol is lent in two parts.
-fn occurrence_in_parts(occurrence: &Occurrence) -> LentOccurrence<'_>
+fn occurrence_in_parts(occurrence: &Occurrence) -> OccurrenceRef<'_>
     ensures { result ≡ occurrence.now }
 {
-    let mut lent = LentOccurrence::of(occurrence);
-    lent.symbol = in_parts(FRONT, occurrence.symbol.as_str());
-    lent
+    let mut borrowed = OccurrenceRef::of(occurrence);
+    borrowed.symbol = in_parts(FRONT, occurrence.symbol.as_str());
+    borrowed
 }
 
 /// An entry, whose symbol is lent in two parts.
-fn entry_in_parts(entry: &SymbolInformation) -> LentInformation<'_>
+fn entry_in_parts(entry: &SymbolInformation) -> InformationRef<'_>
     ensures { result ≡ entry.now }
 {
-    let mut lent = LentInformation::of(entry);
-    lent.symbol = in_parts(FRONT, entry.symbol.as_str());
-    lent
+    let mut borrowed = InformationRef::of(entry);
+    borrowed.symbol = in_parts(FRONT, entry.symbol.as_str());
+    borrowed
 }
 
 /// A document that lends its symbols in two parts.
@@ -61,7 +61,7 @@ impl DocumentParts for Fronted {
         self.document.occurrence_count()
     }
 
-    fn occurrence(&self, number: usize) -> LentOccurrence<'_> {
+    fn occurrence(&self, number: usize) -> OccurrenceRef<'_> {
         occurrence_in_parts(&self.document.occurrences.as_slice()[number])
     }
 
@@ -69,7 +69,7 @@ impl DocumentParts for Fronted {
         self.document.entry_count()
     }
 
-    fn entry(&self, number: usize) -> LentInformation<'_> {
+    fn entry(&self, number: usize) -> InformationRef<'_> {
         entry_in_parts(&self.document.symbols.as_slice()[number])
     }
 

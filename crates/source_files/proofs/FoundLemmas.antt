@@ -1,12 +1,9 @@
 -- What is found in a folder, by what listing it gave.
 use Rattle.std.proofs.Common.{◌≡◌, ◌∙◌, ℕ, List, [], ◌∷◌, ◌++◌, map, Option, None, Some, refl, sym, ap, subst}
+use Rattle.basics.proofs.ListLemmas.{map_twice as map_after}
 use Rattle.source_files.specs.declared.listing.FolderIdentity.{FolderIdentity}
 use Rattle.source_files.specs.Entries.{Entry, Give}
 use Rattle.source_files.specs.Walks.{Had, Holds, unlisted, listed}
-
-map_after : {A B C : Type 0} (f : B → C) (g : A → B) (xs : List A) → map f (map g xs) ≡ map (λ x. f (g x)) xs
-map_after f g [] = refl
-map_after {C = C} f g (x ∷ xs) = ap (λ (l : List C). f (g x) ∷ l) (map_after f g xs)
 
 module _ {S : Type 0} (text : S → List ℕ) (folder : List ℕ) where
   abbrev had_by : (folders sources unread : List (List ℕ)) → Option FolderIdentity → Had

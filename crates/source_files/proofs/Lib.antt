@@ -1,16 +1,31 @@
-pub mod KeptLemmas
+-- Each file is named after the spec or source that it serves.
+-- What the entries of a folder give, entry by entry
 pub mod EntryLemmas
-pub mod FoundLemmas
+-- What isn't excluded, one after the other
 pub mod ExclusionLemmas
-pub mod PartLemmas
-pub mod PartedLemmas
-pub mod WalkLemmas
-pub mod WalkLawLemmas
-pub mod OneListingLemmas
-pub mod ReadingLemmas
-pub mod RootLemmas
-pub mod RootLawLemmas
+-- What is found in a folder, by what listing it gave
+pub mod FoundLemmas
+-- The files below several roots, root by root, and the paths that are named
 pub mod LoadLemmas
-pub mod OnceLemmas
+-- Files that are asked about: whether each is the one at a place
 pub mod PlaceLemmas
+-- If no folder says which it is, what is found level by level is found folder by folder
 pub mod PlainWalkLemmas
+-- What a phase answers, source by source, and the parts in which sources are read
+pub mod ReadingLemmas
+-- Where nothing was left out below a root, its files are the same whether something is to be left out or not
+pub mod RootLawLemmas
+-- The files below a root, of what is listed and read there
+pub mod RootLemmas
+-- What is read, or none; and what is kept of a source where nothing is known of the files
+pub mod SystemFileKeptLemmas
+-- Paths that are listed below a root stay below it
+pub mod WalkLawLemmas
+-- A walk through the folders below a root, level by level, finds what is listed there
+pub mod WalkLemmas
+-- Texts by their bytes, each once
+pub mod WalkOnceLemmas
+-- What is listed below a root is one list, if each folder has one listing
+pub mod WalkOneListingLemmas
+-- What a phase answers of folders, folder by folder, and the parts in which folders are listed
+pub mod WalkStepPartLemmas

@@ -5,6 +5,7 @@ use Rattle.std.specs.List.{AllZip, slice_get}
 use Rattle.std.specs.Option.{option_map}
 use Rattle.std.proofs.lemmas.List.{length-append, map-append, take-append-drop}
 use Rattle.std.proofs.lemmas.Option.{same_Some, slice_get_within}
+use Rattle.basics.proofs.ListLemmas.{zip_push as zip-push}
 use Rattle.source_tree.specs.Files.{SourceFile, IsByPath}
 use Rattle.source_tree.specs.Laws.{OneSortingByPath}
 use Rattle.source_tree.specs.Refusals.{HaveBadPath, HaveSamePath}
@@ -24,14 +25,6 @@ parted_at f xs number x below is =
     ap (map f) (sym (take-append-drop number xs)) ∙ map-append f (take number xs) (drop number xs)
     ∙ ap (λ l. map f (take number xs) ++ map f l)
     (drop-cons xs number x below ∙ ap₂ (λ y l. y ∷ l) (sym is) (ap (λ n. drop n xs) (sym (add-one number))))
-
--- one pair more at the end
-zip-push : {X Y : Type 0} (R : X → Y → Type 0) (xs : List X) (ys : List Y) (x : X) (y : Y) → AllZip R xs ys → R x y
-    → AllZip R (xs ++ x ∷ []) (ys ++ y ∷ [])
-zip-push R [] [] x y all one = (one, tt)
-zip-push R [] (b ∷ ys) x y all one = absurd all
-zip-push R (a ∷ xs) [] x y all one = absurd all
-zip-push R (a ∷ xs) (b ∷ ys) x y all one = (all.0, zip-push R xs ys x y all.1 one)
 
 -- the number of a bad path is one of a file
 pub bad_within : (sources included : List SourceFile) (number : ℕ) → HaveBadPath sources included number

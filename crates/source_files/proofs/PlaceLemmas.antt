@@ -6,14 +6,9 @@ use Rattle.std.specs.Option.{option_map}
 use Rattle.std.proofs.lemmas.List.{take_more}
 use Rattle.std.proofs.lemmas.List.Elements.{All-push}
 use Rattle.std.proofs.lemmas.Option.{same_Some, slice_get_within, get_or_from_slice_get}
+use Rattle.basics.proofs.ListLemmas.{map_some as mapped}
 use Rattle.source_tree.specs.Files.{TreeFile}
 use Rattle.source_files.specs.Roots.{path_below}
-
--- an item with what is known of it
-mapped : {A B : Type 0} (f : A → B) (o : Option A) (y : B) → option_map f o ≡ Some y
-    → (x : A) × (o ≡ Some x) × (f x ≡ y)
-mapped f None y is = absurd cc
-mapped f (Some x) y is = (x, refl, same_Some (f x) y is)
 
 module _ (same : List ℕ → Bool → Type 0) (root : List ℕ) (tree : List TreeFile) where
   abbrev pub IsSpared : TreeFile → Type 0

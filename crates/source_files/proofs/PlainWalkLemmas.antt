@@ -8,6 +8,7 @@ use Rattle.std.proofs.lemmas.List.Elements.{All-weaker}
 use Rattle.std.proofs.lemmas.List.Sorted.{All-permutation, IsPermutation-append_comm, IsPermutation-append_left}
 use Rattle.std.proofs.lemmas.List.Sorted.{IsPermutation-append_right, IsPermutation-refl, IsPermutation-sym}
 use Rattle.std.proofs.lemmas.List.Sorted.{IsPermutation-trans}
+use Rattle.basics.proofs.ListLemmas.{append_none}
 use Rattle.source_files.specs.declared.listing.FolderIdentity.{FolderIdentity}
 use Rattle.source_files.specs.Listings.{Listing}
 use Rattle.source_files.specs.PlainWalks.{HasOnly, AreFoundBelow, below_none, below_next}
@@ -15,17 +16,13 @@ use Rattle.source_files.specs.PlainWalks.{CantBeListed, itself, unnamed, within}
 use Rattle.source_files.specs.Walks.{Had, IsMet, Keep, none_left, keeps, passes, Holds, unlisted, listed, Has}
 use Rattle.source_files.specs.Walks.{AreFound, nowhere, next_level}
 use Rattle.source_files.specs.WalkLaws.{PlainListing}
-use Rattle.source_files.proofs.PartedLemmas.{flat_permutation, lift_permutation}
+use Rattle.basics.proofs.PartedLemmas.{flat_permutation, lift_permutation}
 
 -- ---- lists
 
 no_map : {A B : Type 0} (f : A → B) (xs : List A) → map f xs ≡ [] → xs ≡ []
 no_map f [] none = refl
 no_map f (x ∷ xs) none = absurd cc
-
-append_none : {A : Type 0} (xs ys : List A) → xs ++ ys ≡ [] → (xs ≡ []) × (ys ≡ [])
-append_none [] ys none = (refl, none)
-append_none (x ∷ xs) ys none = absurd cc
 
 none_or_some : {A : Type 0} (xs : List A) → (xs ≡ []) ⊎ (xs ≢ [])
 none_or_some [] = inl refl

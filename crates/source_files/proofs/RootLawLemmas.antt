@@ -2,16 +2,13 @@
 use Rattle.std.proofs.Common.{◌≡◌, ◌∙◌, ℕ, List, [], ◌∷◌, ◌++◌, Option, refl, sym, ap, subst, length, arith}
 use Rattle.std.specs.List.{All}
 use Rattle.std.proofs.lemmas.List.Elements.{All-head, All-tail}
+use Rattle.basics.proofs.ListLemmas.{append_none as parts_none}
 use Rattle.source_tree.specs.Files.{SourceFile, paths_of}
 use Rattle.source_files.specs.Listings.{Listing}
 use Rattle.source_files.specs.Roots.{AreBelow, AreBelowBut, AreRead, FilesBelow, IsHeld, is_read, no_path}
 use Rattle.source_files.specs.RootLaws.{WholeRoots}
 use Rattle.source_files.specs.Walks.{AreListed, AreWalked}
 use Rattle.source_files.proofs.ReadingLemmas.{strict_read}
-
-parts_none : {X : Type 0} (xs ys : List X) → xs ++ ys ≡ [] → (xs ≡ []) × (ys ≡ [])
-parts_none [] ys none = (refl, none)
-parts_none (x ∷ xs) ys none = absurd (omega (arith, ap length none))
 
 module _ (lists : List ℕ → List ℕ → Option Listing → Type 0) (gives : List ℕ → Option (List ℕ) → Type 0)
     (root : List ℕ) where

@@ -19,6 +19,7 @@ pub mod Loads
 pub mod LoadFaults
 -- files that are made
 pub mod Made
+pub mod Makers
 -- where a file is to be
 pub mod Places
 -- where a folder is to be

@@ -3,36 +3,49 @@
 //! made whole; and why the system refuses a call.
 #![tactic(auto)]
 
-mod cause;
-mod empty_folders;
-mod entry;
-mod excluding;
-mod folder_place;
-mod folders;
-mod found;
-mod laws;
-mod listing;
+// From folders to a tree.
 mod load;
 mod load_fault;
-mod look_again;
-mod make_files;
-mod out_file;
-mod out_folder;
-mod out_part;
-mod out_place;
-mod out_source;
-mod out_way;
+mod root;
+mod root_files;
+
+// Which files are there.
+mod entry;
+mod excluding;
+mod folders;
+mod found;
+mod listing;
+mod system_folders;
+mod walk;
+
+// What they hold.
 mod phases;
 mod read_files;
 mod readers;
 mod reading;
-mod root;
-mod root_files;
-mod second_look;
 mod system_files;
-mod system_folders;
+
+// Why the system refuses.
+mod cause;
+mod look_again;
+mod second_look;
 mod system_stream;
-mod walk;
+
+// Files that are made.
+mod make_files;
+mod out_file;
+mod out_part;
+mod out_place;
+mod out_source;
+mod out_way;
+
+// Folders that are made.
+mod empty_folders;
+mod folder_place;
+mod out_folder;
+
+// The laws.
+mod laws;
 
 pub use cause::{Blamed, Cause, Caused};
 pub use empty_folders::EmptyFolders;

@@ -1,11 +1,14 @@
 //! What patterns leave of the sources below a folder.
 
 use crate::roots::{remove_again, see_read};
-use source_files::{Excluding, SystemFiles};
+use source_files::{Excluding, ReadFiles, SystemFiles};
 use std::alloc::Global;
 use std::fs;
+use std::process::Abort;
 use std::rt::Files;
+use std::sync::Wait;
 use std::test::Fail;
+use std::thread::Threads;
 
 /// Folders that are made.
 const FOLDERS: [&str; 4] = ["left", "left/.git", "left/deep", "left/deep/er"];
@@ -47,6 +50,22 @@ fn patterns_with(alloc: Global, pattern: &str) -> Result<Vec<String>, Fail> {
     Ok(patterns)
 }
 
+/// Sees which sources a pattern leaves.
+fn see_left<R: Threads + Wait + Abort, F: ReadFiles + Sync>(
+    rt: &R,
+    alloc: Global,
+    files: &F,
+    pattern: &str,
+    due: &str,
+) -> Result<(), Fail> {
+    let patterns = patterns_with(alloc, pattern)?;
+    let files = Excluding {
+        files,
+        patterns: &patterns,
+    };
+    Ok(see_read(rt, alloc, &files, "left", due)?)
+}
+
 #[test]
 fn sources_that_are_left(rt: HostRuntime) -> Result<(), Fail> {
     // What an earlier run has left that didn't come to its end.
@@ -54,12 +73,7 @@ fn sources_that_are_left(rt: HostRuntime) -> Result<(), Fail> {
     make(&rt)?;
     let system = SystemFiles::new(&rt);
     for (pattern, due) in &LEFT {
-        let patterns = patterns_with(rt.alloc(), *pattern)?;
-        let files = Excluding {
-            files: &system,
-            patterns: &patterns,
-        };
-        see_read(&rt, rt.alloc(), &files, "left", *due)?;
+        see_left(&rt, rt.alloc(), &system, *pattern, *due)?;
     }
     Ok(remove_again(&rt, "left")?)
 }

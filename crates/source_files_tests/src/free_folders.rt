@@ -3,9 +3,10 @@
 use crate::roots::{remove_again, see};
 use source_files::{EmptyFolders, SystemFiles};
 use std::alloc::AllocError;
-use std::fs;
+use std::process::Abort;
 use std::rt::Files;
 use std::test::Fail;
+use std::{fs, io};
 
 /// Folders that are made.
 const FOLDERS: [&str; 4] = ["site", "site/empty", "site/taken", "site/hidden"];
@@ -32,23 +33,32 @@ fn answer_of<F: EmptyFolders>(files: &F, path: &str) -> Option<bool> {
     }
 }
 
+/// Makes the folders, the files and the link.
+fn make<S: Files>(system: &S) -> io::Result<()> {
+    for folder in &FOLDERS {
+        fs::create_dir(system, *folder)?;
+    }
+    fs::write(system, "site/taken/file", "")?;
+    fs::write(system, "site/hidden/.file", "")?;
+    system.symlink("empty", "site/link")
+}
+
+/// Sees for each path whether files may go there. After want of memory it is asked again.
+fn see_places<F: EmptyFolders>(rt: &impl Abort, files: &F) {
+    for (path, due) in &PLACES {
+        let free = match answer_of(files, *path) {
+            None => answer_of(files, *path),
+            free => free,
+        };
+        see(rt, free == Some(*due), path);
+    }
+}
+
 #[test]
 fn absent_or_empty(rt: HostRuntime) -> Result<(), Fail> {
     // What an earlier run has left that didn't come to its end.
     let _ = remove_again(&rt, "site");
-    for folder in &FOLDERS {
-        fs::create_dir(&rt, *folder)?;
-    }
-    fs::write(&rt, "site/taken/file", "")?;
-    fs::write(&rt, "site/hidden/.file", "")?;
-    rt.symlink("empty", "site/link")?;
-    let files = SystemFiles::new(&rt);
-    for (path, due) in &PLACES {
-        let free = match answer_of(&files, *path) {
-            None => answer_of(&files, *path),
-            free => free,
-        };
-        see(&rt, free == Some(*due), path);
-    }
+    make(&rt)?;
+    see_places(&rt, &SystemFiles::new(&rt));
     Ok(remove_again(&rt, "site")?)
 }

@@ -6,14 +6,14 @@ use source_files::{
     FolderEntry, FolderListing, LoadFault, LoadedTree, ReadFiles, Readers, SystemFiles, load_tree,
     load_tree_with_paths, read_root,
 };
-use source_tree::Tree;
+use source_tree::{Source, Tree};
 use std::alloc::{AllocError, Global};
-use std::fs;
 use std::process::Abort;
 use std::rt::Files;
 use std::sync::Wait;
 use std::test::Fail;
 use std::thread::Threads;
+use std::{fs, io};
 
 /// The system's files, by folders that are said to have the entries below.
 #[derive(Drop)]
@@ -79,6 +79,17 @@ fn add_names(
     Ok(())
 }
 
+/// Adds what is said to be in a folder below a root.
+fn add_said(
+    alloc: Global,
+    listing: &mut FolderListing,
+    at: (&str, &str),
+) -> Result<(), AllocError> {
+    add_entries(alloc, listing, &FILES, true, at)?;
+    add_entries(alloc, listing, &FOLDERS, false, at)?;
+    add_names(alloc, listing, &NAMES, at)
+}
+
 /// What is said to be in a folder below a root.
 fn said_in(alloc: Global, root: &str, folder: &str) -> Result<FolderListing, AllocError> {
     let mut listing = FolderListing {
@@ -86,9 +97,7 @@ fn said_in(alloc: Global, root: &str, folder: &str) -> Result<FolderListing, All
         identity: None,
         unnamed: Vec::new(alloc),
     };
-    add_entries(alloc, &mut listing, &FILES, true, (root, folder))?;
-    add_entries(alloc, &mut listing, &FOLDERS, false, (root, folder))?;
-    add_names(alloc, &mut listing, &NAMES, (root, folder))?;
+    add_said(alloc, &mut listing, (root, folder))?;
     Ok(listing)
 }
 
@@ -139,6 +148,13 @@ fn add_tree(text: &mut String, tree: &Tree) -> Result<(), AllocError> {
     Ok(())
 }
 
+/// The paths of sources, and behind a stroke what is left out.
+fn text_of_files(alloc: Global, files: &[Source], unread: &[String]) -> Result<String, AllocError> {
+    let mut text = listing(alloc, files)?;
+    add_paths(&mut text, unread)?;
+    Ok(text)
+}
+
 /// The sources that are read below a root, and behind a stroke what is left out; or the fault. Where memory ran out it
 /// is called again, and the second answer counts; so it is with those below.
 fn read_text<R: Threads + Wait, F: ReadFiles + Sync>(
@@ -150,13 +166,22 @@ fn read_text<R: Threads + Wait, F: ReadFiles + Sync>(
         answer => answer,
     };
     match answer {
-        Ok(below) => {
-            let mut text = listing(readers.alloc, &below.files)?;
-            add_paths(&mut text, &below.unread)?;
-            Ok(text)
-        }
+        Ok(below) => text_of_files(readers.alloc, &below.files, &below.unread),
         Err(fault) => fault_text(readers.alloc, fault),
     }
+}
+
+/// Adds the files of a tree, and behind a stroke what is left out.
+fn add_whole(text: &mut String, tree: &Tree, unread: &[String]) -> Result<(), AllocError> {
+    add_tree(text, tree)?;
+    add_paths(text, unread)
+}
+
+/// The files of a tree, and behind a stroke what is left out.
+fn text_of_tree(alloc: Global, tree: &Tree, unread: &[String]) -> Result<String, AllocError> {
+    let mut text = String::new(alloc);
+    add_whole(&mut text, tree, unread)?;
+    Ok(text)
 }
 
 /// The files of the tree below roots, and behind a stroke what is left out; or the fault.
@@ -170,12 +195,7 @@ fn tree_text<R: Threads + Wait, F: ReadFiles + Sync>(
         answer => answer,
     };
     match answer {
-        Ok(loaded) => {
-            let mut text = String::new(readers.alloc);
-            add_tree(&mut text, &loaded.tree)?;
-            add_paths(&mut text, &loaded.unread)?;
-            Ok(text)
-        }
+        Ok(loaded) => text_of_tree(readers.alloc, &loaded.tree, &loaded.unread),
         Err(fault) => fault_text(readers.alloc, fault),
     }
 }
@@ -189,6 +209,13 @@ fn add_each(text: &mut String, loaded: &LoadedTree) -> Result<(), AllocError> {
     Ok(())
 }
 
+/// The files of a tree, what is left out, and the paths of the files below each root.
+fn text_of_each(alloc: Global, loaded: &LoadedTree) -> Result<String, AllocError> {
+    let mut text = text_of_tree(alloc, &loaded.tree, &loaded.unread)?;
+    add_each(&mut text, loaded)?;
+    Ok(text)
+}
+
 /// The same by `load_tree_with_paths`, with the paths of the files below each root behind it.
 fn each_text<R: Threads + Wait, F: ReadFiles + Sync>(
     readers: &Readers<'_, R, NoGate, F>,
@@ -200,13 +227,7 @@ fn each_text<R: Threads + Wait, F: ReadFiles + Sync>(
         answer => answer,
     };
     match answer {
-        Ok(loaded) => {
-            let mut text = String::new(readers.alloc);
-            add_tree(&mut text, &loaded.tree)?;
-            add_paths(&mut text, &loaded.unread)?;
-            add_each(&mut text, &loaded)?;
-            Ok(text)
-        }
+        Ok(loaded) => text_of_each(readers.alloc, &loaded),
         Err(fault) => fault_text(readers.alloc, fault),
     }
 }
@@ -230,7 +251,9 @@ const READ: [(&str, bool, &str); 10] = [
 ];
 
 /// A root and an included one, and the tree where what can't be read is left out.
-const TREES: [(&str, &str, &str); 5] = [
+type Row = (&'static str, &'static str, &'static str);
+
+const TREES: [Row; 5] = [
     (
         "all",
         "all",
@@ -247,7 +270,7 @@ const TREES: [(&str, &str, &str); 5] = [
 ];
 
 /// The same, with the paths below each.
-const EACH: [(&str, &str, &str); 2] = [
+const EACH: [Row; 2] = [
     (
         "gone",
         "all",
@@ -297,11 +320,33 @@ fn see_all<R: Threads + Wait + Abort, F: ReadFiles + Sync>(
     see_trees(rt, alloc, workers, files)
 }
 
-/// Roots: this one.
-fn roots_of(alloc: Global, root: &str) -> Result<Vec<String>, AllocError> {
-    let mut roots = Vec::new(alloc);
-    roots.push(String::from_str(alloc, root)?)?;
-    Ok(roots)
+/// A list of one text.
+pub(crate) fn list_of(alloc: Global, text: &str) -> Result<Vec<String>, AllocError> {
+    let mut list = Vec::new(alloc);
+    list.push(String::from_str(alloc, text)?)?;
+    Ok(list)
+}
+
+/// Sees the tree of a row.
+fn see_tree<R: Threads + Wait + Abort, F: ReadFiles + Sync>(
+    readers: &Readers<'_, R, NoGate, F>,
+    row: &Row,
+) -> Result<(), AllocError> {
+    let roots = list_of(readers.alloc, row.1)?;
+    let found = tree_text(readers, row.0, &roots)?;
+    see(readers.rt, found.as_str() == row.2, found.as_str());
+    Ok(())
+}
+
+/// Sees the tree of a row, and the paths below each root.
+fn see_each<R: Threads + Wait + Abort, F: ReadFiles + Sync>(
+    readers: &Readers<'_, R, NoGate, F>,
+    row: &Row,
+) -> Result<(), AllocError> {
+    let roots = list_of(readers.alloc, row.1)?;
+    let found = each_text(readers, row.0, &roots)?;
+    see(readers.rt, found.as_str() == row.2, found.as_str());
+    Ok(())
 }
 
 /// Sees the trees.
@@ -319,15 +364,36 @@ fn see_trees<R: Threads + Wait + Abort, F: ReadFiles + Sync>(
         files,
         leaves_out: true,
     };
-    for (root, included, due) in &TREES {
-        let roots = roots_of(alloc, *included)?;
-        let found = tree_text(&readers, *root, &roots)?;
-        see(rt, found.as_str() == *due, found.as_str());
+    for row in &TREES {
+        see_tree(&readers, row)?;
     }
-    for (root, included, due) in &EACH {
-        let roots = roots_of(alloc, *included)?;
-        let found = each_text(&readers, *root, &roots)?;
-        see(rt, found.as_str() == *due, found.as_str());
+    for row in &EACH {
+        see_each(&readers, row)?;
+    }
+    Ok(())
+}
+
+/// Makes what can be read.
+fn make<S: Files>(system: &S) -> io::Result<()> {
+    for place in &PLACES {
+        fs::create_dir(system, *place)?;
+    }
+    for path in &MADE {
+        fs::write(system, *path, *path)?;
+    }
+    Ok(())
+}
+
+/// Sees what is read and the trees, on one worker and on more.
+fn see_by_workers<R: Threads + Wait + Abort, F: ReadFiles + Sync>(
+    rt: &R,
+    alloc: Global,
+    files: &F,
+) -> Result<(), AllocError> {
+    for count in &[1usize, 3] {
+        if let Some(workers) = Workers::new(*count) {
+            see_all(rt, alloc, workers, files)?;
+        }
     }
     Ok(())
 }
@@ -336,19 +402,9 @@ fn see_trees<R: Threads + Wait + Abort, F: ReadFiles + Sync>(
 fn what_cannot_be_read_is_left_out(rt: HostRuntime) -> Result<(), Fail> {
     // What an earlier run has left that didn't come to its end.
     remove_all(&rt);
-    for place in &PLACES {
-        fs::create_dir(&rt, *place)?;
-    }
-    for path in &MADE {
-        fs::write(&rt, *path, *path)?;
-    }
+    make(&rt)?;
     let system = SystemFiles::new(&rt);
-    let files = Said { files: &system };
-    for count in &[1usize, 3] {
-        if let Some(workers) = Workers::new(*count) {
-            see_all(&rt, rt.alloc(), workers, &files)?;
-        }
-    }
+    see_by_workers(&rt, rt.alloc(), &Said { files: &system })?;
     remove_all(&rt);
     Ok(())
 }

@@ -1,18 +1,20 @@
-//! Files with numbers, as a system gives them.
+//! A system whose files have numbers, and take and give a few bytes at once.
 
+use std::alloc::{Allocator, Global};
 use std::cell::Cell;
-use std::fs::{Metadata, OpenFile};
+use std::fs::{Metadata, OpenFile, OpenOptions};
 use std::io;
-use std::io::{Read, Seek, SeekFrom, Write};
+use std::io::{Error, ErrorKind, Read, Seek, SeekFrom, Write};
+use std::rt::Files;
 
 /// No read and no write takes more bytes at once.
-pub(crate) const MOST_AT_ONCE: usize = 3;
+const MOST_AT_ONCE: usize = 3;
 
 /// Which of the numbers of the standard streams are taken: a bit for each.
 pub(crate) type Taken = Cell<u8>;
 
 /// The least number of a standard stream that is free, if one is.
-pub(crate) fn least_free(taken: &Taken) -> Option<u8> {
+fn least_free(taken: &Taken) -> Option<u8> {
     let bits = taken.get();
     for number in 0..3u8 {
         if bits >> number & 1 == 0 {
@@ -31,7 +33,7 @@ pub(crate) struct Numbered<'a, F> {
 
 impl<'a, F> Numbered<'a, F> {
     /// Gives a file this number.
-    pub(crate) fn new(file: F, number: Option<u8>, taken: &'a Taken) -> Numbered<'a, F> {
+    fn new(file: F, number: Option<u8>, taken: &'a Taken) -> Numbered<'a, F> {
         let bit = match number {
             Some(0) => 1,
             Some(1) => 2,
@@ -94,5 +96,83 @@ impl<'a, F: OpenFile> OpenFile for Numbered<'a, F> {
 
     fn sync_data(&self) -> io::Result<()> {
         self.file.sync_data()
+    }
+}
+
+/// A system that gives each file the least number that is free, and it is free again once the file is let go. What
+/// is written to a number of a standard stream is said: it goes to the file `said`.
+#[derive(Clone, Copy)]
+pub(crate) struct Counting<'a, S: Files> {
+    pub(crate) system: &'a S,
+    pub(crate) taken: &'a Taken,
+    /// Whether it makes no other file.
+    pub(crate) is_closed: bool,
+    /// How it refuses to move one.
+    pub(crate) stays: Option<ErrorKind>,
+}
+
+impl<'a, S: Files + Alloc<A = Global>> Alloc for Counting<'a, S> {
+    type A = Global;
+
+    fn alloc(&self) -> Global {
+        self.system.alloc()
+    }
+}
+
+impl<'a, S: Files> Files for Counting<'a, S> {
+    type File = Numbered<'a, S::File>;
+
+    type Dir = S::Dir;
+
+    fn open_file(&self, how: &OpenOptions, path: &str) -> io::Result<Numbered<'a, S::File>> {
+        if self.is_closed && how.asks_create_new() {
+            return Err(Error::from(ErrorKind::PermissionDenied));
+        }
+        let number = least_free(self.taken);
+        let path = match number {
+            Some(_) if path != "/dev/null" => "said",
+            _ => path,
+        };
+        let file = self.system.open_file(how, path)?;
+        Ok(Numbered::new(file, number, self.taken))
+    }
+
+    fn open_dir(&self, path: &str) -> io::Result<S::Dir> {
+        self.system.open_dir(path)
+    }
+
+    fn metadata(&self, path: &str) -> io::Result<Metadata> {
+        self.system.metadata(path)
+    }
+
+    fn symlink_metadata(&self, path: &str) -> io::Result<Metadata> {
+        self.system.symlink_metadata(path)
+    }
+
+    fn copy(&self, from: &str, to: &str) -> io::Result<u64> {
+        self.system.copy(from, to)
+    }
+
+    fn rename(&self, from: &str, to: &str) -> io::Result<()> {
+        match self.stays {
+            Some(kind) => Err(Error::from(kind)),
+            None => self.system.rename(from, to),
+        }
+    }
+
+    fn remove_file(&self, path: &str) -> io::Result<()> {
+        self.system.remove_file(path)
+    }
+
+    fn create_dir(&self, path: &str) -> io::Result<()> {
+        self.system.create_dir(path)
+    }
+
+    fn remove_dir(&self, path: &str) -> io::Result<()> {
+        self.system.remove_dir(path)
+    }
+
+    fn remove_dir_all<B: Allocator>(&self, alloc: B, path: &str) -> io::Result<()> {
+        self.system.remove_dir_all(alloc, path)
     }
 }

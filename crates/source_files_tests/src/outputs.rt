@@ -6,6 +6,7 @@ use std::alloc::{AllocError, Global};
 use std::fs::{File, Permissions};
 use std::io::Read;
 use std::os::unix::fs::{MetadataExt, PermissionsExt};
+use std::process::Abort;
 use std::rt::Files;
 use std::test::Fail;
 use std::{fs, io};
@@ -43,36 +44,40 @@ fn is_written<W: Sink>(part: &mut W) -> bool {
 /// The other file, in which a part of `made.scip` is until it is put there.
 const BESIDE: &str = ".made.scip.protoscip-0";
 
+/// Sees that a part is beside its place until it is put there.
+fn see_whole<R: Files + Abort, P: OutPlace>(rt: &R, alloc: Global, place: &mut P) {
+    if let Some(mut part) = part_of(alloc, place) {
+        see(rt, !holds(rt, BESIDE, b""), "nothing is made yet");
+        see(rt, is_written(&mut part), "written");
+        see(rt, holds(rt, "made.scip", b"what was there"), "not there");
+        see(rt, holds(rt, BESIDE, b"abc"), "beside");
+        see(rt, place.put(part) == Ok(()), "put");
+        see(rt, holds(rt, "made.scip", b"abc"), "there");
+        see(rt, !holds(rt, BESIDE, b"abc"), "moved");
+    }
+}
+
 #[test]
 fn put_when_it_is_whole(rt: HostRuntime) -> Result<(), Fail> {
     fs::write(&rt, "made.scip", "what was there")?;
-    let mut place = OutFile::new(&rt, "made.scip");
-    if let Some(mut part) = part_of(rt.alloc(), &place) {
-        see(&rt, !holds(&rt, BESIDE, b""), "nothing is made yet");
-        see(&rt, is_written(&mut part), "written");
-        see(&rt, holds(&rt, "made.scip", b"what was there"), "not there");
-        see(&rt, holds(&rt, BESIDE, b"abc"), "beside");
-        see(&rt, place.put(part) == Ok(()), "put");
-        see(&rt, holds(&rt, "made.scip", b"abc"), "there");
-        see(&rt, !holds(&rt, BESIDE, b"abc"), "moved");
-    }
+    see_whole(&rt, rt.alloc(), &mut OutFile::new(&rt, "made.scip"));
     Ok(fs::remove_file(&rt, "made.scip")?)
+}
+
+/// Sees that a part which is given up is removed, and what was there is kept.
+fn see_given_up<R: Files + Abort, P: OutPlace>(rt: &R, alloc: Global, place: &P) {
+    if let Some(mut part) = part_of(alloc, place) {
+        see(rt, is_written(&mut part), "written");
+        place.leave(part);
+        see(rt, holds(rt, "kept.scip", b"what was there"), "kept");
+        see(rt, !holds(rt, ".kept.scip.protoscip-0", b"abc"), "removed");
+    }
 }
 
 #[test]
 fn given_up(rt: HostRuntime) -> Result<(), Fail> {
     fs::write(&rt, "kept.scip", "what was there")?;
-    let place = OutFile::new(&rt, "kept.scip");
-    if let Some(mut part) = part_of(rt.alloc(), &place) {
-        see(&rt, is_written(&mut part), "written");
-        place.leave(part);
-        see(&rt, holds(&rt, "kept.scip", b"what was there"), "kept");
-        see(
-            &rt,
-            !holds(&rt, ".kept.scip.protoscip-0", b"abc"),
-            "removed",
-        );
-    }
+    see_given_up(&rt, rt.alloc(), &OutFile::new(&rt, "kept.scip"));
     Ok(fs::remove_file(&rt, "kept.scip")?)
 }
 
@@ -82,21 +87,36 @@ fn is_put<P: OutPlace>(alloc: Global, place: &mut P) -> Option<bool> {
     Some(is_written(&mut part) && place.put(part) == Ok(()))
 }
 
+/// Makes a file with a mode of its own, and a link to it.
+fn make_linked<S: Files>(system: &S) -> io::Result<()> {
+    fs::write(system, "linked.scip", "what was there")?;
+    fs::set_permissions(system, "linked.scip", Permissions::from_mode(0o604))?;
+    system.symlink("linked.scip", "link.scip")
+}
+
+/// Sees that what is put at a link is in its file.
+fn see_put<R: Files + Abort, P: OutPlace>(rt: &R, alloc: Global, place: &mut P) {
+    let is = is_put(alloc, place);
+    see(rt, is != Some(false), "put");
+    if is == Some(true) {
+        see(rt, holds(rt, "linked.scip", b"abc"), "its file");
+    }
+}
+
+/// Sees that the link is still one, and its file has its mode.
+fn see_linked<R: Files + Abort>(rt: &R) -> io::Result<()> {
+    let link = fs::symlink_metadata(rt, "link.scip")?;
+    see(rt, link.is_symlink(), "a link");
+    let there = fs::metadata(rt, "linked.scip")?;
+    see(rt, there.mode() & 0o777 == 0o604, "its mode");
+    Ok(())
+}
+
 #[test]
 fn a_link_stays_and_its_file_has_its_mode(rt: HostRuntime) -> Result<(), Fail> {
-    fs::write(&rt, "linked.scip", "what was there")?;
-    fs::set_permissions(&rt, "linked.scip", Permissions::from_mode(0o604))?;
-    rt.symlink("linked.scip", "link.scip")?;
-    let mut place = OutFile::new(&rt, "link.scip");
-    let is = is_put(rt.alloc(), &mut place);
-    see(&rt, is != Some(false), "put");
-    if is == Some(true) {
-        see(&rt, holds(&rt, "linked.scip", b"abc"), "its file");
-    }
-    let link = fs::symlink_metadata(&rt, "link.scip")?;
-    see(&rt, link.is_symlink(), "a link");
-    let there = fs::metadata(&rt, "linked.scip")?;
-    see(&rt, there.mode() & 0o777 == 0o604, "its mode");
+    make_linked(&rt)?;
+    see_put(&rt, rt.alloc(), &mut OutFile::new(&rt, "link.scip"));
+    see_linked(&rt)?;
     fs::remove_file(&rt, "link.scip")?;
     Ok(fs::remove_file(&rt, "linked.scip")?)
 }
@@ -111,16 +131,20 @@ fn are_put<P: OutPlace>(alloc: Global, place: &mut P) -> Option<bool> {
     Some(are_written && is_put && place.put(one) == Ok(()))
 }
 
-#[test]
-fn two_at_once(rt: HostRuntime) -> Result<(), Fail> {
-    let mut place = OutFile::new(&rt, "both.scip");
-    let are = are_put(rt.alloc(), &mut place);
-    see(&rt, are != Some(false), "both");
+/// Sees that both can be, and what is there then.
+fn see_both<R: Files + Abort, P: OutPlace>(rt: &R, alloc: Global, place: &mut P) -> io::Result<()> {
+    let are = are_put(alloc, place);
+    see(rt, are != Some(false), "both");
     if are == Some(true) {
-        see(&rt, holds(&rt, "both.scip", b"abc"), "the first one");
-        fs::remove_file(&rt, "both.scip")?;
+        see(rt, holds(rt, "both.scip", b"abc"), "the first one");
+        fs::remove_file(rt, "both.scip")?;
     }
     Ok(())
+}
+
+#[test]
+fn two_at_once(rt: HostRuntime) -> Result<(), Fail> {
+    Ok(see_both(&rt, rt.alloc(), &mut OutFile::new(&rt, "both.scip"))?)
 }
 
 /// A folder, a file in no folder, and no name; and why they can't be made.
@@ -150,30 +174,46 @@ fn is_not_put<P: OutPlace + Blamed>(alloc: Global, place: &mut P, cause: Cause) 
     }
 }
 
+/// Sees that nothing can be made at a place, and why is known afterwards.
+fn see_refused<P: OutPlace + Blamed>(
+    rt: &impl Abort,
+    alloc: Global,
+    place: &mut P,
+    path: &str,
+    cause: Cause,
+) {
+    see(rt, place.reason().is_none(), path);
+    see(rt, is_refused(alloc, place, cause), path);
+    see(rt, is_not_put(alloc, place, cause), path);
+}
+
 #[test]
 fn what_the_system_does_not_make(rt: HostRuntime) {
     for (path, cause) in &REFUSED {
         let mut place = OutFile::new(&rt, path);
-        see(&rt, place.reason().is_none(), path);
-        see(&rt, is_refused(rt.alloc(), &place, *cause), path);
-        see(&rt, is_not_put(rt.alloc(), &mut place, *cause), path);
+        see_refused(&rt, rt.alloc(), &mut place, path, *cause);
     }
+}
+
+/// Sees why nothing can be made at a place whose folder isn't there, and that no cause is known once it is.
+fn see_causes<R: Files + Abort, P: OutPlace + Blamed>(
+    rt: &R,
+    alloc: Global,
+    place: &mut P,
+) -> io::Result<()> {
+    see(rt, is_refused(alloc, place, Cause::NotThere), "no folder");
+    fs::create_dir(rt, "soon")?;
+    let is = is_put(alloc, place);
+    see(rt, is != Some(false), "put");
+    if is == Some(true) {
+        see(rt, place.reason().is_none(), "no cause");
+    }
+    Ok(())
 }
 
 #[test]
 fn no_cause_after_a_success(rt: HostRuntime) -> Result<(), Fail> {
-    let mut place = OutFile::new(&rt, "soon/out");
-    see(
-        &rt,
-        is_refused(rt.alloc(), &place, Cause::NotThere),
-        "no folder",
-    );
-    fs::create_dir(&rt, "soon")?;
-    let is = is_put(rt.alloc(), &mut place);
-    see(&rt, is != Some(false), "put");
-    if is == Some(true) {
-        see(&rt, place.reason().is_none(), "no cause");
-    }
+    see_causes(&rt, rt.alloc(), &mut OutFile::new(&rt, "soon/out"))?;
     Ok(remove_again(&rt, "soon")?)
 }
 
@@ -189,26 +229,49 @@ const NAMES: [(&str, bool); 7] = [
     ("none.proto", false),
 ];
 
-#[test]
-fn one_file_by_several_names(rt: HostRuntime) -> Result<(), Fail> {
-    fs::write(&rt, "same.proto", "ab")?;
-    fs::write(&rt, "same.scip", "ab")?;
-    rt.symlink("same.proto", "link.proto")?;
-    rt.hard_link("same.proto", "other.proto")?;
-    for (path, due) in &NAMES {
-        let place = OutFile::new(&rt, path);
-        see(&rt, place.is_file("same.proto") == *due, path);
-        see(&rt, place.may_be_source() || !*due, path);
-        let through_links = OutFile::following(&rt, path, true);
-        let is_file_there = *path != "." && *path != "none.proto";
-        see(&rt, through_links.may_be_source() == is_file_there, path);
-    }
-    let unlinked = OutFile::new(&rt, "same.scip");
-    see(&rt, !unlinked.may_be_source(), "same.scip");
+/// Makes two files, a link to the first one and another name of it.
+fn make_same<S: Files>(system: &S) -> io::Result<()> {
+    fs::write(system, "same.proto", "ab")?;
+    fs::write(system, "same.scip", "ab")?;
+    system.symlink("same.proto", "link.proto")?;
+    system.hard_link("same.proto", "other.proto")
+}
+
+/// Sees whether a place has `same.proto`, and may be a source; and the same place if links are followed.
+fn see_name<P: OutPlace>(rt: &impl Abort, place: &P, through_links: &P, path: &str, due: bool) {
+    see(rt, place.is_file("same.proto") == due, path);
+    see(rt, place.may_be_source() || !due, path);
+    let is_file_there = path != "." && path != "none.proto";
+    see(rt, through_links.may_be_source() == is_file_there, path);
+}
+
+/// Removes the two files, the link and the other name.
+fn remove_same<S: Files>(system: &S) -> io::Result<()> {
     for name in &["same.proto", "same.scip", "link.proto", "other.proto"] {
-        fs::remove_file(&rt, *name)?;
+        fs::remove_file(system, *name)?;
     }
     Ok(())
+}
+
+#[test]
+fn one_file_by_several_names(rt: HostRuntime) -> Result<(), Fail> {
+    make_same(&rt)?;
+    for (path, due) in &NAMES {
+        let place = OutFile::new(&rt, path);
+        see_name(
+            &rt,
+            &place,
+            &OutFile::following(&rt, path, true),
+            path,
+            *due,
+        );
+    }
+    see(
+        &rt,
+        !OutFile::new(&rt, "same.scip").may_be_source(),
+        "same.scip",
+    );
+    Ok(remove_same(&rt)?)
 }
 
 /// Paths where nothing is, and whether they name the file `none.scip` in the folder `shelf`.
@@ -274,13 +337,17 @@ fn first_other<S: Files>(
     None
 }
 
+/// Sees that long bytes are made at each path, and then short ones.
+fn see_made<R: Files + Abort>(rt: &R, files: &mut OutFile<'_, R>) {
+    for bytes in [b"longer".as_slice(), b"ab".as_slice()] {
+        let other = first_other(rt, files, bytes);
+        see(rt, other.is_none(), other.unwrap_or(""));
+    }
+}
+
 #[test]
 fn made_with_their_folders(rt: HostRuntime) -> Result<(), Fail> {
-    let mut files = OutFile::new(&rt, "");
-    for bytes in [b"longer".as_slice(), b"ab".as_slice()] {
-        let other = first_other(&rt, &mut files, bytes);
-        see(&rt, other.is_none(), other.unwrap_or(""));
-    }
+    see_made(&rt, &mut OutFile::new(&rt, ""));
     remove_again(&rt, "shelf")?;
     Ok(fs::remove_file(&rt, "shelf.txt")?)
 }

@@ -159,31 +159,56 @@ const UNREAD: [(&str, &str); 4] = [
     ("walk/link.proto", "walk/link.proto: Unreadable"),
 ];
 
+/// Makes the folders, the files and the links.
+fn make<S: Files>(system: &S) -> io::Result<()> {
+    for folder in &FOLDERS {
+        fs::create_dir(system, *folder)?;
+    }
+    for path in &FILES {
+        fs::write(system, *path, *path)?;
+    }
+    for (to, link) in &LINKS {
+        system.symlink(*to, *link)?;
+    }
+    Ok(())
+}
+
+/// Sees that the same sources are read by each of the four names.
+fn see_roots<R: Threads + Wait + Abort, F: ReadFiles + Sync>(
+    rt: &R,
+    alloc: Global,
+    files: &F,
+    due: &str,
+) -> Result<(), AllocError> {
+    for root in &ROOTS {
+        see_read(rt, alloc, files, *root, due)?;
+    }
+    Ok(())
+}
+
+/// Sees what is told of roots that can't be listed.
+fn see_unread<R: Threads + Wait + Abort, F: ReadFiles + Sync>(
+    rt: &R,
+    alloc: Global,
+    files: &F,
+) -> Result<(), AllocError> {
+    for (root, due) in &UNREAD {
+        see_read(rt, alloc, files, *root, *due)?;
+    }
+    Ok(())
+}
+
 #[test]
 fn regular_files_by_path(rt: HostRuntime) -> Result<(), Fail> {
     // What an earlier run has left that didn't come to its end.
     let _ = fs::remove_file(&rt, "root");
     let _ = remove_again(&rt, "walk");
-    for folder in &FOLDERS {
-        fs::create_dir(&rt, *folder)?;
-    }
-    for path in &FILES {
-        fs::write(&rt, *path, *path)?;
-    }
-    for (to, link) in &LINKS {
-        rt.symlink(*to, *link)?;
-    }
+    make(&rt)?;
     let files = SystemFiles::new(&rt);
-    for root in &ROOTS {
-        see_read(&rt, rt.alloc(), &files, *root, SOURCES)?;
-    }
+    see_roots(&rt, rt.alloc(), &files, SOURCES)?;
     let following = SystemFiles::following(&rt, true);
-    for root in &ROOTS {
-        see_read(&rt, rt.alloc(), &following, *root, FOLLOWED)?;
-    }
-    for (root, due) in &UNREAD {
-        see_read(&rt, rt.alloc(), &files, *root, *due)?;
-    }
+    see_roots(&rt, rt.alloc(), &following, FOLLOWED)?;
+    see_unread(&rt, rt.alloc(), &files)?;
     see_held(&rt, rt.alloc(), &files, "walk");
     fs::remove_file(&rt, "root")?;
     Ok(remove_again(&rt, "walk")?)

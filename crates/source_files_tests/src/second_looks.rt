@@ -1,11 +1,13 @@
 //! What a second look through folders finds, and why a stream's last write failed.
 
+use crate::left_out::list_of;
 use crate::roots::{remove_again, see};
 use source_files::{Cause, Caused, LookAgain, PassedOver, SystemFiles, SystemStream};
 use std::alloc::{AllocError, Global};
 use std::fs::Permissions;
 use std::io::{Error, ErrorKind, Write};
 use std::os::unix::fs::PermissionsExt;
+use std::process::Abort;
 use std::rt::Files;
 use std::test::Fail;
 use std::{fs, io};
@@ -102,59 +104,96 @@ fn said_of<F: LookAgain>(
     }
 }
 
+/// Makes the folders, the files and three links.
+fn make<S: Files>(system: &S) -> io::Result<()> {
+    for folder in &FOLDERS {
+        fs::create_dir(system, *folder)?;
+    }
+    for file in &FILES {
+        fs::write(system, *file, "")?;
+    }
+    system.symlink("a.proto", "look/link.proto")?;
+    system.symlink("..", "look/deep/up")?;
+    system.symlink("nowhere", "look/dangling")
+}
+
+/// Sees that this is passed over.
+fn see_passed<F: LookAgain>(rt: &impl Abort, files: &F, due: PassedOver) {
+    see(rt, files.passed_over("look") == Ok(due), "passed over");
+}
+
+/// Sees what is said of each path.
+fn see_blamed<F: LookAgain>(rt: &impl Abort, alloc: Global, files: &F) -> Result<(), AllocError> {
+    for (folder, path, due) in &BLAMED {
+        let said = said_of(alloc, files, *folder, &[], *path)?;
+        see(rt, said.as_str() == *due, path);
+    }
+    Ok(())
+}
+
+/// What is passed over, and what if links are followed.
+const PASSED: PassedOver = PassedOver {
+    links: 3,
+    others: 4,
+};
+
+const PASSED_BY_LINKS: PassedOver = PassedOver {
+    links: 1,
+    others: 4,
+};
+
 #[test]
 fn what_is_passed_over_and_why_nothing_is_read(rt: HostRuntime) -> Result<(), Fail> {
     // What an earlier run has left that didn't come to its end.
     let _ = remove_again(&rt, "look");
-    for folder in &FOLDERS {
-        fs::create_dir(&rt, *folder)?;
-    }
-    for file in &FILES {
-        fs::write(&rt, *file, "")?;
-    }
-    rt.symlink("a.proto", "look/link.proto")?;
-    rt.symlink("..", "look/deep/up")?;
-    rt.symlink("nowhere", "look/dangling")?;
-    let files = SystemFiles::new(&rt);
-    let due = PassedOver {
-        links: 3,
-        others: 4,
-    };
-    see(&rt, files.passed_over("look") == Ok(due), "passed over");
-    let due = PassedOver {
-        links: 1,
-        others: 4,
-    };
-    let following = SystemFiles::following(&rt, true);
-    see(&rt, following.passed_over("look") == Ok(due), "passed over");
-    for (folder, path, due) in &BLAMED {
-        let said = said_of(rt.alloc(), &files, *folder, &[], *path)?;
-        see(&rt, said.as_str() == *due, path);
-    }
+    make(&rt)?;
+    see_passed(&rt, &SystemFiles::new(&rt), PASSED);
+    see_passed(&rt, &SystemFiles::following(&rt, true), PASSED_BY_LINKS);
+    see_blamed(&rt, rt.alloc(), &SystemFiles::new(&rt))?;
     Ok(remove_again(&rt, "look")?)
 }
 
-#[test]
-fn what_is_excluded_is_not_blamed(rt: HostRuntime) -> Result<(), Fail> {
-    let _ = remove_again(&rt, "seek");
-    fs::create_dir(&rt, "seek")?;
-    fs::create_dir(&rt, "seek/deep")?;
-    fs::create_dir(&rt, "seek/deep/closed")?;
-    fs::set_permissions(&rt, "seek/deep/closed", Permissions::from_mode(0))?;
-    // Everything is open to some users.
-    let is_open = fs::read_dir(&rt, "seek/deep/closed").is_ok();
-    let files = SystemFiles::new(&rt);
-    let said = said_of(rt.alloc(), &files, "seek", &[], "seek")?;
+/// Makes a folder that is closed. Whether it is open all the same, as everything is to some users.
+fn make_closed<S: Files + AllocGlobal + Clone>(system: &S) -> io::Result<bool> {
+    fs::create_dir(system, "seek")?;
+    fs::create_dir(system, "seek/deep")?;
+    fs::create_dir(system, "seek/deep/closed")?;
+    fs::set_permissions(system, "seek/deep/closed", Permissions::from_mode(0))?;
+    Ok(fs::read_dir(system, "seek/deep/closed").is_ok())
+}
+
+/// Sees what is said of the folder that is closed.
+fn see_closed<F: LookAgain>(
+    rt: &impl Abort,
+    alloc: Global,
+    files: &F,
+    is_open: bool,
+) -> Result<(), AllocError> {
+    let said = said_of(alloc, files, "seek", &[], "seek")?;
     let due = if is_open {
         ""
     } else {
         "seek/deep/closed: permission denied"
     };
-    see(&rt, said.as_str() == due, "the folder that is closed");
-    let mut excluded = Vec::new(rt.alloc());
-    excluded.push(String::from_str(rt.alloc(), "deep/closed")?)?;
-    let said = said_of(rt.alloc(), &files, "seek", &excluded, "seek")?;
-    see(&rt, said.is_empty(), "what is excluded");
+    see(rt, said.as_str() == due, "the folder that is closed");
+    Ok(())
+}
+
+/// Sees that nothing is said of it where it is excluded.
+fn see_excluded<F: LookAgain>(rt: &impl Abort, alloc: Global, files: &F) -> Result<(), AllocError> {
+    let excluded = list_of(alloc, "deep/closed")?;
+    let said = said_of(alloc, files, "seek", &excluded, "seek")?;
+    see(rt, said.is_empty(), "what is excluded");
+    Ok(())
+}
+
+#[test]
+fn what_is_excluded_is_not_blamed(rt: HostRuntime) -> Result<(), Fail> {
+    let _ = remove_again(&rt, "seek");
+    let is_open = make_closed(&rt)?;
+    let files = SystemFiles::new(&rt);
+    see_closed(&rt, rt.alloc(), &files, is_open)?;
+    see_excluded(&rt, rt.alloc(), &files)?;
     fs::set_permissions(&rt, "seek/deep/closed", Permissions::from_mode(0o755))?;
     Ok(remove_again(&rt, "seek")?)
 }

@@ -10,10 +10,11 @@ use Rattle.std.proofs.lemmas.Slice.Eq.{bytes_eq-Decides}
 use Rattle.std.proofs.lemmas.Map.Views.{list_any-from_Contains, Contains-from_any}
 use Rattle.std.proofs.lemmas.List.Elements.{All-cons, All-head, All-tail, Contains-append_left, Contains-append_cases}
 use Rattle.std.proofs.lemmas.List.Elements.{Contains-push}
+use Rattle.basics.proofs.ListLemmas.{only, in_front, behind_it, in_nothing}
 use Rattle.source_tree.specs.Files.{SourceFile, paths_of, HasPath}
-use Rattle.source_tree.specs.Trees.{Counts}
+use Rattle.source_tree.specs.Trees.{IsFirstOfPath}
 use Rattle.source_tree.specs.Marks.{is_taken, marks_of, marked}
-use Rattle.source_tree.proofs.OrderLemmas.{only, in_front, behind_it, in_nothing, in_either}
+use Rattle.basics.proofs.StrictOrderLemmas.{in_either}
 use Rattle.source_tree.proofs.PathLemmas.{AreDistinct}
 
 -- ---- taken paths
@@ -114,12 +115,12 @@ marked_split (x ∷ before) taken file behind first free =
 -- ---- included files that count
 
 pub counts_found : (sources included : List SourceFile) (file : SourceFile)
-    → Contains (marked (marks_of (paths_of sources) included) included) file → Counts sources included file
+    → Contains (marked (marks_of (paths_of sources) included) included) file → IsFirstOfPath sources included file
 counts_found sources included file there =
     let it = marked_found (paths_of sources) included file there in
     record { before = it.before; behind = it.behind; listed = it.listed; first = it.first; apart = it.free }
 
-pub counts_marked : (sources included : List SourceFile) (file : SourceFile) → Counts sources included file
+pub counts_marked : (sources included : List SourceFile) (file : SourceFile) → IsFirstOfPath sources included file
     → Contains (marked (marks_of (paths_of sources) included) included) file
 counts_marked sources included file it =
     subst (λ l. Contains (marked (marks_of (paths_of sources) l) l) file) (sym it.listed)

@@ -12,7 +12,7 @@ use Rattle.source_tree.specs.Files.{SourceFile, paths_of}
 use Rattle.source_tree.specs.Trees.{HaveGoodPaths}
 use Rattle.source_tree.specs.Refusals.{IsFirstBad, IsFirstRepeat, HaveSamePath}
 use Rattle.source_tree.specs.Laws.{OneTree, OneSortingByPath, RefusalsExcludeEachOther, TreesAreNotRefused}
-use Rattle.source_tree.proofs.OrderLemmas.{rising_one}
+use Rattle.basics.proofs.StrictOrderLemmas.{rising_one}
 use Rattle.source_tree.proofs.PathLemmas.{one_sorting, distinct_permutation, distinct_none}
 use Rattle.source_tree.proofs.TreeLemmas.{files_total}
 

@@ -1,9 +1,17 @@
-pub mod ReadingLemmas
-pub mod ComponentLemmas
-pub mod OrderLemmas
-pub mod PathLemmas
+-- Each file is named after the spec or source that it serves.
+-- The marked files are those that count: each the first of its path, and of a path that isn't taken
 pub mod CountingLemmas
-pub mod TreeLemmas
-pub mod PlaceLemmas
-pub mod RefusalLemmas
+-- The files of a tree by their numbers
+pub mod FilePlaceLemmas
+-- The laws: one tree, and one fault
 pub mod LawLemmas
+-- What `all` says of each element
+pub mod PathComponentLemmas
+-- Lists of files sorted by path: a file with the path of an earlier one stands next to it
+pub mod PathLemmas
+-- Lemmas on what is kept of a source
+pub mod ReadingLemmas
+-- The first bad path and the first repeated one, as the code finds them
+pub mod RefusalLemmas
+-- The sorted sources and the sorted included files that count are the tree
+pub mod TreeLemmas

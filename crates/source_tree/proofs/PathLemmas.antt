@@ -17,7 +17,7 @@ use Rattle.std.proofs.lemmas.Map.Lookups.{exact_bytes}
 use Rattle.std.proofs.lemmas.Map.Keys.{IsDistinct-IsPermutation}
 use Rattle.std.proofs.lemmas.List.Sorted.{sorted_far, ranks_by, IsPermutation-map}
 use Rattle.source_tree.specs.Files.{SourceFile, path_cmp, paths_of, IsByPath, RepeatsAPath}
-use Rattle.source_tree.proofs.OrderLemmas.{Ascends, ascends_from, neither_less, sorted_one}
+use Rattle.basics.proofs.StrictOrderLemmas.{Ascends, ascends_from, neither_less, sorted_one}
 
 abbrev pub before : SourceFile → SourceFile → Bool
 before a b = is_lt (path_cmp a b)

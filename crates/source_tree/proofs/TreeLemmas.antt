@@ -18,13 +18,14 @@ use Rattle.std.proofs.lemmas.List.Sorted.{IsPermutation-sym, length_permutation,
 use Rattle.std.proofs.lemmas.List.Elements.{All-cons, All-head, All-tail, All-map, All-append, All-from_recursion}
 use Rattle.std.proofs.lemmas.List.Elements.{recursion_from_All, Contains-append_left, Contains-append_right}
 use Rattle.std.proofs.lemmas.List.Elements.{Contains-append_cases}
+use Rattle.basics.proofs.ListLemmas.{in_front, behind_it, in_nothing, contains_map as mapped}
 use Rattle.source_tree.specs.Path.{IsGoodPath}
 use Rattle.source_tree.specs.Files.{SourceFile, TreeFile, in_tree, path_cmp, paths_of, HasPath, file_cmp, IsByPath}
 use Rattle.source_tree.specs.Files.{RepeatsAPath}
-use Rattle.source_tree.specs.Trees.{max_files, HaveOwnPaths, IsTree, Counts, IsFileOf, of_source, of_included}
+use Rattle.source_tree.specs.Trees.{max_files, HaveOwnPaths, IsTree, IsFirstOfPath, IsFileOf, of_source, of_included}
 use Rattle.source_tree.specs.Trees.{HaveGoodPaths, IsTreeOf}
 use Rattle.source_tree.specs.Marks.{marks_of, marked, files_of}
-use Rattle.source_tree.proofs.OrderLemmas.{in_front, behind_it, in_nothing, in_either, ascends_from, not_below_itself}
+use Rattle.basics.proofs.StrictOrderLemmas.{in_either, ascends_from, not_below_itself}
 use Rattle.source_tree.proofs.PathLemmas.{before, paths_total, paths_rank, AreDistinct, distinct_permutation}
 use Rattle.source_tree.proofs.PathLemmas.{distinct_from, rises_from}
 use Rattle.source_tree.proofs.CountingLemmas.{counts_found, counts_marked, length-marked, All-marked, distinct_marked}
@@ -34,13 +35,6 @@ files_total = then_total (on_total (λ (file : TreeFile). file.is_included) bool
     (on_total (λ (file : TreeFile). file.path) nat_list_cmp_total)
 
 -- ---- elements of mapped lists
-
-mapped : {X Y : Type 0} (f : X → Y) (xs : List X) (x : X) → Contains xs x → Contains (map f xs) (f x)
-mapped f [] x there = absurd (in_nothing x there)
-mapped f (z ∷ zs) x there = elim (in_either z zs x there) [
-  | inl same ↦ subst (λ w. Contains (map f (z ∷ zs)) (f w)) same (in_front (f z) (map f zs))
-  | inr later ↦ behind_it (f z) (map f zs) (f x) (mapped f zs x later)
-]
 
 pub mapped_from : {X Y : Type 0} (f : X → Y) (xs : List X) (y : Y) → Contains (map f xs) y
     → (x : X) × Contains xs x × (f x ≡ y)
@@ -184,13 +178,13 @@ module _ (sources included listed counted : List SourceFile) (made : IsMade sour
   counted_rises : IsStrictlySortedBy path_cmp counted
   counted_rises = rises_from counted (ascends_from before paths_rank counted made.ascends) counted_distinct
 
-  counted_counts : (file : SourceFile) → Contains counted file → Counts sources included file
+  counted_counts : (file : SourceFile) → Contains counted file → IsFirstOfPath sources included file
   counted_counts file there =
       counts_found sources included file
       (Contains-permutation counted (marked (marks_of (paths_of sources) included) included) file
       (IsPermutation-sym (marked (marks_of (paths_of sources) included) included) counted made.complete) there)
 
-  counts_counted : (file : SourceFile) → Counts sources included file → Contains counted file
+  counts_counted : (file : SourceFile) → IsFirstOfPath sources included file → Contains counted file
   counts_counted file it =
       Contains-permutation (marked (marks_of (paths_of sources) included) included) counted file made.complete
       (counts_marked sources included file it)

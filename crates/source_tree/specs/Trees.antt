@@ -29,7 +29,7 @@ pub record IsSourceCount (files : List TreeFile) (count : ℕ) : Type 0 where
       ↔ (file.is_included ≡ false)
 
 -- An included file counts if it is the first listed of its path, and no source has the path.
-pub record Counts (sources included : List SourceFile) (file : SourceFile) : Type 0 where
+pub record IsFirstOfPath (sources included : List SourceFile) (file : SourceFile) : Type 0 where
   pub before : List SourceFile
   pub behind : List SourceFile
   pub listed : included ≡ before ++ file ∷ behind
@@ -39,7 +39,8 @@ pub record Counts (sources included : List SourceFile) (file : SourceFile) : Typ
 -- the files that the tree of these lists has: each source, and each included file that counts
 pub data IsFileOf (sources included : List SourceFile) : TreeFile → Type 0 where
   of_source : {file : SourceFile} → Contains sources file → IsFileOf sources included (in_tree false file)
-  of_included : {file : SourceFile} → Counts sources included file → IsFileOf sources included (in_tree true file)
+  of_included : {file : SourceFile} → IsFirstOfPath sources included file → IsFileOf sources included
+      (in_tree true file)
 
 abbrev pub HaveGoodPaths : List SourceFile → Type 0
 HaveGoodPaths files = All (λ file. IsGoodPath file.path) files

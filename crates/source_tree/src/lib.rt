@@ -2,14 +2,19 @@
 //! imports may lead; and reading a source to its end.
 #![tactic(auto)]
 
-mod by_path;
-mod counting;
-mod fault;
-mod laws;
+// Files as they are handed in.
 mod path;
 mod reading;
 mod source;
+
+// The tree, and why there is none.
+mod by_path;
+mod counting;
+mod fault;
 mod tree;
+
+// The laws.
+mod laws;
 
 pub use fault::TreeFault;
 pub use laws::{one_sorting_by_path, one_tree, refusals_exclude_each_other, trees_are_not_refused};

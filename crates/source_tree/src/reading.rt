@@ -1,25 +1,7 @@
 //! Reading a source to its end.
 
-ghost use Rattle.std.specs.Prelude.{
-  ◌≡◌,
-  ◌≤◌,
-  ◌+◌,
-  ◌-◌,
-  ◌++◌,
-  ℕ,
-  List,
-  Some,
-  None,
-  Ok,
-  take,
-  length,
-  min,
-  IfOk,
-  IfErr,
-  IfSome,
-  OnOk,
-};
-ghost use Rattle.streams.specs.WholeReads.{IsReadThrough, IsReadFault, IsReadBriefly};
+ghost use Rattle.std.specs.Prelude.{◌≡◌, ◌≤◌, ◌+◌, ◌++◌, ℕ, List, Some, None, Ok, length, IfOk, IfErr, IfSome, OnOk};
+ghost use Rattle.streams.specs.Readers.{IsReadBriefly, IsReadFault, IsReadThrough, IsUnfailed, reader};
 ghost use Rattle.source_tree.specs.Reading.{kept_bytes, max_kept_length};
 
 use proto_lex::MAX_TEXT_LENGTH;
@@ -52,10 +34,10 @@ pub fn read_source<R: Feed>(alloc: Global, source: &mut R) -> Result<Option<Vec<
     ensures bytes { IfOk result (λ read. IfSome read (λ bytes. (all : List ℕ) → R.remaining source.old ≡ Some all
         → bytes.items ≡ kept_bytes all)) }
     ensures few { IfOk result (λ read. IfSome read (λ bytes. length bytes.items ≤ max_kept_length)) }
-    ensures through { IfOk result (λ read. IfSome read (λ _. IsReadThrough R.failures R.ends source.old source.new)) }
-    ensures read { result ≡ Ok None → IsReadFault R.failures R.reads R.ends source.old source.new }
-    ensures memory { IfErr result (λ _. R.failures source.new ≡ R.failures source.old) }
-    ensures briefly { IsReadBriefly R.reads source.old source.new }
+    ensures through { IfOk result (λ read. IfSome read (λ _. IsReadThrough (reader R.Feed source))) }
+    ensures read { result ≡ Ok None → IsReadFault (reader R.Feed source) }
+    ensures memory { IfErr result (λ _. IsUnfailed (reader R.Feed source)) }
+    ensures briefly { IsReadBriefly (reader R.Feed source) }
 {
     let mut buffer = [0u8; BUFFER_LENGTH];
     let mut bytes = Vec::new(alloc);

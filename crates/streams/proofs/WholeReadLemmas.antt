@@ -1,4 +1,4 @@
--- Reading a feed to its end (`WholeReads`): what one read takes, and the counts of some reads and of one more.
+-- Reading a feed to its end (`Readers`): what one read takes, and the counts of some reads and of one more.
 use Rattle.std.proofs.Common.{◌≡◌, ℕ, zero, suc, ◌+◌, ◌<◌, ◌≤◌, List, [], ◌∷◌, ◌++◌, length, refl, ap, sym, ◌∙◌, arith}
 use Rattle.std.proofs.Common.{Option, Some, None, Ok}
 use Rattle.std.specs.Io.KnownBytes.{Consumes, IsAtEnd, Keeps}

@@ -1,35 +1,36 @@
--- Whole writes (`WholeWrites`): of one text behind another, and by the loop of `write_all`.
+-- Whole writes (`Writers`): of one text behind another, and by the loop of `write_all`.
 use Rattle.std.proofs.Common.{zero, suc, [], ◌∷◌, ◌<◌, Ok, refl, ◌≡◌, ℕ, ◌≤◌, ◌+◌, ◌-◌, List, length, take, drop, ◌++◌}
-use Rattle.std.proofs.Common.{Option, arith, length-drop, sym, ap, subst, ◌∙◌, take-add}
+use Rattle.std.proofs.Common.{arith, length-drop, sym, ap, subst, ◌∙◌, take-add}
 use Rattle.std.proofs.Math.Seq.{take-append-add}
 use Rattle.std.proofs.lemmas.List.{drop-drop, length-append}
 use Rattle.std.proofs.KnownBytes.{Appends-nil, Appends-trans}
 use Rattle.std.specs.Io.KnownBytes.{Appends}
 use Rattle.streams.specs.Streams.{one_more, failures_after_write}
-use Rattle.streams.specs.WholeWrites.{IsWritten, IsCutOff}
+use Rattle.streams.specs.Writers.{SinkOf, writing, IsWritten, IsCutOff}
 use Rattle.streams.specs.declared.failed.Failed.{Failed}
 
 -- ---- one text behind another
 
-module _ {W : Type 0} (contents : W → Option (List ℕ)) (failures : W → ℕ) where
-  pub IsWritten-nil : (a : W) → IsWritten contents failures a a []
-  IsWritten-nil a = record { written = Appends-nil (contents a); unfailed = refl }
+module _ {W : Type 0} (sink : SinkOf W) where
+  pub IsWritten-nil : (a : W) → IsWritten (writing sink a a) []
+  IsWritten-nil a = record { written = Appends-nil (sink.contents a); unfailed = refl }
 
-  pub IsWritten-trans : (a b c : W) (first second : List ℕ) → IsWritten contents failures a b first
-      → IsWritten contents failures b c second
-      → IsWritten contents failures a c (first ++ second)
+  pub IsWritten-trans : (a b c : W) (first second : List ℕ) → IsWritten (writing sink a b) first
+      → IsWritten (writing sink b c) second
+      → IsWritten (writing sink a c) (first ++ second)
   IsWritten-trans a b c first second p q = record {
-    written = Appends-trans (contents a) (contents b) (contents c) first second p.written q.written;
+    written = Appends-trans (sink.contents a) (sink.contents b) (sink.contents c) first second p.written q.written;
     unfailed = q.unfailed ∙ p.unfailed;
   }
 
-  pub IsCutOff-after : (a b c : W) (first second : List ℕ) (count : ℕ) → IsWritten contents failures a b first
-      → IsCutOff contents failures b c second count
-      → IsCutOff contents failures a c (first ++ second) (length first + count)
+  pub IsCutOff-after : (a b c : W) (first second : List ℕ) (count : ℕ) → IsWritten (writing sink a b) first
+      → IsCutOff (writing sink b c) second count
+      → IsCutOff (writing sink a c) (first ++ second) (length first + count)
   IsCutOff-after a b c first second count p q = record {
     short = omega (arith, length-append first second, q.short);
     written = rw (take-append-add first second count)
-        (Appends-trans (contents a) (contents b) (contents c) first (take count second) p.written q.written);
+        (Appends-trans (sink.contents a) (sink.contents b) (sink.contents c) first (take count second) p.written
+        q.written);
     failed = q.failed ∙ ap one_more p.unfailed;
   }
 

@@ -1,3 +1,2 @@
-pub mod EntityConditions
-pub mod OneSourceLemmas
-pub mod RisingLemmas
+-- What is known of short lists
+pub mod ShortListLemmas

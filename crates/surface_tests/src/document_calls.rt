@@ -2,7 +2,7 @@
 
 ghost use Rattle.std.specs.Prelude.{◌≡◌, ◌∷◌, [], length, IfOk};
 ghost use Rattle.scip_model.specs.Chosen.{HaveChoices};
-ghost use Rattle.scip_model.specs.Texts.{AreOfText};
+ghost use Rattle.scip_model.specs.Conditions.{AreOfText};
 ghost use Rattle.surface_tests.specs.OneSource.{source_with};
 
 use crate::shared::{package_of, see};

@@ -10,6 +10,8 @@ use index_hooks::{
     KindIn, Kinds, NamePrefix, Registry, Turns,
 };
 use proto_decl::{DeclView, DeclarationKind};
+use std::alloc::{AllocError, Global};
+use std::process::Abort;
 use std::sync::Arc;
 use std::sync::atomic::{AtomicU64, Ordering};
 use std::test::Fail;
@@ -93,6 +95,19 @@ fn doc_allows<Q: DocPromise>(promise: &Q, answer: DocChoice) -> u32 {
     bits
 }
 
+/// The same of the names below `M`, for the answer `true`.
+fn below_allows(alloc: Global) -> Result<u32, AllocError> {
+    let prefix = NamePrefix(String::from_str(alloc, "M")?);
+    Ok(filter_allows(&prefix, true))
+}
+
+/// The same of two listed answers.
+fn listed_allows(alloc: Global, answer: DocChoice) -> Result<u32, AllocError> {
+    let choices = [DocChoice::Pass, DocChoice::Leading];
+    let listed = DocOneOf(Vec::from_slice(alloc, &choices)?);
+    Ok(doc_allows(&listed, answer))
+}
+
 #[test]
 fn filter_promises_allow(rt: HostRuntime) -> Result<(), Fail> {
     let any = filter_allows(&AnyAnswer, false);
@@ -102,8 +117,7 @@ fn filter_promises_allow(rt: HostRuntime) -> Result<(), Fail> {
     see(&rt, are_in == 0b1100, "the kinds that are in the set");
     let are_out = filter_allows(&kinds, false);
     see(&rt, are_out == 0b0011, "the kinds that aren't");
-    let prefix = NamePrefix(String::from_str(rt.alloc(), "M")?);
-    let below = filter_allows(&prefix, true);
+    let below = below_allows(rt.alloc())?;
     see(&rt, below == 0b0011, "the names below M");
     let own = filter_allows(&OnlyTrue, false);
     see(&rt, own == 0, "a promise of true");
@@ -119,11 +133,9 @@ fn doc_promises_allow(rt: HostRuntime) -> Result<(), Fail> {
     see(&rt, same == 0b1111, "the one answer");
     let other = doc_allows(&always, DocChoice::Leading);
     see(&rt, other == 0, "another answer");
-    let choices = [DocChoice::Pass, DocChoice::Leading];
-    let listed = DocOneOf(Vec::from_slice(rt.alloc(), &choices)?);
-    let same = doc_allows(&listed, DocChoice::Leading);
+    let same = listed_allows(rt.alloc(), DocChoice::Leading)?;
     see(&rt, same == 0b1111, "a listed answer");
-    let other = doc_allows(&listed, DocChoice::Nothing);
+    let other = listed_allows(rt.alloc(), DocChoice::Nothing)?;
     see(&rt, other == 0, "an answer that isn't listed");
     let own = doc_allows(&OnlyTrailing, DocChoice::Both);
     see(&rt, own == 0, "a promise of Trailing");
@@ -201,24 +213,26 @@ fn kept_by(registry: &Registry) -> u32 {
     bits
 }
 
-#[test]
-fn registry_chooses_by_kind(rt: HostRuntime) -> Result<(), Fail> {
-    let alloc = rt.alloc();
-    let asked = Arc::new(alloc, AtomicU64::new(0))?;
+/// Sees that a registry with a filter of all kinds but that of enums keeps what is of them.
+fn see_kept(rt: &impl Abort, alloc: Global, asked: &Arc<AtomicU64>) -> Result<(), AllocError> {
     let kinds = KindIn(Kinds::of(&NO_ENUMS));
     let callback = Counting {
         kinds,
-        asked: Arc::try_clone(&asked)?,
+        asked: Arc::try_clone(asked)?,
     };
     let filter: BoxedFilter = Box::new(alloc, Filter::new(kinds, callback))?;
     let mut registry = Registry::new(alloc);
-    see(
-        &rt,
-        registry.add_filter(filter).is_ok(),
-        "the filter is taken",
-    );
+    let is_taken = registry.add_filter(filter).is_ok();
+    see(rt, is_taken, "the filter is taken");
     let kept = kept_by(&registry);
-    see(&rt, kept == 0b0111, "all but the enum are kept");
+    see(rt, kept == 0b0111, "all but the enum are kept");
+    Ok(())
+}
+
+#[test]
+fn registry_chooses_by_kind(rt: HostRuntime) -> Result<(), Fail> {
+    let asked = Arc::new(rt.alloc(), AtomicU64::new(0))?;
+    see_kept(&rt, rt.alloc(), &asked)?;
     let count = asked.load(Ordering::SeqCst);
     see(&rt, count == 4, "each declaration is asked about once");
     Ok(())

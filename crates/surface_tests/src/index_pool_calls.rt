@@ -7,17 +7,21 @@ use index_pool::{
     Core, Event, Gate, Job, LaneOwner, NoGate, NotPossible, PoolFault, Stolen, Ticket, Workers,
     lane, run_phase,
 };
+use std::alloc::Global;
+use std::process::Abort;
+use std::sync::Wait;
 use std::sync::atomic::{AtomicU64, Ordering};
 use std::test::Fail;
+use std::thread::Threads;
+
+/// Numbers of workers, and whether there can be so many.
+const NUMBERS: [(usize, bool); 4] = [(0, false), (1, true), (16, true), (17, false)];
 
 #[test]
 fn workers_are_one_to_sixteen(rt: HostRuntime) {
-    for (n, taken) in [(0, false), (1, true), (16, true), (17, false)] {
-        see(
-            &rt,
-            Workers::new(n).is_some() == taken,
-            "the number of workers",
-        );
+    for (number, taken) in &NUMBERS {
+        let is_taken = Workers::new(*number).is_some();
+        see(&rt, is_taken == *taken, "the number of workers");
     }
 }
 
@@ -83,6 +87,22 @@ impl Gate for Counting {
     }
 }
 
+/// Sees that each of four inputs is answered, and that a gate is called before and after each.
+fn see_answers<R: Threads + Wait + Abort>(
+    rt: &R,
+    alloc: Global,
+    workers: Workers,
+    gate: &Counting,
+) -> Result<(), Fail> {
+    let answers = run_phase(rt, alloc, &Echo, 4, workers, gate)?;
+    see(
+        rt,
+        answers.as_slice() == [0, 1, 2, 3].as_slice(),
+        "the answers",
+    );
+    Ok(())
+}
+
 #[test]
 fn run_phase_answers_each_input(rt: HostRuntime) -> Result<(), Fail> {
     let gate = Counting {
@@ -90,12 +110,7 @@ fn run_phase_answers_each_input(rt: HostRuntime) -> Result<(), Fail> {
         after: AtomicU64::new(0),
     };
     let workers = Workers::new(2).ok_or("two workers")?;
-    let answers = run_phase(&rt, rt.alloc(), &Echo, 4, workers, &gate)?;
-    see(
-        &rt,
-        answers.as_slice() == [0, 1, 2, 3].as_slice(),
-        "the answers",
-    );
+    see_answers(&rt, rt.alloc(), workers, &gate)?;
     let before = gate.before.load(Ordering::SeqCst);
     see(&rt, before == 4, "the calls before");
     let after = gate.after.load(Ordering::SeqCst);
@@ -103,11 +118,16 @@ fn run_phase_answers_each_input(rt: HostRuntime) -> Result<(), Fail> {
     Ok(())
 }
 
+/// Whether the least of two faulty inputs is named.
+fn is_least_named<R: Threads + Wait>(rt: &R, alloc: Global, workers: Workers) -> bool {
+    let answer = run_phase(rt, alloc, &Halting, 4, workers, &NoGate);
+    matches!(answer, Err(PoolFault::Job(2, 12)))
+}
+
 #[test]
 fn run_phase_names_the_least_faulty_input(rt: HostRuntime) -> Result<(), Fail> {
     let workers = Workers::new(1).ok_or("one worker")?;
-    let answer = run_phase(&rt, rt.alloc(), &Halting, 4, workers, &NoGate);
-    let is_so = matches!(answer, Err(PoolFault::Job(2, 12)));
+    let is_so = is_least_named(&rt, rt.alloc(), workers);
     see(&rt, is_so, "the least");
     Ok(())
 }
@@ -159,12 +179,16 @@ const STEPS: [(Event, Result<Option<usize>, NotPossible>); 11] = [
     (Event::Steal(0), Err(NotPossible)),
 ];
 
+/// Sees what each event answers.
+fn see_steps(rt: &impl Abort, core: &mut Core) {
+    for (event, due) in &STEPS {
+        see(rt, core.step(*event) == *due, "what the step answers");
+    }
+}
+
 #[test]
 fn core_steps_by_its_rules(rt: HostRuntime) -> Result<(), Fail> {
     let workers = Workers::new(2).ok_or("two workers")?;
-    let mut core = Core::new(rt.alloc(), 3, workers)?;
-    for (event, due) in &STEPS {
-        see(&rt, core.step(*event) == *due, "what the step answers");
-    }
+    see_steps(&rt, &mut Core::new(rt.alloc(), 3, workers)?);
     Ok(())
 }

@@ -1,8 +1,9 @@
 //! What a source declares, imports and uses.
 
 use crate::shared::{facts_of, see};
-use proto_decl::{Declaration, DeclarationKind};
+use proto_decl::{Declaration, DeclarationKind, FileFacts};
 use std::alloc::{AllocError, Global};
+use std::process::Abort;
 use std::test::Fail;
 
 /// A package, two imports, and a use of three components.
@@ -10,21 +11,25 @@ const IMPORTING: &str =
     "syntax = \"proto3\";\npackage acme;\nimport \"b.proto\";\nimport \"t.proto\";\n\
 message M { google.protobuf.Timestamp t = 1; }\n";
 
-#[test]
-fn declare_lists_package_imports_and_uses(rt: HostRuntime) -> Result<(), Fail> {
-    let facts = facts_of(rt.alloc(), 0, IMPORTING)?;
+/// Sees the facts of that source.
+fn see_facts(rt: &impl Abort, facts: &FileFacts) {
     let ([package], [first, second], [found]) = (
         facts.package_name(),
         facts.imports(),
         facts.uses(),
     ) else {
-        return Err("another number of facts".into());
+        return see(rt, false, "the number of facts");
     };
-    see(&rt, package.name.as_str() == "acme", "the package");
+    see(rt, package.name.as_str() == "acme", "the package");
     let is_so = first.path.as_str() == "b.proto" && second.path.as_str() == "t.proto";
-    see(&rt, is_so, "the paths of the imports");
+    see(rt, is_so, "the paths of the imports");
     let is_so = !found.has_leading_dot && found.components.as_slice().len() == 3;
-    see(&rt, is_so, "the use");
+    see(rt, is_so, "the use");
+}
+
+#[test]
+fn declare_lists_package_imports_and_uses(rt: HostRuntime) -> Result<(), Fail> {
+    see_facts(&rt, &facts_of(rt.alloc(), 0, IMPORTING)?);
     Ok(())
 }
 
@@ -72,14 +77,18 @@ fn is_due(declaration: &Declaration, due: &Due) -> bool {
         && declaration.trailing() == due.trailing
 }
 
+/// Sees the declarations of that source.
+fn see_declarations(rt: &impl Abort, facts: &FileFacts) {
+    let [message, field] = facts.declarations() else {
+        return see(rt, false, "two declarations");
+    };
+    see(rt, is_due(message, &DUE[0]), "the message");
+    see(rt, is_due(field, &DUE[1]), "the field");
+}
+
 #[test]
 fn declare_lists_declarations(rt: HostRuntime) -> Result<(), Fail> {
-    let facts = facts_of(rt.alloc(), 0, COMMENTED)?;
-    let [message, field] = facts.declarations() else {
-        return Err("not two declarations".into());
-    };
-    see(&rt, is_due(message, &DUE[0]), "the message");
-    see(&rt, is_due(field, &DUE[1]), "the field");
+    see_declarations(&rt, &facts_of(rt.alloc(), 0, COMMENTED)?);
     Ok(())
 }
 
@@ -96,13 +105,19 @@ fn is_seen(alloc: Global, declaration: &Declaration, due: &Due) -> Result<bool, 
     )
 }
 
+/// Sees the views of the declarations.
+fn see_views(rt: &impl Abort, alloc: Global, facts: &FileFacts) -> Result<(), AllocError> {
+    let [message, field] = facts.declarations() else {
+        see(rt, false, "two declarations");
+        return Ok(());
+    };
+    see(rt, is_seen(alloc, message, &DUE[0])?, "the message");
+    see(rt, is_seen(alloc, field, &DUE[1])?, "the field");
+    Ok(())
+}
+
 #[test]
 fn decl_view_borrows_all(rt: HostRuntime) -> Result<(), Fail> {
     let facts = facts_of(rt.alloc(), 0, COMMENTED)?;
-    let [message, field] = facts.declarations() else {
-        return Err("not two declarations".into());
-    };
-    see(&rt, is_seen(rt.alloc(), message, &DUE[0])?, "the message");
-    see(&rt, is_seen(rt.alloc(), field, &DUE[1])?, "the field");
-    Ok(())
+    Ok(see_views(&rt, rt.alloc(), &facts)?)
 }

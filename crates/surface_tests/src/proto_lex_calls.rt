@@ -1,7 +1,9 @@
 //! Texts, positions and tokens.
 
 use crate::shared::see;
-use proto_lex::{Encoding, LexFault, Position, Span, Text, lex};
+use proto_lex::{Encoding, LexFault, Position, Span, Text, Tokens, lex};
+use std::alloc::Global;
+use std::process::Abort;
 use std::test::Fail;
 
 #[test]
@@ -12,12 +14,10 @@ fn text_new_refuses_what_is_no_text(rt: HostRuntime) {
     }
 }
 
-#[test]
-fn text_position_counts_in_both_units(rt: HostRuntime) -> Result<(), Fail> {
-    let source = "syntax = \"proto3\";\n/* \u{e9} */ message A {}\n";
-    let text = Text::new(rt.alloc(), source.as_bytes())?;
+/// Sees where the message `A` is, in both units.
+fn see_position(rt: &impl Abort, text: &Text) {
     if !text.as_str().is_char_boundary(36) {
-        return Err("A is elsewhere".into());
+        return see(rt, false, "A is elsewhere");
     }
     let bytes = text.position(36, Encoding::Utf8);
     let is_so = bytes
@@ -25,14 +25,20 @@ fn text_position_counts_in_both_units(rt: HostRuntime) -> Result<(), Fail> {
             line: 1,
             column: 17,
         };
-    see(&rt, is_so, "the place of A in bytes");
+    see(rt, is_so, "the place of A in bytes");
     let units = text.position(36, Encoding::Utf16);
     let is_so = units
         == Position {
             line: 1,
             column: 16,
         };
-    see(&rt, is_so, "the place of A in units of UTF-16");
+    see(rt, is_so, "the place of A in units of UTF-16");
+}
+
+#[test]
+fn text_position_counts_in_both_units(rt: HostRuntime) -> Result<(), Fail> {
+    let source = "syntax = \"proto3\";\n/* \u{e9} */ message A {}\n";
+    see_position(&rt, &Text::new(rt.alloc(), source.as_bytes())?);
     Ok(())
 }
 
@@ -45,30 +51,45 @@ const FAULTS: [(&str, LexFault); 5] = [
     ("\"\\q\"", LexFault::BadEscape(1)),
 ];
 
+/// Why a source has no lexing, if it has none.
+fn fault_of(alloc: Global, source: &str) -> Result<Option<LexFault>, LexFault> {
+    let text = Text::new(alloc, source.as_bytes())?;
+    Ok(lex(alloc, &text).err())
+}
+
 #[test]
 fn lex_refuses_by_name(rt: HostRuntime) -> Result<(), Fail> {
     for (source, due) in &FAULTS {
-        let text = Text::new(rt.alloc(), source.as_bytes())?;
-        see(&rt, lex(rt.alloc(), &text).err() == Some(*due), source);
+        let fault = fault_of(rt.alloc(), source)?;
+        see(&rt, fault == Some(*due), source);
     }
+    Ok(())
+}
+
+/// Sees the tokens of a message with a comment behind it.
+fn see_tokens(rt: &impl Abort, tokens: &Tokens, text: &str) {
+    let [_, name, _, _] = tokens.tokens() else {
+        return see(rt, false, "four tokens");
+    };
+    let [comment] = tokens.comments() else {
+        return see(rt, false, "one comment");
+    };
+    see(rt, name.span == Span { start: 8, end: 9 }, "the span of A");
+    see(rt, tokens.slice(1) == "A", "the second token");
+    let is_so = comment.span == Span { start: 13, end: 20 };
+    see(rt, is_so, "the span of the comment");
+    let is_so = tokens.text().as_str() == text;
+    see(rt, is_so, "the text that was lexed");
+}
+
+/// Sees the tokens of a text.
+fn see_text(rt: &impl Abort, alloc: Global, text: &Text) -> Result<(), LexFault> {
+    see_tokens(rt, &lex(alloc, text)?, text.as_str());
     Ok(())
 }
 
 #[test]
 fn tokens_have_slices_and_their_text(rt: HostRuntime) -> Result<(), Fail> {
     let text = Text::new(rt.alloc(), b"message A {} // tail")?;
-    let tokens = lex(rt.alloc(), &text)?;
-    let [_, name, _, _] = tokens.tokens() else {
-        return Err("not four tokens".into());
-    };
-    let [comment] = tokens.comments() else {
-        return Err("not one comment".into());
-    };
-    see(&rt, name.span == Span { start: 8, end: 9 }, "the span of A");
-    see(&rt, tokens.slice(1) == "A", "the second token");
-    let is_so = comment.span == Span { start: 13, end: 20 };
-    see(&rt, is_so, "the span of the comment");
-    let is_so = tokens.text().as_str() == text.as_str();
-    see(&rt, is_so, "the text that was lexed");
-    Ok(())
+    Ok(see_text(&rt, rt.alloc(), &text)?)
 }

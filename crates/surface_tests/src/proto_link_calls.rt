@@ -170,6 +170,22 @@ fn answer_with<'a>(
     })
 }
 
+/// Adds a file with each of these paths and facts.
+fn add_files<'a, 't>(
+    files: &mut Vec<LinkFile<'a, 't>>,
+    sources: &[(&'a str, &'a str)],
+    facts: &'a [FileFacts<'t>],
+) -> Result<(), AllocError> {
+    let mut rest = facts;
+    for (path, _) in sources {
+        if let [first, others @ ..] = rest {
+            add_file(files, path, first)?;
+            rest = others;
+        }
+    }
+    Ok(())
+}
+
 /// The same of files with these paths and these facts.
 fn answer_of_files(
     alloc: Global,
@@ -178,22 +194,26 @@ fn answer_of_files(
     asked: Asked,
 ) -> Result<Answer, AllocError> {
     let mut files = Vec::new(alloc);
-    let mut rest = facts;
-    for (path, _) in sources {
-        if let [first, others @ ..] = rest {
-            add_file(&mut files, path, first)?;
-            rest = others;
-        }
-    }
+    add_files(&mut files, sources, facts)?;
     answer_with(alloc, files.as_slice(), facts, asked)
+}
+
+/// Adds the facts of each source.
+fn add_all_facts<'t>(
+    alloc: Global,
+    all: &mut Vec<FileFacts<'t>>,
+    sources: &[(&'t str, &'t str)],
+) -> Result<(), Fail> {
+    for (number, (_, source)) in sources.iter().enumerate() {
+        add_facts(alloc, all, number, source)?;
+    }
+    Ok(())
 }
 
 /// The same of files with these paths and sources.
 fn answer(alloc: Global, sources: &[(&str, &str)], asked: Asked) -> Result<Answer, Fail> {
     let mut facts = Vec::new(alloc);
-    for (number, (_, source)) in sources.iter().enumerate() {
-        add_facts(alloc, &mut facts, number, source)?;
-    }
+    add_all_facts(alloc, &mut facts, sources)?;
     Ok(answer_of_files(alloc, sources, facts.as_slice(), asked)?)
 }
 

@@ -1,7 +1,7 @@
 //! Syntax trees.
 
 use crate::shared::see;
-use proto_lex::{Text, lex};
+use proto_lex::{LexFault, Text, lex};
 use proto_parse::{SyntaxFault, parse};
 use std::alloc::{AllocError, Global};
 use std::test::Fail;
@@ -45,11 +45,16 @@ fn parse_refuses_by_name(rt: HostRuntime) -> Result<(), Fail> {
     Ok(())
 }
 
-/// Why a source has no tree, if it has none.
-fn fault_of(alloc: Global, source: &str) -> Result<Option<SyntaxFault>, Fail> {
-    let text = Text::new(alloc, source.as_bytes())?;
-    let tokens = lex(alloc, &text)?;
+/// Why a text has no tree, if it has none.
+fn fault_of_text(alloc: Global, text: &Text) -> Result<Option<SyntaxFault>, LexFault> {
+    let tokens = lex(alloc, text)?;
     Ok(parse(alloc, &tokens).err())
+}
+
+/// The same of a source.
+fn fault_of(alloc: Global, source: &str) -> Result<Option<SyntaxFault>, LexFault> {
+    let text = Text::new(alloc, source.as_bytes())?;
+    fault_of_text(alloc, &text)
 }
 
 /// A message inside a message, to this depth.
@@ -59,18 +64,22 @@ fn nested(alloc: Global, depth: usize) -> Result<String, AllocError> {
     ["syntax = \"proto3\";\n", opened.as_str(), closed.as_str()].join(alloc, "")
 }
 
+/// Why messages in one another have no tree, if they have none.
+fn fault_of_nested(alloc: Global, depth: usize) -> Result<Option<SyntaxFault>, Fail> {
+    let source = nested(alloc, depth)?;
+    Ok(fault_of(alloc, source.as_str())?)
+}
+
 #[test]
 fn parse_takes_64_messages_in_one_another(rt: HostRuntime) -> Result<(), Fail> {
-    let source = nested(rt.alloc(), 64)?;
-    let fault = fault_of(rt.alloc(), source.as_str())?;
+    let fault = fault_of_nested(rt.alloc(), 64)?;
     see(&rt, fault == None, "a depth of 64");
     Ok(())
 }
 
 #[test]
 fn parse_refuses_a_65th_message(rt: HostRuntime) -> Result<(), Fail> {
-    let source = nested(rt.alloc(), 65)?;
-    let fault = fault_of(rt.alloc(), source.as_str())?;
+    let fault = fault_of_nested(rt.alloc(), 65)?;
     see(
         &rt,
         fault == Some(SyntaxFault::TooDeep(659)),

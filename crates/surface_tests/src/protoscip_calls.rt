@@ -7,17 +7,10 @@ use protoscip::{
     dump, fault_line, index_tree, session,
 };
 use std::alloc::{AllocError, Global};
+use std::process::Abort;
 use std::sync::Wait;
 use std::test::Fail;
 use std::thread::Threads;
-
-/// A source with a path.
-fn source_of(alloc: Global, path: &str, text: &str) -> Result<Source, AllocError> {
-    Ok(Source {
-        path: String::from_str(alloc, path)?,
-        bytes: Vec::from_slice(alloc, text.as_bytes())?,
-    })
-}
 
 /// Adds a source.
 fn add_source(
@@ -26,17 +19,28 @@ fn add_source(
     path: &str,
     text: &str,
 ) -> Result<(), AllocError> {
-    let source = source_of(alloc, path, text)?;
-    list.push(source)?;
+    let path = String::from_str(alloc, path)?;
+    let bytes = Vec::from_slice(alloc, text.as_bytes())?;
+    list.push(Source { path, bytes })?;
+    Ok(())
+}
+
+/// Adds sources.
+fn add_sources(
+    alloc: Global,
+    list: &mut Vec<Source>,
+    sources: &[(&str, &str)],
+) -> Result<(), AllocError> {
+    for (path, text) in sources {
+        add_source(alloc, list, path, text)?;
+    }
     Ok(())
 }
 
 /// Sources with their paths.
 fn sources_of(alloc: Global, sources: &[(&str, &str)]) -> Result<Vec<Source>, AllocError> {
     let mut list = Vec::new(alloc);
-    for (path, text) in sources {
-        add_source(alloc, &mut list, path, text)?;
-    }
+    add_sources(alloc, &mut list, sources)?;
     Ok(list)
 }
 
@@ -88,9 +92,10 @@ fn tree_of(alloc: Global, sources: &[(&str, &str)]) -> Result<Tree, Fail> {
 
 /// Settings of a package without names.
 fn settings_of(alloc: Global) -> Result<Settings, Fail> {
+    let project_root = OwnedText::copy_of(alloc, "file:///")?;
     let package = package_of(alloc, ["", "", ""])?;
     Ok(Settings {
-        project_root: OwnedText::copy_of(alloc, "file:///")?,
+        project_root,
         package: FilePackages::of_run(alloc, package),
         encoding: Encoding::Utf8,
         dialect: Dialect::Proto3(CustomOptions::Refuse),
@@ -159,8 +164,8 @@ fn given_of<'a>(
     sources: &[(&str, &str)],
     registry: &'a Registry,
 ) -> Result<Given<'a>, Fail> {
-    let tree = tree_of(alloc, sources)?;
     let settings = settings_of(alloc)?;
+    let tree = tree_of(alloc, sources)?;
     Ok(Given {
         tree,
         registry,
@@ -355,13 +360,25 @@ fn is_due<R: Threads + Wait>(
 fn is_due_of<R: Threads + Wait>(
     rt: &R,
     alloc: Global,
+    registry: &Registry,
     sources: &[(&str, &str)],
     call: Call,
 ) -> Result<bool, Fail> {
     let workers = Workers::new(2).ok_or("two workers")?;
-    let registry = Registry::new(alloc);
-    let given = given_of(alloc, sources, &registry)?;
+    let given = given_of(alloc, sources, registry)?;
     Ok(is_due(rt, alloc, &given, workers, call))
+}
+
+/// Sees that each call does what is due.
+fn see_calls<R: Threads + Wait + Abort>(
+    rt: &R,
+    alloc: Global,
+    registry: &Registry,
+) -> Result<(), Fail> {
+    for (sources, call, case) in &CALLS {
+        see(rt, is_due_of(rt, alloc, registry, sources, *call)?, case);
+    }
+    Ok(())
 }
 
 /// Sources, a call, and what the test says of it.
@@ -394,23 +411,25 @@ const CALLS: [(&[(&str, &str)], Call, &str); 8] = [
 
 #[test]
 fn runs_are_called_once_each(rt: HostRuntime) -> Result<(), Fail> {
-    for (sources, call, case) in &CALLS {
-        see(&rt, is_due_of(&rt, rt.alloc(), sources, *call)?, case);
-    }
-    Ok(())
+    see_calls(&rt, rt.alloc(), &Registry::new(rt.alloc()))
 }
+
+/// How many files and how many sources a tree has, and whether the second one of two files is included.
+fn counts_of(tree: &Tree) -> (usize, usize, bool) {
+    let is_included = tree.file_count() == 2 && tree.is_included(1);
+    (tree.file_count(), tree.source_count(), is_included)
+}
+
+/// An included file.
+const INCLUDED: [(&str, &str); 1] = [("t.proto", "syntax = \"proto3\";\n")];
 
 /// How many files and how many sources a source and an included file are, and whether the last of the files is
 /// included.
 fn with_included(alloc: Global) -> Result<Option<(usize, usize, bool)>, AllocError> {
     let sources = sources_of(alloc, &MESSAGE)?;
-    let included = sources_of(alloc, &[("t.proto", "syntax = \"proto3\";\n")])?;
+    let included = sources_of(alloc, &INCLUDED)?;
     match Tree::with_included(alloc, sources, included) {
-        Ok(tree) => Ok(Some((
-            tree.file_count(),
-            tree.source_count(),
-            tree.file_count() == 2 && tree.is_included(1),
-        ))),
+        Ok(tree) => Ok(Some(counts_of(&tree))),
         Err(_) => Ok(None),
     }
 }

@@ -7,91 +7,146 @@ ghost use Rattle.scip_model.specs.Pieces.{IsRising};
 
 use crate::broken::Broken;
 use crate::shared::see;
+use basics::{OwnedText, Sequence};
 use index_hooks::{Choice, DocChoice};
 use scip_model::{
     Choices, Document, Failed, Feed, Index, Info, MergeFault, Metadata, Occurrence, Range, Sink,
     Std, ToolInfo, Unmerged, merge,
 };
 use scip_wire::write_index;
-use sequences::{OwnedText, Sequence};
 use std::alloc::{AllocError, Global};
+use std::process::Abort;
 use std::test::Fail;
 
 /// A document with this path and nothing in it.
-fn piece(alloc: Global, path: &str) -> Result<Document, AllocError> {
-    Ok(Document {
-        relative_path: OwnedText::copy_of(alloc, path)?,
+fn empty_document(alloc: Global, path: OwnedText) -> Document {
+    Document {
+        relative_path: path,
         occurrences: Sequence::new(alloc),
         symbols: Sequence::new(alloc),
         language: OwnedText::new(alloc),
         position_encoding: 1,
-    })
+    }
+}
+
+/// The same with the text of its path.
+fn piece(alloc: Global, path: &str) -> Result<Document, AllocError> {
+    let path = OwnedText::copy_of(alloc, path)?;
+    Ok(empty_document(alloc, path))
+}
+
+/// A tool with this name, and with this version.
+fn tool_with(alloc: Global, name: OwnedText, version: OwnedText) -> ToolInfo {
+    ToolInfo {
+        name,
+        version,
+        arguments: Sequence::new(alloc),
+    }
 }
 
 /// The tool of an index.
 fn tool_of(alloc: Global) -> Result<ToolInfo, AllocError> {
-    Ok(ToolInfo {
-        name: OwnedText::copy_of(alloc, "protoscip")?,
-        version: OwnedText::copy_of(alloc, "1")?,
-        arguments: Sequence::new(alloc),
-    })
+    let name = OwnedText::copy_of(alloc, "protoscip")?;
+    let version = OwnedText::copy_of(alloc, "1")?;
+    Ok(tool_with(alloc, name, version))
 }
 
 /// The metadata of an index.
 fn metadata_of(alloc: Global) -> Result<Metadata, AllocError> {
+    let project_root = OwnedText::copy_of(alloc, "file:///")?;
     let tool = tool_of(alloc)?;
     Ok(Metadata {
         version: 0,
         tool_info: Some(tool),
-        project_root: OwnedText::copy_of(alloc, "file:///")?,
+        project_root,
         text_document_encoding: 1,
     })
 }
 
-/// An occurrence of `x`.
-fn occurrence_of(alloc: Global, range: Range) -> Result<Occurrence, AllocError> {
-    Ok(Occurrence {
+/// Adds an occurrence of `x`.
+fn add_occurrence(
+    alloc: Global,
+    occurrences: &mut Sequence<Occurrence>,
+    range: Range,
+) -> Result<(), AllocError> {
+    let symbol = OwnedText::copy_of(alloc, "x")?;
+    occurrences.push(Occurrence {
         range,
-        symbol: OwnedText::copy_of(alloc, "x")?,
+        symbol,
         symbol_roles: 1,
-    })
+    })?;
+    Ok(())
 }
 
-/// The entry of `x`.
-fn entry_of(alloc: Global) -> Result<Info, AllocError> {
-    Ok(Info {
-        symbol: OwnedText::copy_of(alloc, "x")?,
+/// Adds the entry of `x`.
+fn add_entry(alloc: Global, symbols: &mut Sequence<Info>) -> Result<(), AllocError> {
+    let symbol = OwnedText::copy_of(alloc, "x")?;
+    let display_name = OwnedText::copy_of(alloc, "X")?;
+    symbols.push(Info {
+        symbol,
         documentation: Sequence::new(alloc),
-        display_name: OwnedText::copy_of(alloc, "X")?,
-    })
+        display_name,
+    })?;
+    Ok(())
+}
+
+/// Adds both to a document.
+fn add_both(alloc: Global, document: &mut Document, range: Range) -> Result<(), AllocError> {
+    add_occurrence(alloc, &mut document.occurrences, range)?;
+    add_entry(alloc, &mut document.symbols)
+}
+
+/// The document `a`, in which `x` is defined.
+fn document_of(alloc: Global, range: Range) -> Result<Document, AllocError> {
+    let mut document = piece(alloc, "a")?;
+    add_both(alloc, &mut document, range)?;
+    Ok(document)
+}
+
+/// Adds the document `a`.
+fn add_document(
+    alloc: Global,
+    documents: &mut Sequence<Document>,
+    range: Range,
+) -> Result<(), AllocError> {
+    let document = document_of(alloc, range)?;
+    documents.push(document)?;
+    Ok(())
+}
+
+/// An index of these documents.
+fn index_with(alloc: Global, metadata: Metadata, documents: Sequence<Document>) -> Index {
+    Index {
+        metadata: Some(metadata),
+        documents,
+        external_symbols: Sequence::new(alloc),
+    }
 }
 
 /// An index with the document `a`, in which `x` is defined.
-fn index_of(alloc: Global, range: Range) -> Result<Index, Fail> {
-    let mut document = piece(alloc, "a")?;
-    document.occurrences.push(occurrence_of(alloc, range)?)?;
-    document.symbols.push(entry_of(alloc)?)?;
+fn index_of(alloc: Global, range: Range) -> Result<Index, AllocError> {
     let mut documents = Sequence::new(alloc);
-    documents.push(document)?;
-    Ok(Index {
-        metadata: Some(metadata_of(alloc)?),
-        documents,
-        external_symbols: Sequence::new(alloc),
-    })
+    add_document(alloc, &mut documents, range)?;
+    let metadata = metadata_of(alloc)?;
+    Ok(index_with(alloc, metadata, documents))
 }
 
 /// The bytes of that index.
 const BYTES: &[u8] = b"\x0A\x1C\x12\x0E\x0A\x09protoscip\x12\x011\x1A\x08file:///\x20\x01\
 \x12\x19\x0A\x01a\x12\x0A\x0A\x03\x01\x08\x09\x12\x01x\x18\x01\x1A\x06\x0A\x01x\x32\x01X\x30\x01";
 
+/// Sees that an index is written as those bytes.
+fn see_bytes(rt: &impl Abort, alloc: Global, index: &Index) {
+    let mut out = Std::new(Vec::new(alloc));
+    let answer = write_index(index, &mut out);
+    see(rt, answer == Ok(()), "the index is written");
+    see(rt, out.into_inner().as_slice() == BYTES, "its fields");
+}
+
 #[test]
 fn records_have_the_fields_of_the_format(rt: HostRuntime) -> Result<(), Fail> {
     let range = Range::new(1, 8, 1, 9).ok_or("a range")?;
-    let index = index_of(rt.alloc(), range)?;
-    let mut out = Std::new(Vec::new(rt.alloc()));
-    let answer = write_index(&index, &mut out);
-    see(&rt, answer == Ok(()), "the index is written");
-    see(&rt, out.into_inner().as_slice() == BYTES, "its fields");
+    see_bytes(&rt, rt.alloc(), &index_of(rt.alloc(), range)?);
     Ok(())
 }
 
@@ -123,25 +178,27 @@ fn two_choices(alloc: Global) -> Result<Choices, AllocError>
     Ok(Choices::new(lists))
 }
 
-#[test]
-fn choices_keep_their_lists(rt: HostRuntime) -> Result<(), Fail> {
-    let choices = two_choices(rt.alloc())?;
+/// Sees the choices for the two files.
+fn see_choices(rt: &impl Abort, choices: &Choices)
+    requires { HasChoice choices.now 0 0 × HasChoice choices.now 1 0 }
+{
+    see(rt, choices.of(0, 0) == KEPT, "the choice of the first file");
     see(
-        &rt,
-        choices.of(0, 0) == KEPT,
-        "the choice of the first file",
-    );
-    see(
-        &rt,
+        rt,
         choices.of(1, 0) == DROPPED,
         "the choice of the second file",
     );
-    see(&rt, choices.file_count() == 2, "how many files have lists");
+    see(rt, choices.file_count() == 2, "how many files have lists");
     see(
-        &rt,
+        rt,
         choices.of_file(1) == [DROPPED].as_slice() && choices.of_file(2).is_empty(),
         "the list of the second file, and none of a third",
     );
+}
+
+#[test]
+fn choices_keep_their_lists(rt: HostRuntime) -> Result<(), Fail> {
+    see_choices(&rt, &two_choices(rt.alloc())?);
     Ok(())
 }
 
@@ -152,12 +209,18 @@ fn add_piece(alloc: Global, pieces: &mut Vec<Document>, path: &str) -> Result<()
     Ok(())
 }
 
+/// Adds a document with each of these paths.
+fn add_pieces(alloc: Global, pieces: &mut Vec<Document>, paths: &str) -> Result<(), AllocError> {
+    for path in paths.split_terminator(' ') {
+        add_piece(alloc, pieces, path)?;
+    }
+    Ok(())
+}
+
 /// Documents with these paths, in order.
 fn pieces_of(alloc: Global, paths: &str) -> Result<Vec<Document>, AllocError> {
     let mut pieces = Vec::new(alloc);
-    for path in paths.split_terminator(' ') {
-        add_piece(alloc, &mut pieces, path)?;
-    }
+    add_pieces(alloc, &mut pieces, paths)?;
     Ok(pieces)
 }
 
@@ -172,9 +235,9 @@ fn two_paths(alloc: Global) -> Result<[String; 2], AllocError>
 
 /// What `merge` answers of pieces with these paths.
 fn merged(alloc: Global, paths: &str) -> Result<Result<Index, Unmerged>, AllocError> {
-    let pieces = pieces_of(alloc, paths)?;
-    let metadata = metadata_of(alloc)?;
     let due = two_paths(alloc)?;
+    let metadata = metadata_of(alloc)?;
+    let pieces = pieces_of(alloc, paths)?;
     Ok(merge(alloc, &due, pieces, metadata, Vec::new(alloc)))
 }
 
@@ -186,12 +249,17 @@ fn is_in_order(index: &Index) -> bool {
     }
 }
 
+/// Whether pieces with these paths are merged, in order.
+fn is_merged(alloc: Global, paths: &str) -> Result<bool, AllocError> {
+    match merged(alloc, paths)? {
+        Ok(index) => Ok(is_in_order(&index)),
+        Err(_) => Ok(false),
+    }
+}
+
 #[test]
 fn merge_orders_by_path(rt: HostRuntime) -> Result<(), Fail> {
-    let is_so = match merged(rt.alloc(), "b.proto a.proto")? {
-        Ok(index) => is_in_order(&index),
-        Err(_) => false,
-    };
+    let is_so = is_merged(rt.alloc(), "b.proto a.proto")?;
     see(&rt, is_so, "the first and the second document");
     Ok(())
 }

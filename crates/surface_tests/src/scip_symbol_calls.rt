@@ -1,10 +1,10 @@
 //! Symbols and packages.
 
 ghost use Rattle.std.specs.Prelude.{◌≡◌};
-ghost use Rattle.proto_decl.specs.declared.kind.DeclarationKind.TheVariants.{Message};
+ghost use Rattle.proto_decl.specs.declared.declaration.DeclarationKind.TheVariants.{Message};
 
-use crate::shared::{package_of, see};
-use lent_texts::{KeptText, LentText};
+use crate::shared::{package_of, parts_of, see};
+use basics::{KeptText, TextRef};
 use proto_decl::{Component, DeclarationKind, DeclarationPath, DeclarationStep};
 use proto_lex::Span;
 use scip_symbol::{
@@ -15,19 +15,21 @@ use std::test::Fail;
 
 /// Why a manager, a name and a version are no package, if they are none.
 fn bad_part_of(alloc: Global, parts: [&str; 3]) -> Result<Option<BadPart>, AllocError> {
-    let manager = String::from_str(alloc, parts[0])?;
-    let name = String::from_str(alloc, parts[1])?;
-    let version = String::from_str(alloc, parts[2])?;
-    Ok(PackageId::new([manager, name, version]).err())
+    Ok(PackageId::new(parts_of(alloc, parts)?).err())
+}
+
+/// Whether the second part is a bad dot.
+fn is_dot(bad: Option<BadPart>) -> bool {
+    match bad {
+        Some(bad) => bad.part == 1 && bad.parts[1].as_str() == ".",
+        None => false,
+    }
 }
 
 #[test]
 fn package_id_refuses_a_dot(rt: HostRuntime) -> Result<(), Fail> {
-    let is_so = match bad_part_of(rt.alloc(), ["", ".", "."])? {
-        Some(bad) => bad.part == 1 && bad.parts[1].as_str() == ".",
-        None => false,
-    };
-    see(&rt, is_so, "the least faulty part, and the texts");
+    let bad = bad_part_of(rt.alloc(), ["", ".", "."])?;
+    see(&rt, is_dot(bad), "the least faulty part, and the texts");
     Ok(())
 }
 
@@ -39,13 +41,21 @@ fn text_of(alloc: Global, symbol: Result<Symbol, AllocError>) -> Result<String, 
     }
 }
 
+/// Whether a text that was made is this one.
+fn is_text(made: Result<String, AllocError>, due: &str) -> Result<bool, AllocError> {
+    match made {
+        Ok(text) => Ok(text.as_str() == due),
+        Err(fault) => Err(fault),
+    }
+}
+
 /// The step to a message.
 fn step_to(name: &str) -> DeclarationStep<'_>
     ensures { result ≡ record { kind = Message; name = name.now } }
 {
     DeclarationStep {
         kind: DeclarationKind::Message,
-        name: KeptText::lent(name),
+        name: KeptText::borrowed(name),
     }
 }
 
@@ -66,14 +76,21 @@ fn reprinted(alloc: Global, text: &str) -> Result<String, SymbolFault> {
     }
 }
 
+/// Whether of the symbol that a text is read as the same is printed.
+fn is_reprinted(alloc: Global, text: &str) -> Result<bool, SymbolFault> {
+    match reprinted(alloc, text) {
+        Ok(printed) => Ok(printed.as_str() == text),
+        Err(fault) => Err(fault),
+    }
+}
+
 #[test]
 fn symbol_of_prints_and_reads_back(rt: HostRuntime) -> Result<(), Fail> {
-    let package = package_of(rt.alloc(), ["my mgr", "", "1.0"])?;
-    let text = message_text(rt.alloc(), &package)?;
     let due = "scip-protobuf my  mgr . 1.0 A#";
-    see(&rt, text.as_str() == due, "the printed symbol");
-    let text = reprinted(rt.alloc(), due)?;
-    see(&rt, text.as_str() == due, "read back equal");
+    let package = package_of(rt.alloc(), ["my mgr", "", "1.0"])?;
+    let is_so = is_text(message_text(rt.alloc(), &package), due)?;
+    see(&rt, is_so, "the printed symbol");
+    see(&rt, is_reprinted(rt.alloc(), due)?, "read back equal");
     Ok(())
 }
 
@@ -85,8 +102,8 @@ fn file_text(alloc: Global, id: &PackageId) -> Result<String, AllocError> {
 #[test]
 fn file_symbol_is_one_namespace(rt: HostRuntime) -> Result<(), Fail> {
     let package = package_of(rt.alloc(), ["", "", ""])?;
-    let text = file_text(rt.alloc(), &package)?;
-    let is_so = text.as_str() == "scip-protobuf . . . `a b.proto`/";
+    let text = file_text(rt.alloc(), &package);
+    let is_so = is_text(text, "scip-protobuf . . . `a b.proto`/")?;
     see(&rt, is_so, "the file's symbol");
     Ok(())
 }
@@ -96,7 +113,7 @@ fn component(name: &str) -> Component<'_>
     ensures { result.name ≡ name.now }
 {
     Component {
-        name: LentText::new(name),
+        name: TextRef::new(name),
         span: Span { start: 0, end: 0 },
     }
 }
@@ -111,16 +128,16 @@ fn package_text(alloc: Global, id: &PackageId) -> Result<String, AllocError> {
 #[test]
 fn package_symbol_has_one_namespace_each(rt: HostRuntime) -> Result<(), Fail> {
     let package = package_of(rt.alloc(), ["", "", ""])?;
-    let text = package_text(rt.alloc(), &package)?;
-    let is_so = text.as_str() == "scip-protobuf . . . a/b/";
+    let text = package_text(rt.alloc(), &package);
+    let is_so = is_text(text, "scip-protobuf . . . a/b/")?;
     see(&rt, is_so, "the package's symbol");
     Ok(())
 }
 
 #[test]
 fn read_takes_a_local_symbol(rt: HostRuntime) -> Result<(), Fail> {
-    let text = reprinted(rt.alloc(), "local 7")?;
-    see(&rt, text.as_str() == "local 7", "the printed symbol");
+    let is_so = is_reprinted(rt.alloc(), "local 7")?;
+    see(&rt, is_so, "the printed symbol");
     Ok(())
 }
 

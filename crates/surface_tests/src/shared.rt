@@ -1,16 +1,32 @@
 //! What several files of tests share: the one assertion, and values that are made of sources.
 
 use proto_decl::{FileFacts, declare};
-use proto_lex::{Text, lex};
+use proto_lex::{Text, Tokens, lex};
 use proto_parse::parse;
 use scip_symbol::PackageId;
-use std::alloc::Global;
+use std::alloc::{AllocError, Global};
 use std::process::Abort;
 use std::test::Fail;
 
 /// Fails the test if this doesn't hold.
 pub(crate) fn see(rt: &impl Abort, holds: bool, case: &str) {
     assert!(rt; holds, "{case}");
+}
+
+/// The facts of tokens.
+fn facts_of_tokens<'t>(
+    alloc: Global,
+    number: usize,
+    tokens: &Tokens<'_, 't>,
+) -> Result<FileFacts<'t>, Fail> {
+    let file = parse(alloc, tokens)?;
+    Ok(declare(alloc, number, tokens, &file)?)
+}
+
+/// The facts of a text.
+fn facts_of_text<'t>(alloc: Global, number: usize, text: &Text<'t>) -> Result<FileFacts<'t>, Fail> {
+    let tokens = lex(alloc, text)?;
+    facts_of_tokens(alloc, number, &tokens)
 }
 
 /// The facts of a source, as those of the file with this number.
@@ -20,17 +36,20 @@ pub(crate) fn facts_of<'t>(
     source: &'t str,
 ) -> Result<FileFacts<'t>, Fail> {
     let text = Text::new(alloc, source.as_bytes())?;
-    let tokens = lex(alloc, &text)?;
-    let file = parse(alloc, &tokens)?;
-    Ok(declare(alloc, number, &tokens, &file)?)
+    facts_of_text(alloc, number, &text)
+}
+
+/// A manager, a name and a version.
+pub(crate) fn parts_of(alloc: Global, parts: [&str; 3]) -> Result<[String; 3], AllocError> {
+    let manager = String::from_str(alloc, parts[0])?;
+    let name = String::from_str(alloc, parts[1])?;
+    let version = String::from_str(alloc, parts[2])?;
+    Ok([manager, name, version])
 }
 
 /// The package with this manager, name and version.
 pub(crate) fn package_of(alloc: Global, parts: [&str; 3]) -> Result<PackageId, Fail> {
-    let manager = String::from_str(alloc, parts[0])?;
-    let name = String::from_str(alloc, parts[1])?;
-    let version = String::from_str(alloc, parts[2])?;
-    match PackageId::new([manager, name, version]) {
+    match PackageId::new(parts_of(alloc, parts)?) {
         Ok(package) => Ok(package),
         Err(_) => Err("a part that no package has".into()),
     }

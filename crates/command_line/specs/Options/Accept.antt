@@ -2,9 +2,9 @@
 use Rattle.std.specs.Prelude.{List, [], ◌∷◌, codes, if◌then◌else◌}
 use Rattle.std.specs.Str.{bytes_eq}
 use Rattle.clap.specs.Words.{Row, Rule, Text}
-use Rattle.proto_parse.specs.tree.CustomOptions.{CustomOptions}
-use Rattle.proto_parse.specs.tree.Dialect.{Dialect}
-use Rattle.proto_parse.specs.tree.Dialect.TheVariants.{All, Proto3}
+use Rattle.proto_parse.specs.dialect.CustomOptions.{CustomOptions}
+use Rattle.proto_parse.specs.dialect.Dialect.{Dialect}
+use Rattle.proto_parse.specs.dialect.Dialect.TheVariants.{All, Proto3}
 use Rattle.command_line.specs.Arguments.{WordList, option_rule, or_default, taking_words}
 use Rattle.command_line.specs.Values.{text_of}
 use Rattle.command_line.specs.Options.CustomOptions.{custom_options_of}

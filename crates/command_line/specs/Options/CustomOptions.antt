@@ -2,8 +2,8 @@
 use Rattle.std.specs.Prelude.{List, [], ◌∷◌, codes, if◌then◌else◌}
 use Rattle.std.specs.Str.{bytes_eq}
 use Rattle.clap.specs.Words.{Row, Rule, Text}
-use Rattle.proto_parse.specs.tree.CustomOptions.{CustomOptions}
-use Rattle.proto_parse.specs.tree.CustomOptions.TheVariants.{Refuse, Skip}
+use Rattle.proto_parse.specs.dialect.CustomOptions.{CustomOptions}
+use Rattle.proto_parse.specs.dialect.CustomOptions.TheVariants.{Refuse, Skip}
 use Rattle.command_line.specs.Arguments.{WordList, option_rule, or_default, taking_words}
 use Rattle.command_line.specs.Values.{text_of}
 

@@ -36,7 +36,7 @@ pub(crate) fn workers_of(given: &ArgMatches<'_>) -> Workers
     fitting(given.get_one::<usize>(NAME))
 }
 
-/// So many, from 1 to `MAX_WORKERS`; 1 for any other number.
+/// So many, from 1 to `MAX_WORKERS`; 1 for any other number, which `clap` never gives.
 fn fitting(number: Option<usize>) -> Workers
     ensures { result ≡ fitting number }
 {

@@ -53,9 +53,9 @@ impl Join<LaneView> for Ends {
 }
 
 /// A push: the numbers given grow.
-pub(crate) struct Gives;
+pub(crate) struct Pushes;
 
-impl Outcome<usize, LaneView> for Gives {
+impl Outcome<usize, LaneView> for Pushes {
     ghost use Rattle.index_pool.specs.Lane.{more_given};
 
     ghost then = { λ v xs w. w ≡ more_given v xs };

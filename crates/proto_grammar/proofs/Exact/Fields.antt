@@ -2,8 +2,8 @@
 use Rattle.std.proofs.Common.{◌≡◌, ℕ, Bool, true, false, Option, List, refl, codes}
 use Rattle.proto_lex.specs.declared.span.Span.{Span}
 use Rattle.proto_lex.specs.declared.token.TokenKind.TheVariants.{Integer, Comma, Minus}
-use Rattle.proto_grammar.specs.declared.tree.CustomOptions.{CustomOptions}
-use Rattle.proto_grammar.specs.declared.tree.Syntax.{Syntax}
+use Rattle.proto_grammar.specs.declared.dialect.CustomOptions.{CustomOptions}
+use Rattle.proto_grammar.specs.declared.dialect.Syntax.{Syntax}
 use Rattle.proto_grammar.specs.declared.tree.Heading.{Heading}
 use Rattle.proto_grammar.specs.declared.tree.Label.{Label}
 use Rattle.proto_grammar.specs.declared.tree.Field.{Field}
@@ -33,10 +33,10 @@ use Rattle.proto_grammar.specs.Reading.Fields.{numbered_at, typed_at, required_a
 use Rattle.proto_grammar.specs.Reading.Fields.{group_head_at, map_field_at}
 use Rattle.proto_grammar.specs.Reading.Reserved.{plain_integer_at, integer_at, range_end_at, range_at, reserved_item_at}
 use Rattle.proto_grammar.specs.Reading.Reserved.{comma_item_at, comma_items_at, reserved_at, extensions_at}
-use Rattle.proto_grammar.proofs.TokenLemmas.{token_exact, one_next, one_others, next_other_kind, next_no_word}
-use Rattle.proto_grammar.proofs.TokenLemmas.{next_other_word}
-use Rattle.proto_grammar.proofs.UntilLemmas.{until_at-exact, passing-exact}
-use Rattle.proto_grammar.proofs.StepsFall.{comma_items_fall}
+use Rattle.proto_grammar.proofs.TerminalTokenLemmas.{token_exact, one_next, one_others, next_other_kind, next_no_word}
+use Rattle.proto_grammar.proofs.TerminalTokenLemmas.{next_other_word}
+use Rattle.proto_grammar.proofs.RepetitionUntilLemmas.{until_at-exact, passing-exact}
+use Rattle.proto_grammar.proofs.RepetitionFallLemmas.{comma_items_fall}
 use Rattle.proto_grammar.proofs.Exact.Names.{type_exact, pass_type_exact}
 use Rattle.proto_grammar.proofs.Exact.Options.{options_exact, strings_exact}
 use Rattle.std.proofs.Common.{Ok}

@@ -18,9 +18,9 @@ use Rattle.proto_grammar.specs.Reading.Repetition.{adding}
 use Rattle.proto_grammar.specs.Reading.Names.{dot_name_at, dot_names_at, name_at, pass_dot_name_at, pass_dot_names_at}
 use Rattle.proto_grammar.specs.Reading.Names.{pass_name_at, leading_dot_at, type_name_at, pass_type_name_at}
 use Rattle.proto_grammar.specs.Reading.Names.{named_type_at, type_at}
-use Rattle.proto_grammar.proofs.TokenLemmas.{token_exact, one_next, next_other_kind}
-use Rattle.proto_grammar.proofs.UntilLemmas.{until_at-exact, adding-exact, passed-exact}
-use Rattle.proto_grammar.proofs.StepsFall.{dot_names_fall, pass_dot_names_fall}
+use Rattle.proto_grammar.proofs.TerminalTokenLemmas.{token_exact, one_next, next_other_kind}
+use Rattle.proto_grammar.proofs.RepetitionUntilLemmas.{until_at-exact, adding-exact, passed-exact}
+use Rattle.proto_grammar.proofs.RepetitionFallLemmas.{dot_names_fall, pass_dot_names_fall}
 use Rattle.std.proofs.Common.{Ok, ℕ}
 use Rattle.std.proofs.lemmas.Bool.{and_parts}
 use Rattle.proto_grammar.specs.Lexeme.{place_of}

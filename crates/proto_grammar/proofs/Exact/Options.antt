@@ -5,7 +5,7 @@ use Rattle.proto_lex.specs.declared.span.Span.{Span}
 use Rattle.proto_lex.specs.declared.token.TokenKind.{TokenKind}
 use Rattle.proto_lex.specs.declared.token.TokenKind.TheVariants.{Identifier, Integer, Float, StringLiteral, OpenBrace}
 use Rattle.proto_lex.specs.declared.token.TokenKind.TheVariants.{CloseBrace, OpenParenthesis, Comma, Dot, Plus, Minus}
-use Rattle.proto_grammar.specs.declared.tree.CustomOptions.{CustomOptions}
+use Rattle.proto_grammar.specs.declared.dialect.CustomOptions.{CustomOptions}
 use Rattle.proto_grammar.specs.Lexeme.{Lexeme}
 use Rattle.proto_grammar.specs.Terminal.{is_kind, first_is, of_kind, is_sign, is_numeral, not_next}
 use Rattle.proto_grammar.specs.Grammar.Repetition.{One, Passes}
@@ -29,10 +29,10 @@ use Rattle.proto_grammar.specs.Reading.Options.{extension_at, part_at, dot_part_
 use Rattle.proto_grammar.specs.Reading.Options.{literal_at, literals_at, strings_at, closed_at, aggregate_at, signed_at}
 use Rattle.proto_grammar.specs.Reading.Options.{constant_at, setting_at, comma_setting_at, comma_settings_at, option_at}
 use Rattle.proto_grammar.specs.Reading.Options.{bracketed_at, options_at}
-use Rattle.proto_grammar.proofs.Steps.{either_true}
-use Rattle.proto_grammar.proofs.TokenLemmas.{token_exact, one_next, other_kind, next_other_kind}
-use Rattle.proto_grammar.proofs.UntilLemmas.{until_at-exact, passing-exact}
-use Rattle.proto_grammar.proofs.StepsFall.{dot_parts_fall, literals_fall, comma_settings_fall}
+use Rattle.proto_grammar.proofs.RepetitionStepLemmas.{either_true}
+use Rattle.proto_grammar.proofs.TerminalTokenLemmas.{token_exact, one_next, other_kind, next_other_kind}
+use Rattle.proto_grammar.proofs.RepetitionUntilLemmas.{until_at-exact, passing-exact}
+use Rattle.proto_grammar.proofs.RepetitionFallLemmas.{dot_parts_fall, literals_fall, comma_settings_fall}
 use Rattle.proto_grammar.proofs.Exact.Names.{pass_name_exact, pass_type_name_exact, name_next}
 use Rattle.std.proofs.Common.{Ok}
 use Rattle.proto_grammar.specs.Reading.Options.{closed_by}

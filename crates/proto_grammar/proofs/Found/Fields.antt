@@ -3,9 +3,9 @@ use Rattle.std.proofs.Common.{◌≡◌, Bool, true, false, cond, Option, None, 
 use Rattle.proto_lex.specs.declared.span.Span.{Span}
 use Rattle.proto_lex.specs.declared.token.TokenKind.TheVariants.{Identifier, Integer, StringLiteral, Semicolon, Equals}
 use Rattle.proto_lex.specs.declared.token.TokenKind.TheVariants.{OpenBrace, Less, Greater, Comma, Dot, Minus}
-use Rattle.proto_grammar.specs.declared.tree.CustomOptions.{CustomOptions}
-use Rattle.proto_grammar.specs.declared.tree.Syntax.{Syntax}
-use Rattle.proto_grammar.specs.declared.tree.Syntax.TheVariants.{Proto3, Extended, Proto2}
+use Rattle.proto_grammar.specs.declared.dialect.CustomOptions.{CustomOptions}
+use Rattle.proto_grammar.specs.declared.dialect.Syntax.{Syntax}
+use Rattle.proto_grammar.specs.declared.dialect.Syntax.TheVariants.{Proto3, Extended, Proto2}
 use Rattle.proto_grammar.specs.declared.tree.Heading.{Heading}
 use Rattle.proto_grammar.specs.declared.tree.Label.{Label}
 use Rattle.proto_grammar.specs.declared.tree.FieldType.{FieldType}
@@ -48,10 +48,10 @@ use Rattle.proto_grammar.specs.Reading.Fields.{numbered_at, typed_at, required_a
 use Rattle.proto_grammar.specs.Reading.Fields.{group_head_at, map_field_at}
 use Rattle.proto_grammar.specs.Reading.Reserved.{plain_integer_at, integer_at, range_end_at, range_at, reserved_item_at}
 use Rattle.proto_grammar.specs.Reading.Reserved.{comma_item_at, comma_items_at, reserved_at, extensions_at}
-use Rattle.proto_grammar.proofs.Steps.{same_ok, bind_ok}
-use Rattle.proto_lex.proofs.ReadLemmas.{chosen}
-use Rattle.proto_grammar.proofs.TokenLemmas.{token_found, next_found, other_kind}
-use Rattle.proto_grammar.proofs.UntilLemmas.{until_at-found, passing-found}
+use Rattle.proto_grammar.proofs.RepetitionStepLemmas.{same_ok, bind_ok}
+use Rattle.proto_lex.proofs.ReadingTestLemmas.{chosen}
+use Rattle.proto_grammar.proofs.TerminalTokenLemmas.{token_found, next_found, other_kind}
+use Rattle.proto_grammar.proofs.RepetitionUntilLemmas.{until_at-found, passing-found}
 use Rattle.proto_grammar.proofs.Found.Names.{type_found, pass_type_name_found}
 use Rattle.proto_grammar.proofs.Found.Options.{left_of, options_found, strings_found}
 use Rattle.std.proofs.Common.{Ok, ℕ}

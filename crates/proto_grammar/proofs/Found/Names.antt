@@ -16,10 +16,10 @@ use Rattle.proto_grammar.specs.Reading.Repetition.{token_that, adding}
 use Rattle.proto_grammar.specs.Reading.Names.{dot_name_at, dot_names_at, name_at, pass_dot_name_at, pass_dot_names_at}
 use Rattle.proto_grammar.specs.Reading.Names.{pass_name_at, leading_dot_at, type_name_at, pass_type_name_at}
 use Rattle.proto_grammar.specs.Reading.Names.{named_type_at, type_at}
-use Rattle.proto_grammar.proofs.Steps.{same_ok, bind_ok, kept_ok}
-use Rattle.proto_lex.proofs.ReadLemmas.{chosen}
-use Rattle.proto_grammar.proofs.TokenLemmas.{token_found}
-use Rattle.proto_grammar.proofs.UntilLemmas.{until_at-found, adding-found, passed-found}
+use Rattle.proto_grammar.proofs.RepetitionStepLemmas.{same_ok, bind_ok, kept_ok}
+use Rattle.proto_lex.proofs.ReadingTestLemmas.{chosen}
+use Rattle.proto_grammar.proofs.TerminalTokenLemmas.{token_found}
+use Rattle.proto_grammar.proofs.RepetitionUntilLemmas.{until_at-found, adding-found, passed-found}
 
 pub dot_name_found : (tokens : Place) (x : Option Span × Place) → dot_name_at tokens ≡ Ok x
     → IsDotName tokens.left x.0 x.1.left

@@ -5,8 +5,8 @@ use Rattle.std.proofs.lemmas.Bool.Decides.{nat_tests}
 use Rattle.proto_lex.specs.declared.token.TokenKind.TheVariants.{Identifier, StringLiteral, Semicolon, Equals}
 use Rattle.proto_lex.specs.declared.token.TokenKind.TheVariants.{OpenBrace, CloseBrace, OpenBracket, CloseBracket}
 use Rattle.proto_lex.specs.declared.token.TokenKind.TheVariants.{OpenParenthesis, CloseParenthesis, Comma, Dot}
-use Rattle.proto_grammar.specs.declared.tree.CustomOptions.{CustomOptions}
-use Rattle.proto_grammar.specs.declared.tree.CustomOptions.TheVariants.{Refuse, Skip}
+use Rattle.proto_grammar.specs.declared.dialect.CustomOptions.{CustomOptions}
+use Rattle.proto_grammar.specs.declared.dialect.CustomOptions.TheVariants.{Refuse, Skip}
 use Rattle.proto_grammar.specs.Lexeme.{Lexeme}
 use Rattle.proto_grammar.specs.Terminal.{first_is, of_kind, is_word, is_sign, is_numeral, is_number, not_next}
 use Rattle.proto_grammar.specs.Grammar.Repetition.{Passes}
@@ -32,12 +32,13 @@ use Rattle.proto_grammar.specs.Reading.Options.{literal_at, literals_at, strings
 use Rattle.proto_grammar.specs.Reading.Options.{aggregate_at, signed_at, constant_at, setting_at, comma_setting_at}
 use Rattle.proto_grammar.specs.Reading.Options.{comma_settings_at, option_at, bracketed_at, options_at}
 use Rattle.std.proofs.Common.{ap}
-use Rattle.proto_grammar.proofs.Steps.{read_as, same_ok, bind_ok}
-use Rattle.proto_lex.proofs.ReadLemmas.{chosen}
-use Rattle.proto_grammar.proofs.TokenLemmas.{token_found}
-use Rattle.proto_grammar.proofs.UntilLemmas.{until_at-found, passing-found}
+use Rattle.proto_grammar.proofs.RepetitionStepLemmas.{read_as, same_ok, bind_ok}
+use Rattle.proto_lex.proofs.ReadingTestLemmas.{chosen}
+use Rattle.proto_grammar.proofs.TerminalTokenLemmas.{token_found}
+use Rattle.proto_grammar.proofs.RepetitionUntilLemmas.{until_at-found, passing-found}
 use Rattle.proto_grammar.proofs.Found.Names.{pass_name_found, pass_type_name_found}
 use Rattle.std.proofs.Common.{Ok, Err}
+use Rattle.basics.proofs.TestLemmas.{not_zero}
 use Rattle.proto_grammar.specs.declared.fault.SyntaxFault.TheVariants.{CustomOption, Grammar}
 use Rattle.proto_grammar.specs.Reading.Options.{closed_by}
 use Rattle.proto_grammar.specs.Terminal.{offset_at}
@@ -99,9 +100,6 @@ strings_found tokens x e =
     strings (literal_found _ _ t.1)
     (until_at-found (not_next StringLiteral) (passing literal_at) (Passes IsLiteral)
     (passing-found literal_at IsLiteral literal_found) tt t.0.1 x t.2)
-
-not_zero : (depth : ℕ) → (suc depth == 0) ≡ false
-not_zero depth = grind (arith, nat_tests)
 
 closed_by_found : (depth : ℕ) (tokens : List Lexeme) (end : ℕ) (x : Unit {0} × Place)
     → closed_by depth tokens end ≡ Ok x → IsClosed depth tokens x.1.left

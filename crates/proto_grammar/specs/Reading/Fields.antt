@@ -3,9 +3,9 @@ use Rattle.std.specs.Prelude.{cond, Ok, Option, Some, None, codes}
 use Rattle.proto_lex.specs.declared.span.Span.{Span}
 use Rattle.proto_lex.specs.declared.token.TokenKind.TheVariants.{Identifier, Integer, Semicolon, Equals, Less, Greater}
 use Rattle.proto_lex.specs.declared.token.TokenKind.TheVariants.{OpenBrace, Comma}
-use Rattle.proto_grammar.specs.declared.tree.CustomOptions.{CustomOptions}
-use Rattle.proto_grammar.specs.declared.tree.Syntax.{Syntax}
-use Rattle.proto_grammar.specs.declared.tree.Syntax.TheVariants.{Proto3}
+use Rattle.proto_grammar.specs.declared.dialect.CustomOptions.{CustomOptions}
+use Rattle.proto_grammar.specs.declared.dialect.Syntax.{Syntax}
+use Rattle.proto_grammar.specs.declared.dialect.Syntax.TheVariants.{Proto3}
 use Rattle.proto_grammar.specs.declared.tree.Heading.{Heading}
 use Rattle.proto_grammar.specs.declared.tree.Label.{Label}
 use Rattle.proto_grammar.specs.declared.tree.Label.TheVariants.{Repeated, Optional, Required}

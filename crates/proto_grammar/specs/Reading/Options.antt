@@ -3,8 +3,8 @@ use Rattle.std.specs.Prelude.{ℕ, ◌+◌, ◌-◌, ◌==◌, cond, Result, Ok,
 use Rattle.proto_lex.specs.declared.token.TokenKind.TheVariants.{Identifier, StringLiteral, Semicolon, Equals}
 use Rattle.proto_lex.specs.declared.token.TokenKind.TheVariants.{OpenBrace, CloseBrace, OpenBracket, CloseBracket}
 use Rattle.proto_lex.specs.declared.token.TokenKind.TheVariants.{OpenParenthesis, CloseParenthesis, Comma, Dot}
-use Rattle.proto_grammar.specs.declared.tree.CustomOptions.{CustomOptions}
-use Rattle.proto_grammar.specs.declared.tree.CustomOptions.TheVariants.{Refuse, Skip}
+use Rattle.proto_grammar.specs.declared.dialect.CustomOptions.{CustomOptions}
+use Rattle.proto_grammar.specs.declared.dialect.CustomOptions.TheVariants.{Refuse, Skip}
 use Rattle.proto_grammar.specs.Lexeme.{Lexeme, Place, place_of}
 use Rattle.proto_grammar.specs.Terminal.{first, first_is, of_kind, is_word, is_sign, is_numeral, is_number}
 use Rattle.proto_grammar.specs.Terminal.{not_next, offset_at, behind}

@@ -1,7 +1,7 @@
 -- Reserved statements and extension ranges.
 use Rattle.std.specs.Prelude.{Bool, false, cond, ◌&&◌, Ok, codes}
 use Rattle.proto_lex.specs.declared.token.TokenKind.TheVariants.{Integer, StringLiteral, Semicolon, Comma, Minus}
-use Rattle.proto_grammar.specs.declared.tree.CustomOptions.{CustomOptions}
+use Rattle.proto_grammar.specs.declared.dialect.CustomOptions.{CustomOptions}
 use Rattle.proto_grammar.specs.Terminal.{behind, first_is, of_kind, is_word, not_next}
 use Rattle.proto_grammar.specs.Reading.Repetition.{◌>>=◌, Read, token_that, until_at, passing}
 use Rattle.proto_grammar.specs.Reading.Options.{strings_at, options_at}

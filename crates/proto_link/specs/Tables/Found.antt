@@ -6,16 +6,14 @@ use Rattle.proto_visibility.specs.Knows.{is_type, is_aggregate, KnowsAs}
 use Rattle.proto_link.specs.Resolves.{Innermost}
 
 -- the full name of the word in the innermost scope in which it is a type
-pub record IsSingle (files : List File) (file : ℕ) (word : List ℕ) (scopes : List (List ℕ))
-    (name : List ℕ) : Type 0 where
+pub record IsSingle (files : List File) (file : ℕ) (word from name : List ℕ) : Type 0 where
   pub start : List ℕ
-  pub innermost : Innermost files file is_type word scopes start
+  pub innermost : Innermost files file is_type word from start
   pub name_is : name ≡ qualified start word
 
 -- the full name of the words in the innermost scope in which the first is an aggregate, if it is that of a type
-pub record IsCompound (files : List File) (file : ℕ) (first words : List ℕ) (scopes : List (List ℕ))
-    (name : List ℕ) : Type 0 where
+pub record IsCompound (files : List File) (file : ℕ) (first words from name : List ℕ) : Type 0 where
   pub start : List ℕ
-  pub innermost : Innermost files file is_aggregate first scopes start
+  pub innermost : Innermost files file is_aggregate first from start
   pub name_is : name ≡ qualified start words
   pub known : KnowsAs files file is_type name

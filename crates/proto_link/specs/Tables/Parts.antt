@@ -4,9 +4,9 @@ use Rattle.std.specs.List.{slice_get}
 use Rattle.proto_lex.specs.Ascii as ascii
 use Rattle.proto_decl.specs.Names.{components_of, prefix_of}
 use Rattle.proto_decl.specs.Facts.{Facts}
-use Rattle.proto_visibility.specs.declared.entities.Entity.{Entity}
+use Rattle.proto_visibility.specs.declared.lookup.Entity.{Entity}
 use Rattle.proto_visibility.specs.Files.{File}
-use Rattle.proto_visibility.specs.Entities.{IsEntityOf}
+use Rattle.proto_visibility.specs.Knows.{IsEntityOf}
 use Rattle.proto_link.specs.Targets.{IsNamed}
 
 -- each of the last so many components of the name names the entity of the name up to it

@@ -3,16 +3,14 @@ use Rattle.std.proofs.Common.{◌≡◌, ℕ, true, Option, Some, List, refl, sy
 use Rattle.std.specs.Prelude.{Result, Ok, Err, MatchResult}
 use Rattle.proto_lex.specs.declared.span.Span.{Span}
 use Rattle.proto_lex.specs.declared.token.TokenKind.TheVariants.{StringLiteral}
-use Rattle.proto_grammar.specs.declared.tree.Dialect.{Dialect}
-use Rattle.proto_grammar.specs.declared.tree.Dialect.TheVariants.{All}
-use Rattle.proto_grammar.specs.declared.tree.Syntax.{Syntax}
-use Rattle.proto_grammar.specs.declared.tree.Syntax.TheVariants.{Proto2}
+use Rattle.proto_grammar.specs.declared.dialect.Dialect.{Dialect}
+use Rattle.proto_grammar.specs.declared.dialect.Dialect.TheVariants.{All}
+use Rattle.proto_grammar.specs.declared.dialect.Syntax.{Syntax}
+use Rattle.proto_grammar.specs.declared.dialect.Syntax.TheVariants.{Proto2}
 use Rattle.proto_grammar.specs.declared.tree.Import.{Import}
 use Rattle.proto_grammar.specs.declared.tree.ImportKind.{ImportKind}
 use Rattle.proto_grammar.specs.declared.tree.File.{File}
 use Rattle.proto_grammar.specs.declared.fault.SyntaxFault.{SyntaxFault}
-use Rattle.proto_grammar.specs.declared.fault.SyntaxFault.TheVariants.{NotProto3, CustomOption, Aggregate, Extend}
-use Rattle.proto_grammar.specs.declared.fault.SyntaxFault.TheVariants.{TwoPackages, ImportEscape, TooDeep, Grammar}
 use Rattle.proto_grammar.specs.declared.fault.SyntaxFault.TheVariants.{Memory}
 use Rattle.proto_parse.specs.declared.statement.FileStatement.{FileStatement}
 use Rattle.proto_parse.specs.declared.statement.FileStatement.TheVariants as choice
@@ -45,19 +43,19 @@ use Rattle.proto_parse.specs.Reading.Messages.{inside_at}
 use Rattle.proto_parse.specs.Reading.Syntax.{syntax_by, version_at, syntax_statement_at, syntax_at}
 use Rattle.proto_parse.specs.Reading.Files.{import_kind_at, path_literal_at, path_literals_at, import_at, package_at}
 use Rattle.proto_parse.specs.Reading.Files.{only_package_at, statement_by, statement_at, statements_at, file_at}
-use Rattle.proto_grammar.proofs.TokenLemmas.{token_exact, one_next, one_others, next_other_word}
-use Rattle.proto_grammar.proofs.UntilLemmas.{until_at-exact, adding-exact}
-use Rattle.proto_parse.proofs.Joined.{joined_exact}
+use Rattle.proto_grammar.proofs.TerminalTokenLemmas.{token_exact, one_next, one_others, next_other_word}
+use Rattle.proto_grammar.proofs.RepetitionUntilLemmas.{until_at-exact, adding-exact}
+use Rattle.proto_parse.proofs.SyntaxJoinedLemmas.{joined_exact}
 use Rattle.proto_parse.proofs.Choices.{file_word, import_begins, package_begins, option_begins, message_begins}
 use Rattle.proto_parse.proofs.Choices.{enum_begins, service_begins, extend_begins}
-use Rattle.proto_parse.proofs.StepsFall.{items_fall, path_literals_fall, statements_fall}
+use Rattle.proto_parse.proofs.ReadingFallLemmas.{items_fall, path_literals_fall, statements_fall}
 use Rattle.proto_grammar.proofs.Exact.Names.{name_exact}
 use Rattle.proto_grammar.proofs.Exact.Options.{option_exact}
 use Rattle.proto_parse.proofs.Exact.Messages.{enum_exact, extend_statement_exact, inside_exact, message_exact}
 use Rattle.proto_parse.proofs.Exact.Messages.{service_exact}
 use Rattle.std.proofs.Common.{None}
-use Rattle.proto_grammar.proofs.TokenLemmas.{plain_exact}
-use Rattle.proto_grammar.proofs.Steps.{same_ok}
+use Rattle.proto_grammar.proofs.TerminalTokenLemmas.{plain_exact}
+use Rattle.proto_grammar.proofs.RepetitionStepLemmas.{same_ok}
 use Rattle.proto_grammar.specs.Terminal.{first_is, of_kind}
 use Rattle.proto_grammar.specs.Lexeme.{Place, place_of}
 
@@ -190,15 +188,8 @@ same_tree tree other d e =
 pub only_memory : (end : ℕ) {dialect : Dialect} {a : List Lexeme} {tree : File} → (fault : SyntaxFault)
     → Fails (custom_in dialect) fault (file_at max_message_depth dialect (place_of end a)) → IsFile dialect a tree
     → fault ≡ Memory
-only_memory end (NotProto3 offset) fails d = let read = (file_exact end d).1 in cc
-only_memory end (CustomOption offset) fails d = let read = (file_exact end d).1 in cc
-only_memory end (Aggregate offset) fails d = let read = (file_exact end d).1 in cc
-only_memory end (Extend offset) fails d = let read = (file_exact end d).1 in cc
-only_memory end (TwoPackages offset) fails d = let read = (file_exact end d).1 in cc
-only_memory end (ImportEscape offset) fails d = let read = (file_exact end d).1 in cc
-only_memory end (TooDeep offset) fails d = let read = (file_exact end d).1 in cc
-only_memory end (Grammar offset) fails d = let read = (file_exact end d).1 in cc
 only_memory end Memory fails d = refl
+only_memory end fault fails d = let read = (file_exact end d).1 in cc
 
 -- of what the parser gives
 pub file_of_exact : (dialect : Dialect) (tokens rest : Place) (result : Result File SyntaxFault)

@@ -3,9 +3,9 @@ use Rattle.std.proofs.Common.{◌≡◌, ℕ, zero, suc, true, false, Option, So
 use Rattle.std.proofs.Common.{codes}
 use Rattle.proto_lex.specs.declared.span.Span.{Span}
 use Rattle.proto_lex.specs.declared.token.TokenKind.TheVariants.{Identifier, Semicolon, OpenBrace}
-use Rattle.proto_grammar.specs.declared.tree.CustomOptions.{CustomOptions}
-use Rattle.proto_grammar.specs.declared.tree.Syntax.{Syntax}
-use Rattle.proto_grammar.specs.declared.tree.Syntax.TheVariants.{Proto3, Extended, Proto2}
+use Rattle.proto_grammar.specs.declared.dialect.CustomOptions.{CustomOptions}
+use Rattle.proto_grammar.specs.declared.dialect.Syntax.{Syntax}
+use Rattle.proto_grammar.specs.declared.dialect.Syntax.TheVariants.{Proto3, Extended, Proto2}
 use Rattle.proto_grammar.specs.declared.tree.Heading.{Heading}
 use Rattle.proto_grammar.specs.declared.tree.Label.{Label}
 use Rattle.proto_grammar.specs.declared.tree.TypeName.{TypeName}
@@ -69,14 +69,14 @@ use Rattle.proto_parse.specs.Reading.Messages.{message_item_by, message_item_at,
 use Rattle.proto_parse.specs.Reading.Services.{stream_at, method_type_at, method_item_at, method_items_at}
 use Rattle.proto_parse.specs.Reading.Services.{method_body_at, method_end_at, method_at, service_item_at}
 use Rattle.proto_parse.specs.Reading.Services.{service_items_at, service_at}
-use Rattle.proto_grammar.proofs.TokenLemmas.{token_exact, one_next, one_others, next_other_kind, next_word_kind}
-use Rattle.proto_grammar.proofs.TokenLemmas.{next_other_word}
-use Rattle.proto_grammar.proofs.UntilLemmas.{until_at-exact, adding-exact, passing-exact, Falls}
+use Rattle.proto_grammar.proofs.TerminalTokenLemmas.{token_exact, one_next, one_others, next_other_kind, next_word_kind}
+use Rattle.proto_grammar.proofs.TerminalTokenLemmas.{next_other_word}
+use Rattle.proto_grammar.proofs.RepetitionUntilLemmas.{until_at-exact, adding-exact, passing-exact, Falls}
 use Rattle.proto_parse.proofs.Choices.{message_word, map_chosen, member_chosen, message_begins, enum_begins}
 use Rattle.proto_parse.proofs.Choices.{option_begins, oneof_begins, reserved_begins, method_begins, extend_begins}
 use Rattle.proto_parse.proofs.Choices.{extensions_begins}
-use Rattle.proto_parse.proofs.StepsFall.{enum_items_fall, passed_items_fall, items_fall}
-use Rattle.proto_parse.proofs.StepsFall.{method_items_fall, service_items_fall}
+use Rattle.proto_parse.proofs.ReadingFallLemmas.{enum_items_fall, passed_items_fall, items_fall}
+use Rattle.proto_parse.proofs.ReadingFallLemmas.{method_items_fall, service_items_fall}
 use Rattle.proto_grammar.proofs.Exact.Names.{named_type_exact, pass_type_name_exact}
 use Rattle.proto_grammar.proofs.Exact.Options.{option_exact, options_exact}
 use Rattle.proto_grammar.proofs.Exact.Fields.{typed_exact, label_exact, group_head_exact, map_field_exact}

@@ -1,18 +1,13 @@
 -- What is read is in the grammar: files.
 use Rattle.std.proofs.Common.{◌≡◌, ℕ, true, false, ◌&&◌, not, cond, Option, Some, None, is_some, ◌⊎◌, inl, inr, List}
 use Rattle.std.proofs.Common.{[], ◌∷◌, refl, sym, ◌∙◌, subst, codes, bytes_eq}
-use Rattle.std.specs.Prelude.{Result, Ok, Err, IfOk, IfErr}
+use Rattle.std.specs.Prelude.{Result, Ok, Err, IfOk}
 use Rattle.proto_grammar.specs.declared.fault.SyntaxFault.{SyntaxFault}
-use Rattle.proto_grammar.specs.declared.fault.SyntaxFault.TheVariants.{NotProto3, CustomOption, Aggregate, Extend}
-use Rattle.proto_grammar.specs.declared.fault.SyntaxFault.TheVariants.{TwoPackages, ImportEscape, TooDeep, Grammar}
-use Rattle.proto_grammar.specs.declared.fault.SyntaxFault.TheVariants.{Memory}
-use Rattle.proto_grammar.specs.declared.tree.CustomOptions.{CustomOptions}
-use Rattle.proto_grammar.specs.declared.tree.CustomOptions.TheVariants.{Refuse, Skip}
-use Rattle.proto_grammar.specs.declared.tree.Dialect.{Dialect}
-use Rattle.proto_grammar.specs.declared.tree.Dialect.TheVariants.{Proto3, All}
-use Rattle.proto_grammar.specs.declared.tree.Syntax.{Syntax}
-use Rattle.proto_grammar.specs.declared.tree.Syntax.TheVariants.{Proto2}
-use Rattle.proto_parse.specs.Faults.{is_of_custom_options}
+use Rattle.proto_grammar.specs.declared.fault.SyntaxFault.TheVariants.{NotProto3, Grammar}
+use Rattle.proto_grammar.specs.declared.dialect.Dialect.{Dialect}
+use Rattle.proto_grammar.specs.declared.dialect.Dialect.TheVariants.{Proto3, All}
+use Rattle.proto_grammar.specs.declared.dialect.Syntax.{Syntax}
+use Rattle.proto_grammar.specs.declared.dialect.Syntax.TheVariants.{Proto2}
 use Rattle.proto_grammar.specs.Gives.{Gives}
 use Rattle.std.proofs.lemmas.Slice.Eq.{bytes_eq-Decides}
 use Rattle.proto_lex.specs.declared.span.Span.{Span}
@@ -52,21 +47,21 @@ use Rattle.proto_parse.specs.Reading.Syntax.{joined_of, behind_literals, syntax_
 use Rattle.proto_parse.specs.Reading.Syntax.{syntax_at}
 use Rattle.proto_parse.specs.Reading.Files.{import_kind_at, path_literal_at, path_literals_at, import_at, package_at}
 use Rattle.proto_parse.specs.Reading.Files.{only_package_at, statement_by, statement_at, statements_at, file_at}
-use Rattle.proto_grammar.proofs.Steps.{same_ok, bind_ok, guard_ok, kept_ok}
-use Rattle.proto_lex.proofs.ReadLemmas.{chosen}
-use Rattle.proto_grammar.proofs.TokenLemmas.{token_found, next_found}
-use Rattle.proto_grammar.proofs.UntilLemmas.{until_at-found, adding-found}
+use Rattle.proto_grammar.proofs.RepetitionStepLemmas.{same_ok, bind_ok, guard_ok, kept_ok}
+use Rattle.proto_lex.proofs.ReadingTestLemmas.{chosen}
+use Rattle.proto_grammar.proofs.TerminalTokenLemmas.{token_found, next_found}
+use Rattle.proto_grammar.proofs.RepetitionUntilLemmas.{until_at-found, adding-found}
 use Rattle.proto_grammar.proofs.Found.Names.{name_found}
 use Rattle.proto_grammar.proofs.Found.Options.{option_found}
 use Rattle.proto_parse.proofs.Found.Messages.{enum_found, extend_statement_found, inside_found, message_found}
 use Rattle.proto_parse.proofs.Found.Messages.{service_found}
-use Rattle.proto_parse.proofs.Joined.{joined_found}
+use Rattle.proto_parse.proofs.SyntaxJoinedLemmas.{joined_found}
 use Rattle.std.proofs.lemmas.Option.{same_Some}
 use Rattle.proto_parse.specs.Reading.Syntax.{past_literals}
 use Rattle.std.specs.Option.{option_map_or}
 use Rattle.std.proofs.lemmas.Bool.{not-true}
-use Rattle.proto_grammar.proofs.TokenLemmas.{plain_found}
-use Rattle.proto_grammar.proofs.Steps.{read_as}
+use Rattle.proto_grammar.proofs.TerminalTokenLemmas.{plain_found}
+use Rattle.proto_grammar.proofs.RepetitionStepLemmas.{read_as}
 use Rattle.proto_grammar.specs.Reading.Repetition.{plain_literal_at}
 use Rattle.proto_grammar.specs.Terminal.{offset_at}
 use Rattle.proto_grammar.specs.Lexeme.{Place}
@@ -287,22 +282,3 @@ pub file_of_found : (dialect : Dialect) (tokens rest : Place) (result : Result F
     → IfOk result (λ f. IsFile dialect tokens.left f)
 file_of_found dialect tokens rest (Ok f) e = file_found max_message_depth dialect tokens (f, rest) e
 file_of_found dialect tokens rest (Err fault) e = tt
-
-only_where_refused : (custom : CustomOptions) → custom ≡ Refuse → custom ≡ Skip → true ≡ false
-only_where_refused custom refused skipped = let same : Refuse ≡ Skip = sym refused ∙ skipped in cc
-
-pub file_of_skipped : (dialect : Dialect) (tokens rest : Place) (result : Result File SyntaxFault)
-    → Gives (custom_in dialect) (λ x. x) rest result (file_at max_message_depth dialect tokens)
-    → custom_in dialect ≡ Skip → IfErr result (λ fault. is_of_custom_options fault ≡ false)
-file_of_skipped dialect tokens rest (Ok f) e skipped = tt
-file_of_skipped dialect tokens rest (Err (NotProto3 offset)) e skipped = refl
-file_of_skipped dialect tokens rest (Err (CustomOption offset)) e skipped = only_where_refused (custom_in dialect) e.0
-    skipped
-file_of_skipped dialect tokens rest (Err (Aggregate offset)) e skipped = only_where_refused (custom_in dialect) e.0
-    skipped
-file_of_skipped dialect tokens rest (Err (Extend offset)) e skipped = only_where_refused (custom_in dialect) e.0 skipped
-file_of_skipped dialect tokens rest (Err (TwoPackages offset)) e skipped = refl
-file_of_skipped dialect tokens rest (Err (ImportEscape offset)) e skipped = refl
-file_of_skipped dialect tokens rest (Err (TooDeep offset)) e skipped = refl
-file_of_skipped dialect tokens rest (Err (Grammar offset)) e skipped = refl
-file_of_skipped dialect tokens rest (Err Memory) e skipped = refl

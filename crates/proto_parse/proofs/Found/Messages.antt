@@ -4,10 +4,10 @@ use Rattle.std.proofs.Common.{refl, subst, codes}
 use Rattle.proto_lex.specs.declared.span.Span.{Span}
 use Rattle.proto_lex.specs.declared.token.TokenKind.TheVariants.{Identifier, Semicolon, Equals, OpenBrace, CloseBrace}
 use Rattle.proto_lex.specs.declared.token.TokenKind.TheVariants.{OpenParenthesis, CloseParenthesis}
-use Rattle.proto_grammar.specs.declared.tree.CustomOptions.{CustomOptions}
-use Rattle.proto_grammar.specs.declared.tree.CustomOptions.TheVariants.{Refuse, Skip}
-use Rattle.proto_grammar.specs.declared.tree.Syntax.{Syntax}
-use Rattle.proto_grammar.specs.declared.tree.Syntax.TheVariants.{Proto3, Extended, Proto2}
+use Rattle.proto_grammar.specs.declared.dialect.CustomOptions.{CustomOptions}
+use Rattle.proto_grammar.specs.declared.dialect.CustomOptions.TheVariants.{Refuse, Skip}
+use Rattle.proto_grammar.specs.declared.dialect.Syntax.{Syntax}
+use Rattle.proto_grammar.specs.declared.dialect.Syntax.TheVariants.{Proto3, Extended, Proto2}
 use Rattle.proto_grammar.specs.declared.tree.Heading.{Heading}
 use Rattle.proto_grammar.specs.declared.tree.Label.{Label}
 use Rattle.proto_grammar.specs.declared.tree.TypeName.{TypeName}
@@ -76,11 +76,11 @@ use Rattle.proto_parse.specs.Reading.Messages.{message_item_by, message_item_at,
 use Rattle.proto_parse.specs.Reading.Services.{stream_at, method_type_at, method_item_at, method_items_at}
 use Rattle.proto_parse.specs.Reading.Services.{method_body_at, method_end_at, method_at, service_item_at}
 use Rattle.proto_parse.specs.Reading.Services.{service_items_at, service_at}
-use Rattle.proto_grammar.proofs.Steps.{same_ok, bind_ok, guard_ok}
-use Rattle.proto_lex.proofs.ReadLemmas.{chosen}
-use Rattle.proto_grammar.proofs.TokenLemmas.{token_found, next_found}
+use Rattle.proto_grammar.proofs.RepetitionStepLemmas.{same_ok, bind_ok, guard_ok}
+use Rattle.proto_lex.proofs.ReadingTestLemmas.{chosen}
+use Rattle.proto_grammar.proofs.TerminalTokenLemmas.{token_found, next_found}
 use Rattle.proto_parse.proofs.Choices.{member_next}
-use Rattle.proto_grammar.proofs.UntilLemmas.{until_at-found, adding-found, passing-found}
+use Rattle.proto_grammar.proofs.RepetitionUntilLemmas.{until_at-found, adding-found, passing-found}
 use Rattle.proto_grammar.proofs.Found.Names.{named_type_found, pass_type_name_found}
 use Rattle.proto_grammar.proofs.Found.Options.{left_of, option_found, options_found}
 use Rattle.proto_grammar.proofs.Found.Fields.{typed_found, label_found, group_head_found, map_field_found}
@@ -89,7 +89,7 @@ use Rattle.proto_grammar.specs.declared.fault.SyntaxFault.TheVariants as fault
 use Rattle.proto_grammar.specs.declared.fault.SyntaxFault.TheVariants.{TooDeep}
 use Rattle.proto_parse.specs.Reading.Messages.{Inside}
 use Rattle.std.proofs.Common.{Ok, Err}
-use Rattle.proto_grammar.proofs.Steps.{read_as}
+use Rattle.proto_grammar.proofs.RepetitionStepLemmas.{read_as}
 use Rattle.proto_grammar.specs.Terminal.{offset_at}
 use Rattle.proto_grammar.specs.Lexeme.{Place, place_of}
 

@@ -4,9 +4,9 @@ use Rattle.std.proofs.Common.{◌∷◌}
 use Rattle.std.proofs.Common.{◌++◌, refl, sym, ◌∙◌, ap, subst, append_assoc, append-nil, codes}
 use Rattle.proto_lex.specs.declared.span.Span.{Span}
 use Rattle.proto_lex.specs.declared.token.TokenKind.TheVariants.{Identifier}
-use Rattle.proto_grammar.specs.declared.tree.CustomOptions.{CustomOptions}
-use Rattle.proto_grammar.specs.declared.tree.Dialect.{Dialect}
-use Rattle.proto_grammar.specs.declared.tree.Syntax.{Syntax}
+use Rattle.proto_grammar.specs.declared.dialect.CustomOptions.{CustomOptions}
+use Rattle.proto_grammar.specs.declared.dialect.Dialect.{Dialect}
+use Rattle.proto_grammar.specs.declared.dialect.Syntax.{Syntax}
 use Rattle.proto_grammar.specs.declared.tree.Heading.{Heading}
 use Rattle.proto_grammar.specs.declared.tree.Label.{Label}
 use Rattle.proto_grammar.specs.declared.tree.TypeName.{TypeName}
@@ -90,14 +90,17 @@ use Rattle.proto_parse.specs.Grammar.Files.IsStatement.{option as statements-opt
 use Rattle.proto_parse.specs.Grammar.Files.IsStatement.{enum as statements-enum, service as statements-service}
 use Rattle.proto_parse.specs.Grammar.Files.IsStatement.{extend as statements-extend}
 use Rattle.proto_parse.specs.Grammar.Files.IsFileWithin.{file}
-use Rattle.proto_grammar.proofs.TokenLemmas.{same_kind}
+use Rattle.proto_grammar.proofs.TerminalTokenLemmas.{same_kind}
 use Rattle.proto_parse.proofs.Walk.Past.{past, at_a_name, at_a_word, at_a_group_name, at_a_scalar, at_a_key}
 use Rattle.proto_parse.proofs.Walk.Past.{at_a_literal, at_another, at_its_first, over}
-use Rattle.proto_parse.proofs.Tails.IsTail.{here}
-use Rattle.proto_parse.proofs.Tails.{until_past, option_past, options_past, label_past, integer_past, reserved_past}
-use Rattle.proto_parse.proofs.Tails.{extensions_past, passed_extend_past, method_item_past, enum_past, service_past}
-use Rattle.proto_parse.proofs.Tails.{file_message_past, file_extend_past, package_past, import_kind_past, import_past}
-use Rattle.proto_parse.proofs.Tails.{syntax_past}
+use Rattle.proto_parse.proofs.GrammarTailLemmas.IsTail.{here}
+use Rattle.proto_parse.proofs.GrammarTailLemmas.{until_past, option_past, options_past, label_past, integer_past}
+use Rattle.proto_parse.proofs.GrammarTailLemmas.{reserved_past}
+use Rattle.proto_parse.proofs.GrammarTailLemmas.{extensions_past, passed_extend_past, method_item_past, enum_past}
+use Rattle.proto_parse.proofs.GrammarTailLemmas.{service_past}
+use Rattle.proto_parse.proofs.GrammarTailLemmas.{file_message_past, file_extend_past, package_past, import_kind_past}
+use Rattle.proto_parse.proofs.GrammarTailLemmas.{import_past}
+use Rattle.proto_parse.proofs.GrammarTailLemmas.{syntax_past}
 
 -- marks of two lists
 pub each_then-append : {A : Type 0} (marks_then : A → List Mark → List Mark) (xs ys : List A) (marks : List Mark)

@@ -1,5 +1,6 @@
 -- Marks are in order where the tokens are.
 use Rattle.std.proofs.Common.{◌≡◌, ℕ, ◌≤◌, List, [], ◌∷◌, map, refl, ap, arith}
+use Rattle.proto_lex.proofs.LexedLemmas.{in_order_before as from_earlier}
 use Rattle.proto_lex.specs.declared.span.Span.{Span}
 use Rattle.proto_lex.specs.declared.token.Token.{Token}
 use Rattle.proto_lex.specs.Lexed.{AreInOrder}
@@ -7,12 +8,6 @@ use Rattle.proto_grammar.specs.Lexeme.{Lexeme, lexemes_of}
 use Rattle.proto_parse.specs.Walk.{Role as role}
 use Rattle.proto_parse.specs.Walk.{Mark, Among, MarksAreInOrder}
 use Rattle.proto_parse.specs.Walk.Among.{none as no_marks, skip, token}
-
--- from an earlier place on too
-from_earlier : (earlier place : ℕ) (spans : List Span) → earlier ≤ place → AreInOrder place spans
-    → AreInOrder earlier spans
-from_earlier earlier place [] h ordered = tt
-from_earlier earlier place (span ∷ spans) h ordered = (omega (arith, ordered.0), ordered.1, ordered.2)
 
 -- marks are in order where the tokens are
 pub Among-MarksAreInOrder : {marks : List Mark} {tokens : List Lexeme} → Among marks tokens → (place : ℕ)

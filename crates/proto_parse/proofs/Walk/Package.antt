@@ -1,8 +1,8 @@
 -- Where the package statement stands among the items of a file.
 use Rattle.std.proofs.Common.{◌≡◌, Option, Some, None, List, [], ◌++◌, refl, sym, ◌∙◌, ap, subst, append_assoc}
 use Rattle.proto_lex.specs.declared.span.Span.{Span}
-use Rattle.proto_grammar.specs.declared.tree.Dialect.{Dialect}
-use Rattle.proto_grammar.specs.declared.tree.Syntax.{Syntax}
+use Rattle.proto_grammar.specs.declared.dialect.Dialect.{Dialect}
+use Rattle.proto_grammar.specs.declared.dialect.Syntax.{Syntax}
 use Rattle.proto_grammar.specs.declared.tree.FileItem.{FileItem}
 use Rattle.proto_grammar.specs.declared.tree.File.{File}
 use Rattle.proto_grammar.specs.Lexeme.{Lexeme}
@@ -19,8 +19,8 @@ use Rattle.proto_parse.proofs.Walk.Then.{each_then, item_then, names_then, betwe
 use Rattle.proto_parse.specs.Walk.Among.{none as no_marks}
 use Rattle.proto_parse.proofs.Walk.Marks.{Puts, each_then-append, until_puts, statement_items, package_marks}
 use Rattle.proto_parse.proofs.Walk.Past.{over}
-use Rattle.proto_parse.proofs.Tails.{syntax_past}
-use Rattle.proto_parse.proofs.Tails.IsTail.{here}
+use Rattle.proto_parse.proofs.GrammarTailLemmas.{syntax_past}
+use Rattle.proto_parse.proofs.GrammarTailLemmas.IsTail.{here}
 use Rattle.proto_parse.specs.Limits.{max_message_depth}
 
 -- a package's name stays

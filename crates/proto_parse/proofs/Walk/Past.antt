@@ -11,9 +11,9 @@ use Rattle.proto_parse.specs.Walk.Among.{skip}
 use Rattle.proto_parse.proofs.Walk.Then.{First, Name, Literal, Other, at_first, at_name, at_literal, at_other}
 use Rattle.proto_grammar.specs.Grammar.Repetition.{One}
 use Rattle.proto_grammar.specs.Grammar.Repetition.One.{one}
-use Rattle.proto_grammar.proofs.TokenLemmas.{same_kind}
-use Rattle.proto_parse.proofs.Tails.{IsTail}
-use Rattle.proto_parse.proofs.Tails.IsTail.{here, onward}
+use Rattle.proto_grammar.proofs.TerminalTokenLemmas.{same_kind}
+use Rattle.proto_parse.proofs.GrammarTailLemmas.{IsTail}
+use Rattle.proto_parse.proofs.GrammarTailLemmas.IsTail.{here, onward}
 
 -- single tokens
 pub past : {test : Lexeme → Bool} {a b : List Lexeme} {span : Span} {marks : List Mark} → One test a span b

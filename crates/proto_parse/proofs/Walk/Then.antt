@@ -26,11 +26,14 @@ use Rattle.proto_grammar.specs.Lexeme.{Lexeme}
 use Rattle.proto_grammar.specs.Tree.{Body, BlockTree}
 use Rattle.proto_grammar.specs.Tree.Body.{NoMore, LeafThen, BlockThen}
 use Rattle.proto_parse.specs.Walk.{Mark, mark, Among, names_marks, type_name_marks, type_marks, heading_marks}
-use Rattle.proto_parse.specs.Walk.{field_marks, map_field_marks, enum_marks, head_marks, leaf_marks, body_marks}
-use Rattle.proto_parse.specs.Walk.{method_marks, service_marks, item_marks}
+use Rattle.proto_parse.specs.Walk.{field_marks, map_field_marks, head_marks, method_marks, part_marks, marks_in}
 use Rattle.proto_parse.specs.Walk.{marks_of_imports, marks_of_package}
 use Rattle.proto_parse.specs.Walk.{Role as role}
 use Rattle.proto_parse.specs.Walk.Among.{token}
+use Rattle.proto_parse.specs.Parts.{Part, of_enum, of_leaf, of_body, of_service, of_item, anywhere, parts_in}
+use Rattle.proto_parse.specs.Parts.Part.{BlockPart, EnumPart, ValuePart, FieldPart, MapFieldPart, ServicePart}
+use Rattle.proto_parse.specs.Parts.Part.{MethodPart}
+use Rattle.proto_parse.proofs.PartLemmas.{items-each}
 
 -- ---- marks by their roles
 
@@ -144,6 +147,27 @@ abbrev pub import_then : Import → List Mark → List Mark
 import_then import marks = each_then literal_then import.literals marks
 
 -- ---- each is its marks, and the others behind them
+
+abbrev marks_by : Unit {0} → Part → List Mark
+marks_by around part = part_marks part
+
+abbrev enum_marks : Enum → List Mark
+enum_marks enum = of_enum anywhere marks_by tt enum
+
+abbrev leaf_marks : Leaf → List Mark
+leaf_marks leaf = of_leaf anywhere marks_by tt leaf
+
+abbrev body_marks : Body → List Mark
+body_marks body = of_body anywhere marks_by tt body
+
+abbrev service_marks : Service → List Mark
+service_marks service = of_service anywhere marks_by tt service
+
+abbrev item_marks : FileItem → List Mark
+item_marks item = of_item anywhere marks_by tt item
+
+marks-in : (items : List FileItem) → flat_map item_marks items ≡ marks_in items
+marks-in items = items-each anywhere (λ around part. part) part_marks tt items
 
 each-is : {A : Type 0} (marks_then : A → List Mark → List Mark) (marks_of : A → List Mark)
     → ((x : A) (marks : List Mark) → marks_then x marks ≡ marks_of x ++ marks) → (xs : List A) (marks : List Mark)
@@ -261,10 +285,34 @@ item-is (item.Block block) marks = block-is block marks
 item-is (item.Enum enum) marks = enum-is enum marks
 item-is (item.Service service) marks = service-is service marks
 
+-- ---- part by part
+
+abbrev pub part_then : Part → List Mark → List Mark
+part_then (BlockPart head) marks = head_then head marks
+part_then (EnumPart heading) marks = heading_then heading marks
+part_then (ValuePart heading) marks = heading_then heading marks
+part_then (FieldPart field) marks = field_then field marks
+part_then (MapFieldPart field) marks = map_field_then field marks
+part_then (ServicePart heading) marks = heading_then heading marks
+part_then (MethodPart method) marks = method_then method marks
+
+pub part-is : (part : Part) (marks : List Mark) → part_then part marks ≡ part_marks part ++ marks
+part-is (BlockPart head) marks = head-is head marks
+part-is (EnumPart heading) marks = refl
+part-is (ValuePart heading) marks = refl
+part-is (FieldPart field) marks = field-is field marks
+part-is (MapFieldPart field) marks = map_field-is field marks
+part-is (ServicePart heading) marks = refl
+part-is (MethodPart method) marks = method-is method marks
+
+pub parts_are : (items : List FileItem) → each_then part_then (parts_in items) [] ≡ marks_in items
+parts_are items = each-is part_then part_marks part-is (parts_in items) [] ∙ append-nil (marks_in items)
+
 -- ---- all of a file
 
-pub items_are : (items : List FileItem) → each_then item_then items [] ≡ flat_map item_marks items
-items_are items = each-is item_then item_marks item-is items [] ∙ append-nil (flat_map item_marks items)
+pub items_are : (items : List FileItem) → each_then item_then items [] ≡ marks_in items
+items_are items =
+    each-is item_then item_marks item-is items [] ∙ append-nil (flat_map item_marks items) ∙ marks-in items
 
 pub imports_are : (file : File) → each_then import_then file.imports [] ≡ marks_of_imports file
 imports_are file =
@@ -279,9 +327,10 @@ package_is file =
 -- a package's name between items
 pub between_are : (before behind : List FileItem) (components : List Span)
     → each_then item_then before (names_then components (each_then item_then behind []))
-    ≡ flat_map item_marks before ++ (names_marks components ++ flat_map item_marks behind)
+    ≡ marks_in before ++ (names_marks components ++ marks_in behind)
 between_are before behind components =
     each-is item_then item_marks item-is before (names_then components (each_then item_then behind []))
-    ∙ ap (λ others. flat_map item_marks before ++ others)
+    ∙ ap (λ front. front ++ names_then components (each_then item_then behind [])) (marks-in before)
+    ∙ ap (λ others. marks_in before ++ others)
     (names-are components (each_then item_then behind [])
     ∙ ap (λ others. names_marks components ++ others) (items_are behind))

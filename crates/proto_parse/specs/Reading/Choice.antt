@@ -3,7 +3,7 @@ use Rattle.std.specs.Prelude.{ℕ, List, cond, bytes_eq, codes}
 use Rattle.proto_lex.specs.declared.token.TokenKind.TheVariants.{Semicolon}
 use Rattle.proto_grammar.specs.Lexeme.{Lexeme}
 use Rattle.proto_grammar.specs.Terminal.{first_is, of_kind, is_word}
-use Rattle.proto_grammar.specs.declared.tree.Syntax.{Syntax}
+use Rattle.proto_grammar.specs.declared.dialect.Syntax.{Syntax}
 use Rattle.proto_parse.specs.declared.statement.FileStatement.{FileStatement}
 use Rattle.proto_parse.specs.declared.statement.FileStatement.TheVariants as file
 use Rattle.proto_parse.specs.declared.statement.MessageStatement.{MessageStatement}

@@ -4,9 +4,9 @@ use Rattle.std.specs.Prelude.{drop}
 use Rattle.std.specs.Prelude.{bytes_eq, nat_eq, codes}
 use Rattle.std.specs.List.{starts_with}
 use Rattle.proto_lex.specs.declared.token.TokenKind.TheVariants.{StringLiteral, Semicolon, Equals}
-use Rattle.proto_grammar.specs.declared.tree.Dialect.{Dialect}
-use Rattle.proto_grammar.specs.declared.tree.Syntax.{Syntax}
-use Rattle.proto_grammar.specs.declared.tree.Syntax.TheVariants.{Proto2}
+use Rattle.proto_grammar.specs.declared.dialect.Dialect.{Dialect}
+use Rattle.proto_grammar.specs.declared.dialect.Syntax.{Syntax}
+use Rattle.proto_grammar.specs.declared.dialect.Syntax.TheVariants.{Proto2}
 use Rattle.proto_parse.specs.declared.statement.Version.{Version}
 use Rattle.proto_parse.specs.declared.statement.Version.TheVariants as version
 use Rattle.proto_grammar.specs.Lexeme.{Lexeme, Place}

@@ -4,10 +4,10 @@ use Rattle.std.specs.Prelude.{Contains}
 use Rattle.std.specs.List.{slice_get}
 use Rattle.proto_decl.specs.Names.{package_of}
 use Rattle.proto_decl.specs.Facts.{Facts}
-use Rattle.proto_decl.specs.declared.type_use.Component.{Component}
+use Rattle.proto_decl.specs.declared.uses.Component.{Component}
 use Rattle.proto_decl.specs.declared.declaration.Declaration.{Declaration}
 use Rattle.proto_visibility.specs.Files.{File}
-use Rattle.proto_visibility.specs.Items.{Item}
+use Rattle.proto_visibility.specs.Clashes.{Item}
 
 -- for each component the name up to it
 pub record ArePrefixes (components : List Component) (prefixes : List (List ℕ)) : Type 0 where

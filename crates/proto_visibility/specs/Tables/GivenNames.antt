@@ -9,9 +9,8 @@ use Rattle.proto_decl.specs.declared.declaration.Declaration.{Declaration}
 use Rattle.proto_visibility.specs.declared.names.DeclaredAt.{DeclaredAt}
 use Rattle.proto_visibility.specs.declared.names.Names.{Names}
 use Rattle.proto_visibility.specs.Files.{File}
-use Rattle.proto_visibility.specs.Knows.{NameKind, is_aggregate}
+use Rattle.proto_visibility.specs.Knows.{NameKind, is_aggregate, IsPrefix}
 use Rattle.proto_visibility.specs.Knows.NameKind.{OfPackage, OfDeclaration}
-use Rattle.proto_visibility.specs.FileNames.{IsPrefix}
 
 -- what a map lists at a name
 abbrev pub owned_at : {X A Y S : Type 0} → HashMap (String Y) (Vec X A) S → (name : List ℕ) → List X

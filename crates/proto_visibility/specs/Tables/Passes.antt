@@ -2,43 +2,42 @@
 use Rattle.std.specs.Prelude.{◌≡◌, ◌<◌, ◌≤◌, ℕ, Option, Some, None, List, ◌||◌, false, length, MatchOption, Contains}
 use Rattle.std.specs.List.{slice_get}
 use Rattle.std.specs.HashMap.{HashMap}
-use Rattle.proto_visibility.specs.declared.fault.LinkFault.{LinkFault}
-use Rattle.proto_visibility.specs.declared.fault.LinkFault.TheVariants.{Broken, Duplicate, MissingImport, Unresolved}
-use Rattle.proto_visibility.specs.declared.fault.LinkFault.TheVariants.{Memory}
+use Rattle.proto_visibility.specs.declared.files.FilePlace.{FilePlace}
+use Rattle.proto_visibility.specs.declared.omissions.FileOmission.{FileOmission}
+use Rattle.proto_visibility.specs.declared.omissions.FileOmission.TheVariants.{Broken, Duplicate}
 use Rattle.proto_visibility.specs.Files.{File}
-use Rattle.proto_visibility.specs.Items.{Item}
-use Rattle.proto_visibility.specs.Clashes.{ClashBy, NoClashBy}
+use Rattle.proto_visibility.specs.Clashes.{Item, ClashBy, NoClashBy}
 use Rattle.proto_visibility.specs.Absences.{IsUnread}
-use Rattle.proto_visibility.specs.Kept.{Omissions, IsKept, IsMet}
-use Rattle.proto_visibility.specs.Tables.NameTables.{index_in}
+use Rattle.proto_visibility.specs.Kept.{Omissions, IsKeptFile, IsMet}
+use Rattle.proto_visibility.specs.Tables.ClashTables.{index_in}
 
 -- of each of the first so many files, whether it is left out because it has no facts
 pub record AreUnreadOf (files : List File) (count : ℕ) (omissions : Omissions) : Type 0 where
   pub one_each : length omissions ≡ count
-  pub each : (number : ℕ) (omission : Option LinkFault) → slice_get omissions number ≡ Some omission
-      → MatchOption omission (IsUnread files number → ⊥) (λ fault. (fault ≡ Broken number) × IsUnread files number)
+  pub each : (number : ℕ) (omission : Option FileOmission) → slice_get omissions number ≡ Some omission
+      → MatchOption omission (IsUnread files number → ⊥) (λ out. (out ≡ Broken) × IsUnread files number)
 
--- the clash for which the file with this number is left out, or that it has none
-abbrev pub IsClashOmission : (IsItem : Item → Type 0) → Omissions → (number : ℕ) → Option LinkFault → Type 0
-IsClashOmission IsItem omissions number None = NoClashBy (IsMet IsItem omissions number)
-IsClashOmission IsItem omissions number (Some (Duplicate first second)) =
-    ClashBy (IsMet IsItem omissions number) first second
-IsClashOmission IsItem omissions number (Some (Broken other)) = ⊥
-IsClashOmission IsItem omissions number (Some (MissingImport place)) = ⊥
-IsClashOmission IsItem omissions number (Some (Unresolved place)) = ⊥
-IsClashOmission IsItem omissions number (Some Memory) = ⊥
+-- the file with this number is left out for a clash
+pub data IsOutByClash (IsItem : Item → Type 0) (omissions : Omissions) (number : ℕ) : FileOmission → Type 0 where
+  by_clash : {first second : FilePlace} → ClashBy (IsMet IsItem omissions number) first second
+      → IsOutByClash IsItem omissions number (Duplicate first second)
+
+-- it is left out for this clash, or it has none
+abbrev pub IsClashOmission : (IsItem : Item → Type 0) → Omissions → (number : ℕ) → Option FileOmission → Type 0
+IsClashOmission IsItem omissions number omission =
+    MatchOption omission (NoClashBy (IsMet IsItem omissions number)) (IsOutByClash IsItem omissions number)
 
 -- those left out at the start stay so, and of the others those with a clash are left out, too
 pub record AreClashesOmitted (items : List Item) (start omissions : Omissions) : Type 0 where
   pub size : length omissions ≡ length start
-  pub stays : (number : ℕ) (fault : LinkFault) → slice_get start number ≡ Some (Some fault)
-      → slice_get omissions number ≡ Some (Some fault)
-  pub told : (number : ℕ) (omission : Option LinkFault) → IsKept start number
+  pub stays : (number : ℕ) (out : FileOmission) → slice_get start number ≡ Some (Some out)
+      → slice_get omissions number ≡ Some (Some out)
+  pub told : (number : ℕ) (omission : Option FileOmission) → IsKeptFile start number
       → slice_get omissions number ≡ Some omission → IsClashOmission (Contains items) omissions number omission
 
 -- the item's file is kept so far
 abbrev pub IsOpen : Omissions → Item → Type 0
-IsOpen omissions item = IsKept omissions item.place.file
+IsOpen omissions item = IsKeptFile omissions item.place.file
 
 abbrev pub IsOpenAt : List Item → Omissions → (index : ℕ) → Type 0
 IsOpenAt items omissions index = (item : Item) × (slice_get items index ≡ Some item) × IsOpen omissions item
@@ -54,10 +53,10 @@ NoneClash items omissions count = (j k : ℕ) (a b : Item) → j < k → k < cou
     → (a.is_declaration || b.is_declaration) ≡ false
 
 -- one of the first so many items is of the file with this number, which is left out for this clash
-abbrev pub IsTold : List Item → (count : ℕ) → Omissions → (number : ℕ) → LinkFault → Type 0
-IsTold items count omissions number fault =
+abbrev pub IsTold : List Item → (count : ℕ) → Omissions → (number : ℕ) → FileOmission → Type 0
+IsTold items count omissions number out =
     (index : ℕ) × (item : Item) × (index < count) × (slice_get items index ≡ Some item) × (item.place.file ≡ number)
-    × IsClashOmission (Contains items) omissions number (Some fault)
+    × IsOutByClash (Contains items) omissions number out
 
 -- the map has an index at the name, that of an open item, which is this one or before it
 abbrev pub IsFirst : {S : Type 0} → List Item → Omissions → HashMap (List ℕ) ℕ S → (name : List ℕ) → (index : ℕ)
@@ -70,10 +69,10 @@ IsFirst items omissions names name index =
 pub record ArePassed {S : Type 0} (items : List Item) (start : Omissions) (count : ℕ) (omissions : Omissions)
     (names : HashMap (List ℕ) ℕ S) : Type 0 where
   pub size : length omissions ≡ length start
-  pub stays : (number : ℕ) (fault : LinkFault) → slice_get start number ≡ Some (Some fault)
-      → slice_get omissions number ≡ Some (Some fault)
-  pub told : (number : ℕ) (fault : LinkFault) → IsKept start number → slice_get omissions number ≡ Some (Some fault)
-      → IsTold items count omissions number fault
+  pub stays : (number : ℕ) (out : FileOmission) → slice_get start number ≡ Some (Some out)
+      → slice_get omissions number ≡ Some (Some out)
+  pub told : (number : ℕ) (out : FileOmission) → IsKeptFile start number → slice_get omissions number ≡ Some (Some out)
+      → IsTold items count omissions number out
   pub clear : NoneClash items omissions count
   pub found : (name : List ℕ) (index : ℕ) → index_in names name ≡ Some index
       → (index < count) × HasName items name index

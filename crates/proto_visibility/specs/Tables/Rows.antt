@@ -2,7 +2,7 @@
 use Rattle.std.specs.Prelude.{ℕ, ◌≡◌, ◌↔◌, ◌≤◌, ◌⊎◌, ◌+◌, ◌-◌, Some, List, [], ◌∷◌, ◌++◌, All, Contains}
 use Rattle.std.specs.List.{slice_get, filter_map, range_with_len}
 use Rattle.std.specs.List.Sorted.{IsNonDecreasingBy}
-use Rattle.proto_visibility.specs.declared.runs.Run.{Run}
+use Rattle.proto_visibility.specs.declared.rows.Run.{Run}
 
 -- the numbers of runs, each from its first to its last
 abbrev pub numbers_in : List Run → List ℕ

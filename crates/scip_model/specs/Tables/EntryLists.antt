@@ -1,13 +1,17 @@
--- The entries of a source, as the code lists them: its packages', and those of its declarations that are kept.
-use Rattle.std.specs.Prelude.{ℕ, ◌+◌, List, [], ◌∷◌, ◌++◌, length, map, if◌then◌else◌, slice_index_or}
-use Rattle.std.specs.List.{range_with_len}
-use Rattle.scip_records.specs.declared.records.SymbolInformation.{SymbolInformation}
-use Rattle.index_hooks.specs.declared.choice.Choice.{Choice}
+-- The entries of a source, as the code lists them: its packages', and those of its declarations that are kept; and
+-- their numbers.
+use Rattle.std.specs.Prelude.{ℕ, ◌+◌, List, [], ◌∷◌, ◌++◌, length, map, if◌then◌else◌, slice_index_or, ◌≡◌, Some}
+use Rattle.std.specs.List.{range_with_len, slice_get}
 use Rattle.proto_decl.specs.Facts.{Facts}
 use Rattle.proto_decl.specs.declared.declaration.Declaration.{Declaration}
+use Rattle.proto_decl.specs.Names.{package_of}
+use Rattle.proto_decl.specs.declared.uses.Component.{Component}
+use Rattle.index_hooks.specs.declared.choice.Choice.{Choice}
 use Rattle.scip_symbol.specs.Package.{Package}
+use Rattle.scip_records.specs.declared.records.SymbolInformation.{SymbolInformation}
 use Rattle.scip_model.specs.Chosen.{Chosen}
 use Rattle.scip_model.specs.Entries.{file_entry, package_entry, declaration_entry}
+use Rattle.scip_model.specs.Tables.Plans.{declaration_number}
 
 -- of the first component, the first two, and so on
 abbrev pub package_entries_up_to : Package → Facts → (count : ℕ) → List SymbolInformation
@@ -34,3 +38,19 @@ source_entries id run path facts choices =
 -- the choices for a file's declarations
 abbrev pub choices_for : Chosen → (file : ℕ) → List Choice
 choices_for chosen file = slice_index_or chosen file []
+
+-- ---- what shows packages, and which numbers are those of declarations' entries
+
+-- of the first component, the first two, and so on
+abbrev pub package_names_up_to : List Component → (count : ℕ) → List (List ℕ)
+package_names_up_to components count = map (λ index. package_of components (index + 1)) (range_with_len 0 count)
+
+abbrev pub package_names : List Component → List (List ℕ)
+package_names components = package_names_up_to components (length components)
+
+-- each declaration's entry is the one with its number
+abbrev pub AreNumbered : Package → Facts → List Choice → (entry : ℕ → SymbolInformation) → Type 0
+AreNumbered id facts choices entry =
+    (index : ℕ) (declared : Declaration) (choice : Choice) → slice_get facts.declarations index ≡ Some declared
+    → slice_get choices index ≡ Some choice
+    → entry (declaration_number facts index) ≡ declaration_entry id facts declared choice

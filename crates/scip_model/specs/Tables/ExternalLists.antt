@@ -6,17 +6,17 @@ use Rattle.std.specs.Ordering.{nat_cmp, ordering_then}
 use Rattle.std.specs.List.{slice_get}
 use Rattle.proto_decl.specs.Facts.{Facts}
 use Rattle.proto_decl.specs.declared.declaration.Declaration.{Declaration}
-use Rattle.proto_decl.specs.declared.type_use.Use.{Use}
+use Rattle.proto_decl.specs.declared.uses.Use.{Use}
 use Rattle.index_hooks.specs.declared.choice.Choice.{Choice}
 use Rattle.scip_records.specs.declared.records.SymbolInformation.{SymbolInformation}
 use Rattle.scip_symbol.specs.Package.{Package}
 use Rattle.proto_visibility.specs.Files.{File, HasFacts, IsSource, IsIncludedAt}
 use Rattle.proto_link.specs.Targets.{IsTarget}
-use Rattle.proto_visibility.specs.declared.entities.Entity.{Entity}
-use Rattle.proto_visibility.specs.declared.entities.Entity.TheVariants as link
+use Rattle.proto_visibility.specs.declared.lookup.Entity.{Entity}
+use Rattle.proto_visibility.specs.declared.lookup.Entity.TheVariants as link
 use Rattle.proto_link.specs.declared.target.Target.{Target}
 use Rattle.scip_model.specs.Packages.{Packages}
-use Rattle.scip_model.specs.Chosen.{Chosen, HasChoice, IsChosen, IsKept}
+use Rattle.scip_model.specs.Chosen.{Chosen, HasChoice, IsChosen, IsKeptDeclaration}
 use Rattle.scip_model.specs.Entries.{declaration_entry, IsKeptEntry}
 
 abbrev pub Pair : Type 0
@@ -50,7 +50,7 @@ module _ (files : List File) (chosen : Chosen) where
     pub file : File
     pub numbered : slice_get files x.0 ≡ Some file
     pub included : file.is_included ≡ true
-    pub kept : IsKept chosen x.0 x.1
+    pub kept : IsKeptDeclaration chosen x.0 x.1
 
   pub record IsOfUse (source : ℕ) (type_use : Use) (x : Pair) : Type 0 where
     pub target : Target

@@ -1,7 +1,7 @@
 -- What the laws of the crates below say about the facts of files and of their symbols.
 use Rattle.std.specs.Prelude.{◌≢◌, List, [], All}
 use Rattle.proto_decl.specs.Facts.{Facts, AreOfSomeFile, NamesInOrder, UsesInOrder, ImportsInOrder, PackageInOrder}
-use Rattle.proto_decl.specs.Ancestors.{AreNamed, AreHeld}
+use Rattle.proto_decl.specs.Laws.{AreNamed, AreHeld}
 use Rattle.scip_symbol.specs.OneEntity.{IsWithoutClash, declarations_of, AreWithoutClash}
 
 -- What facts have is in order of place.

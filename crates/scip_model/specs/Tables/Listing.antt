@@ -11,17 +11,17 @@ use Rattle.scip_records.specs.declared.records.Occurrence.{Occurrence}
 use Rattle.index_hooks.specs.declared.choice.Choice.{Choice}
 use Rattle.proto_decl.specs.Names.{components_of}
 use Rattle.proto_decl.specs.Facts.{Facts}
-use Rattle.proto_decl.specs.declared.imported.Imported.{Imported}
+use Rattle.proto_decl.specs.declared.imports.Imported.{Imported}
 use Rattle.proto_decl.specs.declared.declaration.Declaration.{Declaration}
-use Rattle.proto_decl.specs.declared.type_use.Component.{Component}
-use Rattle.proto_decl.specs.declared.type_use.Use.{Use}
+use Rattle.proto_decl.specs.declared.uses.Component.{Component}
+use Rattle.proto_decl.specs.declared.uses.Use.{Use}
 use Rattle.scip_symbol.specs.Entities.{OfFile, OfPackage}
 use Rattle.scip_symbol.specs.Entities as symbols
 use Rattle.scip_symbol.specs.Package.{Package}
 use Rattle.proto_visibility.specs.Files.{File}
 use Rattle.proto_link.specs.declared.target.Target.{Target}
-use Rattle.proto_visibility.specs.declared.entities.Entity.{Entity}
-use Rattle.proto_visibility.specs.declared.entities.Entity.TheVariants as link
+use Rattle.proto_visibility.specs.declared.lookup.Entity.{Entity}
+use Rattle.proto_visibility.specs.declared.lookup.Entity.TheVariants as link
 use Rattle.proto_visibility.specs.declared.fault.LinkFault.{LinkFault}
 use Rattle.proto_visibility.specs.declared.fault.LinkFault.TheVariants as fault
 use Rattle.scip_model.specs.Packages.{Packages, package_of_path, package_of_part}
@@ -62,8 +62,8 @@ abbrev pub unless_found : Option Target → Span → List Span
 unless_found None span = span ∷ []
 unless_found (Some target) span = []
 
-abbrev pub gap_at : List (Option Target) → ℕ → Use → List Span
-gap_at found index type_use = unless_found (found_at (slice_get found index)) type_use.span
+abbrev pub unresolved_use_at : List (Option Target) → ℕ → Use → List Span
+unresolved_use_at found index type_use = unless_found (found_at (slice_get found index)) type_use.span
 
 -- whether the choice keeps a declaration
 abbrev pub keeps_by : Option Choice → Bool

@@ -1,15 +1,16 @@
--- The texts of the symbols of a file's own declarations, and what has them.
-use Rattle.std.specs.Prelude.{ℕ, ℤ, List, map}
+-- The texts of the symbols of a file's own declarations, what has them, and texts that are kept as one.
+use Rattle.std.specs.Prelude.{ℕ, ℤ, List, map, ◌≡◌, zero, suc, ◌≤◌, [], ◌∷◌, ◌++◌, length, slice_range}
+use Rattle.std.specs.Str.{IsCharBoundary}
 use Rattle.proto_lex.specs.declared.span.Span.{Span}
 use Rattle.proto_lex.specs.declared.position.Encoding.{Encoding}
-use Rattle.scip_records.specs.declared.records.Occurrence.{Occurrence}
-use Rattle.scip_records.specs.declared.records.SymbolInformation.{SymbolInformation}
-use Rattle.index_hooks.specs.declared.choice.Choice.{Choice}
 use Rattle.proto_decl.specs.Declares.{simple_name}
 use Rattle.proto_decl.specs.Facts.{Facts}
 use Rattle.proto_decl.specs.declared.declaration.Declaration.{Declaration}
+use Rattle.index_hooks.specs.declared.choice.Choice.{Choice}
 use Rattle.scip_symbol.specs.Package.{Package}
-use Rattle.scip_model.specs.Documentation.{documentation_of}
+use Rattle.scip_records.specs.declared.records.Occurrence.{Occurrence}
+use Rattle.scip_records.specs.declared.records.SymbolInformation.{SymbolInformation}
+use Rattle.scip_model.specs.Entries.{documentation_of}
 use Rattle.scip_model.specs.Named.{text_of, declaration_at}
 use Rattle.scip_model.specs.Occurs.{range_over}
 
@@ -29,3 +30,25 @@ entry_with symbol declared choice = record {
   documentation = documentation_of choice.doc declared;
   display_name = simple_name declared.path;
 }
+
+-- ---- texts that are parts of one, one behind the other, and texts that begin alike
+
+-- the parts, by where each ends: the first begins here, and each other one where the one before it ends
+abbrev pub parts_from : (text : List ℕ) → (start : ℕ) → (ends : List ℕ) → List (List ℕ)
+parts_from text start [] = []
+parts_from text start (end ∷ ends) = slice_range text start end ∷ parts_from text end ends
+
+-- where a part begins
+abbrev pub start_of : (start : ℕ) → (ends : List ℕ) → (index : ℕ) → ℕ
+start_of start ends zero = start
+start_of start [] (suc index) = start
+start_of start (end ∷ ends) (suc index) = start_of end ends index
+
+-- each part ends where a character does, and the last one where the text ends
+abbrev pub AreEnds : (text : List ℕ) → (start : ℕ) → (ends : List ℕ) → Type 0
+AreEnds text start [] = start ≡ length text
+AreEnds text start (end ∷ ends) = (start ≤ end) × IsCharBoundary text end × AreEnds text end ends
+
+-- each behind the same text
+abbrev pub behind : (front : List ℕ) → (rests : List (List ℕ)) → List (List ℕ)
+behind front rests = map (λ rest. front ++ rest) rests

@@ -13,11 +13,11 @@ use Rattle.proto_visibility.specs.Files.{File, HasFacts}
 use Rattle.scip_symbol.specs.Entities.{OfFile}
 use Rattle.scip_symbol.specs.Entities as symbols
 use Rattle.scip_symbol.specs.Package.{Package}
-use Rattle.scip_model.specs.Documentation.{documentation_of}
+use Rattle.scip_model.specs.Entries.{documentation_of}
 use Rattle.scip_model.specs.Named.{text_of, package_at}
 use Rattle.scip_model.specs.Packages.{Packages, package_of_file}
 use Rattle.scip_model.specs.Tables.OwnTexts.{declaration_texts}
-use Rattle.scip_model.specs.declared.planned.PlannedOccurrence.{PlannedOccurrence}
+use Rattle.scip_model.specs.declared.document_plan.PlannedOccurrence.{PlannedOccurrence}
 
 -- the text with a number; where none has it, the empty one
 abbrev pub text_at : List (List ℕ) → (number : ℕ) → List ℕ

@@ -4,8 +4,8 @@ use Rattle.std.specs.Prelude.{slice_index_or, slice_set}
 use Rattle.std.specs.List.{slice_get}
 use Rattle.scip_records.specs.declared.records.Document.{Document}
 use Rattle.scip_model.specs.Pieces.{paths_of}
-use Rattle.scip_model.specs.declared.merge_fault.MergeFault.{MergeFault}
-use Rattle.scip_model.specs.declared.merge_fault.MergeFault.TheVariants.{Stranger, Twice, Missing, Memory}
+use Rattle.scip_model.specs.declared.pieces.MergeFault.{MergeFault}
+use Rattle.scip_model.specs.declared.pieces.MergeFault.TheVariants.{Stranger, Twice, Missing, Memory}
 
 -- so many marks, all clear
 pub record AreClear (count : ℕ) (marks : List Bool) : Type 0 where

@@ -8,8 +8,8 @@ use crate::read::message::{Decode, add_message};
 use crate::read::occurrence::add_occurrence;
 use crate::read::text::{number_of, take_text};
 use crate::wire_fault::WireFault;
+use basics::{OwnedText, Sequence};
 use scip_records::Document;
-use sequences::{OwnedText, Sequence};
 use std::alloc::Global;
 
 impl Decode for Document {

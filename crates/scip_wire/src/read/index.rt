@@ -6,8 +6,8 @@ ghost use Rattle.scip_wire.specs.Blamed.{index_step_fault};
 use crate::read::field::{Field, Payload};
 use crate::read::message::{Decode, add_message, take_only};
 use crate::wire_fault::WireFault;
+use basics::Sequence;
 use scip_records::Index;
-use sequences::Sequence;
 use std::alloc::Global;
 
 impl Decode for Index {

@@ -9,7 +9,7 @@ ghost use Rattle.scip_wire.specs.Fields.{Delimited};
 use crate::read::field::{Field, read_field};
 use crate::read::text::add;
 use crate::wire_fault::WireFault;
-use sequences::Sequence;
+use basics::Sequence;
 use std::alloc::Global;
 
 /// A message that is made of its records: one without fields, into which they are merged in turn.
@@ -67,7 +67,7 @@ pub fn read_message<M: Decode>(alloc: Global, bytes: &[u8], end: usize) -> Resul
 /// record is at `start`.
 ///
 /// `Repeated` if there is an earlier one, whatever the bytes hold.
-#[tactic(auto, using(crate::proofs::ColumnLemmas::only_taken, crate::proofs::ColumnLemmas::only_first, crate::proofs::BlamedFoldLemmas::only_again, crate::proofs::BlamedFoldLemmas::only_inside))]
+#[tactic(auto, using(crate::proofs::DecodesColumnLemmas::only_taken, crate::proofs::DecodesColumnLemmas::only_first, crate::proofs::BlamedFoldLemmas::only_again, crate::proofs::BlamedFoldLemmas::only_inside))]
 pub fn take_only<M: Decode>(
     alloc: Global,
     place: &mut Option<M>,

@@ -7,8 +7,8 @@ use crate::read::field::{Field, Payload};
 use crate::read::message::{Decode, take_only};
 use crate::read::text::{number_of, take_text};
 use crate::wire_fault::WireFault;
+use basics::OwnedText;
 use scip_records::Metadata;
-use sequences::OwnedText;
 use std::alloc::Global;
 
 impl Decode for Metadata {

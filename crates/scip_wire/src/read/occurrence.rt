@@ -10,8 +10,8 @@ use crate::read::message::{Decode, read_message};
 use crate::read::range::{add_packed, range_of};
 use crate::read::text::{add, low_bits, number_of, take_text};
 use crate::wire_fault::WireFault;
+use basics::{OwnedText, Sequence};
 use scip_records::Occurrence;
-use sequences::{OwnedText, Sequence};
 use std::alloc::Global;
 
 /// An occurrence's parts, before its range is made of its numbers.

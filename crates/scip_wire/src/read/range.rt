@@ -9,8 +9,8 @@ ghost use Rattle.scip_wire.specs.Blamed.{packed_fault};
 use crate::read::text::{add, low_bits};
 use crate::read::varint::{MAX_VARINT_LEN, varint_of};
 use crate::wire_fault::WireFault;
+use basics::Sequence;
 use scip_records::Range;
-use sequences::Sequence;
 
 /// Adds the numbers of a packed field, whose record is at `start` in the input (Protocol Buffers
 /// encoding, Packed Repeated Fields). After an error the numbers are of no use.

@@ -7,8 +7,8 @@ use crate::read::field::{Field, Payload};
 use crate::read::message::Decode;
 use crate::read::text::{add_text, take_text};
 use crate::wire_fault::WireFault;
+use basics::{OwnedText, Sequence};
 use scip_records::SymbolInformation;
-use sequences::{OwnedText, Sequence};
 use std::alloc::Global;
 
 impl Decode for SymbolInformation {

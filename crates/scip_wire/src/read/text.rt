@@ -6,7 +6,7 @@ ghost use Rattle.scip_wire.specs.Decodes.{low_32_bits};
 ghost use Rattle.scip_wire.specs.Reading.{text_at, text_after, number_at};
 
 use crate::wire_fault::WireFault;
-use sequences::{OwnedText, Sequence};
+use basics::{OwnedText, Sequence};
 use std::alloc::{AllocError, Global};
 use std::str;
 

@@ -20,7 +20,7 @@ enum Progress {
 impl Progress {
     /// Writes bytes to the sink, unless a write has failed.
     fn send<W: Sink>(&mut self, sink: &mut W, bytes: &[u8])
-        ensures { Passes W.contents W.failures sink.old [] self.old sink.new [] self.new bytes.now }
+        ensures { Passes W.Sink sink.old [] self.old sink.new [] self.new bytes.now }
     {
         let Progress::Going(count) = *self else {
             return;
@@ -55,7 +55,7 @@ impl Buffer {
 
     /// Writes what waits.
     fn flush<W: Sink>(&mut self, sink: &mut W)
-        ensures put { ArePassed W.contents W.failures sink.old self.old sink.new self.new [] }
+        ensures put { ArePassed W.Sink sink.old self.old sink.new self.new [] }
         ensures empty { waiting_of self.new ≡ [] }
     {
         self.progress.send(sink, self.waiting.as_slice());
@@ -64,8 +64,8 @@ impl Buffer {
 
     /// Writes what waits, and says whether a write has failed, and behind how many bytes.
     pub(crate) fn finish<W: Sink>(&mut self, sink: &mut W) -> Result<(), CutOff>
-        ensures ok { OnOk result (EndsWhole W.contents W.failures sink.old self.old sink.new) }
-        ensures err { IfErr result (EndsCutOff W.contents W.failures sink.old self.old sink.new) }
+        ensures ok { OnOk result (EndsWhole W.Sink sink.old self.old sink.new) }
+        ensures err { IfErr result (EndsCutOff W.Sink sink.old self.old sink.new) }
     {
         self.flush(sink);
         match self.progress {
@@ -78,7 +78,7 @@ impl Buffer {
 impl<W: Sink> Output<W> for Buffer {
     ghost use Rattle.scip_wire.specs.Buffered.{ArePassed};
 
-    ghost holds = { ArePassed W.contents W.failures };
+    ghost holds = { ArePassed W.Sink };
 
     fn put_byte(&mut self, sink: &mut W, byte: u8) {
         if self.waiting.try_push(byte).is_err() {

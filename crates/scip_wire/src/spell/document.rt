@@ -15,7 +15,7 @@ ghost use Rattle.scip_wire.specs.Saturated.{saturated, fields_len};
 ghost use Rattle.scip_wire.specs.Outputs.{IsPut};
 ghost use Rattle.scip_wire.specs.WellFormed.{IsFitInfo, IsFitOccurrence};
 
-use super::fields::{encode_int, encode_lent, int_len, lent_len};
+use super::fields::{encode_int, encode_ref, int_len, ref_len};
 use super::message::{Encode, encode_message, message_len};
 use super::output::Output;
 use super::varint::encode_varint;
@@ -75,7 +75,7 @@ fn encode_front<D: DocumentParts, W, O: Output<W>>(document: &D, out: &mut O, si
     requires { fields_len (front_fields (D.document document.now)) < 2 ^ 64 }
     ensures { IsPut O.holds sink.old out.old sink.new out.new (bytes_of (front_fields (D.document document.now))) }
 {
-    encode_lent(out, sink, 1, document.relative_path());
+    encode_ref(out, sink, 1, document.relative_path());
     encode_occurrences(document, out, sink);
 }
 
@@ -85,7 +85,7 @@ fn encode_back<D: DocumentParts, W, O: Output<W>>(document: &D, out: &mut O, sin
     ensures { IsPut O.holds sink.old out.old sink.new out.new (bytes_of (back_fields (D.document document.now))) }
 {
     encode_entries(document, out, sink);
-    encode_lent(out, sink, 4, document.language());
+    encode_ref(out, sink, 4, document.language());
     encode_int(out, sink, 6, document.position_encoding());
 }
 
@@ -124,10 +124,10 @@ impl<'a, D: DocumentParts> Encode for DocumentMessage<'a, D> {
     ghost is_fit = { λ message. IsFitDocument (D.document message.document.now) };
 
     fn encoded_len(&self) -> u64 {
-        let relative_path = lent_len(1, self.document.relative_path());
+        let relative_path = ref_len(1, self.document.relative_path());
         let occurrences = occurrences_len(self.document);
         let symbols = entries_len(self.document);
-        let language = lent_len(4, self.document.language());
+        let language = ref_len(4, self.document.language());
         let encoding = int_len(6, self.document.position_encoding());
         relative_path
             .saturating_add(occurrences)

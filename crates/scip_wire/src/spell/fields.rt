@@ -15,8 +15,8 @@ ghost use Rattle.scip_wire.specs.Outputs.{IsPut};
 
 use super::output::Output;
 use super::varint::{encode_varint, varint_len};
-use scip_records::LentTexts;
-use sequences::{OwnedText, Sequence};
+use basics::{OwnedText, Sequence};
+use scip_records::TextsRef;
 
 /// The length of a record with so many bytes, with its tag and length.
 pub(super) fn record_len(number: u64, len: u64) -> u64
@@ -48,7 +48,7 @@ pub(super) fn encode_record<W, O: Output<W>>(out: &mut O, sink: &mut W, number: 
 }
 
 /// The length of a lent text's record, which an empty text doesn't have.
-pub(super) fn lent_len(number: u64, text: &str) -> u64
+pub(super) fn ref_len(number: u64, text: &str) -> u64
     requires { number ≤ max_field_number }
     ensures value { result ≡ saturated (fields_len (text_fields number text.now)) }
     ensures fit { IsUtf8 text.now }
@@ -58,7 +58,7 @@ pub(super) fn lent_len(number: u64, text: &str) -> u64
 }
 
 /// Puts a lent text's record, which an empty text doesn't have.
-pub(super) fn encode_lent<W, O: Output<W>>(out: &mut O, sink: &mut W, number: u64, text: &str)
+pub(super) fn encode_ref<W, O: Output<W>>(out: &mut O, sink: &mut W, number: u64, text: &str)
     requires { number ≤ max_field_number }
     ensures { IsPut O.holds sink.old out.old sink.new out.new (bytes_of (text_fields number text.now)) }
 {
@@ -74,7 +74,7 @@ pub(super) fn text_len(number: u64, text: &OwnedText) -> u64
     ensures value { result ≡ saturated (fields_len (text_fields number text.now)) }
     ensures fit { IsUtf8 text.now }
 {
-    lent_len(number, text.as_str())
+    ref_len(number, text.as_str())
 }
 
 /// Puts a text's record, which an empty text doesn't have.
@@ -82,7 +82,7 @@ pub(super) fn encode_text<W, O: Output<W>>(out: &mut O, sink: &mut W, number: u6
     requires { number ≤ max_field_number }
     ensures { IsPut O.holds sink.old out.old sink.new out.new (bytes_of (text_fields number text.now)) }
 {
-    encode_lent(out, sink, number, text.as_str());
+    encode_ref(out, sink, number, text.as_str());
 }
 
 /// The length of the records of a repeated text.
@@ -131,32 +131,32 @@ fn encode_slice<W, O: Output<W>>(out: &mut O, sink: &mut W, number: u64, texts: 
 }
 
 /// The length of the records of lent texts.
-pub(super) fn lent_texts_len(number: u64, texts: &LentTexts<'_>) -> u64
+pub(super) fn texts_ref_len(number: u64, texts: &TextsRef<'_>) -> u64
     requires { number ≤ max_field_number }
     ensures value { result ≡ saturated (fields_len (repeated_text_fields number texts.now)) }
     ensures fit { All IsUtf8 texts.now }
 {
     let (listed, first, second) = texts.parts();
     let len = slice_len(number, listed);
-    let first_len = lent_len(number, first);
-    let second_len = lent_len(number, second);
+    let first_len = ref_len(number, first);
+    let second_len = ref_len(number, second);
     len.saturating_add(first_len.saturating_add(second_len))
 }
 
 /// Puts the records of lent texts.
-pub(super) fn encode_lent_texts<W, O: Output<W>>(
+pub(super) fn encode_texts_ref<W, O: Output<W>>(
     out: &mut O,
     sink: &mut W,
     number: u64,
-    texts: &LentTexts<'_>,
+    texts: &TextsRef<'_>,
 )
     requires { number ≤ max_field_number }
     ensures { IsPut O.holds sink.old out.old sink.new out.new (bytes_of (repeated_text_fields number texts.now)) }
 {
     let (listed, first, second) = texts.parts();
     encode_slice(out, sink, number, listed);
-    encode_lent(out, sink, number, first);
-    encode_lent(out, sink, number, second);
+    encode_ref(out, sink, number, first);
+    encode_ref(out, sink, number, second);
 }
 
 /// An int32 or an enum in 64 bits, as its varint has it.

@@ -9,7 +9,7 @@ ghost use Rattle.scip_wire.specs.Outputs.{IsPut};
 use super::fields::record_len;
 use super::output::Output;
 use super::varint::encode_varint;
-use sequences::Sequence;
+use basics::Sequence;
 
 /// A record of an index, as a message of `scip.proto`.
 pub(crate) trait Encode {

@@ -17,8 +17,8 @@ use super::message::{
 };
 use super::output::Output;
 use super::shortened::Shortened;
+use basics::Sequence;
 use scip_records::{DocumentParts, Metadata, SymbolInformation};
-use sequences::Sequence;
 use std::alloc::{AllocError, Global};
 
 /// How many symbols a document has, in its occurrences and its entries.

@@ -2,8 +2,8 @@
 
 use super::document::DocumentMessage;
 use super::fields::{
-    encode_int, encode_lent, encode_lent_texts, encode_text, encode_texts, int_len, lent_len,
-    lent_texts_len, text_len, texts_len,
+    encode_int, encode_ref, encode_text, encode_texts, encode_texts_ref, int_len, ref_len,
+    text_len, texts_len, texts_ref_len,
 };
 use super::message::{
     Encode, encode_messages, encode_optional_message, messages_len, optional_message_len,
@@ -12,7 +12,7 @@ use super::output::Output;
 use super::range::{encode_range, range_len};
 use super::symbols::{encode_symbol, symbol_len};
 use scip_records::{
-    Document, Index, LentInformation, LentOccurrence, Metadata, Occurrence, SymbolInformation,
+    Document, Index, InformationRef, Metadata, Occurrence, OccurrenceRef, SymbolInformation,
     ToolInfo,
 };
 
@@ -115,15 +115,15 @@ impl Encode for SymbolInformation {
     ghost is_fit = { IsFitInfo };
 
     fn encoded_len(&self) -> u64 {
-        LentInformation::of(self).encoded_len()
+        InformationRef::of(self).encoded_len()
     }
 
     fn encode<W, O: Output<W>>(&self, out: &mut O, sink: &mut W) {
-        LentInformation::of(self).encode(out, sink);
+        InformationRef::of(self).encode(out, sink);
     }
 }
 
-impl<'a> Encode for LentInformation<'a> {
+impl<'a> Encode for InformationRef<'a> {
     ghost use Rattle.scip_wire.specs.Spelling.{info_fields};
     ghost use Rattle.scip_wire.specs.WellFormed.{IsFitInfo};
 
@@ -133,8 +133,8 @@ impl<'a> Encode for LentInformation<'a> {
 
     fn encoded_len(&self) -> u64 {
         let symbol = symbol_len(1, &self.symbol);
-        let documentation = lent_texts_len(3, &self.documentation);
-        let display_name = lent_len(6, self.display_name);
+        let documentation = texts_ref_len(3, &self.documentation);
+        let display_name = ref_len(6, self.display_name);
         symbol
             .saturating_add(documentation)
             .saturating_add(display_name)
@@ -142,8 +142,8 @@ impl<'a> Encode for LentInformation<'a> {
 
     fn encode<W, O: Output<W>>(&self, out: &mut O, sink: &mut W) {
         encode_symbol(out, sink, 1, &self.symbol);
-        encode_lent_texts(out, sink, 3, &self.documentation);
-        encode_lent(out, sink, 6, self.display_name);
+        encode_texts_ref(out, sink, 3, &self.documentation);
+        encode_ref(out, sink, 6, self.display_name);
     }
 }
 
@@ -156,15 +156,15 @@ impl Encode for Occurrence {
     ghost is_fit = { IsFitOccurrence };
 
     fn encoded_len(&self) -> u64 {
-        LentOccurrence::of(self).encoded_len()
+        OccurrenceRef::of(self).encoded_len()
     }
 
     fn encode<W, O: Output<W>>(&self, out: &mut O, sink: &mut W) {
-        LentOccurrence::of(self).encode(out, sink);
+        OccurrenceRef::of(self).encode(out, sink);
     }
 }
 
-impl<'a> Encode for LentOccurrence<'a> {
+impl<'a> Encode for OccurrenceRef<'a> {
     ghost use Rattle.scip_wire.specs.Spelling.{occurrence_fields};
     ghost use Rattle.scip_wire.specs.WellFormed.{IsFitOccurrence};
 

@@ -9,7 +9,7 @@ ghost use Rattle.scip_wire.specs.Outputs.{IsPut};
 use super::fields::record_len;
 use super::output::Output;
 use super::varint::encode_varint;
-use scip_records::LentSymbol;
+use scip_records::SymbolRef;
 
 /// How many bytes two parts of a text have together, up to `u64::MAX`.
 fn parts_len(front: &str, rest: &str) -> u64
@@ -20,7 +20,7 @@ fn parts_len(front: &str, rest: &str) -> u64
 }
 
 /// The length of a lent symbol's record, which an empty symbol doesn't have.
-pub(super) fn symbol_len(number: u64, symbol: &LentSymbol<'_>) -> u64
+pub(super) fn symbol_len(number: u64, symbol: &SymbolRef<'_>) -> u64
     requires { number ≤ max_field_number }
     ensures value { result ≡ saturated (fields_len (text_fields number symbol.now)) }
     ensures fit { IsUtf8 symbol.now }
@@ -34,7 +34,7 @@ pub(super) fn encode_symbol<W, O: Output<W>>(
     out: &mut O,
     sink: &mut W,
     number: u64,
-    symbol: &LentSymbol<'_>,
+    symbol: &SymbolRef<'_>,
 )
     requires number { number ≤ max_field_number }
     requires short { length symbol.now < 2 ^ 64 }

@@ -1,7 +1,7 @@
 use Rattle.std.proofs.Common.{◌∙◌, ◌++◌, ap, map, append_assoc}
 use Rattle.clap.specs.Words.{rule_of}
 use Rattle.command_line.specs.Options.{choice_rules, reading_rules, search_rules, setting_rules}
-use Rattle.command_line.proofs.RuleLemmas.{rules_more}
+use Rattle.command_line.proofs.ProgramRuleLemmas.{rules_more}
 use Rattle.command_line.proofs.options.add_tree_options.Goals as goal
 
 pub returns : goal.returns

@@ -3,7 +3,7 @@ use Rattle.std.proofs.lemmas.Result.{IfOk-weaker}
 use Rattle.clap.specs.Simple.{app_of_fields}
 use Rattle.clap.specs.Words.{App, app_of, new_app, rule_of}
 use Rattle.command_line.specs.Program.{with_rules}
-use Rattle.command_line.proofs.RuleLemmas.{all_added, stay_local}
+use Rattle.command_line.proofs.ProgramRuleLemmas.{all_added, stay_local}
 use Rattle.command_line.proofs.program.program_of.Goals as goal
 
 pub returns-clause-line : goal.returns-clause-line

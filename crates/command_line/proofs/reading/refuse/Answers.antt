@@ -2,7 +2,7 @@ use Rattle.std.proofs.Common.{subst}
 use Rattle.std.proofs.lemmas.Result.{IfOk-weaker}
 use Rattle.clap.specs.declared.error.kind.ErrorKind.{ErrorKind}
 use Rattle.command_line.specs.Requests.{Prints}
-use Rattle.command_line.proofs.AnswerLemmas.{refuses}
+use Rattle.command_line.proofs.RequestAnswerLemmas.{refuses}
 use Rattle.command_line.proofs.reading.refuse.Goals as goal
 
 pub returns : goal.returns

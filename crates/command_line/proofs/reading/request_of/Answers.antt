@@ -4,7 +4,8 @@ use Rattle.clap.specs.Words.{Kinds, HasKind, Row, Text, fault_of, is_simple, is_
 use Rattle.command_line.specs.Asks.{AsksFor}
 use Rattle.command_line.specs.Options.Report.{lacks_report}
 use Rattle.command_line.specs.Values.{rows_in}
-use Rattle.command_line.proofs.AnswerLemmas.{asks_answer, asks_program, command_line_is_simple, command_line_is_walked}
+use Rattle.command_line.proofs.RequestAnswerLemmas.{asks_answer, asks_program, command_line_is_simple}
+use Rattle.command_line.proofs.RequestAnswerLemmas.{command_line_is_walked}
 use Rattle.command_line.proofs.reading.request_of.Goals as goal
 
 pub returns-in-Ok : goal.returns-in-Ok

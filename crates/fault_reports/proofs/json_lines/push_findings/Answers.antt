@@ -2,7 +2,7 @@ use Rattle.std.proofs.Common.{◌++◌, ℕ, List}
 use Rattle.std.specs.List.{flat_map}
 use Rattle.fault_reports.specs.Findings.{Found}
 use Rattle.fault_reports.specs.JsonLines.{line_of, value_of}
-use Rattle.fault_reports.proofs.ListLemmas.{flat_more, flat_done}
+use Rattle.basics.proofs.LoopLemmas.{flat_more, flat_done}
 use Rattle.fault_reports.proofs.json_lines.push_findings.Goals as goal
 
 pub loop-finding-preserved : goal.loop-finding-preserved

@@ -1,7 +1,7 @@
 use Rattle.std.proofs.Common.{◌∙◌, ℕ, List, ap, map}
 use Rattle.std.specs.Borrow.{Bor}
 use Rattle.fault_reports.specs.Sarif.{with_name}
-use Rattle.fault_reports.proofs.NameLemmas.{name_more, name_done}
+use Rattle.fault_reports.proofs.SarifNameLemmas.{name_more, name_done}
 use Rattle.fault_reports.proofs.sarif.names_of.Goals as goal
 
 pub loop-finding-preserved : goal.loop-finding-preserved

@@ -3,7 +3,7 @@ use Rattle.std.specs.Borrow.{Bor}
 use Rattle.serde_json.specs.Data.{array}
 use Rattle.serde_json.specs.View.{items_of}
 use Rattle.fault_reports.specs.Sarif.{rule_value}
-use Rattle.fault_reports.proofs.ListLemmas.{fused}
+use Rattle.basics.proofs.LoopLemmas.{fused}
 use Rattle.fault_reports.proofs.sarif.rules_value.Goals as goal
 
 pub returns : goal.returns

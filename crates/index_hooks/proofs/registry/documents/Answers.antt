@@ -1,7 +1,8 @@
 -- The rules before an answer may all pass, up to the first that doesn't.
 use Rattle.std.proofs.Common.{inl, inr, refl, arith, ◌∙◌}
+use Rattle.basics.proofs.ListLemmas.{all_taken as all_asked}
 use Rattle.index_hooks.specs.declared.choice.DocChoice.TheVariants.{Pass}
-use Rattle.index_hooks.proofs.AskedLemmas.{all_more, first_of, all_asked, is_turn}
+use Rattle.index_hooks.proofs.RegistryAskedLemmas.{all_more, first_of, is_turn}
 use Rattle.index_hooks.proofs.registry.documents.Goals as goal
 
 pub returns-in_default : goal.returns-in_default

@@ -1,6 +1,7 @@
 -- The filters before an answer may all say true, which the first false ends.
 use Rattle.std.proofs.Common.{true, false, arith}
-use Rattle.index_hooks.proofs.AskedLemmas.{all_more, first_of, all_asked, is_turn}
+use Rattle.basics.proofs.ListLemmas.{all_taken as all_asked}
+use Rattle.index_hooks.proofs.RegistryAskedLemmas.{all_more, first_of, is_turn}
 use Rattle.index_hooks.proofs.registry.keeps.Goals as goal
 
 pub returns-then-not-ask_filter-clause-keeps : goal.returns-then-not-ask_filter-clause-keeps

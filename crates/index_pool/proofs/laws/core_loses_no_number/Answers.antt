@@ -1,4 +1,4 @@
-use Rattle.index_pool.proofs.CoreRunLemmas.{loses_no_number}
+use Rattle.index_pool.proofs.CoreMachineRunLemmas.{loses_no_number}
 use Rattle.index_pool.proofs.laws.core_loses_no_number.Goals as goal
 
 pub returns : goal.returns

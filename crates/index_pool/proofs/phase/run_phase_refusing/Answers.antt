@@ -2,7 +2,7 @@ use Rattle.std.proofs.Common.{refl, arith}
 use Rattle.std.proofs.lemmas.Result.{IfOk-weaker, IfErr-weaker}
 use Rattle.index_pool.specs.Phase.{AnswersEach, MayRefuse}
 use Rattle.index_pool.specs.Tables.PhaseSteps.{IsAmong}
-use Rattle.index_pool.proofs.ResultsLemmas.{given_among}
+use Rattle.index_pool.proofs.PhaseStepResultLemmas.{given_among}
 use Rattle.index_pool.proofs.InOrderLemmas.{answers_weaker, refusal_weaker, each_is_run}
 use Rattle.index_pool.proofs.phase.run_phase_refusing.Goals as goal
 

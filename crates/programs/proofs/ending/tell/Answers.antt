@@ -1,31 +1,31 @@
 use Rattle.std.proofs.Common.{◌≡◌, refl, sym, ◌∙◌, map}
 use Rattle.std.specs.Option.{option_map}
 use Rattle.std.specs.String.{string_bytes}
+use Rattle.streams.specs.Writers.{writing}
 use Rattle.protoscip.specs.ToldLines.{IsToldTextWith}
-use Rattle.scip_snapshot.specs.Showing.{writer}
 use Rattle.programs.specs.Messages.{TellsOfSuccess}
-use Rattle.programs.proofs.LackLemmas.{nothing, something}
+use Rattle.programs.proofs.TreeRunOmissionLemmas.{nothing, something}
 use Rattle.programs.proofs.MessageLemmas.{told_one}
 use Rattle.programs.proofs.ending.tell.Goals as goal
 
-pub returns-then-lacks_nothing : goal.returns-then-lacks_nothing
-returns-then-lacks_nothing g c =
+pub returns-then-omits_nothing : goal.returns-then-omits_nothing
+returns-then-omits_nothing g c =
     let run = c.args.run.now in
     let line = option_map string_bytes run.none_found in
     nothing TellsOfSuccess (λ l. l ≡ line) c.args.explain run.tree
-    (writer g.M.Sink.contents g.M.Sink.failures c.args.messages.now c.say_line.new.messages) c.say_line.result
+    (writing g.M.Sink c.args.messages.now c.say_line.new.messages) c.say_line.result
     string_bytes run.unread.items c.args.told.now
-    (rw c.as_slice.ensures.value at (sym c.lacks_nothing.ensures ∙ c.if-lacks_nothing.true)) line refl
+    (rw c.as_slice.ensures.value at (sym c.omits_nothing.ensures ∙ c.if-omits_nothing.true)) line refl
     c.say_line.ensures
 
 pub returns : goal.returns
 returns g c =
     let run = c.args.run.now in
     let text = c.told_text_with.ensures in
-    let messages = writer g.M.Sink.contents g.M.Sink.failures c.args.messages.now c.report.new.messages in
+    let messages = writing g.M.Sink c.args.messages.now c.report.new.messages in
     something TellsOfSuccess (λ l. l ≡ option_map string_bytes run.none_found) c.args.explain run.tree messages
     c.report.result string_bytes run.unread.items c.args.told.now
-    (rw c.as_slice.ensures.value at (sym c.lacks_nothing.ensures ∙ c.if-lacks_nothing.false)) (
+    (rw c.as_slice.ensures.value at (sym c.omits_nothing.ensures ∙ c.if-omits_nothing.false)) (
       text.0,
       text.1,
       told_one messages c.report.result _ _ string_bytes c.told_text_with.result

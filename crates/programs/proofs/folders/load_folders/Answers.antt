@@ -1,10 +1,11 @@
 use Rattle.std.proofs.Common.{◌∙◌, List, [], ap, length, map, sym, subst}
 use Rattle.std.specs.String.{string_bytes}
+use Rattle.std.proofs.lemmas.Result.{err_from_is_err_and}
 use Rattle.command_line.specs.declared.options.include.PackageFolder.{PackageFolder}
 use Rattle.scip_symbol.specs.Package.{Package}
 use Rattle.scip_model.specs.Packages.{Packages}
-use Rattle.programs.specs.Folders.{AreFolders}
-use Rattle.programs.proofs.FolderLemmas.{folders_of_run}
+use Rattle.programs.specs.Folders.{AreFolders, NamePackages}
+use Rattle.programs.proofs.FolderLemmas.{folders_of_run, unloaded_of_run}
 use Rattle.programs.proofs.folders.load_folders.Goals as goal
 use Rattle.source_files.proofs.WalkLemmas.{none_there}
 
@@ -24,3 +25,20 @@ returns-then-is_empty-clause-folders g c =
     (folders_of_run lists gives options found.tree unread none c.in_ok-run.ensures.named.1
     (rw (c.as_str-root.ensures.value, c.deref-then-is_empty.ensures.value, c.requires)
     at c.in_ok-found.ensures.tree))
+
+-- there is no tree of files below folders of which none has a package of its own
+pub returns-in_err-found-clause-stops : goal.returns-in_err-found-clause-stops
+returns-in_err-found-clause-stops g c =
+    let options = c.args.options.now in
+    let none = none_there options.include_packages.items _
+    (ap (λ (folders : List PackageFolder). length folders) (sym c.deref.ensures.value) ∙ c.deref.ensures.len)
+    (sym c.is_empty.ensures ∙ c.if-is_empty.true) in
+    let p = err_from_is_err_and c.from_residual-in_err-found.result c.from_residual-in_err-found.ensures.1 in
+    let named : NamePackages options = record {
+      run = c.in_ok-run.ensures.named.1;
+      folders = rw c.deref.ensures.value at c.in_ok-ids.ensures.named.1;
+    } in
+    rw (p.1, p.2) (unloaded_of_run (g.F.ReadFiles.lists c.args.readers.now.files.now)
+    (g.F.ReadFiles.gives c.args.readers.now.files.now) options c.in_err-found.field-0.0 none named
+    (rw (c.as_str-root.ensures.value, c.deref-then-is_empty.ensures.value, c.requires)
+    at c.in_err-found.ensures.refused))

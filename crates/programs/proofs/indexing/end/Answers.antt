@@ -1,8 +1,8 @@
 use Rattle.std.proofs.Common.{map}
 use Rattle.std.specs.Option.{option_map}
 use Rattle.std.specs.String.{string_bytes}
-use Rattle.scip_snapshot.specs.Showing.{writer}
-use Rattle.programs.proofs.LackLemmas.{text_is_said}
+use Rattle.streams.specs.Writers.{writing}
+use Rattle.programs.proofs.TreeRunOmissionLemmas.{text_is_said}
 use Rattle.programs.proofs.indexing.end.Goals as goal
 
 pub returns-in-Ok : goal.returns-in-Ok
@@ -10,7 +10,7 @@ returns-in-Ok g c =
     let kept = c.in-Ok.kept in
     rw c.in-Ok.is
     (text_is_said string_bytes c.args.explain c.args.run.now.tree
-    (writer g.M.Sink.contents g.M.Sink.failures c.args.messages.now c.say_end.new.messages) c.say_end.result
+    (writing g.M.Sink c.args.messages.now c.say_end.new.messages) c.say_end.result
     (option_map string_bytes c.args.run.now.none_found) (map string_bytes c.args.run.now.unread.items) kept.built.told
     kept.text
     (rw c.in-Ok.is at c.requires.said) c.say_end.ensures.text c.say_end.ensures.line)

@@ -1,18 +1,17 @@
 use Rattle.std.proofs.Common.{◌≡◌, map, refl, ℕ, List, Option}
 use Rattle.std.specs.Option.{option_map}
 use Rattle.std.specs.String.{string_bytes}
+use Rattle.streams.specs.Writers.{writing}
 use Rattle.index_hooks.specs.declared.choice.DocChoice.{DocChoice}
 use Rattle.scip_build.specs.declared.settings.Settings.{Settings}
-use Rattle.scip_snapshot.specs.Showing.{writer}
-use Rattle.programs.specs.Asked.{asked_by}
 use Rattle.programs.specs.Choices.{IsChosenBy}
 use Rattle.programs.specs.Indexing.{IndexesInto, not_started, over_tree}
 use Rattle.programs.specs.NoSources.{NoneFoundBy}
 use Rattle.programs.specs.Placing.{place}
 use Rattle.programs.specs.Searches.{blamed_by}
 use Rattle.programs.specs.Settings.{allowed_by, settings_in}
-use Rattle.programs.proofs.MoveLemmas.{moved4}
-use Rattle.programs.proofs.NavigableLemmas.{writes}
+use Rattle.basics.proofs.EqualLemmas.{moved4}
+use Rattle.programs.proofs.ServingNavigableLemmas.{writes}
 use Rattle.programs.proofs.TreeRunLemmas.{into_of}
 use Rattle.programs.proofs.indexing.index.Goals as goal
 
@@ -24,14 +23,12 @@ returns-in-Err-clause-indexed g c =
 pub returns-clause-indexed : goal.returns-clause-indexed
 returns-clause-indexed g c =
     let run = c.in-Ok.start in
-    let asked = asked_by c.args.request.now.options.now c.args.request.now.path.now c.args.request.now.limits in
+    let asked = c.args.request.now in
     let options = asked.options in
     let unread = map string_bytes run.unread.items in
-    let at = place g.P.OutPlace.holds g.P.OutPlace.same g.P.OutPlace.refuses g.P.OutPlace.gives_up
-    g.P.Part.Sink.contents g.P.Part.Sink.failures c.args.places.now.file c.index_over-status.new.places.file in
-    let report = place g.Q.OutPlace.holds g.Q.OutPlace.same g.Q.OutPlace.refuses g.Q.OutPlace.gives_up
-    g.Q.Part.Sink.contents g.Q.Part.Sink.failures c.args.places.now.report c.index_over-status.new.places.report in
-    let messages = writer g.M.Sink.contents g.M.Sink.failures c.args.messages.now c.index_over-status.new.messages in
+    let at = place g.P.OutPlace g.P.Part.Sink c.args.places.now.file c.index_over-status.new.places.file in
+    let report = place g.Q.OutPlace g.Q.Part.Sink c.args.places.now.report c.index_over-status.new.places.report in
+    let messages = writing g.M.Sink c.args.messages.now c.index_over-status.new.messages in
     let Into : Option (List ℕ) → Option DocChoice → Settings → ℕ → Type 0 = λ only doc settings workers.
     IndexesInto (λ _ line. line ≡ option_map string_bytes run.none_found) asked (IsChosenBy only doc) settings workers
     run.tree unread at report messages c.index_over-status.result in
@@ -46,30 +43,26 @@ returns-clause-indexed g c =
 
 pub returns-in-Err-clause-navigable : goal.returns-in-Err-clause-navigable
 returns-in-Err-clause-navigable g c =
-    let asked = asked_by c.args.request.now.options.now c.args.request.now.path.now c.args.request.now.limits in
+    let asked = c.args.request.now in
     writes (g.F.ReadFiles.lists c.args.host.now.files.now) (g.F.ReadFiles.gives c.args.host.now.files.now)
-    asked.options c.headline_of_options.ensures.files
+    asked c.headline_of_options.ensures.files
     (blamed_by asked.options (g.F.LookAgain.blames c.args.host.now.files.now))
     (NoneFoundBy (g.F.LookAgain.passes c.args.host.now.files.now) c.args.host.now.is_watched asked.options)
-    (g.Q.OutPlace.suspects c.args.places.now.report) asked.path asked.limits
-    (place g.P.OutPlace.holds g.P.OutPlace.same g.P.OutPlace.refuses g.P.OutPlace.gives_up g.P.Part.Sink.contents
-    g.P.Part.Sink.failures c.args.places.now.file c.args.places.now.file)
-    (place g.Q.OutPlace.holds g.Q.OutPlace.same g.Q.OutPlace.refuses g.Q.OutPlace.gives_up g.Q.Part.Sink.contents
-    g.Q.Part.Sink.failures c.args.places.now.report c.put_start_report-said.new.at)
-    (writer g.M.Sink.contents g.M.Sink.failures c.args.messages.now c.report_unstarted.new.messages) c.report_unstarted.result
+    (g.Q.OutPlace.suspects c.args.places.now.report)
+    (place g.P.OutPlace g.P.Part.Sink c.args.places.now.file c.args.places.now.file)
+    (place g.Q.OutPlace g.Q.Part.Sink c.args.places.now.report c.put_start_report-said.new.at)
+    (writing g.M.Sink c.args.messages.now c.report_unstarted.new.messages) c.report_unstarted.result
     (returns-in-Err-clause-indexed g c)
 
 pub returns-clause-navigable : goal.returns-clause-navigable
 returns-clause-navigable g c =
-    let asked = asked_by c.args.request.now.options.now c.args.request.now.path.now c.args.request.now.limits in
+    let asked = c.args.request.now in
     writes (g.F.ReadFiles.lists c.args.host.now.files.now) (g.F.ReadFiles.gives c.args.host.now.files.now)
-    asked.options c.headline_of_options.ensures.files
+    asked c.headline_of_options.ensures.files
     (blamed_by asked.options (g.F.LookAgain.blames c.args.host.now.files.now))
     (NoneFoundBy (g.F.LookAgain.passes c.args.host.now.files.now) c.args.host.now.is_watched asked.options)
-    (g.Q.OutPlace.suspects c.args.places.now.report) asked.path asked.limits
-    (place g.P.OutPlace.holds g.P.OutPlace.same g.P.OutPlace.refuses g.P.OutPlace.gives_up g.P.Part.Sink.contents
-    g.P.Part.Sink.failures c.args.places.now.file c.index_over-status.new.places.file)
-    (place g.Q.OutPlace.holds g.Q.OutPlace.same g.Q.OutPlace.refuses g.Q.OutPlace.gives_up g.Q.Part.Sink.contents
-    g.Q.Part.Sink.failures c.args.places.now.report c.index_over-status.new.places.report)
-    (writer g.M.Sink.contents g.M.Sink.failures c.args.messages.now c.index_over-status.new.messages)
+    (g.Q.OutPlace.suspects c.args.places.now.report)
+    (place g.P.OutPlace g.P.Part.Sink c.args.places.now.file c.index_over-status.new.places.file)
+    (place g.Q.OutPlace g.Q.Part.Sink c.args.places.now.report c.index_over-status.new.places.report)
+    (writing g.M.Sink c.args.messages.now c.index_over-status.new.messages)
     c.index_over-status.result (returns-clause-indexed g c)

@@ -1,16 +1,16 @@
 use Rattle.std.proofs.Common.{◌≡◌, map, refl, subst, sym, ℕ, Option, None, Result, Ok, Err}
-use Rattle.std.specs.Prelude.{IfErr, MatchResult}
+use Rattle.std.specs.Prelude.{IfErr, IfOk, List, MatchResult}
 use Rattle.std.specs.Option.{option_map}
 use Rattle.std.specs.String.{string_bytes}
-use Rattle.proto_parse.specs.tree.Dialect.{Dialect}
-use Rattle.scip_snapshot.specs.Showing.{writer}
+use Rattle.streams.specs.Writers.{writing}
+use Rattle.proto_parse.specs.dialect.Dialect.{Dialect}
 use Rattle.protoscip.specs.Explanations.{explain_in}
 use Rattle.protoscip.specs.FaultLines.{HasFilesOf}
 use Rattle.protoscip.specs.Indexes.{Indexes, recorded_of}
+use Rattle.protoscip.specs.ToldLines.{IsTextOfAllOmissions}
 use Rattle.protoscip.specs.declared.fault.Fault.{Fault}
 use Rattle.protoscip.specs.declared.indexing.KeptIndex.{KeptIndex}
 use Rattle.protoscip.specs.declared.recorded.Recorded.{Recorded}
-use Rattle.programs.specs.Asked.{asked_by}
 use Rattle.programs.specs.Choices.{IsChosenBy}
 use Rattle.programs.specs.Indexing.{not_begun, into_part, too_poor}
 use Rattle.programs.specs.Limits.{Breaks}
@@ -18,9 +18,10 @@ use Rattle.programs.specs.Messages.{SaysOfSuccess}
 use Rattle.programs.specs.Placing.{place}
 use Rattle.programs.specs.Reporting.{Reports, ran_of, told_by}
 use Rattle.programs.specs.TreeRuns.{Ends}
-use Rattle.programs.proofs.LackLemmas.{is_success}
+use Rattle.programs.proofs.TreeRunOmissionLemmas.{is_success}
 use Rattle.programs.proofs.PlacingLemmas.{fills, forgoes}
-use Rattle.programs.proofs.ReportLemmas.{finished_files, reported_by, reported_files, settled_files}
+use Rattle.programs.proofs.ReportingLemmas.{finished_files, finished_said, reported_by, reported_files, settled_files}
+use Rattle.programs.proofs.ReportingLemmas.{settled_said}
 use Rattle.programs.proofs.TreeRunLemmas.{part_of, ends_alike}
 use Rattle.programs.proofs.indexing.index_over.Goals as goal
 
@@ -32,14 +33,11 @@ returns-in-Err g c = not_begun c.in-Err.fault c.in-Err.ensures.stops refl refl c
 pub returns-in-Some : goal.returns-in-Some
 returns-in-Some g c =
     let run = c.args.run.now in
-    let asked = asked_by c.args.request.now.options.now c.args.request.now.path.now c.args.request.now.limits in
-    let contents = g.P.Part.Sink.contents in
-    let failures = g.P.Part.Sink.failures in
-    let there = place g.P.OutPlace.holds g.P.OutPlace.same g.P.OutPlace.refuses g.P.OutPlace.gives_up contents failures
-    c.args.places.now.file c.finish-done.new.out in
-    let report = place g.Q.OutPlace.holds g.Q.OutPlace.same g.Q.OutPlace.refuses g.Q.OutPlace.gives_up
-    g.Q.Part.Sink.contents g.Q.Part.Sink.failures c.args.places.now.report c.report_run-reported.new.at in
-    let messages = writer g.M.Sink.contents g.M.Sink.failures c.args.messages.now c.end-status.new.messages in
+    let asked = c.args.request.now in
+    let sink = g.P.Part.Sink in
+    let there = place g.P.OutPlace sink c.args.places.now.file c.finish-done.new.out in
+    let report = place g.Q.OutPlace g.Q.Part.Sink c.args.places.now.report c.report_run-reported.new.at in
+    let messages = writing g.M.Sink c.args.messages.now c.end-status.new.messages in
     let unread = map string_bytes run.unread.items in
     let allows = IsChosenBy (option_map (λ f. string_bytes f.promise.0) run.choices.filter)
     (option_map (λ r. r.promise.0) run.choices.rule) in
@@ -48,12 +46,12 @@ returns-in-Some g c =
     let reported = c.report_run-reported.result in
     let whole = c.index_and_tell-ran.new.out in
     let runs : _ → _ → Result Recorded Fault → Type 0 = λ begun written ended.
-    Indexes contents failures allows run.settings run.tree run.workers begun written ended in
+    Indexes allows run.settings run.tree run.workers (writing sink begun written) ended in
     let told : Result Recorded Fault → Result (Unit {0}) Fault → Type 0 = λ ended.
     Reports report asked.options.report asked.limits allows run.settings run.workers run.tree unread (told_by ended) in
     let By : ℕ → Type 0 = λ workers. MatchResult ran
-    (λ kept. Indexes contents failures allows run.settings run.tree workers c.in-Ok.part whole (Ok (recorded kept)))
-    (λ fault. Indexes contents failures allows run.settings run.tree workers c.in-Ok.part whole (Err fault)) in
+    (λ kept. Indexes allows run.settings run.tree workers (writing sink c.in-Ok.part whole) (Ok (recorded kept)))
+    (λ fault. Indexes allows run.settings run.tree workers (writing sink c.in-Ok.part whole) (Err fault)) in
     let made = forgoes there whole recorded runs told c.in-Ok.part c.in-Ok.ensures.begun
     (λ r broken. Breaks asked.limits run.tree unread r.told broken) c.in-Some.fault ran reported c.finish-done.result
     (subst By c.over-work.ensures c.index_and_tell-ran.ensures.indexed)
@@ -83,14 +81,11 @@ returns-in-Some g c =
 pub returns-in-None : goal.returns-in-None
 returns-in-None g c =
     let run = c.args.run.now in
-    let asked = asked_by c.args.request.now.options.now c.args.request.now.path.now c.args.request.now.limits in
-    let contents = g.P.Part.Sink.contents in
-    let failures = g.P.Part.Sink.failures in
-    let there = place g.P.OutPlace.holds g.P.OutPlace.same g.P.OutPlace.refuses g.P.OutPlace.gives_up contents failures
-    c.args.places.now.file c.finish-done.new.out in
-    let report = place g.Q.OutPlace.holds g.Q.OutPlace.same g.Q.OutPlace.refuses g.Q.OutPlace.gives_up
-    g.Q.Part.Sink.contents g.Q.Part.Sink.failures c.args.places.now.report c.report_run-reported.new.at in
-    let messages = writer g.M.Sink.contents g.M.Sink.failures c.args.messages.now c.end-status.new.messages in
+    let asked = c.args.request.now in
+    let sink = g.P.Part.Sink in
+    let there = place g.P.OutPlace sink c.args.places.now.file c.finish-done.new.out in
+    let report = place g.Q.OutPlace g.Q.Part.Sink c.args.places.now.report c.report_run-reported.new.at in
+    let messages = writing g.M.Sink c.args.messages.now c.end-status.new.messages in
     let unread = map string_bytes run.unread.items in
     let allows = IsChosenBy (option_map (λ f. string_bytes f.promise.0) run.choices.filter)
     (option_map (λ r. r.promise.0) run.choices.rule) in
@@ -99,12 +94,12 @@ returns-in-None g c =
     let reported = c.report_run-reported.result in
     let whole = c.index_and_tell-ran.new.out in
     let runs : _ → _ → Result Recorded Fault → Type 0 = λ begun written ended.
-    Indexes contents failures allows run.settings run.tree run.workers begun written ended in
+    Indexes allows run.settings run.tree run.workers (writing sink begun written) ended in
     let told : Result Recorded Fault → Result (Unit {0}) Fault → Type 0 = λ ended.
     Reports report asked.options.report asked.limits allows run.settings run.workers run.tree unread (told_by ended) in
     let By : ℕ → Type 0 = λ workers. MatchResult ran
-    (λ kept. Indexes contents failures allows run.settings run.tree workers c.in-Ok.part whole (Ok (recorded kept)))
-    (λ fault. Indexes contents failures allows run.settings run.tree workers c.in-Ok.part whole (Err fault)) in
+    (λ kept. Indexes allows run.settings run.tree workers (writing sink c.in-Ok.part whole) (Ok (recorded kept)))
+    (λ fault. Indexes allows run.settings run.tree workers (writing sink c.in-Ok.part whole) (Err fault)) in
     let done = c.finish-done.result in
     let Ended : Option Dialect → Type 0 = λ dialect.
     Ends SaysOfSuccess (λ line. line ≡ option_map string_bytes run.none_found) dialect run.tree unread (λ r. r.told)
@@ -128,10 +123,8 @@ returns-in-None g c =
 pub end-status-requires-clause-files : goal.end-status-requires-clause-files
 end-status-requires-clause-files g c =
     let run = c.args.run.now in
-    let there = place g.P.OutPlace.holds g.P.OutPlace.same g.P.OutPlace.refuses g.P.OutPlace.gives_up
-    g.P.Part.Sink.contents g.P.Part.Sink.failures c.args.places.now.file c.finish-done.new.out in
-    let report = place g.Q.OutPlace.holds g.Q.OutPlace.same g.Q.OutPlace.refuses g.Q.OutPlace.gives_up
-    g.Q.Part.Sink.contents g.Q.Part.Sink.failures c.args.places.now.report c.report_run-reported.new.at in
+    let there = place g.P.OutPlace g.P.Part.Sink c.args.places.now.file c.finish-done.new.out in
+    let report = place g.Q.OutPlace g.Q.Part.Sink c.args.places.now.report c.report_run-reported.new.at in
     let unread = map string_bytes run.unread.items in
     let allows = IsChosenBy (option_map (λ f. string_bytes f.promise.0) run.choices.filter)
     (option_map (λ r. r.promise.0) run.choices.rule) in
@@ -140,5 +133,24 @@ end-status-requires-clause-files g c =
     c.finish-done.result c.finish-done.ensures
     (subst (λ (r : Result KeptIndex Fault). IfErr r (HasFilesOf run.tree)) (sym c.settle-done.ensures)
     (settled_files run.tree c.index_and_tell-ran.result reported c.index_and_tell-ran.ensures.files
-    (reported_files report c.args.request.now.options.now.report c.args.request.now.limits allows run.settings
+    (reported_files report c.args.request.now.options.report c.args.request.now.limits allows run.settings
     run.workers run.tree unread (ran_of c.told_in.result.now c.fault_in.result) reported c.report_run-reported.ensures)))
+
+-- and what is said at the end is the text of what was made
+
+pub end-status-requires-clause-said : goal.end-status-requires-clause-said
+end-status-requires-clause-said g c =
+    let run = c.args.run.now in
+    let there = place g.P.OutPlace g.P.Part.Sink c.args.places.now.file c.finish-done.new.out in
+    let ran = c.index_and_tell-ran.result in
+    let SaysWith : List _ → KeptIndex → Type 0 = λ unread kept.
+    IsTextOfAllOmissions c.explain_in.result run.tree (map string_bytes unread) kept.built.told
+    (option_map string_bytes kept.text) in
+    let Says : KeptIndex → Type 0 = SaysWith run.unread.items in
+    let Said : List _ → Type 0 = λ unread. IfOk ran (SaysWith unread) in
+    let Settled : Result KeptIndex Fault → Type 0 = λ r. IfOk r Says in
+    finished_said there c.index_and_tell-ran.new.out Says c.settle-done.result c.broken_limit-broken.result
+    c.finish-done.result c.finish-done.ensures
+    (subst Settled (sym c.settle-done.ensures)
+    (settled_said Says ran c.report_run-reported.result
+    (subst Said c.as_slice.ensures.value c.index_and_tell-ran.ensures.said)))

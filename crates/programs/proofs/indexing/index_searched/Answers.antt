@@ -1,7 +1,6 @@
 use Rattle.std.proofs.Common.{ℕ, List, ap, map, string_bytes, subst}
-use Rattle.scip_snapshot.specs.Showing.{writer}
+use Rattle.streams.specs.Writers.{writing}
 use Rattle.source_files.specs.Exclusions.{ListsWithout}
-use Rattle.programs.specs.Asked.{asked_by}
 use Rattle.programs.specs.Indexing.{Indexed, WritesNavigable}
 use Rattle.programs.specs.NoSources.{NoneFoundBy}
 use Rattle.programs.specs.Placing.{Place, place}
@@ -11,23 +10,20 @@ use Rattle.programs.proofs.indexing.index_searched.Goals as goal
 pub returns-clause-indexed : goal.returns-clause-indexed
 returns-clause-indexed g c =
     let files = c.args.host.now.files.now in
-    let asked = asked_by c.args.request.now.options.now c.args.request.now.path.now c.args.request.now.limits in
-    let at : Place _ _ = place g.P.OutPlace.holds g.P.OutPlace.same g.P.OutPlace.refuses g.P.OutPlace.gives_up
-    g.P.Part.Sink.contents g.P.Part.Sink.failures c.args.places.now.file c.index.new.places.file in
-    let report : Place _ _ = place g.Q.OutPlace.holds g.Q.OutPlace.same g.Q.OutPlace.refuses g.Q.OutPlace.gives_up
-    g.Q.Part.Sink.contents g.Q.Part.Sink.failures c.args.places.now.report c.index.new.places.report in
+    let asked = c.args.request.now in
+    let at : Place _ _ = place g.P.OutPlace g.P.Part.Sink c.args.places.now.file c.index.new.places.file in
+    let report : Place _ _ = place g.Q.OutPlace g.Q.Part.Sink c.args.places.now.report c.index.new.places.report in
     subst (λ (patterns : List (List ℕ)). Indexed (ListsWithout (g.F.ReadFiles.lists files) patterns)
     (g.F.ReadFiles.gives files) (blamed_by asked.options (g.F.LookAgain.blames files))
     (NoneFoundBy (g.F.LookAgain.passes files) c.args.host.now.is_watched asked.options)
     (g.Q.OutPlace.suspects c.args.places.now.report) asked at report
-    (writer g.M.Sink.contents g.M.Sink.failures c.args.messages.now c.index.new.messages) c.index.result)
+    (writing g.M.Sink c.args.messages.now c.index.new.messages) c.index.result)
     (ap (map string_bytes) c.deref.ensures.value) c.index.ensures.indexed
 
 pub returns-clause-navigable : goal.returns-clause-navigable
 returns-clause-navigable g c =
     let files = c.args.host.now.files.now in
-    let at : Place _ _ = place g.P.OutPlace.holds g.P.OutPlace.same g.P.OutPlace.refuses g.P.OutPlace.gives_up
-    g.P.Part.Sink.contents g.P.Part.Sink.failures c.args.places.now.file c.index.new.places.file in
+    let at : Place _ _ = place g.P.OutPlace g.P.Part.Sink c.args.places.now.file c.index.new.places.file in
     subst (λ (patterns : List (List ℕ)). WritesNavigable (ListsWithout (g.F.ReadFiles.lists files) patterns)
-    (g.F.ReadFiles.gives files) c.args.request.now.options.now at c.index.result)
+    (g.F.ReadFiles.gives files) c.args.request.now.options at c.index.result)
     (ap (map string_bytes) c.deref.ensures.value) c.index.ensures.navigable

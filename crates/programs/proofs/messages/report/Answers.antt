@@ -1,11 +1,11 @@
 use Rattle.std.proofs.Common.{refl, subst, ℕ, List}
-use Rattle.scip_snapshot.specs.Showing.{IsSaid}
+use Rattle.streams.specs.Writers.{IsSaid, writing}
 use Rattle.programs.proofs.messages.report.Goals as goal
 
 pub returns-in-Ok : goal.returns-in-Ok
 returns-in-Ok g c =
     let Said : List ℕ → Type 0 =
-    λ line. IsSaid g.M.Sink.contents g.M.Sink.failures line c.args.messages.now c.say.new.messages in
+    λ line. IsSaid (writing g.M.Sink c.args.messages.now c.say.new.messages) line in
     rw c.in-Ok.is (refl, subst Said c.as_str.ensures.value c.say.ensures)
 
 pub returns-in-Err : goal.returns-in-Err

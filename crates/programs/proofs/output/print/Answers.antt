@@ -1,10 +1,9 @@
 use Rattle.std.proofs.Common.{◌∙◌, inr, refl, subst, sym}
 use Rattle.std.specs.String.{string_bytes}
+use Rattle.streams.specs.Writers.{IsCutOff, writing}
 use Rattle.protoscip.specs.Lines.{plain_line}
 use Rattle.protoscip.specs.declared.statuses.TheConstants.{STREAM_STATUS}
 use Rattle.std.specs.Prelude.{codes}
-use Rattle.streams.specs.WholeWrites.{IsCutOff}
-use Rattle.scip_snapshot.specs.Showing.{writer}
 use Rattle.programs.specs.Messages.{Tells}
 use Rattle.programs.specs.Printing.{is_closed}
 use Rattle.programs.proofs.MessageLemmas.{closed_ends, open_ends, told}
@@ -13,8 +12,8 @@ use Rattle.programs.proofs.output.print.Goals as goal
 pub returns-then-is_closed : goal.returns-then-is_closed
 returns-then-is_closed g c =
     let count = c.in-Err.field-0.written in
-    let messages = writer g.M.Sink.contents g.M.Sink.failures c.args.messages.now c.args.messages.now in
-    let cut = subst (λ text. IsCutOff g.W.Sink.contents g.W.Sink.failures c.args.out.now c.write_all.new.sink text
+    let messages = writing g.M.Sink c.args.messages.now c.args.messages.now in
+    let cut = subst (λ text. IsCutOff (writing g.W.Sink c.args.out.now c.write_all.new.sink) text
     count) c.as_bytes.ensures.value c.in-Err.ensures.err in
     inr (
       count,
@@ -27,8 +26,8 @@ returns-then-is_closed g c =
 pub returns-else-is_closed : goal.returns-else-is_closed
 returns-else-is_closed g c =
     let count = c.in-Err.field-0.written in
-    let messages = writer g.M.Sink.contents g.M.Sink.failures c.args.messages.now c.report.new.messages in
-    let cut = subst (λ text. IsCutOff g.W.Sink.contents g.W.Sink.failures c.args.out.now c.write_all.new.sink text
+    let messages = writing g.M.Sink c.args.messages.now c.report.new.messages in
+    let cut = subst (λ text. IsCutOff (writing g.W.Sink c.args.out.now c.write_all.new.sink) text
     count) c.as_bytes.ensures.value c.in-Err.ensures.err in
     inr (
       count,

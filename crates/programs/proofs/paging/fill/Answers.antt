@@ -1,7 +1,7 @@
 use Rattle.std.specs.String.{string_bytes}
 use Rattle.std.proofs.Common.{refl, subst, ℕ, List}
 use Rattle.std.proofs.lemmas.Result.{err_from_is_err_and}
-use Rattle.scip_snapshot.specs.Showing.{writer}
+use Rattle.streams.specs.Writers.{writing}
 use Rattle.programs.specs.Paging.{Finishes, folder_places, unbegun}
 use Rattle.programs.proofs.FolderPlaceLemmas.{fills}
 use Rattle.programs.proofs.paging.fill.Goals as goal
@@ -14,9 +14,8 @@ pub returns : goal.returns
 returns g c =
     let options = c.args.options.now in
     let out = string_bytes options.out in
-    let places = folder_places g.P.FolderPlace.filed g.P.FolderPlace.refuses_folder
-    g.P.FolderPlace.gives_up_folder g.P.Folder.MakeFiles.made c.args.places.now c.finish.new.places in
-    let messages = writer g.M.Sink.contents g.M.Sink.failures c.args.messages.now c.make_pages-done.new.messages in
+    let places = folder_places g.P.FolderPlace g.P.Folder.MakeFiles c.args.places.now c.finish.new.places in
+    let messages = writing g.M.Sink c.args.messages.now c.make_pages-done.new.messages in
     let whole = c.make_pages-done.new.made in
     let made = c.make_pages-done.result in
     fills (g.F.ReadFiles.gives c.args.host.now.files.now) (string_bytes options.root) out c.args.queries.now places

@@ -1,7 +1,7 @@
 use Rattle.std.specs.String.{string_bytes}
 use Rattle.std.proofs.Common.{◌≡◌, refl, subst, List, ℕ, Bool, true, false}
 use Rattle.std.specs.Prelude.{IfOk}
-use Rattle.scip_snapshot.specs.Showing.{writer}
+use Rattle.streams.specs.Writers.{writing}
 use Rattle.programs.specs.Paging.{taken, unasked, free, taken_told}
 use Rattle.programs.proofs.MessageLemmas.{told}
 use Rattle.programs.proofs.paging.pages.Goals as goal
@@ -21,7 +21,7 @@ returns-in-Ok-false g c =
     let answered = subst (λ (said : Bool). frees c.as_str-out.result.now said) c.in-Ok-false.field-0-test
     c.in-Ok-false.ensures in
     taken (subst (λ (path : List ℕ). frees path false) c.as_str-out.ensures.value answered) refl
-    (told (writer g.M.Sink.contents g.M.Sink.failures c.args.messages.now c.report.new.messages) c.report.result _ _
+    (told (writing g.M.Sink c.args.messages.now c.report.new.messages) c.report.result _ _
     string_bytes c.taken_text-text.result (taken_told explain out) refl
     (subst (λ (path : List ℕ). IfOk c.taken_text-text.result (λ text. string_bytes text ≡ taken_told explain path))
     c.as_str-out.ensures.value c.taken_text-text.ensures) c.report.ensures)

@@ -1,13 +1,13 @@
 use Rattle.std.proofs.Common.{[]}
 use Rattle.std.specs.String.{string_bytes}
-use Rattle.scip_snapshot.specs.Showing.{writer}
+use Rattle.streams.specs.Writers.{writing}
 use Rattle.programs.specs.QueryExplanations.{IsTold}
 use Rattle.programs.proofs.MessageLemmas.{told_one}
 use Rattle.programs.proofs.query_explanations.report_query.Goals as goal
 
 pub returns : goal.returns
 returns g c =
-    told_one (writer g.M.Sink.contents g.M.Sink.failures c.args.messages.now c.report.new.messages) c.report.result _ _
+    told_one (writing g.M.Sink c.args.messages.now c.report.new.messages) c.report.result _ _
     string_bytes c.reasoned_text-text.result
     (IsTold (g.F.LookAgain.blames c.args.host.now.files.now [] []) c.args.explain c.args.path.now c.args.fault.now)
     c.status.ensures c.reasoned_text-text.ensures c.report.ensures

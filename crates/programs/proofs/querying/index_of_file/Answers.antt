@@ -1,12 +1,14 @@
 use Rattle.std.proofs.Common.{subst, List, ℕ, Some, sym}
 use Rattle.std.proofs.lemmas.Result.{err_from_is_err_and}
-use Rattle.source_files.proofs.KeptLemmas.{read_some, read_none}
+use Rattle.source_files.proofs.SystemFileKeptLemmas.{read_some, read_none}
+use Rattle.programs.specs.Queries.IsReadFrom.{is_index, is_unreadable}
 use Rattle.programs.proofs.QueryLemmas.{refused_bytes}
 use Rattle.programs.proofs.querying.index_of_file.Goals as goal
 
 pub returns-in-None : goal.returns-in-None
-returns-in-None g c = read_none
-    (g.F.ReadFiles.gives c.args.files.now c.args.path.now) _ c.in_ok-bytes.field-0 c.in-None.is c.in_ok-bytes.ensures
+returns-in-None g c =
+    let gives = g.F.ReadFiles.gives c.args.files.now c.args.path.now in
+    is_unreadable (read_none gives _ c.in_ok-bytes.field-0 c.in-None.is c.in_ok-bytes.ensures)
 
 pub returns-in_err-index : goal.returns-in_err-index
 returns-in_err-index g c =
@@ -20,8 +22,6 @@ returns-in_err-index g c =
 pub returns : goal.returns
 returns g c =
     let gives = g.F.ReadFiles.gives c.args.files.now c.args.path.now in
-    let given = read_some gives _ c.in_ok-bytes.field-0 c.in-Some.bytes c.in-Some.is c.in_ok-bytes.ensures in (
-      c.deref.result.now,
-      subst (λ (b : List ℕ). gives (Some b)) (sym c.deref.ensures.value) given,
-      c.in_ok-index.ensures.found,
-    )
+    let given = read_some gives _ c.in_ok-bytes.field-0 c.in-Some.bytes c.in-Some.is c.in_ok-bytes.ensures in
+    is_index c.deref.result.now (subst (λ (b : List ℕ). gives (Some b)) (sym c.deref.ensures.value) given)
+    c.in_ok-index.ensures.found

@@ -1,12 +1,13 @@
 use Rattle.std.proofs.Common.{refl}
 use Rattle.std.proofs.lemmas.Result.{err_from_is_err_and}
+use Rattle.protoscip.specs.ToldTrees.MayNotTell.{telling_lacks_memory}
 use Rattle.programs.specs.Reporting.{cut_off, put, refused, unmade}
 use Rattle.programs.proofs.PlacingLemmas.{held_now}
 use Rattle.programs.proofs.reporting.put_bytes.Goals as goal
 
 pub returns-in_err-part : goal.returns-in_err-part
 returns-in_err-part g c workers =
-    let p = err_from_is_err_and c.from_residual.result c.from_residual.ensures.1 in rw (p.1, p.2) (unmade tt refl)
+    let p = err_from_is_err_and c.from_residual.result c.from_residual.ensures.1 in rw (p.1, p.2) (unmade telling_lacks_memory refl)
 
 pub returns-in-Ok-put : goal.returns-in-Ok-put
 returns-in-Ok-put g c workers =

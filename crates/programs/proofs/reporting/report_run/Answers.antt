@@ -6,7 +6,7 @@ use Rattle.fault_reports.specs.declared.report.ReportFormat.{ReportFormat}
 use Rattle.programs.specs.Choices.{IsChosenBy}
 use Rattle.programs.specs.Placing.{place}
 use Rattle.programs.specs.Reporting.{IsReport, due_status, ran_of, unmade}
-use Rattle.programs.proofs.ReportLemmas.{goes_asked, weaker}
+use Rattle.programs.proofs.ReportingLemmas.{goes_asked, weaker}
 use Rattle.programs.proofs.reporting.report_run.Goals as goal
 
 pub returns-in_err-bytes : goal.returns-in_err-bytes
@@ -19,8 +19,7 @@ returns-in_err-bytes g c =
     (option_map (λ r. r.promise.0) run.choices.rule) in
     let Is : ReportFormat → List ℕ → Type 0 = λ format. IsReport allows run.settings run.tree unread format ran
     (due_status ran c.limit_broken-broken.result) in
-    let at = place g.Q.OutPlace.holds g.Q.OutPlace.same g.Q.OutPlace.refuses g.Q.OutPlace.gives_up
-    g.Q.Part.Sink.contents g.Q.Part.Sink.failures c.args.at.now c.args.at.now in
+    let at = place g.Q.OutPlace g.Q.Part.Sink c.args.at.now c.args.at.now in
     let p = err_from_is_err_and c.from_residual.result c.from_residual.ensures.1 in
     rw (p.1, p.2) (
       c.limit_broken-broken.result,
@@ -40,8 +39,7 @@ returns g c =
     let Is : ReportFormat → ℕ → List ℕ → Type 0 = λ format. IsReport allows run.settings run.tree unread format ran
     in
     let due = due_status ran c.limit_broken-broken.result in
-    let at = place g.Q.OutPlace.holds g.Q.OutPlace.same g.Q.OutPlace.refuses g.Q.OutPlace.gives_up
-    g.Q.Part.Sink.contents g.Q.Part.Sink.failures c.args.at.now c.put_bytes.new.at in
+    let at = place g.Q.OutPlace g.Q.Part.Sink c.args.at.now c.put_bytes.new.at in
     let bytes = c.as_slice.result.now in
     let format = options.format in
     let is : Is format due bytes = subst (λ (all : List ℕ). Is format due all) (sym c.as_slice.ensures.value)

@@ -2,11 +2,13 @@ use Rattle.std.specs.String.{string_bytes}
 use Rattle.std.proofs.Common.{◌≡◌, refl, subst, sym, ℕ, List, []}
 use Rattle.std.specs.Prelude.{IfOk, IfSome, Result}
 use Rattle.std.specs.declared.alloc.AllocError.{AllocError}
-use Rattle.scip_snapshot.specs.Showing.{maker, writer}
-use Rattle.command_line.specs.Requests.{index_options, pages_options, printed_text, refused_text, shell_options}
+use Rattle.streams.specs.Readers.{reading}
+use Rattle.streams.specs.Writers.{writing}
+use Rattle.source_files.specs.Makers.{making}
+use Rattle.command_line.specs.Requests.{index_request, pages_options, printed_text, refused_text, shell_options}
 use Rattle.command_line.specs.Requests.{snapshot_options}
+use Rattle.command_line.specs.declared.options.IndexRequest.{IndexRequest}
 use Rattle.command_line.specs.declared.request.Request.{Request}
-use Rattle.programs.specs.Asked.{Asked, asked_of}
 use Rattle.programs.specs.Indexing.{Indexed, WritesNavigable}
 use Rattle.programs.specs.Messages.{memory_line}
 use Rattle.programs.specs.NoSources.{NoneFoundBy}
@@ -16,15 +18,14 @@ use Rattle.programs.specs.Printing.{Prints, Refuses}
 use Rattle.programs.specs.Searches.{blamed_by, searched_by}
 use Rattle.programs.specs.Serving.{AnswersNavigable, Served}
 use Rattle.programs.specs.Snapshotting.{RunsSnapshot}
-use Rattle.programs.specs.Streams.{reader}
 use Rattle.programs.proofs.MessageLemmas.{told}
 use Rattle.programs.proofs.running.run.Goals as goal
 
 pub returns-in-Print-clause-printed : goal.returns-in-Print-clause-printed
 returns-in-Print-clause-printed g c =
     let Printed : List ℕ → Type 0 = λ text.
-    Prints g.W.Caused.cause text (writer g.W.Sink.contents g.W.Sink.failures c.args.out.now c.print.new.out)
-    (writer g.M.Sink.contents g.M.Sink.failures c.args.messages.now c.print.new.messages) c.print.result in
+    Prints g.W.Caused.cause text (writing g.W.Sink c.args.out.now c.print.new.out)
+    (writing g.M.Sink c.args.messages.now c.print.new.messages) c.print.result in
     let Here : Request → Type 0 = λ request. IfSome (printed_text request) (λ text. Printed text
     × (c.args.input.now ≡ c.args.input.now) × (c.args.places.now ≡ c.args.places.now)) in
     subst (λ (asked : Result Request AllocError). IfOk asked Here) (sym c.in-Ok.is)
@@ -33,52 +34,45 @@ returns-in-Print-clause-printed g c =
 pub returns-in-Refuse-clause-refused : goal.returns-in-Refuse-clause-refused
 returns-in-Refuse-clause-refused g c =
     let Refused : List ℕ → Type 0 = λ text.
-    Refuses text (writer g.M.Sink.contents g.M.Sink.failures c.args.messages.now c.refuse.new.messages) c.refuse.result
+    Refuses text (writing g.M.Sink c.args.messages.now c.refuse.new.messages) c.refuse.result
     in
     let Here : Request → Type 0 = λ request. IfSome (refused_text request) (λ text. Refused text
     × (c.args.input.now ≡ c.args.input.now) × (c.args.out.now ≡ c.args.out.now)
     × (c.args.places.now ≡ c.args.places.now)) in
     subst (λ (asked : Result Request AllocError). IfOk asked Here) (sym c.in-Ok.is)
-    (subst Here (sym c.in-Refuse.is) (subst Refused c.as_str-in-Refuse.ensures.value c.refuse.ensures, refl, refl, refl))
+    (subst Here (sym c.in-Refuse.is)
+    (subst Refused c.as_str-in-Refuse.ensures.value c.refuse.ensures, refl, refl, refl))
 
 pub returns-in-Index-clause-indexed : goal.returns-in-Index-clause-indexed
 returns-in-Index-clause-indexed g c =
     let lists = g.F.ReadFiles.lists c.args.host.now.files.now in
     let gives = g.F.ReadFiles.gives c.args.host.now.files.now in
-    let at : Place _ _ = place g.O.OutPlace.holds g.O.OutPlace.same g.O.OutPlace.refuses g.O.OutPlace.gives_up
-    g.O.Part.Sink.contents g.O.Part.Sink.failures c.args.places.now.file c.index_searched.new.places.file in
-    let report : Place _ _ = place g.Q.OutPlace.holds g.Q.OutPlace.same g.Q.OutPlace.refuses g.Q.OutPlace.gives_up
-    g.Q.Part.Sink.contents g.Q.Part.Sink.failures c.args.places.now.report c.index_searched.new.places.report in
-    let By : Asked → Type 0 = λ asked.
-    Indexed (searched_by asked.options lists) gives
-    (blamed_by asked.options (g.F.LookAgain.blames c.args.host.now.files.now))
-    (NoneFoundBy (g.F.LookAgain.passes c.args.host.now.files.now) c.args.host.now.is_watched asked.options)
-    (g.Q.OutPlace.suspects c.args.places.now.report) asked at report (writer g.M.Sink.contents g.M.Sink.failures c.args.messages.now c.index_searched.new.messages) c.index_searched.result in
-    let Here : Request → Type 0 = λ request. IfSome (asked_of request) (λ asked. By asked
+    let at : Place _ _ = place g.O.OutPlace g.O.Part.Sink c.args.places.now.file c.index_searched.new.places.file in
+    let report : Place _ _ = place g.Q.OutPlace g.Q.Part.Sink c.args.places.now.report
+    c.index_searched.new.places.report in
+    let By : IndexRequest → Type 0 = λ given.
+    Indexed (searched_by given.options lists) gives
+    (blamed_by given.options (g.F.LookAgain.blames c.args.host.now.files.now))
+    (NoneFoundBy (g.F.LookAgain.passes c.args.host.now.files.now) c.args.host.now.is_watched given.options)
+    (g.Q.OutPlace.suspects c.args.places.now.report) given at report (writing g.M.Sink c.args.messages.now
+    c.index_searched.new.messages) c.index_searched.result in
+    let Here : Request → Type 0 = λ request. IfSome (index_request request) (λ given. By given
     × (c.args.input.now ≡ c.args.input.now) × (c.args.out.now ≡ c.args.out.now)) in
     subst (λ (asked : Result Request AllocError). IfOk asked Here) (sym c.in-Ok.is)
-    (subst Here (sym c.in-Index.is) (
-      subst (λ (path : List ℕ). By (record {
-        options = c.in-Index.options;
-        path = path;
-        limits = c.in-Index.limits;
-      })) c.as_str-in-Index.ensures.value c.index_searched.ensures.indexed,
-      refl,
-      refl,
-    ))
+    (subst Here (sym c.in-Index.is) (c.index_searched.ensures.indexed, refl, refl))
 
 pub returns-in-Shell-clause-served : goal.returns-in-Shell-clause-served
 returns-in-Shell-clause-served g c =
     let Here : Request → Type 0 = λ request. IfSome (shell_options request) (λ options.
-    Served (searched_by options (g.F.ReadFiles.lists c.args.host.now.files.now)) (g.F.ReadFiles.gives c.args.host.now.files.now)
+    Served (searched_by options (g.F.ReadFiles.lists c.args.host.now.files.now))
+    (g.F.ReadFiles.gives c.args.host.now.files.now)
     (blamed_by options (g.F.LookAgain.blames c.args.host.now.files.now))
     (NoneFoundBy (g.F.LookAgain.passes c.args.host.now.files.now) c.args.host.now.is_watched options)
     (g.Q.OutPlace.suspects c.args.places.now.report) options
-    (place g.Q.OutPlace.holds g.Q.OutPlace.same g.Q.OutPlace.refuses g.Q.OutPlace.gives_up
-    g.Q.Part.Sink.contents g.Q.Part.Sink.failures c.args.places.now.report c.shell_searched.new.report)
-    (reader g.I.Feed.remaining g.I.Feed.failures g.I.Feed.reads g.I.Feed.ends c.args.input.now c.shell_searched.new.commands)
-    (writer g.W.Sink.contents g.W.Sink.failures c.args.out.now c.shell_searched.new.answers)
-    (writer g.M.Sink.contents g.M.Sink.failures c.args.messages.now c.shell_searched.new.messages) c.shell_searched.result
+    (place g.Q.OutPlace g.Q.Part.Sink c.args.places.now.report c.shell_searched.new.report)
+    (reading g.I.Feed c.args.input.now c.shell_searched.new.commands)
+    (writing g.W.Sink c.args.out.now c.shell_searched.new.answers)
+    (writing g.M.Sink c.args.messages.now c.shell_searched.new.messages) c.shell_searched.result
     × (c.args.places.now.file ≡ c.args.places.now.file)) in
     subst (λ (asked : Result Request AllocError). IfOk asked Here) (sym c.in-Ok.is)
     (subst Here (sym c.in-Shell.is) (c.shell_searched.ensures.served, refl))
@@ -88,13 +82,12 @@ returns-in-Index-clause-navigable g c =
     let lists = g.F.ReadFiles.lists c.args.host.now.files.now in
     let gives = g.F.ReadFiles.gives c.args.host.now.files.now in
     let Here : Request → Type 0 = λ request.
-    IfSome (index_options request) (λ options. WritesNavigable (searched_by options lists) gives options
-    (place g.O.OutPlace.holds g.O.OutPlace.same g.O.OutPlace.refuses g.O.OutPlace.gives_up g.O.Part.Sink.contents
-    g.O.Part.Sink.failures c.args.places.now.file c.index_searched.new.places.file)
+    IfSome (index_request request) (λ given. WritesNavigable (searched_by given.options lists) gives given.options
+    (place g.O.OutPlace g.O.Part.Sink c.args.places.now.file c.index_searched.new.places.file)
     c.index_searched.result)
     × IfSome (shell_options request) (λ options. AnswersNavigable (searched_by options lists) gives options
-    (reader g.I.Feed.remaining g.I.Feed.failures g.I.Feed.reads g.I.Feed.ends c.args.input.now c.args.input.now)
-    (writer g.W.Sink.contents g.W.Sink.failures c.args.out.now c.args.out.now) c.index_searched.result) in
+    (reading g.I.Feed c.args.input.now c.args.input.now)
+    (writing g.W.Sink c.args.out.now c.args.out.now) c.index_searched.result) in
     subst (λ (asked : Result Request AllocError). IfOk asked Here) (sym c.in-Ok.is)
     (subst Here (sym c.in-Index.is) (c.index_searched.ensures.navigable, tt))
 
@@ -103,13 +96,12 @@ returns-in-Shell-clause-navigable g c =
     let lists = g.F.ReadFiles.lists c.args.host.now.files.now in
     let gives = g.F.ReadFiles.gives c.args.host.now.files.now in
     let Here : Request → Type 0 = λ request.
-    IfSome (index_options request) (λ options. WritesNavigable (searched_by options lists) gives options
-    (place g.O.OutPlace.holds g.O.OutPlace.same g.O.OutPlace.refuses g.O.OutPlace.gives_up g.O.Part.Sink.contents
-    g.O.Part.Sink.failures c.args.places.now.file c.args.places.now.file)
+    IfSome (index_request request) (λ given. WritesNavigable (searched_by given.options lists) gives given.options
+    (place g.O.OutPlace g.O.Part.Sink c.args.places.now.file c.args.places.now.file)
     c.shell_searched.result)
     × IfSome (shell_options request) (λ options. AnswersNavigable (searched_by options lists) gives options
-    (reader g.I.Feed.remaining g.I.Feed.failures g.I.Feed.reads g.I.Feed.ends c.args.input.now c.shell_searched.new.commands)
-    (writer g.W.Sink.contents g.W.Sink.failures c.args.out.now c.shell_searched.new.answers) c.shell_searched.result) in
+    (reading g.I.Feed c.args.input.now c.shell_searched.new.commands)
+    (writing g.W.Sink c.args.out.now c.shell_searched.new.answers) c.shell_searched.result) in
     subst (λ (asked : Result Request AllocError). IfOk asked Here) (sym c.in-Ok.is)
     (subst Here (sym c.in-Shell.is) (tt, c.shell_searched.ensures.navigable))
 
@@ -118,9 +110,9 @@ returns-in-Snapshot-clause-snapshotted g c =
     let Here : Request → Type 0 = λ request. IfSome (snapshot_options request) (λ options.
     RunsSnapshot (g.F.ReadFiles.gives c.args.host.now.files.now) (g.F.LookAgain.blames c.args.host.now.files.now [] [])
     g.W.Caused.cause options
-    (writer g.W.Sink.contents g.W.Sink.failures c.args.out.now c.snapshot.new.out)
-    (maker g.O.MakeFiles.made c.args.places.now.file c.snapshot.new.made)
-    (writer g.M.Sink.contents g.M.Sink.failures c.args.messages.now c.snapshot.new.messages) c.snapshot.result
+    (writing g.W.Sink c.args.out.now c.snapshot.new.out)
+    (making g.O.MakeFiles c.args.places.now.file c.snapshot.new.made)
+    (writing g.M.Sink c.args.messages.now c.snapshot.new.messages) c.snapshot.result
     × (c.args.input.now ≡ c.args.input.now) × (c.args.places.now.report ≡ c.args.places.now.report)) in
     subst (λ (asked : Result Request AllocError). IfOk asked Here) (sym c.in-Ok.is)
     (subst Here (sym c.in-Snapshot.is) (c.snapshot.ensures, refl, refl))
@@ -130,9 +122,8 @@ returns-in-Pages-clause-paged g c =
     let Here : Request → Type 0 = λ request. IfSome (pages_options request) (λ options.
     RunsPages (g.F.EmptyFolders.frees c.args.host.now.files.now) (g.F.ReadFiles.gives c.args.host.now.files.now)
     (g.F.LookAgain.blames c.args.host.now.files.now [] []) options
-    (folder_places g.O.FolderPlace.filed g.O.FolderPlace.refuses_folder g.O.FolderPlace.gives_up_folder
-    g.O.Folder.MakeFiles.made c.args.places.now.file c.pages.new.places)
-    (writer g.M.Sink.contents g.M.Sink.failures c.args.messages.now c.pages.new.messages) c.pages.result
+    (folder_places g.O.FolderPlace g.O.Folder.MakeFiles c.args.places.now.file c.pages.new.places)
+    (writing g.M.Sink c.args.messages.now c.pages.new.messages) c.pages.result
     × (c.args.input.now ≡ c.args.input.now) × (c.args.out.now ≡ c.args.out.now)
     × (c.args.places.now.report ≡ c.args.places.now.report)) in
     subst (λ (asked : Result Request AllocError). IfOk asked Here) (sym c.in-Ok.is)
@@ -141,7 +132,7 @@ returns-in-Pages-clause-paged g c =
 pub returns-in-Err-clause-unknown : goal.returns-in-Err-clause-unknown
 returns-in-Err-clause-unknown g c =
     rw c.in-Err.is (
-      told (writer g.M.Sink.contents g.M.Sink.failures c.args.messages.now c.report.new.messages) c.report.result _
+      told (writing g.M.Sink c.args.messages.now c.report.new.messages) c.report.result _
           _ string_bytes c.plain_line-line.result memory_line refl c.plain_line-line.ensures c.report.ensures,
       refl,
       refl,

@@ -1,18 +1,18 @@
 use Rattle.std.proofs.Common.{◌≡◌, map, subst, List}
 use Rattle.std.specs.Option.{option_map}
 use Rattle.std.specs.String.{string_bytes}
-use Rattle.scip_build.specs.declared.fault.BuildFault.{BuildFault}
-use Rattle.scip_snapshot.specs.Showing.{writer}
+use Rattle.streams.specs.Writers.{writing}
+use Rattle.scip_build.specs.declared.omission.Omission.{Omission}
 use Rattle.programs.specs.Messages.{TellsOfSuccess}
-use Rattle.programs.specs.TreeRuns.{Lacks}
+use Rattle.programs.specs.TreeRuns.{SaysOmissions}
 use Rattle.programs.proofs.serving.end.Goals as goal
 
 pub returns-in-Ok : goal.returns-in-Ok
 returns-in-Ok g c =
     rw c.in-Ok.is
-    (subst (λ (told : List BuildFault). Lacks TellsOfSuccess
+    (subst (λ (told : List Omission). SaysOmissions TellsOfSuccess
     (λ line. line ≡ option_map string_bytes c.args.run.now.none_found) c.args.explain c.args.run.now.tree (map string_bytes c.args.run.now.unread.items) told
-    (writer g.M.Sink.contents g.M.Sink.failures c.args.messages.now c.tell.new.messages) c.tell.result)
+    (writing g.M.Sink c.args.messages.now c.tell.new.messages) c.tell.result)
     c.as_slice.ensures c.tell.ensures)
 
 pub returns-in-Err : goal.returns-in-Err

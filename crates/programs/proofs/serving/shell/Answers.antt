@@ -2,11 +2,11 @@ use Rattle.std.specs.Option.{option_map}
 use Rattle.std.specs.String.{string_bytes}
 use Rattle.std.proofs.Common.{◌≡◌, ◌∙◌, ap, map, refl, subst, sym, ℕ, List, Option, Result}
 use Rattle.std.specs.Prelude.{IfErr}
-use Rattle.proto_parse.specs.tree.Dialect.{Dialect}
+use Rattle.streams.specs.Readers.{reading}
+use Rattle.streams.specs.Writers.{writing}
+use Rattle.proto_parse.specs.dialect.Dialect.{Dialect}
 use Rattle.index_hooks.specs.declared.choice.DocChoice.{DocChoice}
 use Rattle.scip_build.specs.declared.settings.Settings.{Settings}
-use Rattle.scip_snapshot.specs.Showing.{writer}
-use Rattle.programs.specs.Streams.{reader}
 use Rattle.programs.specs.Choices.{IsChosenBy}
 use Rattle.programs.specs.Messages.{TellsOfSuccess}
 use Rattle.programs.specs.NoSources.{NoneFoundBy}
@@ -18,10 +18,10 @@ use Rattle.programs.specs.Reporting.{Reports, ran_of, told_by}
 use Rattle.programs.specs.Serving.{not_begun, not_started, over_tree}
 use Rattle.programs.specs.Settled.{settled}
 use Rattle.programs.specs.TreeRuns.{Ends}
-use Rattle.programs.proofs.LackLemmas.{ends_of}
-use Rattle.programs.proofs.MoveLemmas.{moved4}
-use Rattle.programs.proofs.NavigableLemmas.{answers}
-use Rattle.programs.proofs.ReportLemmas.{reported_files, reported_of, settled_files}
+use Rattle.programs.proofs.TreeRunOmissionLemmas.{ends_of}
+use Rattle.basics.proofs.EqualLemmas.{moved4}
+use Rattle.programs.proofs.ServingNavigableLemmas.{answers}
+use Rattle.programs.proofs.ReportingLemmas.{reported_files, reported_of, settled_files}
 use Rattle.protoscip.specs.Explanations.{explain_in}
 use Rattle.protoscip.specs.FaultLines.{HasFilesOf}
 use Rattle.protoscip.specs.declared.fault.Fault.{Fault}
@@ -39,29 +39,29 @@ returns-in-Err-clause-served g c =
 pub returns-in-Err-see_report-clause-served : goal.returns-in-Err-see_report-clause-served
 returns-in-Err-see_report-clause-served g c =
     let run = c.in-Ok.start in
-    not_begun run.tree (map string_bytes run.unread.items) run.settings.package c.in-Err-see_report.fault c.in-Ok.ensures.named c.in-Ok.ensures.folders
+    not_begun run.tree (map string_bytes run.unread.items) run.settings.package c.in-Err-see_report.fault
+    c.in-Ok.ensures.named c.in-Ok.ensures.folders
     c.in-Err-see_report.ensures.stops (record { unread = refl; unwritten = refl }, refl) c.report_start.ensures
 
 pub returns-clause-served : goal.returns-clause-served
 returns-clause-served g c =
     let run = c.in-Ok.start in
     let line = option_map string_bytes run.none_found in
-    let messages = writer g.M.Sink.contents g.M.Sink.failures c.args.messages.now c.end.new.messages in
+    let messages = writing g.M.Sink c.args.messages.now c.end.new.messages in
     let options = c.args.options.now in
     let unread = map string_bytes run.unread.items in
-    let report = place g.Q.OutPlace.holds g.Q.OutPlace.same g.Q.OutPlace.refuses g.Q.OutPlace.gives_up
-    g.Q.Part.Sink.contents g.Q.Part.Sink.failures c.args.report.now c.report_run-reported.new.at in
+    let report = place g.Q.OutPlace g.Q.Part.Sink c.args.report.now c.report_run-reported.new.at in
     let ran = c.session-ran.result in
     let reported = c.report_run-reported.result in
     let By : Option (List ℕ) → Option DocChoice → Settings → ℕ → Type 0 = λ only doc settings workers.
-    Serves g.I.Feed.remaining g.I.Feed.failures g.I.Feed.reads g.I.Feed.ends g.W.Sink.contents g.W.Sink.failures
-    (IsChosenBy only doc) settings run.tree workers
-    c.args.commands.now c.session-ran.new.commands c.args.answers.now c.session-ran.new.answers ran in
+    Serves (reading g.I.Feed c.args.commands.now c.session-ran.new.commands) (writing g.W.Sink c.args.answers.now
+    c.session-ran.new.answers) (IsChosenBy only doc) settings run.tree workers ran in
     let Told : Option (List ℕ) → Option DocChoice → Settings → ℕ → Type 0 = λ only doc settings workers.
     Reports report c.args.options.now.report no_limits (IsChosenBy only doc) settings workers run.tree unread
     (told_by ran) reported in
     let Ended : Option Dialect → Type 0 = λ explain.
-    Ends TellsOfSuccess (λ l. l ≡ line) explain run.tree unread (λ r. r.told) (settled ran reported) messages c.end.result in
+    Ends TellsOfSuccess (λ l. l ≡ line) explain run.tree unread (λ r. r.told) (settled ran reported) messages
+    c.end.result in
     over_tree run.tree unread run.settings.package ran reported c.in-Ok.ensures.named c.in-Ok.ensures.folders
     c.in-Ok-see_report.ensures.apart
     (moved4 By c.in-Ok.ensures.only c.in-Ok.ensures.doc c.in-Ok.ensures.settings
@@ -88,11 +88,10 @@ returns-in-Err-clause-navigable g c =
     (blamed_by c.args.options.now (g.F.LookAgain.blames c.args.host.now.files.now))
     (NoneFoundBy (g.F.LookAgain.passes c.args.host.now.files.now) c.args.host.now.is_watched
     c.args.options.now) (g.Q.OutPlace.suspects c.args.report.now)
-    (place g.Q.OutPlace.holds g.Q.OutPlace.same g.Q.OutPlace.refuses g.Q.OutPlace.gives_up g.Q.Part.Sink.contents
-    g.Q.Part.Sink.failures c.args.report.now c.put_start_report-said.new.at)
-    (reader g.I.Feed.remaining g.I.Feed.failures g.I.Feed.reads g.I.Feed.ends c.args.commands.now c.args.commands.now)
-    (writer g.W.Sink.contents g.W.Sink.failures c.args.answers.now c.args.answers.now)
-    (writer g.M.Sink.contents g.M.Sink.failures c.args.messages.now c.report_unstarted.new.messages) c.report_unstarted.result
+    (place g.Q.OutPlace g.Q.Part.Sink c.args.report.now c.put_start_report-said.new.at)
+    (reading g.I.Feed c.args.commands.now c.args.commands.now)
+    (writing g.W.Sink c.args.answers.now c.args.answers.now)
+    (writing g.M.Sink c.args.messages.now c.report_unstarted.new.messages) c.report_unstarted.result
     (returns-in-Err-clause-served g c)
 
 pub returns-in-Err-see_report-clause-navigable : goal.returns-in-Err-see_report-clause-navigable
@@ -102,11 +101,10 @@ returns-in-Err-see_report-clause-navigable g c =
     (blamed_by c.args.options.now (g.F.LookAgain.blames c.args.host.now.files.now))
     (NoneFoundBy (g.F.LookAgain.passes c.args.host.now.files.now) c.args.host.now.is_watched
     c.args.options.now) (g.Q.OutPlace.suspects c.args.report.now)
-    (place g.Q.OutPlace.holds g.Q.OutPlace.same g.Q.OutPlace.refuses g.Q.OutPlace.gives_up g.Q.Part.Sink.contents
-    g.Q.Part.Sink.failures c.args.report.now c.args.report.now)
-    (reader g.I.Feed.remaining g.I.Feed.failures g.I.Feed.reads g.I.Feed.ends c.args.commands.now c.args.commands.now)
-    (writer g.W.Sink.contents g.W.Sink.failures c.args.answers.now c.args.answers.now)
-    (writer g.M.Sink.contents g.M.Sink.failures c.args.messages.now c.report_start.new.messages) c.report_start.result
+    (place g.Q.OutPlace g.Q.Part.Sink c.args.report.now c.args.report.now)
+    (reading g.I.Feed c.args.commands.now c.args.commands.now)
+    (writing g.W.Sink c.args.answers.now c.args.answers.now)
+    (writing g.M.Sink c.args.messages.now c.report_start.new.messages) c.report_start.result
     (returns-in-Err-see_report-clause-served g c)
 
 pub returns-clause-navigable : goal.returns-clause-navigable
@@ -116,12 +114,10 @@ returns-clause-navigable g c =
     (blamed_by c.args.options.now (g.F.LookAgain.blames c.args.host.now.files.now))
     (NoneFoundBy (g.F.LookAgain.passes c.args.host.now.files.now) c.args.host.now.is_watched
     c.args.options.now) (g.Q.OutPlace.suspects c.args.report.now)
-    (place g.Q.OutPlace.holds g.Q.OutPlace.same g.Q.OutPlace.refuses g.Q.OutPlace.gives_up g.Q.Part.Sink.contents
-    g.Q.Part.Sink.failures c.args.report.now c.report_run-reported.new.at)
-    (reader g.I.Feed.remaining g.I.Feed.failures g.I.Feed.reads g.I.Feed.ends c.args.commands.now
-    c.session-ran.new.commands)
-    (writer g.W.Sink.contents g.W.Sink.failures c.args.answers.now c.session-ran.new.answers)
-    (writer g.M.Sink.contents g.M.Sink.failures c.args.messages.now c.end.new.messages) c.end.result
+    (place g.Q.OutPlace g.Q.Part.Sink c.args.report.now c.report_run-reported.new.at)
+    (reading g.I.Feed c.args.commands.now c.session-ran.new.commands)
+    (writing g.W.Sink c.args.answers.now c.session-ran.new.answers)
+    (writing g.M.Sink c.args.messages.now c.end.new.messages) c.end.result
     (returns-clause-served g c)
 
 -- each fault names files of the tree
@@ -129,12 +125,12 @@ returns-clause-navigable g c =
 pub end-requires-clause-files : goal.end-requires-clause-files
 end-requires-clause-files g c =
     let run = c.in-Ok.start in
-    let report = place g.Q.OutPlace.holds g.Q.OutPlace.same g.Q.OutPlace.refuses g.Q.OutPlace.gives_up
-    g.Q.Part.Sink.contents g.Q.Part.Sink.failures c.args.report.now c.report_run-reported.new.at in
+    let report = place g.Q.OutPlace g.Q.Part.Sink c.args.report.now c.report_run-reported.new.at in
     let allows = IsChosenBy (option_map (λ f. string_bytes f.promise.0) run.choices.filter)
     (option_map (λ r. r.promise.0) run.choices.rule) in
     let reported = c.report_run-reported.result in
     subst (λ (r : Result Recorded Fault). IfErr r (HasFilesOf run.tree)) (sym c.settle-done.ensures)
     (settled_files run.tree c.session-ran.result reported c.session-ran.ensures.files
     (reported_files report c.args.options.now.report no_limits allows run.settings run.workers run.tree
-    (map string_bytes run.unread.items) (ran_of c.told_in.result.now c.fault_in.result) reported c.report_run-reported.ensures))
+    (map string_bytes run.unread.items) (ran_of c.told_in.result.now c.fault_in.result) reported
+    c.report_run-reported.ensures))

@@ -1,5 +1,5 @@
 use Rattle.std.proofs.Common.{refl, subst, List, [], ℕ, Ok, Err}
-use Rattle.scip_snapshot.specs.Showing.{writer}
+use Rattle.streams.specs.Writers.{writing}
 use Rattle.programs.specs.Messages.{TellsOne}
 use Rattle.programs.specs.Queries.{IsReadFrom}
 use Rattle.programs.specs.QueryExplanations.{IsTold}
@@ -20,7 +20,7 @@ returns-in-Err g c =
     λ path. IsReadFrom (g.F.ReadFiles.gives c.args.host.now.files.now path) (Err fault) in
     let Said : List ℕ → Type 0 = λ path. TellsOne
     (IsTold (g.F.LookAgain.blames c.args.host.now.files.now [] []) c.args.options.now.explain path fault)
-    (status_of fault) (writer g.M.Sink.contents g.M.Sink.failures c.args.messages.now c.report_query.new.messages)
+    (status_of fault) (writing g.M.Sink c.args.messages.now c.report_query.new.messages)
     c.report_query.result in
     let path = c.as_str-path.ensures.value in
     unread fault (subst Read path c.in-Err.ensures) refl refl (subst Said path c.report_query.ensures)

@@ -1,7 +1,7 @@
 use Rattle.std.proofs.Common.{◌≡◌, ◌∙◌, refl, subst, sym, List, ℕ}
 use Rattle.programs.specs.Placing.{place}
 use Rattle.programs.specs.StartReports.{at_out, goes, lacking, report_of_start, suspected, unasked}
-use Rattle.programs.proofs.ReportLemmas.{weaker}
+use Rattle.programs.proofs.ReportingLemmas.{weaker}
 use Rattle.programs.proofs.StartReportLemmas.{left_untried}
 use Rattle.programs.proofs.start_reports.put_start_report.Goals as goal
 
@@ -20,8 +20,7 @@ returns-in-Err g c = lacking refl
 
 pub returns-then-is_tried : goal.returns-then-is_tried
 returns-then-is_tried g c =
-    let at = place g.Q.OutPlace.holds g.Q.OutPlace.same g.Q.OutPlace.refuses g.Q.OutPlace.gives_up
-    g.Q.Part.Sink.contents g.Q.Part.Sink.failures c.args.at.now c.put_bytes-reported.new.at in
+    let at = place g.Q.OutPlace g.Q.Part.Sink c.args.at.now c.put_bytes-reported.new.at in
     let fault = c.args.fault in
     let reported = c.put_bytes-reported.result in
     let bytes = c.as_slice.result.now in
@@ -33,8 +32,7 @@ returns-then-is_tried g c =
 
 pub returns : goal.returns
 returns g c =
-    let at = place g.Q.OutPlace.holds g.Q.OutPlace.same g.Q.OutPlace.refuses g.Q.OutPlace.gives_up
-    g.Q.Part.Sink.contents g.Q.Part.Sink.failures c.args.at.now c.put_bytes-reported.new.at in
+    let at = place g.Q.OutPlace g.Q.Part.Sink c.args.at.now c.put_bytes-reported.new.at in
     let bytes = c.as_slice.result.now in
     lacking (left_untried at (λ all. all ≡ bytes) 0 c.put_bytes-reported.result (c.put_bytes-reported.ensures 0)
     (sym c.is_tried.ensures ∙ c.if-is_tried.false))

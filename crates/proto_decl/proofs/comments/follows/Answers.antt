@@ -1,6 +1,6 @@
 use Rattle.std.proofs.Common.{arith}
 use Rattle.std.proofs.lemmas.Bool.{false≢true}
-use Rattle.proto_decl.proofs.LineEndLemmas.{one_line}
+use Rattle.proto_decl.proofs.LayoutLineEndLemmas.{one_line}
 use Rattle.proto_decl.proofs.comments.follows.Goals as goal
 
 pub returns-then-is_on_later_line : goal.returns-then-is_on_later_line

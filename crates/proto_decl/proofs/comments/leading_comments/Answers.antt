@@ -1,6 +1,6 @@
 use Rattle.std.proofs.Common.{arith}
 use Rattle.proto_lex.specs.Position.{line_of}
-use Rattle.proto_decl.proofs.LeadingLemmas.{found_by_test, found_by_start, front, ends_above}
+use Rattle.proto_decl.proofs.CommentLeadingLemmas.{found_by_test, found_by_start, front, ends_above}
 use Rattle.proto_decl.proofs.comments.leading_comments.Goals as goal
 
 pub returns-then-not-leads-clause-longest : goal.returns-then-not-leads-clause-longest

@@ -1,6 +1,6 @@
 use Rattle.std.proofs.Common.{◌≤◌}
 use Rattle.proto_lex.specs.Position.{line_of}
-use Rattle.proto_decl.proofs.LeadingLemmas.{IsRun, IsNextLine}
+use Rattle.proto_decl.proofs.CommentLeadingLemmas.{IsRun, IsNextLine}
 use Rattle.proto_decl.proofs.comments.leading_comments.Given as goal
 
 -- the comments so far may lead, and begin at the next place, on a line that is free of other tokens

@@ -6,7 +6,7 @@ use Rattle.proto_decl.proofs.comments.leading_text.Goals as goal
 
 pub returns-in-None : goal.returns-in-None
 returns-in-None c =
-    subst (IsLeadingText c.args.lexed.now c.args.first) (sym c.lent.ensures) (not_first c.in-None.ensures)
+    subst (IsLeadingText c.args.lexed.now c.args.first) (sym c.borrowed.ensures) (not_first c.in-None.ensures)
 
 pub returns-in-Some : goal.returns-in-Some
 returns-in-Some c =

@@ -1,5 +1,5 @@
 use Rattle.std.proofs.Common.{arith}
-use Rattle.proto_decl.proofs.FreeLemmas.{not_leading, leading}
+use Rattle.proto_decl.proofs.LayoutFreeLemmas.{not_leading, leading}
 use Rattle.proto_decl.proofs.comments.leads.Goals as goal
 
 pub returns-then-comment-from-clause-leads : goal.returns-then-comment-from-clause-leads

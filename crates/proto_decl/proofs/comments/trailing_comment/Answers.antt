@@ -1,5 +1,5 @@
 use Rattle.std.proofs.Common.{ap, length, arith}
-use Rattle.proto_decl.proofs.TrailingLemmas.{refuted, confirmed}
+use Rattle.proto_decl.proofs.CommentTrailingLemmas.{refuted, confirmed}
 use Rattle.proto_decl.proofs.comments.trailing_comment.Goals as goal
 
 pub follows-requires : goal.follows-requires

@@ -5,8 +5,7 @@ pub new-requires : goal.new-requires
 new-requires c = record {
   lexed = c.args.lexed.now;
   file = c.args.file.now;
-  dialect = c.requires.0;
   is_lexed = c.are_lexed.ensures;
-  derives = c.requires.1;
+  derives = c.requires;
   of_file = search rules;
 }

@@ -3,10 +3,12 @@ use Rattle.std.specs.List.{AllZip, flat_map}
 use Rattle.std.proofs.lemmas.List.{flat_map_more, take_more}
 use Rattle.std.proofs.lemmas.List.Elements.{All-get_or}
 use Rattle.proto_lex.specs.Lexed.{IsPart}
-use Rattle.proto_decl.specs.Spans.{OfItem}
-use Rattle.proto_decl.specs.Outlines.{in_item}
-use Rattle.proto_decl.specs.Uses.{uses_in_item}
+use Rattle.proto_parse.specs.tree.FileItem.{FileItem}
+use Rattle.proto_decl.specs.Spans.{OfParts}
+use Rattle.proto_decl.specs.Walked.{in_item, uses_in_item, parts_in_item}
 use Rattle.proto_decl.specs.Declares.{IsDeclaration}
+use Rattle.proto_decl.specs.declared.declaration.Outline.{Outline}
+use Rattle.proto_decl.proofs.WalkedLemmas.{outlines_are, uses_are}
 use Rattle.proto_decl.proofs.declaring.declared_at.Goals as goal
 
 -- one item more comes behind those before it
@@ -30,19 +32,25 @@ declare_more R f xs i x os ys within is same all = subst (λ l. AllZip R l ys)
 
 pub walk_last-requires : goal.walk_last-requires
 walk_last-requires c =
-    let of_item = OfItem (IsPart c.args.text.now) in
+    let of_item = λ (item : FileItem). OfParts (IsPart c.args.text.now) (parts_in_item item) in
     subst of_item (sym c.item-item.is)
     (All-get_or of_item c.args.items.now c.loop-item.item-index c.item-item.result c.loop-item-test.true c.requires)
 
 pub loop-item-preserved : goal.loop-item-preserved
 loop-item-preserved c =
     let items = c.args.items.now in
+    let text = c.args.text.now in
+    let around = c.args.surrounding.now in
     let i = c.loop-item.item-index in
-    let declares = in_item c.args.text.now c.args.surrounding.now in
+    let declares = in_item text around in
+    let R = IsDeclaration c.args.lexed.now in
+    let before = subst (λ (os : List Outline). AllZip R os c.loop-item.declared.declarations.items)
+    (sym (outlines_are text around (take i items))) c.loop-item.invariant.declarations in
     record {
-      declarations = declare_more (IsDeclaration c.args.lexed.now) declares items i c.item-item.result _ _
-          c.loop-item-test.true c.item-item.is c.in_ok-found.ensures.outlines
-          (c.in_ok-push_documented.ensures (flat_map declares (take i items)) c.loop-item.invariant.declarations);
-      uses = one_more (uses_in_item c.args.text.now c.args.surrounding.now.scope) items i c.item-item.result _ _
-          c.loop-item-test.true c.item-item.is c.loop-item.invariant.uses c.in_ok-found.ensures.uses;
+      declarations = subst (λ (os : List Outline). AllZip R os c.push_documented.new.declared.declarations.items) (outlines_are text around (take (i + 1) items))
+          (declare_more R declares items i c.item-item.result _ _ c.loop-item-test.true c.item-item.is
+          c.in_ok-found.ensures.outlines (c.in_ok-push_documented.ensures (flat_map declares (take i items)) before));
+      uses = one_more (uses_in_item text around) items i c.item-item.result _ _ c.loop-item-test.true c.item-item.is
+          (c.loop-item.invariant.uses ∙ sym (uses_are text around (take i items))) c.in_ok-found.ensures.uses
+          ∙ uses_are text around (take (i + 1) items);
     }

@@ -1,8 +1,8 @@
 use Rattle.std.proofs.Common.{◌++◌, ◌∷◌, [], List, subst, append_assoc}
 use Rattle.std.specs.List.{AllZip}
 use Rattle.std.proofs.lemmas.List.{append-nil}
+use Rattle.basics.proofs.ListLemmas.{zip_push as AllZip-push}
 use Rattle.proto_decl.specs.Declares.{IsDeclaration}
-use Rattle.proto_decl.proofs.FactLemmas.{AllZip-push}
 use Rattle.proto_decl.proofs.declaring.push_documented.Goals as goal
 
 push_behind : {A B : Type 0} (R : A → B → Type 0) (before xs : List A) (ys : List B) (x : A) (y : B)

@@ -2,7 +2,9 @@ use Rattle.std.specs.List.{All}
 use Rattle.proto_lex.specs.declared.token.Token.{Token}
 use Rattle.proto_lex.specs.Lexed.{IsPart}
 use Rattle.proto_decl.specs.Imports.{IsLiteral}
-use Rattle.proto_decl.proofs.SpanLemmas.{OfToken, items_hold, imports_hold, package_holds}
+use Rattle.proto_decl.specs.Spans.{OfPart}
+use Rattle.proto_decl.proofs.OutlineLemmas.{parts-outer}
+use Rattle.proto_decl.proofs.SpanLemmas.{OfToken, parts_hold, imports_hold, package_holds}
 use Rattle.proto_decl.proofs.declaring.spans_of_tree.Goals as goal
 use Rattle.proto_decl.proofs.declaring.spans_of_tree.Goals.{After-spans_of_tokens}
 
@@ -21,21 +23,22 @@ returns-clause-package_name c =
     package_holds (IsPart c.args.lexed.now.text)
     (IsLiteral c.args.lexed.now.text) c.args.lexed.now.text c.args.lexed.now.tokens c.args.file.now
     (of_tokens (goal.at.returns-clause-package_name c).After-spans_of_tokens)
-    (c.spans_of_tokens.ensures.package_name c.requires.0 c.args.lexed.now.text c.args.lexed.now.tokens c.args.file.now
-    c.requires.1)
+    (c.spans_of_tokens.ensures.package_name c.args.lexed.now.text c.args.lexed.now.tokens c.args.file.now
+    c.requires)
 
 pub returns-clause-imports : goal.returns-clause-imports
 returns-clause-imports c =
     imports_hold (IsPart c.args.lexed.now.text)
     (IsLiteral c.args.lexed.now.text) c.args.lexed.now.text c.args.lexed.now.tokens c.args.file.now
     (of_tokens (goal.at.returns-clause-imports c).After-spans_of_tokens)
-    (c.spans_of_tokens.ensures.imports c.requires.0 c.args.lexed.now.text c.args.lexed.now.tokens c.args.file.now
-    c.requires.1)
+    (c.spans_of_tokens.ensures.imports c.args.lexed.now.text c.args.lexed.now.tokens c.args.file.now
+    c.requires)
 
 pub returns-clause-items : goal.returns-clause-items
 returns-clause-items c =
-    items_hold (IsPart c.args.lexed.now.text)
+    parts-outer (OfPart (IsPart c.args.lexed.now.text)) c.args.file.now.items
+    (parts_hold (IsPart c.args.lexed.now.text)
     (IsLiteral c.args.lexed.now.text) c.args.lexed.now.text c.args.lexed.now.tokens c.args.file.now
     (of_tokens (goal.at.returns-clause-items c).After-spans_of_tokens)
-    (c.spans_of_tokens.ensures.items c.requires.0 c.args.lexed.now.text c.args.lexed.now.tokens c.args.file.now
-    c.requires.1)
+    (c.spans_of_tokens.ensures.items c.args.lexed.now.text c.args.lexed.now.tokens c.args.file.now
+    c.requires))

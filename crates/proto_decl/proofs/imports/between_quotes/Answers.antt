@@ -1,7 +1,7 @@
 use Rattle.std.proofs.Common.{sym, subst, List, ℕ}
 use Rattle.proto_lex.specs.Lexes.{Spells}
 use Rattle.proto_lex.specs.declared.token.TokenKind.TheVariants.{StringLiteral}
-use Rattle.proto_decl.proofs.LiteralLemmas.{cut_first, cut_last}
+use Rattle.proto_decl.proofs.ImportLiteralLemmas.{cut_first, cut_last}
 use Rattle.proto_decl.proofs.imports.between_quotes.Goals as goal
 use Rattle.proto_decl.proofs.imports.between_quotes.Goals.{After-spelling_at-spelling}
 

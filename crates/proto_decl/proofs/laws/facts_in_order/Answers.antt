@@ -4,10 +4,10 @@ use Rattle.proto_lex.specs.Lexed.{AreInOrder}
 use Rattle.proto_parse.specs.Lexeme.{lexemes_of}
 use Rattle.proto_parse.specs.Walk.{Mark, Among, MarksAreInOrder, marks_of_items, marks_of_imports}
 use Rattle.proto_parse.proofs.Walk.Then.{imports_are}
-use Rattle.proto_decl.specs.Outlines.{outlines_of}
+use Rattle.proto_decl.specs.Declares.{outlines_of}
 use Rattle.proto_decl.specs.Facts.{Facts, AreOfSomeFile, NamesInOrder, use_spans}
-use Rattle.proto_decl.specs.declared.imported.Imported.{Imported}
-use Rattle.proto_decl.proofs.OrderLemmas.{names_in_order, uses_in_order, imports_in_order}
+use Rattle.proto_decl.specs.declared.imports.Imported.{Imported}
+use Rattle.proto_decl.proofs.OutlineOrderLemmas.{names_in_order, uses_in_order, imports_in_order}
 use Rattle.proto_decl.proofs.FactLemmas.{same_names, package_placed}
 use Rattle.proto_decl.proofs.laws.facts_in_order.Goals as goal
 use Rattle.proto_decl.proofs.laws.facts_in_order.Goals.{After-names_have_components}
@@ -24,7 +24,7 @@ items_ordered : (c : After-names_have_components) (facts : Facts) (origin : AreO
     → MarksAreInOrder 0 (marks_of_items origin.file)
 items_ordered c facts origin =
     ordered c facts origin (marks_of_items origin.file)
-    (c.spans_of_tokens.ensures.items origin.dialect origin.lexed.text origin.lexed.tokens origin.file origin.derives)
+    (c.spans_of_tokens.ensures.items origin.lexed.text origin.lexed.tokens origin.file origin.derives)
 
 names : (c : After-names_have_components) (facts : Facts) → AreOfSomeFile facts → NamesInOrder facts.declarations
 names c facts origin =
@@ -45,9 +45,9 @@ pub returns-clause-imports : goal.returns-clause-imports
 returns-clause-imports c = λ facts origin.
     let file = origin.file in
     let before = (goal.at.returns-clause-imports c).After-names_have_components in
-    let among = c.spans_of_tokens.ensures.imports origin.dialect origin.lexed.text origin.lexed.tokens file
+    let among = c.spans_of_tokens.ensures.imports origin.lexed.text origin.lexed.tokens file
     origin.derives in
-    let filled = c.names_have_components.ensures origin.dialect origin.lexed.text origin.lexed.tokens file
+    let filled = c.names_have_components.ensures origin.lexed.text origin.lexed.tokens file
     origin.derives
     in
     subst placed (sym (ap (map (λ (imported : Imported). imported.span)) origin.of_file.imports))
@@ -61,5 +61,5 @@ returns-clause-package_name c = λ facts origin.
     let before = (goal.at.returns-clause-package_name c).After-names_have_components in
     package_placed facts.number lexed file facts origin.of_file
     (lexemes_of lexed.text lexed.tokens) file.package_name refl
-    (c.spans_of_tokens.ensures.package_place origin.dialect lexed.text lexed.tokens file origin.derives)
+    (c.spans_of_tokens.ensures.package_place lexed.text lexed.tokens file origin.derives)
     (ordered before facts origin) (names before facts origin)

@@ -1,7 +1,7 @@
 use Rattle.std.specs.List.{All}
 use Rattle.proto_lex.specs.declared.token.Token.{Token}
 use Rattle.proto_lex.specs.Lexed.{Lexed, IsLexed, IsPart}
-use Rattle.proto_decl.proofs.SpanLemmas.{OfToken, items_hold}
+use Rattle.proto_decl.proofs.SpanLemmas.{OfToken, parts_hold}
 use Rattle.proto_decl.proofs.NameLemmas.{declarations_named}
 use Rattle.proto_decl.proofs.laws.names_are_spelled.Goals as goal
 
@@ -10,7 +10,7 @@ parts : (lexed : Lexed) → IsLexed lexed.text lexed.tokens lexed.comments
 parts lexed is = λ k d h. (is.token_parts k d h, λ literal. is.token_parts k d h)
 
 pub returns : goal.returns
-returns c = λ dialect number lexed file facts is derives of_file.
+returns c = λ number lexed file facts is derives of_file.
     declarations_named lexed file facts.declarations
-    (items_hold (IsPart lexed.text) (IsPart lexed.text) lexed.text lexed.tokens file (parts lexed is)
-    (c.spans_of_tokens.ensures.items dialect lexed.text lexed.tokens file derives)) of_file.declarations
+    (parts_hold (IsPart lexed.text) (IsPart lexed.text) lexed.text lexed.tokens file (parts lexed is)
+    (c.spans_of_tokens.ensures.items lexed.text lexed.tokens file derives)) of_file.declarations

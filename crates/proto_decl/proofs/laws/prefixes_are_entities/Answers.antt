@@ -1,5 +1,5 @@
 use Rattle.std.proofs.lemmas.List.Elements.{Contains-get_or}
-use Rattle.proto_decl.proofs.PrefixLemmas.{prefixes}
+use Rattle.proto_decl.proofs.NamePrefixLemmas.{prefixes}
 use Rattle.proto_decl.proofs.laws.prefixes_are_entities.Goals as goal
 
 pub returns : goal.returns

@@ -1,6 +1,6 @@
 use Rattle.std.proofs.Common.{arith}
 use Rattle.proto_lex.specs.declared.token.Comment.{Comment}
-use Rattle.proto_decl.proofs.NearLemmas.{begin_by_last}
+use Rattle.proto_decl.proofs.LayoutNearLemmas.{begin_by_last}
 use Rattle.proto_decl.proofs.layout.are_comments_begun.Goals as goal
 
 pub returns : goal.returns

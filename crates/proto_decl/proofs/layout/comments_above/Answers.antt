@@ -1,5 +1,5 @@
 use Rattle.std.proofs.Common.{arith}
-use Rattle.proto_decl.proofs.AboveLemmas.{none_behind, above_by_start, above_by_later, none_before}
+use Rattle.proto_decl.proofs.LayoutAboveLemmas.{none_behind, above_by_start, above_by_later, none_before}
 use Rattle.proto_decl.proofs.layout.comments_above.Goals as goal
 
 pub loop-above-init : goal.loop-above-init

@@ -1,5 +1,5 @@
 use Rattle.std.proofs.Common.{◌≤◌, length}
-use Rattle.proto_decl.proofs.AboveLemmas.{NoneAbove}
+use Rattle.proto_decl.proofs.LayoutAboveLemmas.{NoneAbove}
 use Rattle.proto_decl.proofs.layout.comments_above.Given as goal
 
 -- no comment from here on ends on a line before

@@ -1,6 +1,6 @@
 use Rattle.std.proofs.Common.{arith}
 use Rattle.proto_lex.specs.declared.token.Comment.{Comment}
-use Rattle.proto_decl.proofs.NearLemmas.{parted_by_next, one_more, parted_at_end}
+use Rattle.proto_decl.proofs.LayoutNearLemmas.{parted_by_next, one_more, parted_at_end}
 use Rattle.proto_decl.proofs.layout.comments_begun_near.Goals as goal
 
 pub returns-then-offset-comments : goal.returns-then-offset-comments

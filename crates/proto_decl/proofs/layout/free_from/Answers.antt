@@ -1,5 +1,5 @@
 use Rattle.std.proofs.Common.{arith}
-use Rattle.proto_decl.proofs.FreeLemmas.{free_at_start, by_next}
+use Rattle.proto_decl.proofs.LayoutFreeLemmas.{free_at_start, by_next}
 use Rattle.proto_decl.proofs.layout.free_from.Goals as goal
 
 pub returns-then-begun-eq0 : goal.returns-then-begun-eq0

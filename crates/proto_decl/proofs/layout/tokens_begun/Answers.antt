@@ -2,7 +2,7 @@ use Rattle.std.proofs.Common.{rules, subst, sym, ltb, List}
 use Rattle.std.specs.List.Sorted.{IsPartitionedBy}
 use Rattle.std.proofs.lemmas.List.Sorted.{IsPartitionPoint-from_clause, IsPartitionedBy-ltb}
 use Rattle.proto_lex.specs.declared.token.Token.{Token}
-use Rattle.proto_decl.proofs.LineLemmas.{starts_rise, parted_less}
+use Rattle.proto_decl.proofs.LayoutLineLemmas.{starts_rise, parted_less}
 use Rattle.proto_decl.proofs.layout.tokens_begun.Goals as goal
 
 pub returns-in-None-clause-parted : goal.returns-in-None-clause-parted

@@ -1,6 +1,6 @@
 use Rattle.std.proofs.Common.{arith}
 use Rattle.proto_lex.specs.declared.token.Token.{Token}
-use Rattle.proto_decl.proofs.NearLemmas.{parted_by_next, one_more, parted_at_end}
+use Rattle.proto_decl.proofs.LayoutNearLemmas.{parted_by_next, one_more, parted_at_end}
 use Rattle.proto_decl.proofs.layout.tokens_begun_near.Goals as goal
 
 pub returns-then-offset-tokens : goal.returns-then-offset-tokens

@@ -2,7 +2,7 @@ use Rattle.std.proofs.Common.{rules, subst, sym, leb, List}
 use Rattle.std.specs.List.Sorted.{IsPartitionedBy}
 use Rattle.std.proofs.lemmas.List.Sorted.{IsPartitionPoint-from_clause, IsPartitionedBy-leb}
 use Rattle.proto_lex.specs.declared.token.Token.{Token}
-use Rattle.proto_decl.proofs.LineLemmas.{ends_rise, parted_no_more}
+use Rattle.proto_decl.proofs.LayoutLineLemmas.{ends_rise, parted_no_more}
 use Rattle.proto_decl.proofs.layout.tokens_ended.Goals as goal
 
 pub returns-clause-parted : goal.returns-clause-parted

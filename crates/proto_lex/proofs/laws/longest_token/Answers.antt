@@ -1,4 +1,4 @@
-use Rattle.proto_lex.proofs.LongestTokenLemmas.{no_longer}
+use Rattle.proto_lex.proofs.LexesLongestLemmas.{no_longer}
 use Rattle.proto_lex.proofs.laws.longest_token.Goals as goal
 
 pub returns : goal.returns

@@ -1,6 +1,6 @@
 use Rattle.std.proofs.Common.{get_or, arith}
 use Rattle.proto_lex.specs.declared.position.Encoding.TheVariants.{Utf8}
-use Rattle.proto_lex.proofs.IsBeforeLemmas.{rise, lead_counts}
+use Rattle.proto_lex.proofs.PositionBeforeLemmas.{rise, lead_counts}
 use Rattle.proto_lex.proofs.laws.positions_rise.Goals as goal
 
 pub returns-clause-characters : goal.returns-clause-characters

@@ -5,7 +5,7 @@ use Rattle.proto_lex.specs.Reading.{Pieces, pieces, pieces_of}
 use Rattle.proto_lex.proofs.FaultFound.{given_fault, only_memory}
 use Rattle.proto_lex.proofs.LexedLemmas.{is_lexed}
 use Rattle.proto_lex.proofs.LexesLemmas.{lexes_found, lexes_exact}
-use Rattle.proto_lex.proofs.ReadLemmas.{same_ok}
+use Rattle.proto_lex.proofs.ReadingTestLemmas.{same_ok}
 use Rattle.proto_lex.proofs.lexer.lex.Goals as goal
 
 pub returns-in_err-found-clause-accepted : goal.returns-in_err-found-clause-accepted

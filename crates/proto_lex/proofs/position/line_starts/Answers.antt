@@ -2,7 +2,7 @@ use Rattle.std.proofs.Common.{◌≡◌, ◌∙◌, ◌<◌, ap, subst, ◌∷�
 use Rattle.std.proofs.lemmas.List.Elements.{All-tail}
 use Rattle.memchr.specs.Find.{is_byte, places}
 use Rattle.memchr.proofs.lemmas.CallerLemmas.{All-places}
-use Rattle.proto_lex.proofs.SearchLemmas.{starts_by_places, one_more}
+use Rattle.proto_lex.proofs.ReadingSearchLemmas.{starts_by_places, one_more}
 use Rattle.proto_lex.proofs.position.line_starts.Goals as goal
 
 pub loop-end-init : goal.loop-end-init

@@ -1,4 +1,4 @@
-use Rattle.proto_link.proofs.OneItemLemmas.{one_declaration, package_not_declared}
+use Rattle.proto_link.proofs.LawOneItemLemmas.{one_declaration, package_not_declared}
 use Rattle.proto_link.proofs.laws.one_declaration_a_name.Goals as goal
 
 pub returns-clause-declarations : goal.returns-clause-declarations

@@ -1,4 +1,4 @@
-use Rattle.proto_link.proofs.OmissionLemmas.{one_omission_list}
+use Rattle.proto_link.proofs.LawOmissionLemmas.{one_omission_list}
 use Rattle.proto_link.proofs.laws.one_omission_list.Goals as goal
 
 pub returns : goal.returns

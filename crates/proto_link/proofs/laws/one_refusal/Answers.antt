@@ -1,4 +1,4 @@
-use Rattle.proto_link.proofs.OneTargetLemmas.{one_clash, one_absence, one_refusal}
+use Rattle.proto_link.proofs.TargetOneLemmas.{one_clash, one_absence, one_refusal}
 use Rattle.proto_link.proofs.laws.one_refusal.Goals as goal
 
 pub returns-clause-clash : goal.returns-clause-clash

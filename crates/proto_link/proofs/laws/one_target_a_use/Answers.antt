@@ -1,4 +1,4 @@
-use Rattle.proto_link.proofs.OneTargetLemmas.{one_entity, one_target}
+use Rattle.proto_link.proofs.TargetOneLemmas.{one_entity, one_target}
 use Rattle.proto_link.proofs.laws.one_target_a_use.Goals as goal
 
 pub returns-clause-entities : goal.returns-clause-entities

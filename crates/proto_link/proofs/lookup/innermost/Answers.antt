@@ -1,9 +1,9 @@
 use Rattle.std.proofs.Common.{List, ℕ, Option, sym, ◌∙◌, subst}
 use Rattle.std.proofs.lemmas.Bool.{false≢true}
 use denote.Ref.{Bor}
-use Rattle.proto_visibility.specs.Knows.{KnowsAs}
-use Rattle.proto_visibility.specs.FileNames.{admits}
-use Rattle.proto_link.proofs.LookupLemmas.{StandsFor, at_once, stands_next}
+use Rattle.proto_visibility.specs.Knows.{KnowsAs, admits}
+use Rattle.proto_link.specs.Resolves.Innermost.{here}
+use Rattle.proto_link.proofs.LookupLemmas.{StandsFor, stands_next}
 use Rattle.proto_link.proofs.lookup.innermost.Goals as goal
 
 pub returns-then-knows : goal.returns-then-knows
@@ -15,8 +15,7 @@ returns-then-knows c =
     c.in-Some.is c.loop-next.invariant in
     let named = c.as_str.ensures.value ∙ c.in_ok-put_under.ensures in
     (so_far c.in-Some.inner.now).0
-    (at_once files file role c.args.word.now c.in-Some.inner.now
-    (subst (KnowsAs files file role) named (c.knows.ensures.0 c.if-knows.true)))
+    (here (subst (KnowsAs files file role) named (c.knows.ensures.0 c.if-knows.true)))
 
 pub loop-next-preserved : goal.loop-next-preserved
 loop-next-preserved c =

@@ -1,4 +1,4 @@
-use Rattle.proto_visibility.specs.FileNames.{admits}
+use Rattle.proto_visibility.specs.Knows.{admits}
 use Rattle.proto_link.proofs.LookupLemmas.{StandsFor, left}
 use Rattle.proto_link.proofs.lookup.innermost.Given as goal
 

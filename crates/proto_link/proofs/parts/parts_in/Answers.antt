@@ -2,7 +2,7 @@ use Rattle.std.proofs.Common.{◌≡◌, ◌+◌, ◌-◌, ◌++◌, ◌∷◌, 
 use Rattle.std.specs.String.{string_bytes}
 use denote.Ref.{Bor}
 use Rattle.proto_decl.specs.Names.{components_of, prefix_of}
-use Rattle.proto_visibility.specs.declared.entities.Entity.{Entity}
+use Rattle.proto_visibility.specs.declared.lookup.Entity.{Entity}
 use Rattle.proto_link.proofs.TargetLemmas.{AreParts, prefix_longer, prefix_is_entity, parts_skip, parts_more}
 use Rattle.proto_link.proofs.parts.parts_in.Goals as goal
 use Rattle.proto_link.proofs.parts.parts_in.Goals.{then-index-skipped+in_ok-push, else-index-skipped}

@@ -2,8 +2,7 @@ use Rattle.std.proofs.Common.{ℕ, Option, MatchOption, subst}
 use denote.Ref.{Bor}
 use Rattle.proto_decl.specs.Facts.{Facts}
 use Rattle.proto_visibility.specs.Files.{HasFacts}
-use Rattle.proto_visibility.specs.Knows.{KnowsAs, is_type}
-use Rattle.proto_visibility.specs.FileNames.{SeesGiving}
+use Rattle.proto_visibility.specs.Knows.{KnowsAs, is_type, SeesGiving}
 use Rattle.proto_link.specs.Tables.Parts.{AreEntitiesOf, AreNamed}
 use Rattle.proto_link.proofs.ResolveLemmas.{ok_each}
 use Rattle.proto_link.proofs.TargetLemmas.{facts_known, some_facts, all_named}

@@ -1,7 +1,7 @@
 use Rattle.std.proofs.Common.{◌≤◌, List, ℕ, MatchOption, length, sym, subst}
 use Rattle.std.specs.String.{string_bytes}
 use Rattle.proto_decl.specs.Names.{components_of}
-use Rattle.proto_decl.specs.declared.type_use.Component.{Component}
+use Rattle.proto_decl.specs.declared.uses.Component.{Component}
 use Rattle.proto_visibility.specs.Knows.{KnowsAs, is_type}
 use Rattle.proto_link.specs.Resolves.{Resolves}
 use Rattle.proto_link.specs.Targets.{IsUnresolved}

@@ -4,8 +4,8 @@ use Rattle.proto_lex.specs.declared.token.TokenKind.TheVariants.{StringLiteral}
 use Rattle.proto_grammar.specs.Terminal.{first_is, of_kind, not_next}
 use Rattle.proto_grammar.specs.Reading.Repetition.{adding}
 use Rattle.proto_parse.specs.Reading.Files.{path_literal_at, path_literals_at}
-use Rattle.proto_grammar.proofs.UntilLemmas.{Fails-of, goes_on, is_done, stops, adding-step, adding-stops}
-use Rattle.proto_parse.proofs.StepsFall.{path_literals_fall}
+use Rattle.proto_grammar.proofs.RepetitionUntilLemmas.{Fails-of, goes_on, is_done, stops, adding-step, adding-stops}
+use Rattle.proto_parse.proofs.ReadingFallLemmas.{path_literals_fall}
 use Rattle.proto_parse.proofs.files.path_literals.Goals as goal
 
 pub literals-smaller : goal.literals-smaller

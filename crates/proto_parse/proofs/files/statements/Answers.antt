@@ -3,8 +3,8 @@ use Rattle.std.proofs.lemmas.Result.{err_from_is_err_and}
 use Rattle.proto_grammar.specs.Terminal.{is_end}
 use Rattle.proto_parse.specs.Limits.{max_message_depth}
 use Rattle.proto_parse.specs.Reading.Files.{statement_at, statements_at}
-use Rattle.proto_grammar.proofs.UntilLemmas.{Fails-of, goes_on, is_done, stops}
-use Rattle.proto_parse.proofs.StepsFall.{statements_fall}
+use Rattle.proto_grammar.proofs.RepetitionUntilLemmas.{Fails-of, goes_on, is_done, stops}
+use Rattle.proto_parse.proofs.ReadingFallLemmas.{statements_fall}
 use Rattle.proto_parse.proofs.files.statements.Goals as goal
 
 pub statements-smaller : goal.statements-smaller

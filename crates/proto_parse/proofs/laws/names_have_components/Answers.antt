@@ -2,4 +2,4 @@ use Rattle.proto_parse.proofs.Filled.{file_filled}
 use Rattle.proto_parse.proofs.laws.names_have_components.Goals as goal
 
 pub returns : goal.returns
-returns c = λ dialect text tokens file d. file_filled file d
+returns c = λ text tokens file d. file_filled file d.1

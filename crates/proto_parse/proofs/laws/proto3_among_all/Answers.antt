@@ -1,4 +1,4 @@
-use Rattle.proto_parse.proofs.Widened.{file_wide}
+use Rattle.proto_parse.proofs.LawWidenedLemmas.{file_wide}
 use Rattle.proto_parse.proofs.laws.proto3_among_all.Goals as goal
 
 pub returns : goal.returns

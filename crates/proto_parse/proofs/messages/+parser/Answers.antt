@@ -4,9 +4,9 @@ use Rattle.proto_grammar.specs.Terminal.{closes}
 use Rattle.proto_grammar.specs.Reading.Repetition.{adding}
 use Rattle.proto_parse.specs.declared.statement.Within.TheVariants.{Message}
 use Rattle.proto_parse.specs.Reading.Messages.{braced_at, group_at, message_at, item_at, inside_at}
-use Rattle.proto_grammar.proofs.UntilLemmas.{Fails-of, goes_on, is_done, stops, adding-step, adding-stops}
-use Rattle.proto_parse.proofs.Stops.{inside_further}
-use Rattle.proto_parse.proofs.StepsFall.{items_fall}
+use Rattle.proto_grammar.proofs.RepetitionUntilLemmas.{Fails-of, goes_on, is_done, stops, adding-step, adding-stops}
+use Rattle.proto_parse.proofs.MessageStopLemmas.{inside_further}
+use Rattle.proto_parse.proofs.ReadingFallLemmas.{items_fall}
 use Rattle.proto_parse.proofs.messages.+parser.Goals as goal
 
 pub items-items-smaller : goal.items-items-smaller

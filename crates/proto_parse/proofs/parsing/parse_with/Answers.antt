@@ -2,9 +2,9 @@ use Rattle.std.proofs.Common.{◌≡◌, ◌⊎◌, IfErr, ap, subst}
 use Rattle.proto_grammar.specs.Lexeme.{Place, lexemes_of, start_of}
 use Rattle.proto_grammar.specs.declared.fault.SyntaxFault.TheVariants.{Memory}
 use Rattle.proto_parse.specs.Refused.{IsRefused}
-use Rattle.proto_parse.proofs.Found.Files.{file_of_found, file_of_skipped}
+use Rattle.proto_parse.proofs.Found.Files.{file_of_found}
 use Rattle.proto_parse.proofs.Exact.Files.{file_of_exact}
-use Rattle.proto_parse.proofs.Refusing.{file_of_refused}
+use Rattle.proto_parse.proofs.RefusedReadingLemmas.{file_of_refused}
 use Rattle.proto_parse.proofs.parsing.parse_with.Goals as goal
 
 pub returns-clause-found : goal.returns-clause-found
@@ -18,9 +18,6 @@ returns-clause-only c =
     let left : c.new.result.left ≡ lexemes_of c.args.tokens.now.text c.args.tokens.now.tokens =
     ap (λ (place : Place). place.left) c.new.ensures in
     rw (← left) (file_of_exact c.args.dialect c.new.result c.file.new.parser _ c.file.ensures)
-
-pub returns-clause-skipped : goal.returns-clause-skipped
-returns-clause-skipped c = file_of_skipped c.args.dialect c.new.result c.file.new.parser _ c.file.ensures
 
 pub returns-clause-fault : goal.returns-clause-fault
 returns-clause-fault c =

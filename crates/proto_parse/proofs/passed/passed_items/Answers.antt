@@ -3,8 +3,8 @@ use Rattle.std.proofs.lemmas.Result.{err_from_is_err_and}
 use Rattle.proto_grammar.specs.Terminal.{closes}
 use Rattle.proto_grammar.specs.Reading.Repetition.{passing}
 use Rattle.proto_parse.specs.Reading.Messages.{passed_item_at, passed_items_at}
-use Rattle.proto_grammar.proofs.UntilLemmas.{Fails-of, goes_on, is_done, stops}
-use Rattle.proto_parse.proofs.StepsFall.{passed_items_fall}
+use Rattle.proto_grammar.proofs.RepetitionUntilLemmas.{Fails-of, goes_on, is_done, stops}
+use Rattle.proto_parse.proofs.ReadingFallLemmas.{passed_items_fall}
 use Rattle.proto_parse.proofs.passed.passed_items.Goals as goal
 
 pub items-smaller : goal.items-smaller

@@ -3,8 +3,8 @@ use Rattle.std.proofs.lemmas.Result.{err_from_is_err_and}
 use Rattle.proto_grammar.specs.Terminal.{closes}
 use Rattle.proto_grammar.specs.Reading.Repetition.{passing}
 use Rattle.proto_parse.specs.Reading.Services.{method_item_at, method_items_at}
-use Rattle.proto_grammar.proofs.UntilLemmas.{Fails-of, goes_on, is_done, stops}
-use Rattle.proto_parse.proofs.StepsFall.{method_items_fall}
+use Rattle.proto_grammar.proofs.RepetitionUntilLemmas.{Fails-of, goes_on, is_done, stops}
+use Rattle.proto_parse.proofs.ReadingFallLemmas.{method_items_fall}
 use Rattle.proto_parse.proofs.services.method_items.Goals as goal
 
 pub items-smaller : goal.items-smaller

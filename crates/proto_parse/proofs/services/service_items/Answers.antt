@@ -3,8 +3,8 @@ use Rattle.std.proofs.lemmas.Result.{err_from_is_err_and}
 use Rattle.proto_grammar.specs.Terminal.{closes}
 use Rattle.proto_grammar.specs.Reading.Repetition.{adding}
 use Rattle.proto_parse.specs.Reading.Services.{service_item_at, service_items_at}
-use Rattle.proto_grammar.proofs.UntilLemmas.{Fails-of, goes_on, is_done, stops, adding-step, adding-stops}
-use Rattle.proto_parse.proofs.StepsFall.{service_items_fall}
+use Rattle.proto_grammar.proofs.RepetitionUntilLemmas.{Fails-of, goes_on, is_done, stops, adding-step, adding-stops}
+use Rattle.proto_parse.proofs.ReadingFallLemmas.{service_items_fall}
 use Rattle.proto_parse.proofs.services.service_items.Goals as goal
 
 pub items-smaller : goal.items-smaller

@@ -2,7 +2,7 @@ use Rattle.std.proofs.Common.{◌≡◌, ℕ, true, List, option_map, Bor, sym, 
 use Rattle.proto_lex.specs.declared.token.TokenKind.TheVariants.{StringLiteral}
 use Rattle.proto_grammar.specs.Terminal.{first_is, of_kind}
 use Rattle.proto_parse.specs.Reading.Syntax.{past_literals}
-use Rattle.proto_parse.proofs.Joined.{joined_further, left_further}
+use Rattle.proto_parse.proofs.SyntaxJoinedLemmas.{joined_further, left_further}
 use Rattle.proto_parse.proofs.syntax.version.Goals as goal
 use Rattle.proto_grammar.specs.Lexeme.{Place, place_of}
 

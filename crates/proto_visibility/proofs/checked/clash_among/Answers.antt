@@ -1,7 +1,6 @@
 use Rattle.std.proofs.Common.{List, MatchOption, subst}
 use Rattle.std.specs.List.{Contains}
-use Rattle.proto_visibility.specs.Items.{Item, IsItem}
-use Rattle.proto_visibility.specs.Clashes.{ClashBy, NoClashBy}
+use Rattle.proto_visibility.specs.Clashes.{Item, IsItem, ClashBy, NoClashBy}
 use Rattle.proto_visibility.proofs.ClashLemmas.{clash_of_items}
 use Rattle.proto_visibility.proofs.checked.clash_among.Goals as goal
 

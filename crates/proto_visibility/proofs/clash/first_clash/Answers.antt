@@ -3,9 +3,8 @@ use Rattle.std.proofs.Common.{subst, arith}
 use Rattle.std.specs.List.{Contains, slice_get}
 use Rattle.std.specs.Str.{bytes_eq}
 use Rattle.std.proofs.lemmas.Option.{slice_get_read}
-use Rattle.proto_visibility.specs.Items.{Item}
-use Rattle.proto_visibility.specs.Clashes.{ClashBy}
-use Rattle.proto_visibility.specs.Tables.NameTables.{HasNone, IsFirstNamed, index_in}
+use Rattle.proto_visibility.specs.Clashes.{Item, ClashBy}
+use Rattle.proto_visibility.specs.Tables.ClashTables.{HasNone, IsFirstNamed, index_in}
 use Rattle.proto_visibility.proofs.ClashLemmas.{none_clash_more, is_clash, no_clash, first_more}
 use Rattle.proto_visibility.proofs.clash.first_clash.Goals as goal
 

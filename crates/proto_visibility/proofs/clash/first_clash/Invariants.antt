@@ -1,4 +1,4 @@
-use Rattle.proto_visibility.specs.Tables.NameTables.{AreFirst}
+use Rattle.proto_visibility.specs.Tables.ClashTables.{AreFirst}
 use Rattle.proto_visibility.proofs.ClashLemmas.{NoneClash}
 use Rattle.proto_visibility.proofs.clash.first_clash.Given as goal
 

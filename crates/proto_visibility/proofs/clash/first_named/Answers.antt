@@ -1,6 +1,6 @@
 use Rattle.std.proofs.Common.{◌≡◌, ◌∙◌, List, ℕ, Some, cond, sym, ap, subst}
 use Rattle.std.specs.Str.{bytes_eq}
-use Rattle.proto_visibility.specs.Tables.NameTables.{index_in}
+use Rattle.proto_visibility.specs.Tables.ClashTables.{index_in}
 use Rattle.proto_visibility.proofs.ClashLemmas.{kept_first}
 use Rattle.proto_visibility.proofs.clash.first_named.Goals as goal
 

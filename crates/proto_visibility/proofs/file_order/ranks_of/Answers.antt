@@ -1,6 +1,6 @@
 use Rattle.std.proofs.Common.{◌<◌, ◌∙◌, get_or, refl, arith}
 use Rattle.std.proofs.lemmas.List.{length-set}
-use Rattle.proto_visibility.proofs.OrderLemmas.{ranked_more, ranked_all}
+use Rattle.proto_visibility.proofs.FileOrderLemmas.{ranked_more, ranked_all}
 use Rattle.proto_visibility.proofs.file_order.ranks_of.Goals as goal
 
 pub loop-rank-init : goal.loop-rank-init

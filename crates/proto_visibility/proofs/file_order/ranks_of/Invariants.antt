@@ -1,5 +1,5 @@
 use Rattle.std.proofs.Common.{◌≡◌, length}
-use Rattle.proto_visibility.proofs.OrderLemmas.{AreRanked}
+use Rattle.proto_visibility.proofs.FileOrderLemmas.{AreRanked}
 use Rattle.proto_visibility.proofs.file_order.ranks_of.Given as goal
 
 abbrev pub invariant-loop-rank : goal.invariant-loop-rank

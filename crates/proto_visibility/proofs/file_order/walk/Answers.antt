@@ -1,5 +1,5 @@
 use Rattle.std.proofs.Common.{◌∙◌}
-use Rattle.proto_visibility.proofs.OrderLemmas.{found_more}
+use Rattle.proto_visibility.proofs.FileOrderLemmas.{found_more}
 use Rattle.proto_visibility.proofs.file_order.walk.Goals as goal
 
 pub loop-file-preserved : goal.loop-file-preserved

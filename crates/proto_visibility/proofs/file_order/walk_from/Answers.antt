@@ -2,7 +2,7 @@ use Rattle.std.proofs.Common.{ap, sym, ◌∙◌, subst}
 use Rattle.std.specs.List.{Contains}
 use Rattle.proto_visibility.specs.Tables.Visits.{Found}
 use Rattle.proto_visibility.proofs.SeeingLemmas.{visit_finds}
-use Rattle.proto_visibility.proofs.OrderLemmas.{visit_keeps}
+use Rattle.proto_visibility.proofs.FileOrderLemmas.{visit_keeps}
 use Rattle.proto_visibility.proofs.file_order.walk_from.Goals as goal
 
 pub loop-turn-init : goal.loop-turn-init

@@ -1,7 +1,7 @@
 use Rattle.std.proofs.Common.{◌≡◌, ◌<◌, ◌+◌, ◌∷◌, [], ◌++◌, Some, false, length, refl, ap, sym, ◌∙◌, subst, arith}
 use Rattle.std.specs.List.{slice_get}
 use Rattle.std.proofs.lemmas.Option.{slice_get_read}
-use Rattle.proto_visibility.specs.Items.{Item}
+use Rattle.proto_visibility.specs.Clashes.{Item}
 use Rattle.proto_visibility.specs.Tables.FileItems.{packaged_item}
 use Rattle.proto_visibility.proofs.ItemLemmas.{AreWithFirst, with_more, with_all}
 use Rattle.proto_visibility.proofs.items.add_package.Goals as goal

@@ -1,7 +1,7 @@
 use Rattle.std.proofs.Common.{List, ◌∙◌, ap, map, subst, rules}
 use Rattle.std.proofs.lemmas.List.Sorted.{IsNonDecreasingBy-from_sort_by_key}
-use Rattle.proto_decl.specs.declared.type_use.Component.{Component}
-use Rattle.proto_visibility.specs.Items.{Item}
+use Rattle.proto_decl.specs.declared.uses.Component.{Component}
+use Rattle.proto_visibility.specs.Clashes.{Item}
 use Rattle.proto_visibility.specs.Tables.FileItems.{declared_item, AreWithPackage}
 use Rattle.proto_visibility.proofs.ItemLemmas.{same_items, in_place}
 use Rattle.proto_visibility.proofs.items.file_items.Goals as goal

@@ -1,6 +1,6 @@
 use Rattle.std.proofs.Common.{List, sym, subst}
-use Rattle.proto_visibility.specs.Items.{Item}
-use Rattle.proto_visibility.specs.Tables.NameTables.{AreInPlace}
+use Rattle.proto_visibility.specs.Clashes.{Item}
+use Rattle.proto_visibility.specs.Tables.ClashTables.{AreInPlace}
 use Rattle.proto_visibility.specs.Tables.Passes.{AreClashesOmitted}
 use Rattle.proto_visibility.proofs.PassLemmas.{omissions_of}
 use Rattle.proto_visibility.proofs.omissions.left_out.Goals as goal

@@ -3,9 +3,9 @@ use Rattle.std.specs.List.{slice_get}
 use Rattle.std.specs.Str.{bytes_eq}
 use Rattle.std.proofs.lemmas.Bool.{false≢true}
 use Rattle.std.proofs.lemmas.Option.{slice_get_read, slice_get_within}
-use Rattle.proto_visibility.specs.Items.{Item}
+use Rattle.proto_visibility.specs.Clashes.{Item}
 use Rattle.proto_visibility.specs.Kept.{Omissions}
-use Rattle.proto_visibility.specs.Tables.NameTables.{clash_with, index_in}
+use Rattle.proto_visibility.specs.Tables.ClashTables.{clash_with, index_in}
 use Rattle.proto_visibility.specs.Tables.Passes.{IsOpenAt}
 use Rattle.proto_visibility.proofs.PassLemmas.{same_kept, pass_closed, pass_new, pass_met}
 use Rattle.proto_visibility.proofs.omissions.pass_item.Goals as goal

@@ -12,7 +12,8 @@ loop-number-preserved c =
     let within : number < length files = omega arith in
     let stands : slice_get files number ≡ Some file =
     slice_get_read files (length files) number file refl within c.index-files-number.is in
-    let is = unread_by files number file c.args.counted.now c.requires stands c.unread_at.result c.unread_at.ensures in
+    let is = unread_by files number file c.args.reachable.now c.requires stands c.unread_at.result
+    c.unread_at.ensures in
     record {
       room = search rules;
       are = rw c.push_reserved.ensures.items

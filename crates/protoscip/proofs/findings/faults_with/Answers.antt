@@ -1,4 +1,4 @@
-use Rattle.protoscip.proofs.ReportLemmas.{one_fault_more}
+use Rattle.protoscip.proofs.FindingReportLemmas.{one_fault_more}
 use Rattle.protoscip.proofs.findings.faults_with.Goals as goal
 
 pub loop-fault-preserved : goal.loop-fault-preserved

@@ -1,4 +1,4 @@
-use Rattle.protoscip.proofs.ReportLemmas.{come_once}
+use Rattle.protoscip.proofs.FindingReportLemmas.{come_once}
 use Rattle.protoscip.proofs.findings.findings_come_once.Goals as goal
 
 pub returns : goal.returns

@@ -3,7 +3,7 @@ use Rattle.std.proofs.lemmas.List.Elements.{All-same}
 use Rattle.std.proofs.lemmas.Result.{IfOk-weaker}
 use Rattle.protoscip.specs.FaultLines.{HasFilesOf}
 use Rattle.protoscip.specs.Findings.{faults_of, faults_with, refused_in}
-use Rattle.protoscip.proofs.ReportLemmas.{have_files, have_all}
+use Rattle.protoscip.proofs.FindingReportLemmas.{have_files, have_all}
 use Rattle.protoscip.proofs.findings.refused_findings.Goals as goal
 
 pub refused_in-requires : goal.refused_in-requires

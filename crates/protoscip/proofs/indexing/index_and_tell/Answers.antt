@@ -1,9 +1,10 @@
 use Rattle.std.proofs.Common.{refl}
 use Rattle.std.proofs.lemmas.Result.{err_from_is_err_and}
+use Rattle.streams.specs.Writers.{writing}
 use Rattle.protoscip.specs.Indexes.{recorded_of}
-use Rattle.protoscip.proofs.FileLemmas.{files_of_build, files_of_built}
+use Rattle.protoscip.proofs.HeadlineFileLemmas.{files_of_build, files_of_built}
 use Rattle.protoscip.proofs.IndexingLemmas.{unbuilt, unwritten, written, no_files}
-use Rattle.protoscip.proofs.NavigableLemmas.{writes}
+use Rattle.protoscip.proofs.HeadlineNavigableLemmas.{writes}
 use Rattle.protoscip.proofs.indexing.index_and_tell.Goals as goal
 
 -- where the tree isn't built
@@ -11,9 +12,9 @@ use Rattle.protoscip.proofs.indexing.index_and_tell.Goals as goal
 pub returns-in_err-built-clause-indexed : goal.returns-in_err-built-clause-indexed
 returns-in_err-built-clause-indexed g c =
     let p = err_from_is_err_and c.from_residual.result c.from_residual.ensures.1 in
-    rw (p.1, p.2) (unbuilt _ g.W.Sink.contents g.W.Sink.failures
-    (g.C.Chooses.allows c.args.chooser.now) c.args.settings.now c.args.tree.now c.args.run.now.workers
-    c.args.out.now c.args.out.now c.in_err-built.field-0.0 c.in_err-built.ensures.refused)
+    rw (p.1, p.2) (unbuilt (g.C.Chooses.allows c.args.chooser.now) c.args.settings.now c.args.tree.now
+    c.args.run.now.workers
+    g.W.Sink c.args.out.now c.in_err-built.field-0.0 c.in_err-built.ensures.refused)
 
 pub returns-in_err-built-clause-files : goal.returns-in_err-built-clause-files
 returns-in_err-built-clause-files g c =
@@ -24,8 +25,8 @@ returns-in_err-built-clause-files g c =
 
 -- where memory doesn't suffice for what is to be said
 
-pub text_of_lacks-requires : goal.text_of_lacks-requires
-text_of_lacks-requires g c =
+pub text_of_omissions-requires : goal.text_of_omissions-requires
+text_of_omissions-requires g c =
     let of = c.in_ok-built.ensures.built in
     rw c.as_slice.ensures (files_of_built (g.C.Chooses.allows c.args.chooser.now) c.args.settings.now c.args.tree.now
     (record { index = of.index; choices = c.in_ok-built.built.choices; told = c.in_ok-built.built.told }) of.built)
@@ -42,9 +43,9 @@ returns-in_err-write_spelled-clause-indexed g c =
     let p = err_from_is_err_and c.from_residual-in_err-write_spelled.result
     c.from_residual-in_err-write_spelled.ensures.1 in
     let of = c.in_ok-built.ensures.built in
-    rw (p.1, p.2) (unwritten _ g.W.Sink.contents g.W.Sink.failures
-    (g.C.Chooses.allows c.args.chooser.now) c.args.settings.now c.args.tree.now c.args.run.now.workers
-    c.args.out.now c.write_spelled.new.out
+    rw (p.1, p.2) (unwritten (g.C.Chooses.allows c.args.chooser.now) c.args.settings.now c.args.tree.now
+    c.args.run.now.workers
+    (writing g.W.Sink c.args.out.now c.write_spelled.new.out)
     (record { index = of.index; choices = c.in_ok-built.built.choices; told = c.in_ok-built.built.told }) of.built
     c.in_err-write_spelled.field-0.0
     (c.in_err-write_spelled.ensures of.index of.are))
@@ -54,7 +55,7 @@ returns-in_err-write_spelled-clause-files g c =
     let p = err_from_is_err_and c.from_residual-in_err-write_spelled.result
     c.from_residual-in_err-write_spelled.ensures.1 in
     let of = c.in_ok-built.ensures.built in
-    rw (p.1, p.2) (no_files _ g.W.Sink.contents g.W.Sink.failures c.args.tree.now c.args.out.now c.write_spelled.new.out
+    rw (p.1, p.2) (no_files c.args.tree.now (writing g.W.Sink c.args.out.now c.write_spelled.new.out)
     of.index c.in_err-write_spelled.field-0.0 (c.in_err-write_spelled.ensures of.index of.are))
 
 -- where it is
@@ -62,9 +63,8 @@ returns-in_err-write_spelled-clause-files g c =
 pub returns-clause-indexed : goal.returns-clause-indexed
 returns-clause-indexed g c =
     let of = c.in_ok-built.ensures.built in
-    written _ g.W.Sink.contents g.W.Sink.failures
-    (g.C.Chooses.allows c.args.chooser.now) c.args.settings.now c.args.tree.now c.args.run.now.workers
-    c.args.out.now c.write_spelled.new.out
+    written (g.C.Chooses.allows c.args.chooser.now) c.args.settings.now c.args.tree.now c.args.run.now.workers
+    (writing g.W.Sink c.args.out.now c.write_spelled.new.out)
     (record { index = of.index; choices = c.in_ok-built.built.choices; told = c.in_ok-built.built.told }) of.built
     c.in_ok-write_spelled.field-0
     (c.in_ok-write_spelled.ensures of.index of.are)
@@ -72,9 +72,8 @@ returns-clause-indexed g c =
 pub returns-clause-navigable : goal.returns-clause-navigable
 returns-clause-navigable g c =
     writes (g.C.Chooses.allows c.args.chooser.now) c.args.settings.now c.args.tree.now c.headline_of_tree.ensures
-    g.W.Sink.contents g.W.Sink.failures c.args.run.now.workers
-    (recorded_of c.in_ok-built.built.choices c.in_ok-built.built.told) c.args.out.now
-    c.write_spelled.new.out
+    (writing g.W.Sink c.args.out.now c.write_spelled.new.out) c.args.run.now.workers
+    (recorded_of c.in_ok-built.built.choices c.in_ok-built.built.told)
     (returns-clause-indexed g c)
 
 pub returns-clause-told : goal.returns-clause-told

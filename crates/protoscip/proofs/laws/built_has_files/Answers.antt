@@ -1,4 +1,4 @@
-use Rattle.protoscip.proofs.FileLemmas.{files_of_build, files_of_built}
+use Rattle.protoscip.proofs.HeadlineFileLemmas.{files_of_build, files_of_built}
 use Rattle.protoscip.proofs.laws.built_has_files.Goals as goal
 
 pub returns : goal.returns

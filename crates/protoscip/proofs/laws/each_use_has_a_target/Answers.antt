@@ -1,4 +1,4 @@
-use Rattle.protoscip.proofs.UseLemmas.{each_use_has_a_target}
+use Rattle.protoscip.proofs.UseLawLemmas.{each_use_has_a_target}
 use Rattle.protoscip.proofs.laws.each_use_has_a_target.Goals as goal
 
 pub returns : goal.returns

@@ -2,6 +2,7 @@ use Rattle.std.proofs.Common.{◌∙◌, ℕ, List, length, Ok, ap, sym, subst}
 use Rattle.std.proofs.lemmas.Result.{err_from_is_err_and}
 use Rattle.scip_wire.specs.Spelling.{spelling_of, max_index_len}
 use Rattle.scip_wire.specs.Decodes.{Decodes}
+use Rattle.protoscip.specs.Writing.IsNotReadBack.{reading_lacks_memory, has_no_bytes}
 use Rattle.protoscip.proofs.DumpLemmas.{said_of_read}
 use Rattle.protoscip.proofs.IndexingLemmas.{not_above, spelled_unless}
 use Rattle.protoscip.proofs.reading_back.decoded.Goals as goal
@@ -10,11 +11,12 @@ use Rattle.protoscip.proofs.reading_back.decoded.Goals as goal
 pub returns-in_err-bytes : goal.returns-in_err-bytes
 returns-in_err-bytes c =
     let p = err_from_is_err_and c.from_residual.result c.from_residual.ensures.1 in
-    rw (p.1, p.2) (not_above (length (spelling_of c.args.index.now)) max_index_len
-    (λ above. let same = c.in_err-bytes.ensures.too_large.1 above in cc))
+    let short = not_above (length (spelling_of c.args.index.now)) max_index_len
+    (λ above. let same = c.in_err-bytes.ensures.too_large.1 above in cc) in
+    rw (p.1, p.2) (reading_lacks_memory short)
 
 pub returns-in-None : goal.returns-in-None
-returns-in-None c = c.in_ok-bytes.ensures.too_large.0 (ap Ok c.in-None.is)
+returns-in-None c = has_no_bytes (c.in_ok-bytes.ensures.too_large.0 (ap Ok c.in-None.is))
 
 pub returns-in-Ok : goal.returns-in-Ok
 returns-in-Ok c =

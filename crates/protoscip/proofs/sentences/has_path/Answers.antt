@@ -1,7 +1,7 @@
 use Rattle.std.proofs.Common.{◌≡◌, ◌∙◌, ◌<◌, ℕ, List, true, false, length, arith, sym, subst}
 use Rattle.std.specs.Str.{bytes_eq}
-use Rattle.excerpts.specs.Literals.{joined}
-use Rattle.protoscip.proofs.PathLemmas.{flipped, here, not_here}
+use Rattle.diagnostics.specs.Literals.{joined}
+use Rattle.protoscip.proofs.ExplanationPathLemmas.{flipped, here, not_here}
 use Rattle.protoscip.proofs.sentences.has_path.Goals as goal
 
 pub returns-then-is_joined : goal.returns-then-is_joined

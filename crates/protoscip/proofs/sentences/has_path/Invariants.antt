@@ -1,5 +1,5 @@
 use Rattle.std.proofs.Common.{◌≡◌, false, take}
-use Rattle.excerpts.specs.Literals.{joined}
+use Rattle.diagnostics.specs.Literals.{joined}
 use Rattle.protoscip.specs.Explanations.{has_path}
 use Rattle.protoscip.proofs.sentences.has_path.Given as goal
 

@@ -1,4 +1,7 @@
 use Rattle.std.proofs.lemmas.Result.{err_from_is_err_and}
+use Rattle.streams.specs.Readers.{reading}
+use Rattle.streams.specs.Writers.{writing}
+use Rattle.protoscip.specs.Conversing.Converses.{all_are_answered}
 use Rattle.protoscip.proofs.SessionLemmas.{conversed, stopped}
 use Rattle.protoscip.proofs.sessions.converse.Goals as goal
 
@@ -7,14 +10,13 @@ returns-in_err-answer_commands g c =
     let p = err_from_is_err_and c.from_residual-in_err-answer_commands.result
     c.from_residual-in_err-answer_commands.ensures.1 in
     let read = c.in_ok-read.ensures in
-    rw (p.1, p.2) (stopped g.F.Feed.remaining g.F.Feed.failures g.F.Feed.reads g.F.Feed.ends g.W.Sink.contents
-    g.W.Sink.failures
-    c.args.commands.now c.answer_commands.new.commands c.args.answers.now c.answer_commands.new.answers c.args.index
+    rw (p.1, p.2) (stopped (reading g.F.Feed c.args.commands.now c.answer_commands.new.commands)
+    (writing g.W.Sink c.args.answers.now c.answer_commands.new.answers) c.args.index
     c.in_ok-read.read read.0 read.1 c.in_err-answer_commands.field-0.0 c.in_err-answer_commands.ensures)
 
 pub returns : goal.returns
 returns g c =
     let read = c.in_ok-read.ensures in
-    conversed g.F.Feed.remaining g.F.Feed.failures g.F.Feed.reads g.F.Feed.ends g.W.Sink.contents g.W.Sink.failures
-    c.args.commands.now c.answer_commands.new.commands c.args.answers.now c.answer_commands.new.answers c.args.index
-    c.in_ok-read.read read.0 read.1 _ c.in_ok-answer_commands.ensures
+    all_are_answered (conversed (reading g.F.Feed c.args.commands.now c.answer_commands.new.commands)
+    (writing g.W.Sink c.args.answers.now c.answer_commands.new.answers) c.args.index
+    c.in_ok-read.read read.0 read.1 _ c.in_ok-answer_commands.ensures)

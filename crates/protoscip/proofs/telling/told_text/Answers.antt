@@ -1,6 +1,6 @@
 use Rattle.std.proofs.lemmas.Result.{IfOk-weaker}
 use Rattle.std.specs.String.{string_bytes}
-use Rattle.protoscip.proofs.LackLemmas.{all_read}
+use Rattle.protoscip.proofs.ToldLineOmissionLemmas.{all_read}
 use Rattle.protoscip.proofs.telling.told_text.Goals as goal
 
 pub returns : goal.returns

@@ -1,6 +1,6 @@
 use Rattle.std.proofs.Common.{refl}
 use Rattle.std.proofs.lemmas.Result.{err_from_is_err_and}
-use Rattle.protoscip.proofs.FileLemmas.{files_of_built}
+use Rattle.protoscip.proofs.HeadlineFileLemmas.{files_of_built}
 use Rattle.protoscip.proofs.FindingLemmas.{stops_so}
 use Rattle.protoscip.proofs.told_trees.told_of_tree.Goals as goal
 

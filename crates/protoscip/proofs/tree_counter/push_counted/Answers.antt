@@ -2,8 +2,8 @@ use Rattle.std.proofs.Common.{◌∙◌, ◌++◌, ap, ℕ, List}
 use Rattle.std.specs.Prelude.{codes}
 use Rattle.std.specs.String.{string_bytes}
 use Rattle.std.proofs.lemmas.Result.{on_ok_weaker}
-use Rattle.excerpts.specs.Excerpts.{excerpt}
-use Rattle.excerpts.specs.Places.{place_text}
+use Rattle.diagnostics.specs.Excerpts.{excerpt}
+use Rattle.diagnostics.specs.Places.{place_text}
 use Rattle.protoscip.proofs.ExplainingLemmas.{four_parts}
 use Rattle.protoscip.proofs.tree_counter.push_counted.Goals as goal
 

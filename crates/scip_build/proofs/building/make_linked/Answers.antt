@@ -11,17 +11,17 @@ use Rattle.scip_build.proofs.building.make_linked.Goals as goal
 pub make_parts-requires-clause-few : goal.make_parts-requires-clause-few
 make_parts-requires-clause-few g c κs within =
     let count = c.sources_among.ensures in
-    let most = front_most is_source c.args.readings.now in
+    let most = front_most is_source c.args.parsed.now in
     let few = c.requires.tree.few in
     omega (arith, count, most, few)
 
 pub make_parts-requires-clause-ready : goal.make_parts-requires-clause-ready
 make_parts-requires-clause-ready g c κs within =
-    let readings = c.args.readings.now in
-    let files : c.args.linker.now ≡ linked_files readings = c.requires.files in
-    let chosen : c.new-choices.result ≡ map choices_of readings = c.new-choices.ensures ∙ c.in_ok-chosen_lists.ensures
+    let parsed = c.args.parsed.now in
+    let files : c.args.linker.now ≡ linked_files parsed = c.requires.files in
+    let chosen : c.new-choices.result ≡ map choices_of parsed = c.new-choices.ensures ∙ c.in_ok-chosen_lists.ensures
     in
-    let ready = are_ready readings c.requires.tree (subst HaveClearNames files c.linked.ensures.clear) in
+    let ready = are_ready parsed c.requires.tree (subst HaveClearNames files c.linked.ensures.clear) in
     rw (files, chosen, c.sources_among.ensures) ready
 
 pub returns-in_err-made : goal.returns-in_err-made
@@ -34,6 +34,6 @@ returns-in_err-made g c =
 
 pub returns : goal.returns
 returns g c =
-    in_form_of g.F.DocumentForm.is_kept c.args.readings.now c.args.linker.now c.args.settings.now _
+    in_form_of g.F.DocumentForm.is_kept c.args.parsed.now c.args.linker.now c.args.settings.now _
     c.requires.files c.linked.ensures.clear (c.new-choices.ensures ∙ c.in_ok-chosen_lists.ensures)
     c.in_ok-made.ensures

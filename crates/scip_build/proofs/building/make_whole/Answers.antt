@@ -1,7 +1,14 @@
-use Rattle.scip_build.proofs.RefusalLemmas.{linked_of}
+use Rattle.std.proofs.lemmas.Result.{err_from_is_err_and}
+use Rattle.scip_build.proofs.BuildsRefusalLemmas.{of_linking, linked_of}
 use Rattle.scip_build.proofs.building.make_whole.Goals as goal
+
+pub returns-in_err-linker : goal.returns-in_err-linker
+returns-in_err-linker g c =
+    let p = err_from_is_err_and c.from_residual-in_err-linker.result c.from_residual-in_err-linker.ensures.1 in
+    rw (p.1, p.2)
+    (of_linking c.args.parsed.now c.args.run.now.workers c.in_err-linker.field-0.0 c.in_err-linker.ensures)
 
 pub returns : goal.returns
 returns g c =
-    linked_of g.F.DocumentForm.is_kept c.args.readings.now c.args.settings.now c.args.run.now.workers
+    linked_of g.F.DocumentForm.is_kept c.args.parsed.now c.args.settings.now c.args.run.now.workers
     c.in_ok-linker.ensures.1 c.make_linked.result c.make_linked.ensures

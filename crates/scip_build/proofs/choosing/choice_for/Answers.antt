@@ -1,7 +1,7 @@
 use Rattle.std.proofs.Common.{ap, subst, ◌∙◌}
-use Rattle.proto_decl.specs.Seen.{Seen}
+use Rattle.proto_decl.specs.Values.{Seen}
 use Rattle.index_hooks.specs.declared.choice.Choice.{Choice}
-use Rattle.scip_build.specs.Readings.{seen_of}
+use Rattle.scip_build.specs.ParsedFiles.{seen_of}
 use Rattle.scip_build.proofs.choosing.choice_for.Goals as goal
 
 pub returns : goal.returns

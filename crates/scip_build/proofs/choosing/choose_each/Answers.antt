@@ -1,7 +1,7 @@
-use Rattle.proto_decl.specs.Seen.{Seen}
+use Rattle.proto_decl.specs.Values.{Seen}
 use Rattle.index_hooks.specs.declared.choice.Choice.{Choice}
 use Rattle.proto_decl.specs.declared.declaration.Declaration.{Declaration}
-use Rattle.scip_build.specs.Readings.{seen_of}
+use Rattle.scip_build.specs.ParsedFiles.{seen_of}
 use Rattle.scip_build.proofs.ChosenLemmas.{one_more}
 use Rattle.scip_build.proofs.choosing.choose_each.Goals as goal
 

@@ -3,5 +3,5 @@ use Rattle.scip_build.proofs.laws.built_has_no_fault.Goals as goal
 
 pub returns : goal.returns
 returns g c = built_has_no_fault (g.C.Chooses.allows c.args.chooser.now)
-    (g.D.Chooses.allows c.args.other.now) c.one_linking.ensures c.readings_exclude_faults.ensures
-    c.readings_exclude_faults-2.ensures
+    (g.D.Chooses.allows c.args.other.now) c.one_linking.ensures c.parsed_files_exclude_faults.ensures
+    c.parsed_files_exclude_faults-2.ensures

@@ -1,4 +1,4 @@
-use Rattle.scip_build.proofs.GoodTreeLemmas.{nothing_is_told, built_where_nothing_is_told}
+use Rattle.scip_build.proofs.BuildLawGoodTreeLemmas.{nothing_is_told, built_where_nothing_is_told}
 use Rattle.scip_build.proofs.laws.nothing_is_left_out_of_a_good_tree.Goals as goal
 
 pub returns-clause-told : goal.returns-clause-told

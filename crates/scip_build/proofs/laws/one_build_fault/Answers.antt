@@ -4,6 +4,6 @@ use Rattle.scip_build.proofs.laws.one_build_fault.Goals as goal
 pub returns : goal.returns
 returns g c =
     one_build_fault (g.C.Chooses.allows c.args.chooser.now)
-    (g.D.Chooses.allows c.args.other.now) c.one_linking.ensures c.readings_exclude_faults.ensures
-    c.readings_exclude_faults-2.ensures
+    (g.D.Chooses.allows c.args.other.now) c.one_linking.ensures c.parsed_files_exclude_faults.ensures
+    c.parsed_files_exclude_faults-2.ensures
     c.one_first_faulty.ensures c.one_refusal.ensures.refusal c.one_fault_a_file.ensures

@@ -1,4 +1,4 @@
-use Rattle.scip_build.proofs.OneBuiltLemmas.{one_built_of_choices, one_built}
+use Rattle.scip_build.proofs.BuildLawOneBuiltLemmas.{one_built_of_choices, one_built}
 use Rattle.scip_build.proofs.laws.one_built.Goals as goal
 
 pub returns-clause-of_choices : goal.returns-clause-of_choices

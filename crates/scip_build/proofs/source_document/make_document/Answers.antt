@@ -1,7 +1,7 @@
-use Rattle.std.proofs.Common.{◌≡◌, Some, List, refl, subst}
+use Rattle.std.proofs.Common.{◌≡◌, Some, List, subst}
 use Rattle.std.specs.List.{slice_get}
 use Rattle.proto_lex.specs.declared.span.Span.{Span}
-use Rattle.scip_model.proofs.GapLemmas.{first_unresolved}
+use Rattle.scip_model.proofs.ConditionUnresolvedLemmas.{first_unresolved}
 use Rattle.scip_build.proofs.source_document.make_document.Goals as goal
 
 pub returns-in-Some : goal.returns-in-Some
@@ -9,7 +9,6 @@ returns-in-Some c =
     let is = c.in-Some.ensures in
     let First : List Span → Type 0 = λ spans. slice_get spans 0 ≡ Some c.in-Some.span in (
       is.0,
-      refl,
       first_unresolved c.args.sources.now.linker.now c.args.number c.in-Ok.made.unresolved c.in-Some.span
-          c.in-Ok.ensures.gaps (subst First c.unresolved.ensures is.1),
+          c.in-Ok.ensures.unresolved_uses (subst First c.unresolved.ensures is.1),
     )

@@ -3,17 +3,16 @@ use Rattle.std.specs.Ordering.{is_lt, nat_cmp}
 use Rattle.std.specs.Cmp.Lexicographic.{slice_cmp}
 use Rattle.std.proofs.lemmas.Fn.{always_returns_same}
 use Rattle.std.proofs.lemmas.List.Sorted.{IsPermutation-map, IsPermutation-trans}
+use Rattle.basics.proofs.ListLemmas.{item_at}
 use Rattle.scip_model.specs.Packages.{package_of_file}
-use Rattle.scip_model.specs.Tables.EntryLists.{source_entries, choices_for}
-use Rattle.scip_model.specs.Tables.EntryNumbers.{package_names}
+use Rattle.scip_model.specs.Tables.EntryLists.{source_entries, choices_for, package_names}
 use Rattle.scip_model.specs.Tables.Plans.{text_at, entry_of}
-use Rattle.scip_model.proofs.ApartLemmas.{AreCounted}
+use Rattle.scip_model.proofs.NamedApartLemmas.{AreCounted}
 use Rattle.scip_model.proofs.EntryNumberLemmas.{texts_rank, sorted_entries, all_are, are_numbered}
-use Rattle.scip_model.proofs.LinkedLemmas.{source-counts}
+use Rattle.scip_model.proofs.ConditionLinkedLemmas.{source-counts}
 use Rattle.scip_model.proofs.PackageLemmas.{file_good}
-use Rattle.scip_model.proofs.SourceEntryLemmas.{distinct, source-list}
+use Rattle.scip_model.proofs.EntrySourceLemmas.{distinct, source-list}
 use Rattle.scip_model.proofs.entries.entry_numbers.Goals as goal
-use Rattle.proto_visibility.proofs.FirstLemmas.{item_at}
 
 pub push_declarations-requires : goal.push_declarations-requires
 push_declarations-requires c = λ index within.
@@ -31,8 +30,8 @@ returns c =
     let id = package_of_file files ids source in
     let file = c.requires.path in
     let good = c.symbols_stand_apart.ensures.packages in
-    let counted : AreCounted files source facts =
-    record { counts = source-counts files source c.requires.source; known = c.requires.known } in
+    let reachable : AreCounted files source facts =
+    record { is_reachable = source-counts files source c.requires.source; known = c.requires.known } in
     let choices = choices_for c.args.maker.now.choices.now source in
     let texts = c.args.texts.now in
     let path = c.args.path.now in
@@ -49,12 +48,12 @@ returns c =
     (always_returns_same _
     (λ a r. is_lt r ≡ is_lt (slice_cmp nat_cmp (text_at texts a.0.now) (text_at texts a.1.0.now))) _
     (λ a r f' called. search rules)) in
-    source-list files c.args.maker.now.choices.now ids source file.0 facts file.1 counted
+    source-list files c.args.maker.now.choices.now ids source file.0 facts file.1 reachable
     (distinct files c.symbols_stand_apart.ensures.origins c.symbols_stand_apart.ensures.clear.clear
     c.symbols_stand_apart.ensures.declarations c.symbols_stand_apart.ensures.spelled
     c.symbols_stand_apart.ensures.symbols c.symbols_stand_apart.ensures.unclashed
     id ids.run (file_good files ids source good) good.run source file.0 facts file.1
-    counted (c.requires.paths source file.0 file.1) choices) (map entry listed) _
+    reachable (c.requires.paths source file.0 file.1) choices) (map entry listed) _
     (all ∙ ap (λ (p : List ℕ). source_entries id ids.run p facts choices) (sym file.2))
     (IsPermutation-map entry listed _
     (IsPermutation-trans listed near _ c.in_ok-put_near.ensures c.sort_unstable_by.ensures.permutation))

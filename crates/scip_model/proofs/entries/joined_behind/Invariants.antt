@@ -1,6 +1,6 @@
 use Rattle.std.proofs.Common.{◌≡◌, ◌∷◌, take, string_bytes}
 use Rattle.proto_decl.specs.Names.{dotted}
-use Rattle.proto_decl.specs.Ancestors.{component_names}
+use Rattle.proto_decl.specs.Laws.{component_names}
 use Rattle.scip_model.proofs.entries.joined_behind.Given as goal
 
 -- the components so far

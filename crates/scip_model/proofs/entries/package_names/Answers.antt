@@ -1,7 +1,7 @@
 use Rattle.std.proofs.Common.{◌∙◌, ◌++◌, ◌∷◌, [], ◌+◌, ℕ, List, ap, sym, arith}
 use Rattle.std.proofs.lemmas.List.FromFn.{map-range_with_len_more}
 use Rattle.proto_decl.specs.Names.{package_of}
-use Rattle.scip_model.specs.Tables.EntryNumbers.{package_names_up_to}
+use Rattle.scip_model.specs.Tables.EntryLists.{package_names_up_to}
 use Rattle.scip_model.proofs.entries.package_names.Goals as goal
 
 pub loop-index-preserved : goal.loop-index-preserved

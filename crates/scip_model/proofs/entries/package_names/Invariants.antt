@@ -1,5 +1,5 @@
 use Rattle.std.proofs.Common.{◌≡◌}
-use Rattle.scip_model.specs.Tables.EntryNumbers.{package_names_up_to}
+use Rattle.scip_model.specs.Tables.EntryLists.{package_names_up_to}
 use Rattle.scip_model.proofs.entries.package_names.Given as goal
 
 -- those so far

@@ -3,6 +3,7 @@ use Rattle.std.proofs.Common.{append_assoc}
 use Rattle.std.specs.List.{slice_get}
 use Rattle.std.proofs.lemmas.List.{map-append}
 use Rattle.std.proofs.lemmas.Option.{get_or_from_slice_get}
+use Rattle.basics.proofs.ListLemmas.{item_at}
 use Rattle.scip_records.specs.declared.records.SymbolInformation.{SymbolInformation}
 use Rattle.index_hooks.specs.declared.choice.Choice.{Choice}
 use Rattle.proto_decl.specs.declared.declaration.Declaration.{Declaration}
@@ -11,7 +12,6 @@ use Rattle.scip_model.specs.Tables.EntryLists.{kept_entries, entry_if_kept, choi
 use Rattle.scip_model.proofs.EntryLemmas.{kept-more}
 use Rattle.scip_model.proofs.EntryNumberLemmas.{kept_one}
 use Rattle.scip_model.proofs.entries.push_declarations.Goals as goal
-use Rattle.proto_visibility.proofs.FirstLemmas.{item_at}
 
 pub loop-index-preserved : goal.loop-index-preserved
 loop-index-preserved c = λ id entry numbered.

@@ -1,8 +1,7 @@
 use Rattle.std.proofs.Common.{◌≡◌, ◌++◌, ℕ, map, take}
 use Rattle.scip_records.specs.declared.records.SymbolInformation.{SymbolInformation}
 use Rattle.scip_symbol.specs.Package.{Package}
-use Rattle.scip_model.specs.Tables.EntryLists.{kept_entries, choices_for}
-use Rattle.scip_model.specs.Tables.EntryNumbers.{AreNumbered}
+use Rattle.scip_model.specs.Tables.EntryLists.{kept_entries, choices_for, AreNumbered}
 use Rattle.scip_model.proofs.entries.push_declarations.Given as goal
 
 -- those so far

@@ -4,8 +4,9 @@ use Rattle.scip_symbol.specs.Package.{Package}
 use Rattle.scip_model.specs.Packages.{package_of_file}
 use Rattle.scip_model.specs.Tables.ExternalLists.{IsEntryAt, IsEntryOf}
 use Rattle.scip_model.proofs.NamedLemmas.{some_facts, given_facts}
-use Rattle.scip_model.proofs.ExternalEntryLemmas.{external-there, external-within, external-index, external-chosen}
-use Rattle.scip_model.proofs.ExternalEntryLemmas.{kept-entry}
+use Rattle.scip_model.proofs.ExternalSymbolEntryLemmas.{external-there, external-within, external-index}
+use Rattle.scip_model.proofs.ExternalSymbolEntryLemmas.{external-chosen}
+use Rattle.scip_model.proofs.ExternalSymbolEntryLemmas.{kept-entry}
 use Rattle.scip_model.proofs.external_symbols.entry_of.Goals as goal
 
 pub facts_of-requires : goal.facts_of-requires

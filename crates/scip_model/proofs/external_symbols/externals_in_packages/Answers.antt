@@ -5,8 +5,8 @@ use Rattle.std.proofs.lemmas.List.Elements.{Contains-get_or}
 use Rattle.std.proofs.lemmas.List.Sorted.{answers_always}
 use Rattle.scip_model.specs.Tables.ExternalLists.{Pair, IsEntryOf, IsExternal}
 use Rattle.scip_model.specs.Indexes.{info_cmp}
-use Rattle.scip_model.proofs.SourceEntryLemmas.{infos_rank}
-use Rattle.scip_model.proofs.ExternalEntryLemmas.{all-added, external-list, none-external}
+use Rattle.scip_model.proofs.EntrySourceLemmas.{infos_rank}
+use Rattle.scip_model.proofs.ExternalSymbolEntryLemmas.{all-added, external-list, none-external}
 use Rattle.scip_model.proofs.external_symbols.externals_in_packages.Goals as goal
 
 pub external_entries-requires-clause-named : goal.external_entries-requires-clause-named

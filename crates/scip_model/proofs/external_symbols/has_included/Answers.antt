@@ -1,4 +1,4 @@
-use Rattle.scip_model.proofs.ExternalEntryLemmas.{none-more}
+use Rattle.scip_model.proofs.ExternalSymbolEntryLemmas.{none-more}
 use Rattle.scip_model.proofs.external_symbols.has_included.Goals as goal
 
 pub loop-number-preserved : goal.loop-number-preserved

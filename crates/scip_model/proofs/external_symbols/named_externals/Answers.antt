@@ -1,6 +1,6 @@
 use Rattle.std.proofs.Common.{◌≡◌, [], length, subst, arith}
 use Rattle.scip_model.specs.Tables.ExternalLists.{Adds, IsExternal}
-use Rattle.scip_model.proofs.ExternalLemmas.{external-more}
+use Rattle.scip_model.proofs.ExternalSymbolLemmas.{external-more}
 use Rattle.scip_model.proofs.external_symbols.named_externals.Goals as goal
 
 pub loop-source-preserved : goal.loop-source-preserved

@@ -1,5 +1,5 @@
 use Rattle.std.proofs.Common.{OnOk, sym, subst}
-use Rattle.proto_visibility.specs.declared.entities.Entity.{Entity}
+use Rattle.proto_visibility.specs.declared.lookup.Entity.{Entity}
 use Rattle.scip_model.specs.Tables.ExternalLists.{Adds, IsOfPart}
 use Rattle.scip_model.proofs.external_symbols.push_part.Goals as goal
 

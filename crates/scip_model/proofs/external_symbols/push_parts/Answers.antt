@@ -1,5 +1,5 @@
 use Rattle.scip_model.specs.Tables.ExternalLists.{IsOfPart}
-use Rattle.scip_model.proofs.ExternalLemmas.{adds-more-at, adds-all}
+use Rattle.scip_model.proofs.ExternalSymbolLemmas.{adds-more-at, adds-all}
 use Rattle.scip_model.proofs.external_symbols.push_parts.Goals as goal
 
 pub loop-part-preserved : goal.loop-part-preserved

@@ -2,12 +2,12 @@ use Rattle.std.proofs.Common.{◌∙◌, List, length, sym, subst}
 use Rattle.std.proofs.lemmas.Option.{MatchOption-at_some}
 use Rattle.std.proofs.lemmas.Result.{on_ok_weaker}
 use Rattle.proto_decl.specs.Facts.{Facts}
-use Rattle.proto_decl.specs.declared.type_use.Use.{Use}
+use Rattle.proto_decl.specs.declared.uses.Use.{Use}
 use Rattle.proto_visibility.specs.Files.{HasFacts, IsSource}
 use Rattle.proto_link.proofs.TargetLemmas.{some_facts}
 use Rattle.scip_model.specs.Tables.ExternalLists.{Adds, FromFront, IsOfUse}
-use Rattle.scip_model.proofs.LinkedLemmas.{source-facts}
-use Rattle.scip_model.proofs.ExternalLemmas.{of-source}
+use Rattle.scip_model.proofs.ConditionLinkedLemmas.{source-facts}
+use Rattle.scip_model.proofs.ExternalSymbolLemmas.{of-source}
 use Rattle.scip_model.proofs.external_symbols.push_source.Goals as goal
 
 pub unwrap-facts-requires : goal.unwrap-facts-requires

@@ -1,9 +1,9 @@
 use Rattle.std.proofs.Common.{List, length, sym, subst}
 use Rattle.std.specs.List.{All}
 use Rattle.std.proofs.lemmas.Result.{on_ok_weaker}
-use Rattle.proto_visibility.specs.declared.entities.Entity.{Entity}
+use Rattle.proto_visibility.specs.declared.lookup.Entity.{Entity}
 use Rattle.scip_model.specs.Tables.ExternalLists.{Adds, FromFront, IsKnownPart, IsOfPart}
-use Rattle.scip_model.proofs.ExternalLemmas.{found-parts, of-found}
+use Rattle.scip_model.proofs.ExternalSymbolLemmas.{found-parts, of-found}
 use Rattle.scip_model.proofs.external_symbols.push_use.Goals as goal
 
 pub push_parts-requires : goal.push_parts-requires

@@ -1,7 +1,7 @@
 use Rattle.std.proofs.Common.{length, refl}
 use Rattle.std.proofs.lemmas.Option.{slice_get_read}
 use Rattle.scip_model.specs.Tables.ExternalLists.{IsOfUse}
-use Rattle.scip_model.proofs.ExternalLemmas.{adds-more, adds-all}
+use Rattle.scip_model.proofs.ExternalSymbolLemmas.{adds-more, adds-all}
 use Rattle.scip_model.proofs.external_symbols.push_uses.Goals as goal
 
 pub loop-type_use-preserved : goal.loop-type_use-preserved

@@ -5,7 +5,7 @@ use Rattle.std.proofs.lemmas.List.Filters.{dedup_is}
 use Rattle.std.proofs.lemmas.List.Kept.{Contains-dedup, Contains-from_dedup, IsStrictlySortedBy-dedup}
 use Rattle.std.proofs.lemmas.List.Sorted.{Contains-permutation, IsPermutation-sym}
 use Rattle.scip_model.specs.Tables.ExternalLists.{Pair, pair_cmp}
-use Rattle.scip_model.proofs.PairLemmas.{pairs_total, same, ties, equivalence, exact}
+use Rattle.scip_model.proofs.ExternalSymbolPairLemmas.{pairs_total, same, ties, equivalence, exact}
 use Rattle.scip_model.proofs.external_symbols.without_doubles.Goals as goal
 
 pub returns-clause-same : goal.returns-clause-same

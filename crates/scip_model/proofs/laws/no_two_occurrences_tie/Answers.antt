@@ -1,5 +1,5 @@
 use Rattle.scip_model.proofs.ConditionLemmas.{stand_there}
-use Rattle.scip_model.proofs.TieLemmas.{no_ties}
+use Rattle.scip_model.proofs.OccurTieLemmas.{no_ties}
 use Rattle.scip_model.proofs.laws.no_two_occurrences_tie.Goals as goal
 
 pub returns : goal.returns

@@ -1,4 +1,4 @@
-use Rattle.scip_model.proofs.OneListLemmas.{one-list-of-externals, one-index}
+use Rattle.scip_model.proofs.PieceOneListLemmas.{one-list-of-externals, one-index}
 use Rattle.scip_model.proofs.laws.one_index.Goals as goal
 
 pub returns-clause-externals : goal.returns-clause-externals

@@ -1,4 +1,4 @@
-use Rattle.scip_model.proofs.OneListLemmas.{one-merged}
+use Rattle.scip_model.proofs.PieceOneListLemmas.{one-merged}
 use Rattle.scip_model.proofs.laws.one_merged_list.Goals as goal
 
 pub returns : goal.returns

@@ -3,7 +3,7 @@ use Rattle.scip_records.specs.Range.{RangeNumbers}
 use Rattle.scip_symbol.specs.Entities.{OfFile}
 use Rattle.scip_model.specs.Named.{text_of}
 use Rattle.scip_model.specs.Occurs.{definition_role}
-use Rattle.scip_model.specs.declared.planned.PlannedOccurrence.{PlannedOccurrence}
+use Rattle.scip_model.specs.declared.document_plan.PlannedOccurrence.{PlannedOccurrence}
 use Rattle.scip_model.specs.Tables.Listing.{own_occurrence}
 use Rattle.scip_model.specs.Tables.Plans.{own_texts, occurrence_of}
 use Rattle.scip_model.proofs.PlanLemmas.{one_added, file_number}

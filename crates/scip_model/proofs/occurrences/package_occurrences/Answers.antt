@@ -1,7 +1,7 @@
 use Rattle.std.proofs.Common.{◌≡◌, ◌∙◌, ◌<◌, ap, refl, subst, List, Some, ◌+◌, length, map, arith}
 use Rattle.std.specs.List.{slice_get}
 use Rattle.std.proofs.lemmas.Option.{slice_get_read}
-use Rattle.proto_decl.specs.declared.type_use.Component.{Component}
+use Rattle.proto_decl.specs.declared.uses.Component.{Component}
 use Rattle.scip_model.specs.Named.{text_of, package_at}
 use Rattle.scip_model.specs.Occurs.{definition_role}
 use Rattle.scip_model.specs.Tables.Listing.{each_from, at_package}

@@ -1,28 +1,27 @@
 use Rattle.std.proofs.Common.{◌≡◌, ◌∙◌, ap, sym, subst, refl, List, ℕ, [], ◌∷◌, ◌++◌, map}
 use Rattle.std.specs.List.{All, AllZip}
 use Rattle.proto_lex.specs.Lexed.{IsPart}
-use Rattle.proto_decl.specs.declared.imported.Imported.{Imported}
+use Rattle.proto_decl.specs.declared.imports.Imported.{Imported}
 use Rattle.proto_decl.specs.declared.declaration.Declaration.{Declaration}
-use Rattle.proto_decl.specs.declared.type_use.Component.{Component}
-use Rattle.proto_decl.specs.declared.type_use.Use.{Use}
-use Rattle.scip_model.specs.Tables.Listing.{own_occurrence, each_from, at_import, at_use, gap_at}
+use Rattle.proto_decl.specs.declared.uses.Component.{Component}
+use Rattle.proto_decl.specs.declared.uses.Use.{Use}
+use Rattle.scip_model.specs.Tables.Listing.{own_occurrence, each_from, at_import, at_use, unresolved_use_at}
 use Rattle.std.proofs.lemmas.Option.{slice_get_within}
 use Rattle.proto_lex.specs.declared.span.Span.{Span}
-use Rattle.scip_model.proofs.NameableLemmas.{target_nameable}
-use Rattle.scip_model.proofs.GapLemmas.{gaps_of}
+use Rattle.scip_model.proofs.ListingNameableLemmas.{target_nameable}
+use Rattle.scip_model.proofs.ConditionUnresolvedLemmas.{unresolved_of}
 use Rattle.scip_model.proofs.ConditionLemmas.{all_of_map, uses_stand_there, stand_there, choices_there, merged_of}
-use Rattle.scip_model.proofs.DocumentLemmas.{merged_lists}
-use Rattle.scip_model.proofs.NamedLemmas.{same_facts}
-use Rattle.scip_model.proofs.OrderLemmas.{tied}
+use Rattle.scip_model.proofs.ListingDocumentLemmas.{merged_lists}
+use Rattle.scip_model.proofs.OccurrenceOrderLemmas.{tied}
 use Rattle.scip_model.specs.OccurrenceOrder.{occurrence_cmp}
 use Rattle.scip_model.specs.Occurs.{Occurs}
-use Rattle.scip_model.specs.Texts.{AreOfText}
+use Rattle.scip_model.specs.Conditions.{AreOfText, IsFound, AreUnresolvedUses}
 use Rattle.scip_model.specs.Packages.{package_of_file}
 use Rattle.scip_model.specs.Tables.Plans.{own_texts, occurrence_of}
 use Rattle.scip_model.proofs.PlanLemmas.{grown_same, grown_then}
 use Rattle.scip_records.specs.declared.records.Occurrence.{Occurrence}
 use Rattle.std.specs.declared.cmp.Ordering.TheVariants.{Equal}
-use Rattle.scip_model.specs.Gaps.{IsFound, AreGaps}
+use Rattle.proto_visibility.proofs.FileFactLemmas.{one_list_of_facts as same_facts}
 use Rattle.scip_model.proofs.source_document.occurrences.Goals as goal
 
 pub import_occurrences-requires-clause-parts : goal.import_occurrences-requires-clause-parts
@@ -90,8 +89,8 @@ use_occurrences-requires-clause-nameable c = λ used found target is e.
     target_nameable files source c.facts_occur_in_order.ensures.origins c.facts_occur_in_order.ensures.spelled used
     target (subst (IsFound files source used) e is)
 
-pub returns-clause-gaps : goal.returns-clause-gaps
-returns-clause-gaps c =
+pub returns-clause-unresolved_uses : goal.returns-clause-unresolved_uses
+returns-clause-unresolved_uses c =
     let files = c.args.maker.now.linker.now in
     let source = c.args.maker.now.source in
     let facts = c.args.facts.now in
@@ -99,10 +98,10 @@ returns-clause-gaps c =
     let all : AllZip (IsFound files source) facts.uses made.0 =
     subst (λ (uses : List Use). AllZip (IsFound files source) uses made.0) c.uses.ensures made.1 in
     let list = made.3
-    ∙ (ap (λ (spans : List Span). spans ++ each_from (gap_at made.0) 0 c.uses.result.now) c.requires.empty
-    ∙ ap (λ (uses : List Use). each_from (gap_at made.0) 0 uses) c.uses.ensures) in
-    subst (λ (spans : List Span). AreGaps files source spans) (sym list)
-    (gaps_of files source facts made.0 c.requires.known all)
+    ∙ (ap (λ (spans : List Span). spans ++ each_from (unresolved_use_at made.0) 0 c.uses.result.now) c.requires.empty
+    ∙ ap (λ (uses : List Use). each_from (unresolved_use_at made.0) 0 uses) c.uses.ensures) in
+    subst (λ (spans : List Span). AreUnresolvedUses files source spans) (sym list)
+    (unresolved_of files source facts made.0 c.requires.known all)
 
 pub returns-clause-planned : goal.returns-clause-planned
 returns-clause-planned c =

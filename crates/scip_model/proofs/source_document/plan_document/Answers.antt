@@ -1,5 +1,5 @@
 use Rattle.std.proofs.Common.{◌∙◌, ap, sym, refl, subst, List, ℕ, map}
-use Rattle.scip_model.proofs.LinkedLemmas.{source-facts}
+use Rattle.scip_model.proofs.ConditionLinkedLemmas.{source-facts}
 use Rattle.scip_model.proofs.NamedLemmas.{some_facts, given_facts}
 use Rattle.std.proofs.lemmas.Option.{slice_get_within, same_Some}
 use Rattle.scip_symbol.specs.Package.{Package}
@@ -11,7 +11,7 @@ use Rattle.proto_visibility.specs.Files.{File}
 use Rattle.index_hooks.specs.declared.choice.Choice.{Choice}
 use Rattle.scip_model.specs.Entries.{HasEntry}
 use Rattle.scip_model.specs.Indexes.{IsAscendingListOf, info_cmp}
-use Rattle.scip_model.specs.Tables.EntryNumbers.{package_names}
+use Rattle.scip_model.specs.Tables.EntryLists.{package_names}
 use Rattle.scip_model.specs.Tables.Plans.{entry_of}
 use Rattle.scip_model.proofs.source_document.plan_document.Goals as goal
 
@@ -48,8 +48,8 @@ occurrences-requires-clause-texts c =
     c.args.maker.now.source) its path facts) c.run.ensures.value)) in
     subst (λ (texts : List (List ℕ)). Grown texts c.new-texts.result) own (grown_same c.new-texts.result)
 
-pub returns-clause-gaps : goal.returns-clause-gaps
-returns-clause-gaps c = rw c.from_vec.ensures c.in_ok-occurrences.ensures.gaps
+pub returns-clause-unresolved_uses : goal.returns-clause-unresolved_uses
+returns-clause-unresolved_uses c = rw c.from_vec.ensures c.in_ok-occurrences.ensures.unresolved_uses
 
 pub returns-clause-document : goal.returns-clause-document
 returns-clause-document c =

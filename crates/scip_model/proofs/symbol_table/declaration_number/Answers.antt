@@ -1,5 +1,5 @@
 use Rattle.std.proofs.Common.{◌∙◌, ◌+◌, List, ap, length, arith}
-use Rattle.proto_decl.specs.declared.type_use.Component.{Component}
+use Rattle.proto_decl.specs.declared.uses.Component.{Component}
 use Rattle.scip_model.proofs.PlanLemmas.{unsaturated}
 use Rattle.scip_model.proofs.symbol_table.declaration_number.Goals as goal
 

@@ -1,14 +1,14 @@
 use Rattle.std.proofs.Common.{◌∙◌, ◌++◌, ◌∷◌, [], List, ℕ, ap, sym}
 use Rattle.std.proofs.lemmas.List.{map_push}
 use Rattle.std.proofs.lemmas.Result.{on_ok_weaker}
-use Rattle.proto_decl.specs.Ancestors.{component_names}
+use Rattle.proto_decl.specs.Laws.{component_names}
 use Rattle.proto_decl.specs.declared.declaration.DeclarationStep.{DeclarationStep}
 use Rattle.scip_symbol.specs.Entities.{OfDeclaration}
 use Rattle.scip_symbol.specs.EntityTexts.{steps_text}
 use Rattle.scip_model.specs.Named.{text_of}
-use Rattle.scip_model.specs.Tables.JoinedTexts.{behind}
+use Rattle.scip_model.specs.Tables.OwnTexts.{behind}
 use Rattle.scip_model.proofs.OwnTextLemmas.{text_behind}
-use Rattle.scip_model.proofs.PartOrderLemmas.{stripped}
+use Rattle.scip_model.proofs.SymbolTableOrderLemmas.{stripped}
 use Rattle.scip_model.proofs.symbol_texts.push_rest.Goals as goal
 
 pub returns-in-Some : goal.returns-in-Some

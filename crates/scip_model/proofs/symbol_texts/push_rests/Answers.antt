@@ -2,7 +2,7 @@ use Rattle.std.proofs.Common.{◌∙◌, ◌++◌, ◌∷◌, [], ap, sym, map, 
 use Rattle.std.proofs.lemmas.List.{append_assoc, map_more}
 use Rattle.proto_decl.specs.declared.declaration.Declaration.{Declaration}
 use Rattle.scip_model.specs.Named.{text_of, declaration_at}
-use Rattle.scip_model.specs.Tables.JoinedTexts.{behind}
+use Rattle.scip_model.specs.Tables.OwnTexts.{behind}
 use Rattle.scip_model.proofs.symbol_texts.push_rests.Goals as goal
 
 pub loop-declaration-preserved : goal.loop-declaration-preserved

@@ -1,9 +1,9 @@
 use Rattle.std.proofs.Common.{◌≡◌, ◌++◌, map, take}
-use Rattle.proto_decl.specs.Ancestors.{component_names}
+use Rattle.proto_decl.specs.Laws.{component_names}
 use Rattle.scip_symbol.specs.Entities.{OfPackage}
 use Rattle.scip_symbol.specs.Package.{Package}
 use Rattle.scip_model.specs.Named.{text_of, declaration_at}
-use Rattle.scip_model.specs.Tables.JoinedTexts.{behind}
+use Rattle.scip_model.specs.Tables.OwnTexts.{behind}
 use Rattle.scip_model.proofs.symbol_texts.push_rests.Given as goal
 
 -- those so far

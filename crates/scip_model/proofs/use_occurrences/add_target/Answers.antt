@@ -1,7 +1,7 @@
 use Rattle.std.proofs.Common.{◌≡◌, ◌∙◌, ap, refl, List, ℕ, Option, Some, ◌++◌, length, map}
 use Rattle.std.specs.List.{slice_get}
 use Rattle.std.proofs.lemmas.Option.{slice_get_read}
-use Rattle.proto_visibility.specs.declared.entities.Entity.{Entity}
+use Rattle.proto_visibility.specs.declared.lookup.Entity.{Entity}
 use Rattle.scip_model.specs.Tables.Listing.{each_from, at_part, at_component}
 use Rattle.scip_model.specs.Tables.Plans.{occurrence_of}
 use Rattle.scip_model.proofs.ListingLemmas.{each_added}

@@ -9,5 +9,5 @@ returns-clause-added c = (
   c.in_ok-found.found,
   c.in_ok-found.ensures,
   c.in_ok-add_found.ensures.added,
-  c.in_ok-add_gap.ensures,
+  c.in_ok-add_unresolved.ensures,
 )

@@ -6,7 +6,7 @@ use Rattle.scip_model.specs.Named.{text_of, declaration_at}
 use Rattle.scip_model.specs.Tables.Listing.{declared_by}
 use Rattle.scip_model.proofs.NamedLemmas.{some_facts, given_facts, is_within, declared_is, if_named}
 use Rattle.scip_model.proofs.use_occurrences.declared_text.Goals as goal
-use Rattle.proto_visibility.proofs.FirstLemmas.{contained}
+use Rattle.basics.proofs.FirstLemmas.{contained}
 
 pub unwrap-facts-requires : goal.unwrap-facts-requires
 unwrap-facts-requires c =

@@ -1,6 +1,6 @@
 use Rattle.std.proofs.Common.{◌≡◌, sym, subst, IfSome, List, Option, ℕ}
-use Rattle.proto_visibility.specs.declared.entities.Entity.{Entity}
-use Rattle.proto_visibility.specs.declared.entities.Entity.TheVariants.{Declared}
+use Rattle.proto_visibility.specs.declared.lookup.Entity.{Entity}
+use Rattle.proto_visibility.specs.declared.lookup.Entity.TheVariants.{Declared}
 use Rattle.scip_model.specs.Packages.{package_of_part}
 use Rattle.scip_model.specs.Tables.Listing.{IsNameable, entity_of}
 use Rattle.scip_model.specs.Tables.Plans.{IsNumberIn, IsNumberOf}

@@ -1,6 +1,6 @@
 use Rattle.std.proofs.Common.{subst}
 use Rattle.scip_model.specs.Tables.Listing.{IsNameable}
-use Rattle.proto_visibility.specs.declared.entities.Entity.{Entity}
+use Rattle.proto_visibility.specs.declared.lookup.Entity.{Entity}
 use Rattle.scip_model.proofs.use_occurrences.is_shown.Goals as goal
 
 pub of-requires : goal.of-requires

@@ -1,7 +1,8 @@
 use Rattle.std.proofs.Common.{◌∙◌, ap}
+use Rattle.proto_visibility.proofs.FileFactLemmas.{one_list_of_facts as same_facts}
 use Rattle.proto_decl.specs.Facts.{Facts}
 use Rattle.scip_model.specs.Tables.Plans.{declaration_number}
-use Rattle.scip_model.proofs.NamedLemmas.{some_facts, given_facts, same_facts}
+use Rattle.scip_model.proofs.NamedLemmas.{some_facts, given_facts}
 use Rattle.scip_model.proofs.use_occurrences.own_number.Goals as goal
 
 pub unwrap-facts-requires : goal.unwrap-facts-requires

@@ -1,5 +1,5 @@
 use Rattle.std.proofs.Common.{◌≡◌, ◌∙◌, sym, ℕ}
-use Rattle.proto_visibility.specs.declared.entities.Entity.TheVariants.{Declared, Package}
+use Rattle.proto_visibility.specs.declared.lookup.Entity.TheVariants.{Declared, Package}
 use Rattle.scip_model.proofs.use_occurrences.own_package.Goals as goal
 
 same_package : {m n : ℕ} → Package m ≡ Package n → m ≡ n

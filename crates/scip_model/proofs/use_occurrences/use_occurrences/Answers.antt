@@ -4,12 +4,12 @@ use Rattle.std.specs.List.{AllZip, slice_get}
 use Rattle.std.proofs.lemmas.List.{append-nil, append_assoc, take_all}
 use Rattle.std.proofs.lemmas.Option.{slice_get_read}
 use Rattle.proto_lex.specs.declared.span.Span.{Span}
-use Rattle.proto_decl.specs.declared.type_use.Use.{Use}
-use Rattle.proto_visibility.proofs.FirstLemmas.{take_next}
+use Rattle.proto_decl.specs.declared.uses.Use.{Use}
+use Rattle.basics.proofs.FirstLemmas.{take_next}
 use Rattle.proto_link.specs.declared.target.Target.{Target}
 use Rattle.scip_records.specs.declared.records.Occurrence.{Occurrence}
-use Rattle.scip_model.specs.Gaps.{IsFound}
-use Rattle.scip_model.specs.Tables.Listing.{each_from, at_target, at_use, unless_found, gap_at}
+use Rattle.scip_model.specs.Conditions.{IsFound}
+use Rattle.scip_model.specs.Tables.Listing.{each_from, at_target, at_use, unless_found, unresolved_use_at}
 use Rattle.scip_model.specs.Tables.Plans.{occurrence_of}
 use Rattle.scip_model.proofs.TargetLemmas.{zip_more, zip_length, more_found}
 use Rattle.scip_model.proofs.PlanLemmas.{grown_same, grown_then, own_then}
@@ -30,7 +30,7 @@ loop-type_use-init c = record {
     [],
     tt,
     λ later more. ap (map (occurrence_of later)) c.in_ok-list.ensures.items,
-    sym (append-nil c.args.gaps.now.items),
+    sym (append-nil c.args.unresolved_uses.now.items),
   );
 }
 
@@ -52,7 +52,7 @@ loop-type_use-preserved c =
     let front = take index uses in
     let at = at_target ids encoding text files chosen in
     let gap : Option Target → Use → List Span = λ its used. unless_found its used.span in
-    let old = c.args.gaps.now.items in
+    let old = c.args.unresolved_uses.now.items in
     let there : slice_get uses index ≡ Some type_use =
     slice_get_read uses (length uses) index type_use refl c.loop-type_use-test.true c.type_use-item.is in
     let next : take (index + 1) uses ≡ front ++ type_use ∷ [] = take_next uses index type_use there in
@@ -72,9 +72,9 @@ loop-type_use-preserved c =
             ∙ more_found at found added.0 front type_use size)),
         added.3
             ∙ (ap (λ (list : List Span). list ++ gap added.0 type_use) so_far.3
-            ∙ (append_assoc old (each_from (gap_at found) 0 front) (gap added.0 type_use)
+            ∙ (append_assoc old (each_from (unresolved_use_at found) 0 front) (gap added.0 type_use)
             ∙ ap (λ (list : List Span). old ++ list)
-            (sym (ap (λ (its : List Use). each_from (gap_at more) 0 its) next
+            (sym (ap (λ (its : List Use). each_from (unresolved_use_at more) 0 its) next
             ∙ more_found gap found added.0 front type_use size)))),
       );
     }
@@ -97,5 +97,6 @@ returns-clause-planned c =
       λ later more.
           so_far.2 later more
           ∙ ap (λ (its : List Use). each_from (at_use ids encoding text files chosen found) 0 its) whole,
-      so_far.3 ∙ ap (λ (its : List Use). c.args.gaps.now.items ++ each_from (gap_at found) 0 its) whole,
+      so_far.3 ∙ ap (λ (its : List Use). c.args.unresolved_uses.now.items
+          ++ each_from (unresolved_use_at found) 0 its) whole,
     )

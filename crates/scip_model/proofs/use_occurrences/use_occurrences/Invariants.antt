@@ -1,8 +1,8 @@
 use Rattle.std.proofs.Common.{◌≡◌, ◌++◌, Option, List, take}
 use Rattle.std.specs.List.{AllZip}
 use Rattle.proto_link.specs.declared.target.Target.{Target}
-use Rattle.scip_model.specs.Gaps.{IsFound}
-use Rattle.scip_model.specs.Tables.Listing.{each_from, at_use, gap_at}
+use Rattle.scip_model.specs.Conditions.{IsFound}
+use Rattle.scip_model.specs.Tables.Listing.{each_from, at_use, unresolved_use_at}
 use Rattle.scip_model.specs.Tables.Plans.{Grown, ArePlanned}
 use Rattle.scip_model.proofs.use_occurrences.use_occurrences.Given as goal
 
@@ -14,5 +14,6 @@ invariant-loop-type_use l = record {
       × AllZip (IsFound l.maker.linker.now l.maker.source) (take l.type_use-index l.uses) found
       × ArePlanned l.texts l.list.items (each_from (at_use l.maker.package.now l.maker.encoding l.maker.text.now
       l.maker.linker.now l.maker.choices.now found) 0 (take l.type_use-index l.uses))
-      × (l.gaps.items ≡ l.fn.gaps.items ++ each_from (gap_at found) 0 (take l.type_use-index l.uses));
+      × (l.unresolved_uses.items ≡ l.fn.unresolved_uses.items ++ each_from (unresolved_use_at found) 0
+      (take l.type_use-index l.uses));
 }

@@ -1,9 +1,9 @@
 use Rattle.std.proofs.Common.{rules, refl}
 use Rattle.std.proofs.lemmas.Result.{IfOk-weaker}
 use Rattle.proto_decl.specs.Facts.{AreFactsOf}
-use Rattle.proto_parse.specs.tree.CustomOptions.TheVariants.{Refuse}
-use Rattle.proto_parse.specs.tree.Dialect.TheVariants.{Proto3}
-use Rattle.scip_model.specs.Texts.{AreOfText}
+use Rattle.proto_parse.specs.dialect.CustomOptions.TheVariants.{Refuse}
+use Rattle.proto_parse.specs.dialect.Dialect.TheVariants.{Proto3}
+use Rattle.scip_model.specs.Conditions.{AreOfText}
 use Rattle.scip_model_tests.proofs.documents.facts_of.Goals as goal
 
 pub returns : goal.returns
@@ -13,9 +13,8 @@ returns c =
       origin = record {
         lexed = c.in-Ok.lexed;
         file = c.in-Ok-parse.tree;
-        dialect = Proto3 Refuse;
         is_lexed = search rules;
-        derives = c.in-Ok-parse.ensures.found;
+        derives = (Proto3 Refuse, c.in-Ok-parse.ensures.found);
         of_file = record {
           numbered = refl;
           package_name = of_tree.package_name;

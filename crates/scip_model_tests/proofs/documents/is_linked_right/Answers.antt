@@ -1,8 +1,7 @@
 use Rattle.std.proofs.Common.{List, sym, subst}
 use Rattle.proto_visibility.specs.Files.{File, IsSource}
 use Rattle.scip_model.specs.Chosen.{HaveChoices}
-use Rattle.scip_model.specs.Conditions.{HaveGoodPaths}
-use Rattle.scip_model.specs.Texts.{HasText}
+use Rattle.scip_model.specs.Conditions.{HaveGoodPaths, HasText}
 use Rattle.scip_model_tests.proofs.OneSourceLemmas.{is_source, has_text, good_paths}
 use Rattle.scip_model_tests.proofs.documents.is_linked_right.Goals as goal
 

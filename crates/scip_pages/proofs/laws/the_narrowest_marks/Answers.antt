@@ -1,4 +1,4 @@
-use Rattle.scip_pages.proofs.SpanLemmas.{none_covers, none_is_narrower}
+use Rattle.scip_pages.proofs.RunSpanLemmas.{none_covers, none_is_narrower}
 use Rattle.scip_pages.proofs.laws.the_narrowest_marks.Goals as goal
 
 pub returns : goal.returns

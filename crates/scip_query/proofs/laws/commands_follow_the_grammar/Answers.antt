@@ -1,4 +1,4 @@
-use Rattle.scip_query.proofs.GrammarLemmas.{command_found, command_exact}
+use Rattle.scip_query.proofs.CommandGrammarLemmas.{command_found, command_exact}
 use Rattle.scip_query.proofs.laws.commands_follow_the_grammar.Goals as goal
 
 pub returns : goal.returns

@@ -1,7 +1,7 @@
 use Rattle.std.proofs.Common.{◌≡◌, ◌<◌, ◌∙◌, ap, sym, ◌+◌, ◌++◌, ◌∷◌, [], take, length}
 use Rattle.std.proofs.lemmas.List.{take_more}
+use Rattle.basics.proofs.ListLemmas.{zip_push as zipped_more}
 use Rattle.scip_query.specs.Tables.Searches.{IsInnermostFirst}
-use Rattle.scip_query.proofs.TableLemmas.{zipped_more}
 use Rattle.scip_query.proofs.tables.inner.Goals as goal
 
 pub loop-document-preserved : goal.loop-document-preserved

@@ -1,4 +1,4 @@
-use Rattle.scip_records.proofs.FrontLemmas.{front_more}
+use Rattle.scip_records.proofs.FromPartsLemmas.{front_more}
 use Rattle.scip_records.proofs.from_parts.occurrences_of.Goals as goal
 
 pub numbers-preserved : goal.numbers-preserved

@@ -1,5 +1,5 @@
-use Rattle.scip_site.proofs.ApartLemmas.{files_are_no_folders}
-use Rattle.scip_site.proofs.GoodLemmas.{good_sources_fit, files_stay_below, pages_are_made_once}
+use Rattle.scip_site.proofs.FolderLawApartLemmas.{files_are_no_folders}
+use Rattle.scip_site.proofs.ReadingGoodLemmas.{good_sources_fit, files_stay_below, pages_are_made_once}
 use Rattle.scip_site.proofs.folder_laws.folders_have_their_pages.Goals as goal
 
 pub returns : goal.returns

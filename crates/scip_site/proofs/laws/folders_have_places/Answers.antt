@@ -1,5 +1,5 @@
-use Rattle.scip_site.proofs.FolderLemmas.{folders_have}
-use Rattle.scip_site.proofs.PagePathLemmas.{have_their_own_ids}
+use Rattle.scip_site.proofs.FolderLawLemmas.{folders_have}
+use Rattle.scip_site.proofs.LawPagePathLemmas.{have_their_own_ids}
 use Rattle.scip_site.proofs.laws.folders_have_places.Goals as goal
 
 pub returns : goal.returns

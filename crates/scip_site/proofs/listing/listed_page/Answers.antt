@@ -1,7 +1,7 @@
 use Rattle.std.proofs.Common.{◌≡◌, ◌∙◌, ◌++◌, ap, ℕ, List, map}
 use Rattle.std.specs.Borrow.{Bor}
 use Rattle.scip_query.specs.declared.place.Place.{Place}
-use Rattle.source_page.specs.Page.{firsts_of}
+use Rattle.scip_pages.specs.Page.{firsts_of}
 use Rattle.scip_site.specs.Script.{listing_text}
 use Rattle.scip_site.proofs.listing.listed_page.Goals as goal
 

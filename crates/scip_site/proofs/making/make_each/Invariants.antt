@@ -1,7 +1,7 @@
 use Rattle.std.proofs.Common.{◌≡◌, ◌++◌, map}
+use Rattle.source_files.specs.Makers.{making}
 use Rattle.scip_query.specs.Tables.{numbers}
-use Rattle.scip_snapshot.specs.Showing.{maker}
-use Rattle.source_page.specs.Facts.{AreRight}
+use Rattle.scip_pages.specs.Facts.{AreRight}
 use Rattle.scip_site.specs.Making.{AllOf, in_folder, pages, listings}
 use Rattle.scip_site.proofs.making.make_each.Given as goal
 
@@ -9,7 +9,7 @@ use Rattle.scip_site.proofs.making.make_each.Given as goal
 abbrev pub invariant-loop-number : goal.invariant-loop-number
 invariant-loop-number g l = record {
   right : AreRight l.site.queries.now l.site.sources.now l.listed.facts.facts.items;
-  files : AllOf (maker g.O.MakeFiles.made l.fn.made l.made)
+  files : AllOf (making g.O.MakeFiles l.fn.made l.made)
       (map (in_folder l.folder) (pages l.site.queries.now l.site.sources.now (numbers l.number)));
   listed : l.listed.script.items
       ≡ l.fn.listed.script.items ++ listings l.site.queries.now l.site.sources.now (numbers l.number);

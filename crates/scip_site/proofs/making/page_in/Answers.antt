@@ -3,8 +3,8 @@ use Rattle.std.specs.Borrow.{Bor}
 use Rattle.std.proofs.lemmas.Result.{IfOk-weaker}
 use Rattle.scip_pages.specs.declared.columns.ColumnUnit.{ColumnUnit}
 use Rattle.scip_pages.specs.Snapshot.{lines_of}
-use Rattle.source_page.specs.Ids.{unit_in}
-use Rattle.source_page.specs.Page.{page_of}
+use Rattle.scip_pages.specs.Ids.{unit_in}
+use Rattle.scip_pages.specs.Page.{page_of}
 use Rattle.scip_site.proofs.making.page_in.Goals as goal
 
 pub returns-clause-page : goal.returns-clause-page

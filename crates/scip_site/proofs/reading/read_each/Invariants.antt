@@ -1,4 +1,4 @@
-use Rattle.scip_snapshot.specs.Showing.{writer}
+use Rattle.streams.specs.Writers.{writing}
 use Rattle.scip_site.specs.Reading.{AreKept}
 use Rattle.scip_site.proofs.reading.read_each.Given as goal
 
@@ -6,4 +6,4 @@ use Rattle.scip_site.proofs.reading.read_each.Given as goal
 abbrev pub invariant-loop-number : goal.invariant-loop-number
 invariant-loop-number g l =
     AreKept (g.F.ReadFiles.gives l.files) l.root l.documents l.number l.sources.items
-    (writer g.M.Sink.contents g.M.Sink.failures l.fn.messages l.messages)
+    (writing g.M.Sink l.fn.messages l.messages)

@@ -1,15 +1,15 @@
 use Rattle.std.proofs.Common.{refl, subst, ℕ, List}
 use Rattle.std.proofs.lemmas.Result.{err_from_is_err_and}
-use Rattle.scip_snapshot.specs.Showing.{writer}
+use Rattle.streams.specs.Writers.{writing}
 use Rattle.scip_site.specs.Reading.{Keeps}
-use Rattle.scip_site.proofs.ReadLemmas.{read_so}
+use Rattle.scip_site.proofs.ReadingLemmas.{read_so}
 use Rattle.scip_site.proofs.reading.read_one.Goals as goal
 
 pub returns : goal.returns
 returns g c =
     let wanted = c.args.wanted.now in
-    let messages = writer g.M.Sink.contents g.M.Sink.failures c.args.messages.now c.keep.new.messages in
-    read_so g.M.Sink.contents g.M.Sink.failures (g.F.ReadFiles.gives c.args.files.now) wanted.root.now wanted.repeated
+    let messages = writing g.M.Sink c.args.messages.now c.keep.new.messages in
+    read_so g.M.Sink (g.F.ReadFiles.gives c.args.files.now) wanted.root.now wanted.repeated
     wanted.document.now c.args.sources.now.items c.keep.new.sources.items c.args.messages.now c.keep.new.messages
     c.in_ok-outcome.outcome c.in_ok-outcome.ensures c.keep.result
     (subst (λ (p : List ℕ). Keeps p c.in_ok-outcome.outcome c.args.sources.now.items c.keep.new.sources.items messages

@@ -1,7 +1,7 @@
 use Rattle.std.proofs.Common.{◌∙◌, sym, ap, ℕ, List, map, ◌-◌}
 use Rattle.std.specs.Borrow.{Bor}
 use Rattle.std.proofs.lemmas.List.{length-map}
-use Rattle.source_page.specs.CodeText.{line_at}
+use Rattle.scip_pages.specs.CodeText.{line_at}
 use Rattle.scip_site.proofs.tree.last_of.Goals as goal
 
 pub returns : goal.returns

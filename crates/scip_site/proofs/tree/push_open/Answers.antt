@@ -3,8 +3,8 @@ use Rattle.std.specs.Prelude.{codes}
 use Rattle.scip_pages.specs.Code.{attribute}
 use Rattle.scip_pages.specs.Escapes.{escape}
 use Rattle.scip_site.specs.Tree.{is_open}
-use Rattle.source_page.specs.Crumbs.{folder_id}
-use Rattle.source_page.proofs.TextLemmas.{more, more_by}
+use Rattle.scip_pages.specs.Crumbs.{folder_id}
+use Rattle.basics.proofs.AppendedLemmas.{more, more_by}
 use Rattle.scip_site.proofs.tree.push_open.Goals as goal
 
 pub returns : goal.returns

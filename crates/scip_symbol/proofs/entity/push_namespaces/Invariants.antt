@@ -1,5 +1,5 @@
 use Rattle.std.proofs.Common.{◌≡◌, ◌++◌, drop, map}
-use Rattle.proto_decl.specs.Ancestors.{component_names}
+use Rattle.proto_decl.specs.Laws.{component_names}
 use Rattle.scip_symbol.specs.Entities.{namespace_of}
 use Rattle.scip_symbol.proofs.entity.push_namespaces.Given as goal
 

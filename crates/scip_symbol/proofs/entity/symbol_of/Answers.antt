@@ -1,5 +1,5 @@
 use Rattle.std.proofs.Common.{◌++◌, map, ◌∙◌, ap}
-use Rattle.proto_decl.specs.Ancestors.{component_names}
+use Rattle.proto_decl.specs.Laws.{component_names}
 use Rattle.scip_symbol.specs.Entities.{OfDeclaration, namespace_of, step_descriptor}
 use Rattle.scip_symbol.proofs.EntityLemmas.{entity-has}
 use Rattle.scip_symbol.proofs.entity.symbol_of.Goals as goal

@@ -1,6 +1,6 @@
 use Rattle.std.proofs.Common.{◌≡◌, ◌++◌, drop}
 use Rattle.std.specs.String.{string_bytes}
-use Rattle.proto_decl.specs.Ancestors.{component_names}
+use Rattle.proto_decl.specs.Laws.{component_names}
 use Rattle.scip_symbol.specs.EntityTexts.{namespaces_text}
 use Rattle.scip_symbol.proofs.entity_text.push_namespaces.Given as goal
 

@@ -1,4 +1,4 @@
-use Rattle.scip_symbol.proofs.SpellingLemmas.{spelled-is, printed}
+use Rattle.scip_symbol.proofs.SpellsSymbolTextLemmas.{spelled-is, printed}
 use Rattle.scip_symbol.proofs.laws.symbols_have_spellings.Goals as goal
 
 pub returns : goal.returns

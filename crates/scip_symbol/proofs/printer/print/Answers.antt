@@ -1,6 +1,6 @@
 use Rattle.std.proofs.Common.{◌++◌, ◌∙◌, ap}
 use Rattle.scip_symbol.specs.SymbolText.{symbol_text}
-use Rattle.scip_symbol.proofs.SpellingLemmas.{printed-text}
+use Rattle.scip_symbol.proofs.SpellsSymbolTextLemmas.{printed-text}
 use Rattle.scip_symbol.proofs.printer.print.Goals as goal
 
 pub returns-clause-spelling : goal.returns-clause-spelling

@@ -3,7 +3,7 @@ use Rattle.std.proofs.lemmas.Grind.{common_steps}
 use Rattle.std.proofs.lemmas.Str.Pattern.{split_once_first}
 use Rattle.std.specs.String.{string_bytes}
 use Rattle.scip_symbol.specs.Names.{doubled}
-use Rattle.scip_symbol.proofs.DoubledLemmas.{doubled-clean, doubled-cut}
+use Rattle.scip_symbol.proofs.NameDoubledLemmas.{doubled-clean, doubled-cut}
 use Rattle.scip_symbol.proofs.printer.push_doubled.Goals as goal
 
 -- what stands before the mark, two marks, and what is left

@@ -1,4 +1,4 @@
-use Rattle.scip_symbol.proofs.AfterLemmas.{stripped}
+use Rattle.scip_symbol.proofs.ReadingAfterLemmas.{stripped}
 use Rattle.scip_symbol.proofs.reader.after.Goals as goal
 
 pub returns : goal.returns

@@ -2,11 +2,11 @@ use Rattle.std.proofs.Common.{◌∙◌, sym, subst}
 use Rattle.scip_symbol.specs.Reading.{symbol_at}
 use Rattle.scip_symbol.specs.Gives.{Stops}
 use Rattle.scip_symbol.specs.SpellsSymbol.{SpellsSymbol}
-use Rattle.scip_symbol.proofs.ReadLemmas.{same_ok}
+use Rattle.scip_symbol.proofs.ReadingTestLemmas.{same_ok}
 use Rattle.scip_symbol.proofs.SymbolLemmas.{symbol-found, symbol-exact, unspelled}
 use Rattle.scip_symbol.specs.LongestPrefix.{IsLongestPrefix}
-use Rattle.scip_symbol.proofs.LongestLemmas.{longest-prefix}
-use Rattle.scip_symbol.proofs.SpellingLemmas.{spelled-is}
+use Rattle.scip_symbol.proofs.SpellsSymbolLongestLemmas.{longest-prefix}
+use Rattle.scip_symbol.proofs.SpellsSymbolTextLemmas.{spelled-is}
 use Rattle.scip_symbol.proofs.reader.read.Goals as goal
 
 pub from_parts-requires : goal.from_parts-requires

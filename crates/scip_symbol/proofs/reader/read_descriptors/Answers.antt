@@ -2,7 +2,7 @@ use Rattle.std.proofs.Common.{◌∙◌, Ok, ap, sym, rules}
 use Rattle.std.proofs.lemmas.Bool.{eqb-true, eqb-false}
 use Rattle.std.proofs.lemmas.Result.{err_from_is_err_and}
 use Rattle.scip_symbol.specs.Reading.{descriptors_at}
-use Rattle.scip_symbol.proofs.DescriptorLemmas.{descriptor-falls, led-all, loop-last, loop-next, loop-stops}
+use Rattle.scip_symbol.proofs.ReadingDescriptorLemmas.{descriptor-falls, led-all, loop-last, loop-next, loop-stops}
 use Rattle.scip_symbol.proofs.reader.read_descriptors.Goals as goal
 
 pub returns-in_err-descriptor : goal.returns-in_err-descriptor

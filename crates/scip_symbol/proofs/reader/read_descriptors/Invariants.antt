@@ -1,7 +1,7 @@
 use Rattle.std.proofs.Common.{◌≡◌, length}
 use Rattle.std.specs.Str.{IsUtf8}
 use Rattle.scip_symbol.specs.Reading.{descriptors_at}
-use Rattle.scip_symbol.proofs.DescriptorLemmas.{led-all}
+use Rattle.scip_symbol.proofs.ReadingDescriptorLemmas.{led-all}
 use Rattle.scip_symbol.proofs.reader.read_descriptors.Given as goal
 
 -- what is read, and what is left, is the whole

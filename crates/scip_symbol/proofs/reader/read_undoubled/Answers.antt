@@ -1,7 +1,7 @@
 use Rattle.std.proofs.Common.{◌∙◌, rules}
 use Rattle.std.proofs.lemmas.Str.Pattern.{split_parts, strip_prefix_char}
 use Rattle.std.specs.String.{string_bytes}
-use Rattle.scip_symbol.proofs.UndoubledLemmas.{loop-next, loop-end, loop-none}
+use Rattle.scip_symbol.proofs.ReadingUndoubledLemmas.{loop-next, loop-end, loop-none}
 use Rattle.scip_symbol.proofs.reader.read_undoubled.Goals as goal
 
 pub marks-preserved : goal.marks-preserved

@@ -2,7 +2,7 @@ use Rattle.std.proofs.Common.{◌≡◌, false, length}
 use Rattle.std.specs.String.{string_bytes}
 use Rattle.std.specs.Str.{IsUtf8}
 use Rattle.scip_symbol.specs.Reading.{undoubled_at}
-use Rattle.scip_symbol.proofs.UndoubledLemmas.{ontos}
+use Rattle.scip_symbol.proofs.ReadingUndoubledLemmas.{ontos}
 use Rattle.scip_symbol.proofs.reader.read_undoubled.Given as goal
 
 -- what is read, and what is left, is the whole

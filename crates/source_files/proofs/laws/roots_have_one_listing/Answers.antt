@@ -1,4 +1,4 @@
-use Rattle.source_files.proofs.OneListingLemmas.{one_listing}
+use Rattle.source_files.proofs.WalkOneListingLemmas.{one_listing}
 use Rattle.source_files.proofs.laws.roots_have_one_listing.Goals as goal
 
 pub returns : goal.returns

@@ -1,6 +1,6 @@
 use Rattle.std.specs.String.{string_eq}
 use Rattle.std.proofs.lemmas.List.Filters.{dedup_is}
-use Rattle.source_files.proofs.OnceLemmas.{are_once}
+use Rattle.source_files.proofs.WalkOnceLemmas.{are_once}
 use Rattle.source_files.proofs.load.once.Goals as goal
 
 pub returns : goal.returns

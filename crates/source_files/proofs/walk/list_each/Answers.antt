@@ -1,6 +1,6 @@
 use Rattle.std.proofs.Common.{map, string_bytes}
 use Rattle.source_files.proofs.ReadingLemmas.{texts_of_parts}
-use Rattle.source_files.proofs.PartLemmas.{none_had, part_had}
+use Rattle.source_files.proofs.WalkStepPartLemmas.{none_had, part_had}
 use Rattle.source_files.proofs.walk.list_each.Goals as goal
 
 pub loop-rest-init : goal.loop-rest-init

@@ -1,5 +1,5 @@
 use Rattle.std.proofs.Common.{length, map, string_bytes}
-use Rattle.source_files.proofs.PartLemmas.{HaveBut}
+use Rattle.source_files.proofs.WalkStepPartLemmas.{HaveBut}
 use Rattle.source_files.proofs.walk.list_each.Given as goal
 
 -- what the folders before those that are left have

@@ -1,6 +1,6 @@
 use Rattle.std.proofs.Common.{string_bytes}
 use Rattle.std.specs.declared.alloc.AllocError.{AllocError}
-use Rattle.source_files.proofs.PartLemmas.{have_each}
+use Rattle.source_files.proofs.WalkStepPartLemmas.{have_each}
 use Rattle.source_files.proofs.walk.list_part.Goals as goal
 
 pub returns-in-Ok : goal.returns-in-Ok

@@ -5,7 +5,7 @@ use Rattle.std.specs.List.{slice_split}
 use Rattle.std.specs.Prelude.{nat_eq}
 use borrow.Author.Tests.{tests}
 use Rattle.source_tree.specs.Path.{IsComponent, slash}
-use Rattle.source_tree.proofs.ComponentLemmas.{all_from}
+use Rattle.source_tree.proofs.PathComponentLemmas.{all_from}
 use Rattle.source_tree.proofs.path.has_good_components.Goals as goal
 
 pub returns : goal.returns

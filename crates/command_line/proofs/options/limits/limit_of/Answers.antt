@@ -4,7 +4,7 @@ use Rattle.std.specs.Str.Parse.{ParsesUnsigned, ExplainsUnsignedError, HasUnsign
 use Rattle.clap.specs.Words.{found_of}
 use Rattle.clap.proofs.WalkLemmas.{one_text-rows}
 use Rattle.command_line.specs.Options.Limits.{limit_in}
-use Rattle.command_line.proofs.LimitLemmas.{in_limit_is}
+use Rattle.command_line.proofs.ValueLimitLemmas.{in_limit_is}
 use Rattle.command_line.proofs.options.limits.limit_of.Goals as goal
 
 pub returns : goal.returns

@@ -4,7 +4,7 @@ use Rattle.std.specs.Str.Parse.{ParsesUnsigned, ExplainsUnsignedError, HasUnsign
 use Rattle.clap.specs.Words.{found_of}
 use Rattle.clap.proofs.WalkLemmas.{one_text-rows}
 use Rattle.command_line.specs.Options.Workers.{workers_in}
-use Rattle.command_line.proofs.WorkersLemmas.{fitting_is}
+use Rattle.command_line.proofs.ValueWorkersLemmas.{fitting_is}
 use Rattle.command_line.proofs.options.workers.workers_of.Goals as goal
 
 pub returns : goal.returns

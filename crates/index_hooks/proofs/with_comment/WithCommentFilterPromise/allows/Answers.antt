@@ -1,5 +1,5 @@
 -- An answer is allowed if it is that of the callback.
-use Rattle.index_hooks.proofs.SameAnswerLemmas.{same_answer}
+use Rattle.index_hooks.proofs.WithCommentLemmas.{same_answer}
 use Rattle.index_hooks.specs.ReadyPromises.{HasComment}
 use Rattle.index_hooks.proofs.with_comment.WithCommentFilterPromise.allows.Goals as goal
 

@@ -1,7 +1,7 @@
 use Rattle.std.proofs.Common.{◌≡◌, ◌<◌, [], ◌∷◌, ◌++◌, Some, length, sym, ap, ◌∙◌, subst, append_assoc, arith}
 use Rattle.std.proofs.Math.ListN.{length-set}
 use Rattle.std.specs.Vec.Iter.{into_iter_items}
-use Rattle.index_pool.proofs.ResultsLemmas.{number_below}
+use Rattle.index_pool.proofs.PhaseStepResultLemmas.{number_below}
 use Rattle.index_pool.proofs.InOrderLemmas.{Placed, placed_more, placed_fills, none_left}
 use Rattle.index_pool.proofs.phase.in_order.placed.Goals as goal
 

@@ -1,6 +1,6 @@
 use Rattle.std.proofs.Common.{◌+◌, sum_by, refl}
 use Rattle.index_pool.specs.LaneEnds.{owner_view, thief_view}
-use Rattle.index_pool.proofs.ResultsLemmas.{given_append}
+use Rattle.index_pool.proofs.PhaseStepResultLemmas.{given_append}
 use Rattle.index_pool.proofs.LevelsLemmas.{settle_weighs}
 use Rattle.index_pool.proofs.phase.levels.settle.Goals as goal
 

@@ -6,7 +6,7 @@ use Rattle.index_pool.specs.Lane.{more_popped}
 use Rattle.index_pool.specs.LaneEnds.{owner_view}
 use Rattle.index_pool.specs.Ticket.{number_of}
 use Rattle.index_pool.specs.Tables.PhaseSteps.{weight}
-use Rattle.index_pool.proofs.TakenLemmas.{popped_one, fewer_left, left_whole, given_one, weighs_one}
+use Rattle.index_pool.proofs.LaneEndTakenLemmas.{popped_one, fewer_left, left_whole, given_one, weighs_one}
 use Rattle.index_pool.proofs.phase.worker.run_own.Goals as goal
 
 pub pops-preserved : goal.pops-preserved

@@ -1,12 +1,13 @@
 use Rattle.std.proofs.Common.{◌∙◌, ◌++◌, ◌∷◌, [], sym, ap, sum_by, arith}
 use Rattle.std.specs.Prelude.{Result}
 use Rattle.std.proofs.lemmas.List.Elements.{All-same}
+use Rattle.index_pool.proofs.LaneEndsLemmas.{stole_same as stole_none}
 use Rattle.index_pool.specs.declared.lanes.rule.LaneView.{LaneView}
 use Rattle.index_pool.specs.declared.phase.worker.Ran.{Ran}
 use Rattle.index_pool.specs.Lane.{more_stolen}
 use Rattle.index_pool.specs.LaneEnds.{thief_view}
 use Rattle.index_pool.specs.Tables.PhaseSteps.{weight}
-use Rattle.index_pool.proofs.TakenLemmas.{stole_one, stole_none, given_one, weighs_one}
+use Rattle.index_pool.proofs.LaneEndTakenLemmas.{stole_one, given_one, weighs_one}
 use Rattle.index_pool.proofs.phase.worker.run_stolen.Goals as goal
 
 pub steals-preserved-in-Got : goal.steals-preserved-in-Got

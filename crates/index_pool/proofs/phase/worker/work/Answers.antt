@@ -1,12 +1,13 @@
 use Rattle.std.proofs.Common.{◌∙◌, ap, sym, subst, true≢false, sum_by, arith}
 use Rattle.std.specs.Prelude.{Result}
 use Rattle.std.proofs.lemmas.List.Elements.{All-same, All-nil}
+use Rattle.index_pool.proofs.LaneEndsLemmas.{popped_trans as popped_on}
 use Rattle.index_pool.specs.declared.lanes.ends.LaneOwner.{LaneOwner}
 use Rattle.index_pool.specs.declared.lanes.rule.LaneView.{LaneView}
 use Rattle.index_pool.specs.declared.phase.worker.Ran.{Ran}
 use Rattle.index_pool.specs.LaneEnds.{owner_view, found_empty}
 use Rattle.index_pool.specs.Tables.PhaseSteps.{PoppedMore, weight}
-use Rattle.index_pool.proofs.TakenLemmas.{popped_on, at_ok}
+use Rattle.index_pool.proofs.LaneEndTakenLemmas.{at_ok}
 use Rattle.index_pool.proofs.phase.worker.work.Goals as goal
 use Rattle.index_pool.proofs.phase.worker.work.Goals.{then-starved, else-starved}
 

@@ -2,7 +2,7 @@ use Rattle.std.proofs.Common.{map}
 use Rattle.std.specs.Option.{option_map}
 use Rattle.std.specs.String.{string_bytes}
 use Rattle.programs.specs.Choices.{IsChosenBy}
-use Rattle.programs.proofs.ReportLemmas.{of_a_fault, of_an_index}
+use Rattle.programs.proofs.ReportingLemmas.{of_a_fault, of_an_index}
 use Rattle.programs.proofs.reporting.Reporter.report.Goals as goal
 
 pub returns-in_ok-report_of_fault-in-Some-clause-made : goal.returns-in_ok-report_of_fault-in-Some-clause-made

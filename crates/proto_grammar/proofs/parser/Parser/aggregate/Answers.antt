@@ -1,5 +1,5 @@
 use Rattle.std.proofs.Common.{◌<◌, length, arith}
-use Rattle.proto_grammar.proofs.TokenLemmas.{token_found, one_shorter}
+use Rattle.proto_grammar.proofs.TerminalTokenLemmas.{token_found, one_shorter}
 use Rattle.proto_grammar.proofs.parser.Parser.aggregate.Goals as goal
 
 pub closed-requires : goal.closed-requires

@@ -1,9 +1,9 @@
 use Rattle.std.proofs.Common.{◌≡◌, ◌<◌, sym, ◌∙◌, arith}
 use Rattle.std.proofs.lemmas.Result.{err_from_is_err_and}
 use Rattle.proto_grammar.specs.Reading.Options.{deeper_at}
-use Rattle.proto_grammar.proofs.UntilLemmas.{Fails-of}
-use Rattle.proto_grammar.proofs.ClosedLemmas.{closed_goes_on, closed_stops, closed_is_done, deeper_bounded}
-use Rattle.proto_grammar.proofs.ClosedLemmas.{deeper_shorter}
+use Rattle.proto_grammar.proofs.RepetitionUntilLemmas.{Fails-of}
+use Rattle.proto_grammar.proofs.OptionClosedLemmas.{closed_goes_on, closed_stops, closed_is_done, deeper_bounded}
+use Rattle.proto_grammar.proofs.OptionClosedLemmas.{deeper_shorter}
 use Rattle.proto_grammar.proofs.parser.Parser.closed.Goals as goal
 
 pub tokens-smaller : goal.tokens-smaller

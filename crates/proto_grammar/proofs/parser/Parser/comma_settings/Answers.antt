@@ -4,8 +4,8 @@ use Rattle.proto_lex.specs.declared.token.TokenKind.TheVariants.{Comma}
 use Rattle.proto_grammar.specs.Terminal.{first_is, of_kind, not_next}
 use Rattle.proto_grammar.specs.Reading.Repetition.{passing}
 use Rattle.proto_grammar.specs.Reading.Options.{comma_setting_at, comma_settings_at}
-use Rattle.proto_grammar.proofs.UntilLemmas.{Fails-of, goes_on, is_done, stops}
-use Rattle.proto_grammar.proofs.StepsFall.{comma_settings_fall}
+use Rattle.proto_grammar.proofs.RepetitionUntilLemmas.{Fails-of, goes_on, is_done, stops}
+use Rattle.proto_grammar.proofs.RepetitionFallLemmas.{comma_settings_fall}
 use Rattle.proto_grammar.proofs.parser.Parser.comma_settings.Goals as goal
 
 pub settings-smaller : goal.settings-smaller

@@ -4,8 +4,8 @@ use Rattle.proto_lex.specs.declared.token.TokenKind.TheVariants.{Dot}
 use Rattle.proto_grammar.specs.Terminal.{first_is, of_kind, not_next}
 use Rattle.proto_grammar.specs.Reading.Repetition.{passing}
 use Rattle.proto_grammar.specs.Reading.Options.{dot_part_at, dot_parts_at}
-use Rattle.proto_grammar.proofs.UntilLemmas.{Fails-of, goes_on, is_done, stops}
-use Rattle.proto_grammar.proofs.StepsFall.{dot_parts_fall}
+use Rattle.proto_grammar.proofs.RepetitionUntilLemmas.{Fails-of, goes_on, is_done, stops}
+use Rattle.proto_grammar.proofs.RepetitionFallLemmas.{dot_parts_fall}
 use Rattle.proto_grammar.proofs.parser.Parser.dot_parts.Goals as goal
 
 pub parts-smaller : goal.parts-smaller

@@ -4,8 +4,8 @@ use Rattle.proto_lex.specs.declared.token.TokenKind.TheVariants.{StringLiteral}
 use Rattle.proto_grammar.specs.Terminal.{first_is, of_kind, not_next}
 use Rattle.proto_grammar.specs.Reading.Repetition.{passing}
 use Rattle.proto_grammar.specs.Reading.Options.{literal_at, literals_at}
-use Rattle.proto_grammar.proofs.UntilLemmas.{Fails-of, goes_on, is_done, stops}
-use Rattle.proto_grammar.proofs.StepsFall.{literals_fall}
+use Rattle.proto_grammar.proofs.RepetitionUntilLemmas.{Fails-of, goes_on, is_done, stops}
+use Rattle.proto_grammar.proofs.RepetitionFallLemmas.{literals_fall}
 use Rattle.proto_grammar.proofs.parser.Parser.literals.Goals as goal
 
 pub literals-smaller : goal.literals-smaller

@@ -1,4 +1,4 @@
-use Rattle.proto_grammar.proofs.Places.{first-offset}
+use Rattle.proto_grammar.proofs.TerminalPlaceLemmas.{first-offset}
 use Rattle.proto_grammar.proofs.parser.Parser.offset.Goals as goal
 
 pub returns : goal.returns

@@ -4,8 +4,8 @@ use Rattle.proto_lex.specs.declared.token.TokenKind.TheVariants.{Dot}
 use Rattle.proto_grammar.specs.Terminal.{first_is, of_kind, not_next}
 use Rattle.proto_grammar.specs.Reading.Repetition.{passing}
 use Rattle.proto_grammar.specs.Reading.Names.{pass_dot_name_at, pass_dot_names_at}
-use Rattle.proto_grammar.proofs.UntilLemmas.{Fails-of, goes_on, is_done, stops}
-use Rattle.proto_grammar.proofs.StepsFall.{pass_dot_names_fall}
+use Rattle.proto_grammar.proofs.RepetitionUntilLemmas.{Fails-of, goes_on, is_done, stops}
+use Rattle.proto_grammar.proofs.RepetitionFallLemmas.{pass_dot_names_fall}
 use Rattle.proto_grammar.proofs.parser.Parser.pass_dot_names.Goals as goal
 
 pub names-smaller : goal.names-smaller

@@ -1,5 +1,5 @@
 use Rattle.std.proofs.Common.{◌≡◌, Some, slice_get}
-use Rattle.proto_grammar.proofs.Places.{slice_get-got, first-lexemes_of}
+use Rattle.proto_grammar.proofs.TerminalPlaceLemmas.{slice_get-got, first-lexemes_of}
 use Rattle.proto_grammar.proofs.parser.Parser.peek.Goals as goal
 
 pub returns : goal.returns

@@ -1,7 +1,7 @@
 use Rattle.std.proofs.Common.{◌∙◌, arith}
 use Rattle.std.proofs.lemmas.List.Sums.{prefix_len-le-length}
 use Rattle.proto_lex.specs.Reading.{is_in_line}
-use Rattle.proto_lex.proofs.SearchLemmas.{line_len_is}
+use Rattle.proto_lex.proofs.ReadingSearchLemmas.{line_len_is}
 use Rattle.proto_lex.proofs.lexer.bytes.line_len.Goals as goal
 
 pub returns-clause-value : goal.returns-clause-value

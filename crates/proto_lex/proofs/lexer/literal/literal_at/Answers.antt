@@ -1,7 +1,7 @@
 use Rattle.std.proofs.Common.{◌∙◌, Err, ap, sym, arith, length-drop}
 use Rattle.std.proofs.lemmas.Result.{err_from_is_err_and}
 use Rattle.proto_lex.proofs.LiteralLemmas.{literal_step, literal_fault, literal_close, literal_end, character_positive}
-use Rattle.proto_lex.proofs.ReadLemmas.{length-after}
+use Rattle.proto_lex.proofs.ReadingTestLemmas.{length-after}
 use Rattle.proto_lex.proofs.lexer.literal.literal_at.Goals as goal
 
 pub returns-then-first-quote-clause-value : goal.returns-then-first-quote-clause-value

@@ -1,5 +1,5 @@
 use Rattle.std.proofs.Common.{arith}
-use Rattle.proto_lex.proofs.SearchLemmas.{block_closed, block_unclosed}
+use Rattle.proto_lex.proofs.ReadingSearchLemmas.{block_closed, block_unclosed}
 use Rattle.proto_lex.proofs.lexer.piece.block_len.Goals as goal
 
 pub overflow_add-result : goal.overflow_add-result

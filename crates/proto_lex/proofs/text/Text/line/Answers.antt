@@ -1,5 +1,5 @@
 use Rattle.std.proofs.Common.{sym}
-use Rattle.proto_lex.proofs.LineStartLemmas.{line_of-is}
+use Rattle.proto_lex.proofs.PositionLineStartLemmas.{line_of-is}
 use Rattle.proto_lex.proofs.text.Text.line.Goals as goal
 
 pub returns : goal.returns

@@ -2,7 +2,7 @@ use Rattle.std.proofs.Common.{◌≡◌, ◌∙◌, ◌≤◌, ◌-◌, List, �
 use Rattle.std.proofs.lemmas.List.Sorted.{IsPartitionPoint-from_clause, IsPartitionedBy-leb}
 use Rattle.std.specs.List.Sorted.{IsNonDecreasingBy}
 use Rattle.proto_lex.specs.Position.{line_starts}
-use Rattle.proto_lex.proofs.LineStartLemmas.{IsLineAt, line_starts_rise, line_at_point}
+use Rattle.proto_lex.proofs.PositionLineStartLemmas.{IsLineAt, line_starts_rise, line_at_point}
 use Rattle.proto_lex.proofs.text.Text.line_at.Goals as goal
 
 found : (c : goal.After-partition_point)

@@ -1,7 +1,7 @@
 use Rattle.std.proofs.Common.{◌≡◌, ◌∙◌, ℕ, ap, get_or, length, arith}
 use Rattle.std.proofs.lemmas.List.{get_or_default}
 use Rattle.proto_lex.specs.Position.{line_starts}
-use Rattle.proto_lex.proofs.LineStartLemmas.{IsLineAt, line-fits, position_of-is}
+use Rattle.proto_lex.proofs.PositionLineStartLemmas.{IsLineAt, line-fits, position_of-is}
 use Rattle.proto_lex.proofs.text.Text.position.Goals as goal
 
 pub overflow_cast-result : goal.overflow_cast-result

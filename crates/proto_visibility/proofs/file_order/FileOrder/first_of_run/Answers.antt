@@ -1,5 +1,5 @@
 use Rattle.std.proofs.Common.{arith}
-use Rattle.proto_visibility.proofs.OrderLemmas.{none_of_run_more}
+use Rattle.proto_visibility.proofs.FileOrderLemmas.{none_of_run_more}
 use Rattle.proto_visibility.proofs.file_order.FileOrder.first_of_run.Goals as goal
 
 pub loop-place-init : goal.loop-place-init

@@ -1,4 +1,4 @@
-use Rattle.proto_visibility.proofs.OrderLemmas.{NoneOfRunUpTo}
+use Rattle.proto_visibility.proofs.FileOrderLemmas.{NoneOfRunUpTo}
 use Rattle.proto_visibility.proofs.file_order.FileOrder.first_of_run.Given as goal
 
 abbrev pub invariant-loop-place : goal.invariant-loop-place

@@ -4,7 +4,7 @@ use Rattle.std.specs.List.{slice_get}
 use Rattle.std.proofs.lemmas.Option.{slice_get-get_or}
 use Rattle.std.proofs.lemmas.List.{length_push}
 use Rattle.proto_visibility.specs.Tables.Rows.{files_at}
-use Rattle.proto_visibility.proofs.OrderLemmas.{placed_more}
+use Rattle.proto_visibility.proofs.FileOrderLemmas.{placed_more}
 use Rattle.proto_visibility.proofs.file_order.FileOrder.places_of.Goals as goal
 
 pub unwrap-requires : goal.unwrap-requires

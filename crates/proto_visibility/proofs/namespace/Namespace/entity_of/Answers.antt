@@ -1,6 +1,6 @@
 use Rattle.std.proofs.Common.{List, sym, subst}
 use Rattle.proto_visibility.specs.Files.{File, HasFacts}
-use Rattle.proto_visibility.proofs.EntityLemmas.{names_of_file}
+use Rattle.proto_visibility.proofs.LookupEntityLemmas.{names_of_file}
 use Rattle.proto_visibility.proofs.namespace.Namespace.entity_of.Goals as goal
 
 pub entity_in-requires-clause-names : goal.entity_in-requires-clause-names

@@ -3,7 +3,7 @@ use Rattle.std.specs.List.{slice_get}
 use Rattle.std.proofs.lemmas.Option.{slice_get_read}
 use Rattle.proto_decl.specs.Facts.{Facts}
 use Rattle.proto_visibility.specs.Files.{File, HasFacts}
-use Rattle.proto_visibility.proofs.FactLemmas.{facts_at}
+use Rattle.proto_visibility.proofs.FileFactLemmas.{facts_at}
 use Rattle.proto_visibility.proofs.namespace.Namespace.facts_of.Goals as goal
 
 pub returns : goal.returns

@@ -2,10 +2,9 @@ use Rattle.std.proofs.Common.{◌≡◌, ◌↔◌, ℕ, ◌<◌, List, length, 
 use Rattle.std.specs.List.{Contains}
 use Rattle.proto_visibility.specs.Files.{File}
 use Rattle.proto_visibility.specs.Sees.{Sees}
-use Rattle.proto_visibility.specs.Knows.{KnowsAs}
-use Rattle.proto_visibility.specs.FileNames.{admits, SeesGiving}
-use Rattle.proto_visibility.proofs.NameOwnerLemmas.{knows_by}
-use Rattle.proto_visibility.proofs.ListedLemmas.{found_in_files}
+use Rattle.proto_visibility.specs.Knows.{KnowsAs, admits, SeesGiving}
+use Rattle.proto_visibility.proofs.LookupKnownLemmas.{knows_by}
+use Rattle.proto_visibility.proofs.LookupListedLemmas.{found_in_files}
 use Rattle.proto_visibility.proofs.namespace.Namespace.giving_file.Goals as goal
 
 pub row-requires : goal.row-requires

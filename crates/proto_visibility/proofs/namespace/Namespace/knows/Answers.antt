@@ -1,7 +1,6 @@
 use Rattle.std.proofs.Common.{◌↔◌, IsTrue, sym, subst}
-use Rattle.proto_visibility.specs.FileNames.{admits}
-use Rattle.proto_visibility.specs.Knows.{KnowsAs}
-use Rattle.proto_visibility.proofs.NameOwnerLemmas.{knows_iff}
+use Rattle.proto_visibility.specs.Knows.{admits, KnowsAs}
+use Rattle.proto_visibility.proofs.LookupKnownLemmas.{knows_iff}
 use Rattle.proto_visibility.proofs.namespace.Namespace.knows.Goals as goal
 
 pub returns : goal.returns

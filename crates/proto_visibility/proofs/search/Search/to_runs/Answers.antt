@@ -2,7 +2,7 @@ use Rattle.std.proofs.Common.{◌↔◌, ◌<◌, All, List, ℕ, ap, sym, ◌�
 use Rattle.std.specs.List.{Contains}
 use Rattle.std.proofs.lemmas.List.Sorted.{IsNonDecreasingBy-from_sort}
 use Rattle.proto_visibility.specs.Tables.Visits.{Found}
-use Rattle.proto_visibility.proofs.OrderLemmas.{found_by_runs}
+use Rattle.proto_visibility.proofs.FileOrderLemmas.{found_by_runs}
 use Rattle.proto_visibility.proofs.search.Search.to_runs.Goals as goal
 
 pub places_of-requires : goal.places_of-requires

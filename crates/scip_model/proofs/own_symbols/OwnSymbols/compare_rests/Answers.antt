@@ -1,9 +1,9 @@
 use Rattle.std.proofs.Common.{◌≡◌, ◌∙◌, ◌++◌, List, ℕ, Some, ap, sym, subst, nat_cmp}
 use Rattle.std.specs.List.{slice_get}
 use Rattle.std.specs.Cmp.Lexicographic.{slice_cmp}
-use Rattle.scip_model.specs.Tables.JoinedTexts.{behind}
+use Rattle.scip_model.specs.Tables.OwnTexts.{behind}
 use Rattle.scip_model.specs.Tables.Plans.{text_at}
-use Rattle.scip_model.proofs.PartOrderLemmas.{same_front}
+use Rattle.scip_model.proofs.SymbolTableOrderLemmas.{same_front}
 use Rattle.scip_model.proofs.PlanLemmas.{text_of_own}
 use Rattle.scip_model.proofs.own_symbols.OwnSymbols.compare_rests.Goals as goal
 

@@ -1,7 +1,7 @@
 use Rattle.std.proofs.Common.{◌∙◌, ◌-◌, List, ℕ, ap, map}
 use Rattle.std.specs.String.{string_bytes}
 use Rattle.scip_model.specs.Tables.Plans.{text_at}
-use Rattle.scip_model.proofs.JoinedLemmas.{none_past}
+use Rattle.scip_model.proofs.OwnTextJoinedLemmas.{none_past}
 use Rattle.scip_model.proofs.PlanLemmas.{text_of_own, text_of_other}
 use Rattle.scip_model.proofs.symbol_table.SymbolTable.at.Goals as goal
 

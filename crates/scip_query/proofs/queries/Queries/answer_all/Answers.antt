@@ -2,7 +2,7 @@ use Rattle.std.proofs.Common.{◌≡◌, ◌<◌, ◌++◌, [], length, take, re
 use Rattle.std.proofs.lemmas.List.{append-nil}
 use Rattle.std.proofs.lemmas.Result.{err_from_is_err_and}
 use Rattle.streams.specs.Streams.{one_more}
-use Rattle.streams.specs.WholeReads.{IsReadThrough}
+use Rattle.streams.specs.Readers.{reading, IsReadThrough}
 use Rattle.streams.specs.declared.failed.Failed.{Failed}
 use Rattle.streams.proofs.WholeReadLemmas.{one-more-read, no-end, one-end, consumed, kept-left, nothing-left}
 use Rattle.streams.proofs.WholeReadLemmas.{reads-full, more-reads}
@@ -13,7 +13,7 @@ use Rattle.scip_query.proofs.queries.Queries.answer_all.Goals as goal
 pub reads-init : goal.reads-init
 reads-init g c = record {
   read = [];
-  stands = starts g.W.Sink.contents g.W.Sink.failures c.args.self.now c.args.answers.now _ c.new.ensures.items refl;
+  stands = starts g.W.Sink c.args.self.now c.args.answers.now _ c.new.ensures.items refl;
   behind = λ all e. (all, e, refl);
   failures = refl;
   no_reads = λ _. refl;
@@ -29,7 +29,7 @@ returns-in-Err-clause-replies g c =
     let sink = g.W.Sink in
     let feed = g.R.Feed in
     let so_far = c.reads.invariant in
-    unread_due sink.contents sink.failures c.args.self.now c.args.answers.now (feed.remaining c.args.commands.now)
+    unread_due sink c.args.self.now c.args.answers.now (feed.remaining c.args.commands.now)
     (feed.remaining c.read.new.self) so_far.read c.reads.conversation c.reads.answers
     (λ all e.
     let behind = so_far.behind all e in
@@ -43,7 +43,7 @@ returns-then-count-eq0-clause-replies g c =
     let sink = g.W.Sink in
     let feed = g.R.Feed in
     let so_far = c.reads.invariant in
-    concluded_due sink.contents sink.failures c.args.self.now c.args.answers.now (feed.remaining c.args.commands.now)
+    concluded_due sink c.args.self.now c.args.answers.now (feed.remaining c.args.commands.now)
     (feed.remaining c.read.new.self) so_far.read c.conclude.new.answers c.conclude.result
     (λ all e.
     let behind = so_far.behind all e in
@@ -59,13 +59,13 @@ returns-then-count-eq0-clause-feed g c =
     let sink = g.W.Sink in
     let feed = g.R.Feed in
     let so_far = c.reads.invariant in
-    let through : IsReadThrough feed.failures feed.ends c.args.commands.now c.read.new.self = (
+    let through : IsReadThrough (reading feed c.args.commands.now c.read.new.self) = (
       c.in-Ok.ensures.failures ∙ so_far.failures,
       c.in-Ok.ensures.ends ∙ one-end Failed _ c.in-Ok.count _ c.if-count-eq0.true (omega arith)
           ∙ ap one_more so_far.ends,
     ) in
-    concluded_feed sink.contents sink.failures c.args.self.now c.args.answers.now feed.failures feed.reads feed.ends
-    c.args.commands.now c.read.new.self so_far.read c.conclude.new.answers c.conclude.result
+    concluded_feed sink c.args.self.now c.args.answers.now (reading feed c.args.commands.now c.read.new.self)
+    so_far.read c.conclude.new.answers c.conclude.result
     (c.conclude.ensures c.args.answers.now so_far.read so_far.stands) through
 
 -- on the way
@@ -76,7 +76,7 @@ returns-in_err-take_in_all-clause-replies g c =
     let feed = g.R.Feed in
     let so_far = c.reads.invariant in
     let p = err_from_is_err_and c.from_residual.result c.from_residual.ensures.1 in
-    rw (p.1, p.2) (halted_on_the_way sink.contents sink.failures c.args.self.now c.args.answers.now
+    rw (p.1, p.2) (halted_on_the_way sink c.args.self.now c.args.answers.now
     (feed.remaining c.args.commands.now) (feed.remaining c.read.new.self)
     _ c.take_in_all.new.conversation c.take_in_all.new.answers c.in_err-take_in_all.field-0.0
     (λ all e.
@@ -94,8 +94,8 @@ returns-in_err-take_in_all-clause-feed g c =
     let feed = g.R.Feed in
     let so_far = c.reads.invariant in
     let p = err_from_is_err_and c.from_residual.result c.from_residual.ensures.1 in
-    rw (p.1, p.2) (halted_feed sink.contents sink.failures c.args.self.now c.args.answers.now feed.failures feed.reads
-    feed.ends c.args.commands.now c.read.new.self _ c.take_in_all.new.conversation c.take_in_all.new.answers
+    rw (p.1, p.2) (halted_feed sink c.args.self.now c.args.answers.now (reading feed c.args.commands.now
+    c.read.new.self) _ c.take_in_all.new.conversation c.take_in_all.new.answers
     c.in_err-take_in_all.field-0.0
     (c.in_err-take_in_all.ensures c.args.answers.now so_far.read so_far.stands)
     (c.in-Ok.ensures.failures ∙ so_far.failures))
@@ -132,6 +132,6 @@ returns-clause-replies g c =
     let sink = g.W.Sink in
     let feed = g.R.Feed in
     let so_far = c.reads.invariant in
-    unread_due sink.contents sink.failures c.args.self.now c.args.answers.now (feed.remaining c.args.commands.now)
+    unread_due sink c.args.self.now c.args.answers.now (feed.remaining c.args.commands.now)
     (feed.remaining c.reads.commands) so_far.read c.reads.conversation c.reads.answers
     so_far.behind so_far.stands

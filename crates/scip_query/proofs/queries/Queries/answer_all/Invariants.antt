@@ -9,7 +9,7 @@ invariant-reads g l =
     let feed = g.R.Feed in
     record {
       read : List ℕ;
-      stands : Stands g.W.Sink.contents g.W.Sink.failures l.self l.fn.answers read l.conversation l.answers;
+      stands : Stands g.W.Sink l.self l.fn.answers read l.conversation l.answers;
       behind : (all : List ℕ) → feed.remaining l.fn.commands ≡ Some all
           → (rest : List ℕ) × (feed.remaining l.commands ≡ Some rest) × (all ≡ read ++ rest);
       failures : feed.failures l.commands ≡ feed.failures l.fn.commands;

@@ -4,7 +4,7 @@ use Rattle.std.specs.Option.{option_and_then}
 use Rattle.scip_query.specs.declared.place.EntryPlace.{EntryPlace}
 use Rattle.scip_query.specs.Tables.Searches.{entry_listed}
 use Rattle.scip_query.specs.Views.{subject_view}
-use Rattle.scip_query.proofs.EntryLemmas.{has_symbol, is_in, found_globally, found_locally, passing_rise}
+use Rattle.scip_query.proofs.SearchEntryLemmas.{has_symbol, is_in, found_globally, found_locally, passing_rise}
 use Rattle.scip_query.proofs.queries.Queries.entry_among.Goals as goal
 
 pub entry_places_in-requires : goal.entry_places_in-requires

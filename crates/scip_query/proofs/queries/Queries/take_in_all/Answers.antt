@@ -11,9 +11,9 @@ returns-in_err-take_in g c = λ first read stands.
     let at = c.loop-byte.byte-index in
     let refused = c.in_err-take_in.ensures first (read ++ take at c.args.bytes.now)
     (c.loop-byte.invariant first read stands) in
-    rw (p.1, p.2) (subst (λ (bytes : List ℕ). Goes sink.contents sink.failures c.args.self.now first bytes
+    rw (p.1, p.2) (subst (λ (bytes : List ℕ). Goes sink c.args.self.now first bytes
     c.take_in.new.conversation c.take_in.new.answers (Err c.in_err-take_in.field-0.0))
     (taken_all read c.args.bytes.now at (omega arith))
-    (refused_further sink.contents sink.failures c.args.self.now first _
+    (refused_further sink c.args.self.now first _
     (drop (at + 1) c.args.bytes.now) c.take_in.new.conversation c.take_in.new.conversation c.take_in.new.answers
     c.in_err-take_in.field-0.0 refused))

@@ -6,6 +6,6 @@ use Rattle.scip_query.proofs.queries.Queries.take_in_all.Given as goal
 abbrev pub invariant-loop-byte : goal.invariant-loop-byte
 invariant-loop-byte g l =
     (first : g.row.W.Denot) (read : List ℕ)
-    → Stands g.W.Sink.contents g.W.Sink.failures l.self first read l.fn.conversation l.fn.answers
-    → Stands g.W.Sink.contents g.W.Sink.failures l.self first
+    → Stands g.W.Sink l.self first read l.fn.conversation l.fn.answers
+    → Stands g.W.Sink l.self first
     (read ++ take l.byte-index l.bytes) l.conversation l.answers

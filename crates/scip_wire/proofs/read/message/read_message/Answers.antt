@@ -4,7 +4,7 @@ use Rattle.scip_wire.specs.Reading.{field_at}
 use Rattle.scip_wire.specs.Views.{field_view}
 use Rattle.scip_wire.specs.Blamed.{field_fault}
 use Rattle.scip_wire.proofs.BlamedFoldLemmas.{blame_goes_on, blame_unread, blame_failed}
-use Rattle.scip_wire.proofs.FoldLemmas.{goes_on, unread, failed, is_done, field_shortens, payload_fits}
+use Rattle.scip_wire.proofs.ReadingFoldLemmas.{goes_on, unread, failed, is_done, field_shortens, payload_fits}
 use Rattle.scip_wire.proofs.read.message.read_message.Goals as goal
 
 pub returns-in_err-field-clause-reads : goal.returns-in_err-field-clause-reads

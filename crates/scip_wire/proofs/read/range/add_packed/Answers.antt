@@ -4,7 +4,7 @@ use Rattle.scip_wire.specs.Fields.{max_varint_len}
 use Rattle.scip_wire.specs.Reading.{varint_at, packed_step}
 use Rattle.scip_wire.specs.Blamed.{varint_fault, no_step_fault, packed_fault}
 use Rattle.scip_wire.proofs.BlamedFoldLemmas.{blame_goes_on, blame_unread}
-use Rattle.scip_wire.proofs.FoldLemmas.{goes_on, unread, is_done}
+use Rattle.scip_wire.proofs.ReadingFoldLemmas.{goes_on, unread, is_done}
 use Rattle.scip_wire.proofs.DecodesLemmas.{varint_shortens}
 use Rattle.scip_wire.proofs.read.range.add_packed.Goals as goal
 

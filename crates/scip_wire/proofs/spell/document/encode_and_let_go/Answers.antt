@@ -4,7 +4,7 @@ use Rattle.scip_wire.specs.Spelling.{bytes_of, varint}
 use Rattle.scip_wire.specs.Halves.{back_fields}
 use Rattle.scip_wire.specs.Saturated.{fields_len}
 use Rattle.scip_wire.proofs.OutputLemmas.{alike, both}
-use Rattle.scip_wire.proofs.HalfLemmas.{halves_joined, front_short, back_short}
+use Rattle.scip_wire.proofs.SpellingHalfLemmas.{halves_joined, front_short, back_short}
 use Rattle.scip_wire.proofs.spell.document.encode_and_let_go.Goals as goal
 
 pub encode_front-requires : goal.encode_front-requires

@@ -1,10 +1,11 @@
 use Rattle.std.proofs.Common.{◌<◌, ◌≤◌, arith, length, sym}
 use Rattle.std.proofs.lemmas.Option.{get_or_from_slice_get}
+use Rattle.basics.proofs.ListLemmas.{all_taken as fit_done}
 use Rattle.scip_records.specs.declared.records.SymbolInformation.{SymbolInformation}
 use Rattle.scip_wire.specs.Fields.{Field}
 use Rattle.scip_wire.specs.Spelling.{bytes_of, bytes_field, info_fields}
 use Rattle.scip_wire.specs.WellFormed.{IsFitInfo}
-use Rattle.scip_wire.proofs.SaturatedLemmas.{len_further, len_done, fit_further, fit_done}
+use Rattle.scip_wire.proofs.SaturatedLemmas.{len_further, len_done, fit_further}
 use Rattle.scip_wire.proofs.spell.document.entries_len.Goals as goal
 
 pub entry-requires : goal.entry-requires

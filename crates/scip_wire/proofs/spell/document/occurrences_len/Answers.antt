@@ -1,10 +1,11 @@
 use Rattle.std.proofs.Common.{◌<◌, ◌≤◌, arith, length, sym}
 use Rattle.std.proofs.lemmas.Option.{get_or_from_slice_get}
+use Rattle.basics.proofs.ListLemmas.{all_taken as fit_done}
 use Rattle.scip_records.specs.declared.records.Occurrence.{Occurrence}
 use Rattle.scip_wire.specs.Fields.{Field}
 use Rattle.scip_wire.specs.Spelling.{bytes_of, bytes_field, occurrence_fields}
 use Rattle.scip_wire.specs.WellFormed.{IsFitOccurrence}
-use Rattle.scip_wire.proofs.SaturatedLemmas.{len_further, len_done, fit_further, fit_done}
+use Rattle.scip_wire.proofs.SaturatedLemmas.{len_further, len_done, fit_further}
 use Rattle.scip_wire.proofs.spell.document.occurrences_len.Goals as goal
 
 pub occurrence-requires : goal.occurrence-requires

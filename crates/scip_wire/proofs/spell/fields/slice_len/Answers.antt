@@ -1,7 +1,8 @@
 use Rattle.std.proofs.Common.{arith, [], ◌∷◌, ap, ◌∙◌, subst, IsUtf8}
+use Rattle.basics.proofs.ListLemmas.{all_taken as fit_done}
 use Rattle.scip_wire.specs.Spelling.{bytes_field}
 use Rattle.scip_wire.specs.Saturated.{saturated, fields_len}
-use Rattle.scip_wire.proofs.SaturatedLemmas.{len_further, len_done, fit_further, fit_done}
+use Rattle.scip_wire.proofs.SaturatedLemmas.{len_further, len_done, fit_further}
 use Rattle.scip_wire.proofs.spell.fields.slice_len.Goals as goal
 
 pub texts-preserved : goal.texts-preserved

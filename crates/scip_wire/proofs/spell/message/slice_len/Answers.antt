@@ -1,6 +1,7 @@
 use Rattle.std.proofs.Common.{arith}
+use Rattle.basics.proofs.ListLemmas.{all_taken as fit_done}
 use Rattle.scip_wire.specs.Spelling.{bytes_of, bytes_field}
-use Rattle.scip_wire.proofs.SaturatedLemmas.{len_further, fit_further, fit_done}
+use Rattle.scip_wire.proofs.SaturatedLemmas.{len_further, fit_further}
 use Rattle.scip_wire.proofs.spell.message.slice_len.Goals as goal
 
 pub messages-preserved : goal.messages-preserved

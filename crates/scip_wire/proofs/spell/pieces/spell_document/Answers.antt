@@ -1,6 +1,6 @@
 use Rattle.std.proofs.Common.{◌≤◌, ◌<◌, ◌-◌, ◌^◌, ◌∙◌, length, arith, ap}
 use Rattle.scip_wire.specs.Spelling.{document_record}
-use Rattle.scip_wire.proofs.HalfLemmas.{record_room}
+use Rattle.scip_wire.proofs.SpellingHalfLemmas.{record_room}
 use Rattle.scip_wire.proofs.ShortenedLemmas.{all_shortened}
 use Rattle.scip_wire.proofs.spell.pieces.spell_document.Goals as goal
 

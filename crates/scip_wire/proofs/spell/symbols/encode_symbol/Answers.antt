@@ -1,6 +1,6 @@
 use Rattle.std.proofs.Common.{◌≡◌, ◌∙◌, length, arith, ap}
 use Rattle.scip_wire.specs.Saturated.{saturated}
-use Rattle.scip_wire.proofs.LentLemmas.{symbol_record, empty_symbol}
+use Rattle.scip_wire.proofs.SpellingRefLemmas.{symbol_record, empty_symbol}
 use Rattle.scip_wire.proofs.OutputLemmas.{alike, both, nothing}
 use Rattle.scip_wire.proofs.spell.symbols.encode_symbol.Goals as goal
 

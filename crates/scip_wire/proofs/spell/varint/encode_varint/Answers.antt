@@ -1,5 +1,5 @@
 use Rattle.std.proofs.Common.{arith, sym}
-use Rattle.scip_wire.proofs.SpelledVarintLemmas.{varint_last, varint_more}
+use Rattle.scip_wire.proofs.SpellingVarintLemmas.{varint_last, varint_more}
 use Rattle.scip_wire.proofs.OutputLemmas.{alike, both}
 use Rattle.scip_wire.proofs.spell.varint.encode_varint.Goals as goal
 

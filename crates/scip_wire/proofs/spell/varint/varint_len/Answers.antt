@@ -1,5 +1,5 @@
 use Rattle.std.proofs.Common.{arith, length, ap}
-use Rattle.scip_wire.proofs.SpelledVarintLemmas.{varint_last, varint_more, length-varint-le}
+use Rattle.scip_wire.proofs.SpellingVarintLemmas.{varint_last, varint_more, length-varint-le}
 use Rattle.scip_wire.proofs.spell.varint.varint_len.Goals as goal
 
 pub overflow_add-len : goal.overflow_add-len

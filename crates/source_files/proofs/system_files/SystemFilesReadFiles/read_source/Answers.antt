@@ -1,4 +1,4 @@
-use Rattle.source_files.proofs.KeptLemmas.{kept_whole}
+use Rattle.source_files.proofs.SystemFileKeptLemmas.{kept_whole}
 use Rattle.source_files.proofs.system_files.SystemFilesReadFiles.read_source.Goals as goal
 
 pub returns-in-Some : goal.returns-in-Some

@@ -3,7 +3,7 @@ use Rattle.std.specs.List.{slice_get}
 use Rattle.std.specs.Option.{option_map}
 use lib.Dec.{leb}
 use Rattle.source_tree.specs.Files.{TreeFile}
-use Rattle.source_tree.proofs.PlaceLemmas.{is_included_at, length-files}
+use Rattle.source_tree.proofs.FilePlaceLemmas.{is_included_at, length-files}
 use Rattle.source_tree.proofs.tree.Tree.is_included.Goals as goal
 
 pub returns : goal.returns

@@ -1,6 +1,6 @@
 use Rattle.std.proofs.Common.{◌≡◌, length, subst, arith}
 use Rattle.source_tree.specs.Trees.{IsSourceCount}
-use Rattle.source_tree.proofs.PlaceLemmas.{count_of}
+use Rattle.source_tree.proofs.FilePlaceLemmas.{count_of}
 use Rattle.source_tree.proofs.tree.Tree.source_count.Goals as goal
 
 pub returns : goal.returns

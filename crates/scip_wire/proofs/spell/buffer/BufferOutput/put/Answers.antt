@@ -6,8 +6,8 @@ use Rattle.scip_wire.proofs.spell.buffer.BufferOutput.put.Goals as goal
 pub returns-then-is_ok : goal.returns-then-is_ok
 returns-then-is_ok g c =
     let ok = sym c.is_ok.ensures.value ∙ c.if-is_ok.true in
-    put_of g.W.Sink.contents g.W.Sink.failures _ _ _ _ _
-    (Passes-in g.W.Sink.contents g.W.Sink.failures _ _ _ _ _
+    put_of g.W.Sink _ _ _ _ _
+    (Passes-in g.W.Sink _ _ _ _ _
     (tried _ c.try_extend_from_slice.result ok c.try_extend_from_slice.ensures.ok))
 
 pub returns-then-is_err : goal.returns-then-is_err
@@ -18,8 +18,8 @@ returns-then-is_err g c =
     (refused _ c.try_extend_from_slice.result first c.try_extend_from_slice.ensures.err) in
     let kept = ap (λ (v : ArrayVec ℕ). v.items)
     (refused _ c.try_extend_from_slice-2.result second c.try_extend_from_slice-2.ensures.err) in
-    put_of g.W.Sink.contents g.W.Sink.failures _ _ _ _ _
-    (Passes-past g.W.Sink.contents g.W.Sink.failures _ _ _ _ _ _ _ _ _ _ _ same c.flush.ensures.empty kept
+    put_of g.W.Sink _ _ _ _ _
+    (Passes-past g.W.Sink _ _ _ _ _ _ _ _ _ _ _ same c.flush.ensures.empty kept
     c.flush.ensures.put c.send.ensures)
 
 pub returns-else-is_err : goal.returns-else-is_err
@@ -29,6 +29,6 @@ returns-else-is_err g c =
     let same = ap (λ (v : ArrayVec ℕ). v.items)
     (refused _ c.try_extend_from_slice.result first c.try_extend_from_slice.ensures.err) in
     let more = tried _ c.try_extend_from_slice-2.result second c.try_extend_from_slice-2.ensures.ok in
-    put_of g.W.Sink.contents g.W.Sink.failures _ _ _ _ _
-    (Passes-flushed g.W.Sink.contents g.W.Sink.failures _ _ _ _ _ _ _ _ _ same c.flush.ensures.empty more
+    put_of g.W.Sink _ _ _ _ _
+    (Passes-flushed g.W.Sink _ _ _ _ _ _ _ _ _ same c.flush.ensures.empty more
     c.flush.ensures.put)

@@ -1,5 +1,5 @@
 use Rattle.scip_wire.proofs.OutputLemmas.{alike, both}
-use Rattle.scip_wire.proofs.HalfLemmas.{halves_joined, front_short, back_short}
+use Rattle.scip_wire.proofs.SpellingHalfLemmas.{halves_joined, front_short, back_short}
 use Rattle.scip_wire.proofs.spell.document.DocumentMessageEncode.encode.Goals as goal
 
 pub encode_front-requires : goal.encode_front-requires

@@ -1,5 +1,5 @@
 use Rattle.std.proofs.Common.{◌≡◌, rules, to_z, of_z, w32}
-use Rattle.scip_wire.proofs.EncodeLemmas.{added, int_len-same}
+use Rattle.scip_wire.proofs.SpellingEncodeLemmas.{added, int_len-same}
 use Rattle.scip_wire.proofs.spell.records.MetadataEncode.encoded_len.Goals as goal
 
 pub returns-clause-value : goal.returns-clause-value

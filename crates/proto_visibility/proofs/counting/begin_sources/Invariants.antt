@@ -1,7 +1,0 @@
-use Rattle.std.proofs.Common.{◌≡◌, length}
-use Rattle.proto_visibility.proofs.CountingLemmas.{HasBegun}
-use Rattle.proto_visibility.proofs.counting.begin_sources.Given as goal
-
-abbrev pub invariant-loop-number : goal.invariant-loop-number
-invariant-loop-number l =
-    record { files : l.search.files ≡ length l.table; begun : HasBegun l.files l.table l.number l.search.numbers }

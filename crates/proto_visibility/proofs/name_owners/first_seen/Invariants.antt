@@ -1,5 +1,0 @@
-use Rattle.proto_visibility.proofs.ListedLemmas.{NoneSharedUpTo}
-use Rattle.proto_visibility.proofs.name_owners.first_seen.Given as goal
-
-abbrev pub invariant-loop-number : goal.invariant-loop-number
-invariant-loop-number l = NoneSharedUpTo l.numbers l.row l.number-index

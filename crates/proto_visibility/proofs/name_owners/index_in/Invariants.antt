@@ -1,5 +1,0 @@
-use Rattle.proto_visibility.proofs.ListedLemmas.{NoneOfFileUpTo}
-use Rattle.proto_visibility.proofs.name_owners.index_in.Given as goal
-
-abbrev pub invariant-loop-listed : goal.invariant-loop-listed
-invariant-loop-listed l = NoneOfFileUpTo l.declared l.file l.listed-index

@@ -1,6 +1,0 @@
-use Rattle.proto_visibility.proofs.RunLemmas.{far_numbers}
-use Rattle.proto_visibility.proofs.runs.with_next.Goals as goal
-
-pub returns-clause-numbers : goal.returns-clause-numbers
-returns-clause-numbers c = λ other.
-    rw c.in_ok-push.ensures.items (far_numbers c.args.runs.now.items c.args.run c.args.number other)

@@ -1,0 +1,53 @@
+use Rattle.std.proofs.Common.{◌≡◌, ◌<◌, Some, length, refl, sym, ◌∙◌, arith}
+use Rattle.std.specs.List.{slice_get}
+use Rattle.std.proofs.lemmas.Option.{slice_get_read}
+use Rattle.proto_visibility.proofs.SeeingReachableLemmas.{begun_none, begun_skip, begun_more, begun_all}
+use Rattle.proto_visibility.proofs.seeing.begin_sources.Goals as goal
+
+pub loop-number-init : goal.loop-number-init
+loop-number-init c = record {
+  files = c.requires.files;
+  begun = begun_none c.args.files.now c.args.table.now c.args.search.now.numbers c.requires.none;
+}
+
+pub loop-number-preserved-then-is_included : goal.loop-number-preserved-then-is_included
+loop-number-preserved-then-is_included c =
+    let files = c.args.files.now in
+    let file = c.index-files-number.result in
+    let number = c.loop-number.number in
+    let within : number < length files = omega arith in
+    let stands : slice_get files number ≡ Some file =
+    slice_get_read files (length files) number file refl within c.index-files-number.is in
+    record {
+      files = c.loop-number.invariant.files;
+      begun = begun_skip files c.args.table.now number file c.loop-number.search.numbers stands
+          (sym c.is_included.ensures ∙ c.if-is_included.true) c.loop-number.invariant.begun;
+    }
+
+pub begin-requires-clause-within : goal.begin-requires-clause-within
+begin-requires-clause-within c = c.requires.table.within
+
+pub begin-requires-clause-files : goal.begin-requires-clause-files
+begin-requires-clause-files c = c.loop-number.invariant.files
+
+pub begin-requires-clause-file : goal.begin-requires-clause-file
+begin-requires-clause-file c = omega (arith, c.requires.table.one_each)
+
+pub loop-number-preserved : goal.loop-number-preserved
+loop-number-preserved c =
+    let files = c.args.files.now in
+    let file = c.index-files-number.result in
+    let number = c.loop-number.number in
+    let within : number < length files = omega arith in
+    let stands : slice_get files number ≡ Some file =
+    slice_get_read files (length files) number file refl within c.index-files-number.is in
+    record {
+      files = c.in_ok-begin.ensures.files ∙ c.loop-number.invariant.files;
+      begun = begun_more files c.args.table.now number file c.loop-number.search.numbers c.begin.new.search.numbers
+          stands (sym c.is_included.ensures ∙ c.if-is_included.false) c.in_ok-begin.ensures.begun
+          c.loop-number.invariant.begun;
+    }
+
+pub returns-clause-begun : goal.returns-clause-begun
+returns-clause-begun c = begun_all c.args.files.now c.args.table.now c.loop-number.number c.loop-number.search.numbers
+    (omega arith) c.loop-number.invariant.begun

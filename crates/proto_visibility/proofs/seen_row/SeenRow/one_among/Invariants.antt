@@ -1,5 +1,0 @@
-use Rattle.proto_visibility.proofs.OrderLemmas.{NoneOfRunsUpTo}
-use Rattle.proto_visibility.proofs.seen_row.SeenRow.one_among.Given as goal
-
-abbrev pub invariant-loop-run : goal.invariant-loop-run
-invariant-loop-run l = NoneOfRunsUpTo l.self-inside.order.now l.run-items l.numbers l.run-index

@@ -1,0 +1,88 @@
+//! Files to be linked, and places in them.
+
+ghost use Rattle.std.specs.Prelude.{◌≡◌, ◌↔◌, None, IsTrue, Some};
+ghost use Rattle.proto_decl.specs.Facts.{Facts, AreOfSomeFile};
+ghost use Rattle.proto_visibility.specs.Files.{HaveOrigins};
+
+use proto_decl::FileFacts;
+use proto_lex::Span;
+use std::fmt;
+use std::marker::Model;
+
+/// A file to be linked.
+///
+/// Contracts see its path's bytes, its facts, and whether it is included.
+#[derive(Drop)]
+pub struct LinkFile<'a, 't> {
+    /// Its path below its root.
+    pub path: &'a str,
+    /// What is known of it; `None` where it couldn't be read or parsed.
+    pub facts: Option<&'a FileFacts<'t>>,
+    /// Whether it is included: linked, but not indexed.
+    pub included: bool,
+}
+
+impl<'a, 't> Model for LinkFile<'a, 't> {
+    ghost use Rattle.std.specs.Option.{option_map};
+    ghost use Rattle.proto_visibility.specs.Files.{File};
+
+    ghost Value = { File };
+
+    ghost view = { λ file. record {
+      path = file.path.now;
+      facts = option_map (λ facts. facts.now) file.facts;
+      is_included = file.included;
+    } };
+}
+
+impl LinkFile<'_, '_> {
+    /// Whether it is included, and so no source.
+    pub(crate) fn is_included(&self) -> bool
+        ensures { result ≡ self.now.is_included }
+    {
+        self.included
+    }
+
+    /// Whether it couldn't be read or parsed.
+    pub(crate) fn is_unread(&self) -> bool
+        ensures { IsTrue result ↔ (self.now.facts ≡ None) }
+    {
+        match self.facts {
+            Some(_) => false,
+            None => true,
+        }
+    }
+}
+
+/// A span of the text of one of the files, by the file's number.
+#[derive(Clone, Copy, Debug, PartialEq, Eq)]
+pub struct FilePlace {
+    pub file: usize,
+    pub span: Span,
+}
+
+/// Where it starts, as `at byte 12 of file 0`.
+impl fmt::Display for FilePlace {
+    fn fmt<W: fmt::Write>(&self, f: &mut fmt::Formatter<W>) -> fmt::Result {
+        write!(f, "at byte {} of file {}", self.span.start, self.file)
+    }
+}
+
+/// The facts of each file are those of some text.
+pub(crate) fn have_origins(files: &[LinkFile])
+    ensures { HaveOrigins files.now }
+{
+    for file in files {
+        has_origin(file);
+    }
+}
+
+/// So are those of one file.
+fn has_origin(file: &LinkFile)
+    ensures { (facts : Facts) → file.now.facts ≡ Some facts → AreOfSomeFile facts }
+{
+    if let Some(facts) = file.facts {
+        // From here on it is known that the facts are those of some file.
+        facts.origin();
+    }
+}

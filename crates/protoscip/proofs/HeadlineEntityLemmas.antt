@@ -1,0 +1,380 @@
+-- The entities of linked files: what occurs names one, and a symbol's text is that of one.
+use Rattle.std.proofs.Common.{◌≡◌, ◌∙◌, ◌⊎◌, inl, inr, ℕ, zero, ◌+◌, ◌<◌, Some, List, [], ◌∷◌, ◌++◌, map, take, sym, ap}
+use Rattle.std.proofs.Common.{refl, subst, arith, ⊎_elim}
+use Rattle.std.specs.Prelude.{Contains}
+use Rattle.std.specs.List.{slice_get}
+use Rattle.std.specs.Str.{bytes_eq}
+use Rattle.std.proofs.lemmas.Bool.{cases_Bool, false≢true}
+use Rattle.std.proofs.lemmas.Option.{slice_get_within}
+use Rattle.std.proofs.lemmas.List.Elements.{All-nil, All-contains, Contains-append_cases}
+use Rattle.std.proofs.lemmas.Slice.Eq.{bytes_eq-Decides}
+use Rattle.basics.proofs.ListLemmas.{in_front, behind_it, only, in_nothing}
+use Rattle.proto_lex.specs.declared.position.Encoding.{Encoding}
+use Rattle.proto_decl.specs.Names.{dotted, components_of, prefix_of}
+use Rattle.proto_decl.specs.Facts.{Facts}
+use Rattle.proto_decl.specs.Laws.{names_of, component_names, AreHeld}
+use Rattle.proto_decl.specs.declared.imports.Imported.{Imported}
+use Rattle.proto_decl.specs.declared.declaration.Declaration.{Declaration}
+use Rattle.proto_decl.specs.declared.uses.Component.{Component}
+use Rattle.proto_visibility.specs.declared.lookup.Entity.{Entity as Part}
+use Rattle.proto_visibility.specs.declared.lookup.Entity.TheVariants as link
+use Rattle.proto_visibility.specs.Clashes.{NoClash}
+use Rattle.proto_visibility.specs.Files.{File, HasFacts, HaveOrigins, HasPath, IsSource}
+use Rattle.proto_visibility.specs.Knows.{NameKind, Knows}
+use Rattle.proto_visibility.specs.Knows.NameKind.{OfPackage as IsPackageKind}
+use Rattle.proto_visibility.specs.Knows.Knows.{declared as known_declared, packaged as known_packaged}
+use Rattle.proto_visibility.specs.Sees.{IsReachable}
+use Rattle.proto_visibility.specs.Sees.LeadsTo.{at_once}
+use Rattle.proto_visibility.specs.Sees.SeesBy.{import}
+use Rattle.proto_visibility.specs.Sees.IsReachable.{seen}
+use Rattle.basics.proofs.FirstLemmas.{contained, at_contained}
+use Rattle.proto_link.specs.Targets.{IsNamed}
+use Rattle.proto_link.specs.Targets.IsNamed.{packaged as named_package, declared as named_declared}
+use Rattle.scip_symbol.specs.Package.{Package, IsPackage}
+use Rattle.scip_model.specs.Packages.{Packages, ArePackages, package_of_path, package_of_file, package_of_part}
+use Rattle.scip_symbol.specs.Entities.{Entity, OfFile, OfPackage, OfDeclaration, IsEntity}
+use Rattle.scip_symbol.specs.OneEntity.{declarations_of, AreWithoutClash, IsAmong}
+use Rattle.scip_symbol.proofs.OneEntityClashLemmas.{put}
+use Rattle.scip_model.specs.Chosen.{Chosen}
+use Rattle.scip_model.specs.Conditions.{HaveGoodPaths}
+use Rattle.scip_model.specs.Named.{HasDeclaration, NamesIn, text_of, package_at, declaration_at}
+use Rattle.scip_model.specs.Occurs.{Occurs}
+use Rattle.scip_model.specs.Occurs as rule
+use Rattle.scip_model.proofs.NamedApartLemmas.{AreIdentifiers, AreCounted, one-text}
+use Rattle.scip_model.proofs.NamedEntityLemmas.{package-is, declaration-is}
+use Rattle.scip_model.proofs.ConditionLinkedLemmas.{source-counts}
+use Rattle.scip_model.proofs.PackageLemmas.{by_path, file_good}
+use Rattle.scip_records.specs.declared.records.Occurrence.{Occurrence}
+use Rattle.protoscip.specs.NameLaws.{LawsOfNames}
+use Rattle.protoscip.specs.Headline.{IsEntityOf, of_file, of_package, of_declaration, entity_of, package_of_entity}
+use Rattle.protoscip.proofs.HeadlineDottedLemmas.{same_front}
+use Rattle.scip_build.proofs.LinkingLemmas.{mapped_at}
+
+-- what they say of identifiers
+spelled : LawsOfNames → AreIdentifiers
+spelled laws = record { named = laws.named; paths = laws.paths; held = laws.held }
+
+-- ---- texts in a list
+
+has_text : (texts : List (List ℕ)) (text : List ℕ) → Contains texts text ⊎ (Contains texts text → ⊥)
+has_text [] text = inr (λ there. in_nothing text there)
+has_text (first ∷ texts) text = elim (cases_Bool (bytes_eq first text)) [
+  | inl same ↦ inl (contained (first ∷ texts) zero text (ap Some ((bytes_eq-Decides first text).0 same)))
+  | inr other ↦ ⊎_elim
+      (λ there. inl (behind_it first texts text there))
+      (λ none. inr (λ there. ⊎_elim
+      (λ here. false≢true (sym other ∙ (bytes_eq-Decides first text).1 (only first text here)))
+      none
+      (Contains-append_cases (first ∷ []) texts text there)))
+      (has_text texts text)
+]
+
+-- ---- what occurs
+
+module _ (files : List File) (origins : HaveOrigins files) (laws : LawsOfNames) where
+  -- the file that an import of a source names
+  imported_is : (source : ℕ) → IsSource files source → (facts : Facts) (imported : Imported)
+      → HasFacts files source facts → Contains facts.imports imported → HasPath files imported.path
+      → IsEntityOf files (OfFile imported.path)
+  imported_is source is facts imported has listed there = named there
+    where
+      counts : (number : ℕ) (file : File) → slice_get files number ≡ Some file → file.path ≡ imported.path
+          → IsReachable files number
+      counts number file at path =
+          seen is (import (record {
+            facts = facts;
+            import = imported;
+            file = file;
+            known = has;
+            listed = listed;
+            kind = refl;
+            numbered = at;
+            path = path;
+          }) at_once)
+
+      named : HasPath files imported.path → IsEntityOf files (OfFile imported.path)
+      named there =
+          let at = mapped_at (λ (file : File). file.path) files there.0 imported.path
+          (at_contained (map (λ (file : File). file.path) files) imported.path there) in
+          let Is : List ℕ → Type 0 = λ path. IsEntityOf files (OfFile path) in
+          subst Is (sym at.2) (of_file (counts there.0 at.0 at.1 (sym at.2)) at.1)
+
+  -- a package that a source knows
+  known_package : (source : ℕ) → IsSource files source → (name : List ℕ) (kind : NameKind)
+      → Knows files source name kind → kind ≡ IsPackageKind
+      → (whole : List ℕ) (count : ℕ) → 0 < count → name ≡ prefix_of whole count
+      → IsEntityOf files (OfPackage (take count (components_of whole)))
+  known_package source is _ _ (known_declared sees has listed) kind whole count one front = absurd (cc)
+  known_package source is _ _
+      (known_packaged {seen = number} {count = few} {facts = facts} sees has some within) kind whole count one front =
+      let same = same_front whole count few facts.package_name one some (omega (arith, some, within))
+      (laws.simple facts (origins number facts has)) front in
+      let Is : List (List ℕ) → Type 0 = λ parts. IsEntityOf files (OfPackage parts) in
+      subst Is (sym same) (of_package (seen is sees) has some within)
+
+  named_package_is : (source : ℕ) → IsSource files source → (name : List ℕ) (number : ℕ) (part : Part) → 0 < number
+      → IsNamed files source name number part → (count : ℕ) → part ≡ link.Package count
+      → IsEntityOf files (OfPackage (take count (components_of name)))
+  named_package_is source is name number _ one (named_package known) count same =
+      let Is : ℕ → Type 0 = λ n. IsEntityOf files (OfPackage (take n (components_of name))) in
+      subst Is (count_of number count same)
+      (known_package source is (prefix_of name number) IsPackageKind known refl name number one refl)
+    where
+      count_of : (a b : ℕ) → link.Package a ≡ link.Package b → a ≡ b
+      count_of a b e = cc
+  named_package_is source is name number _ one (named_declared sees has at full) count same = absurd (cc)
+
+  named_file_counts : (source : ℕ) → IsSource files source → (name : List ℕ) (number : ℕ) (part : Part)
+      → IsNamed files source name number part → (file index : ℕ) → part ≡ link.Declared file index
+      → IsReachable files file
+  named_file_counts source is name number _ (named_package known) file index same = absurd (cc)
+  named_file_counts source is name number _
+      (named_declared {seen = other} {index = its} sees has at full) file index same =
+      subst (IsReachable files) (file_of other its file index same) (seen is sees)
+    where
+      file_of : (a b c d : ℕ) → link.Declared a b ≡ link.Declared c d → a ≡ c
+      file_of a b c d e = cc
+
+  component_is : (source : ℕ) → IsSource files source → (component : Component) (part : Part) (entity : Entity)
+      → NamesIn files source component part entity → IsEntityOf files entity
+  component_is source is component (link.Package count) entity names =
+      let named = names.is_target.named names.index (link.Package count) names.part_is in
+      subst (IsEntityOf files) (sym names.entity_is)
+      (named_package_is source is names.target.name _ (link.Package count) (omega arith) named count refl)
+  component_is source is component (link.Declared file index) entity names =
+      let named = names.is_target.named names.index (link.Declared file index) names.part_is in
+      let counts = named_file_counts source is names.target.name _ (link.Declared file index) named file index refl in
+      subst (IsEntityOf files) (sym names.entity_is.is) (of_declaration counts names.entity_is.has)
+
+  module _ (chosen : Chosen) (ids : Packages) (encoding : Encoding) (source : ℕ) (text : List ℕ) where
+    -- what an occurrence of a source names is an entity of the files
+    pub entity_is : IsSource files source → (o : Occurrence) (occurs : Occurs files chosen ids encoding source text o)
+        → IsEntityOf files (entity_of occurs)
+    entity_is is _ (rule.of_file numbered) = of_file (source-counts files source is) numbered
+    entity_is is _ (rule.of_import {facts = facts} {imported = imported} has listed there) =
+        imported_is source is facts imported has listed there
+    entity_is is _ (rule.of_package {facts = facts} index {component = component} has stands) =
+        of_package (source-counts files source is) has (omega arith)
+        (omega (arith, slice_get_within facts.package_name index component stands))
+    entity_is is _ (rule.of_declaration index has kept) = of_declaration (source-counts files source is) has
+    entity_is is _ (rule.of_component {component = component} {part = part} {entity = entity} names shown) =
+        component_is source is component part entity names
+
+-- ---- entities and symbols
+
+module _ (files : List File) (origins : HaveOrigins files) (good : HaveGoodPaths files) (clear : NoClash files)
+    (laws : LawsOfNames) where
+  is_entity : (entity : Entity) → IsEntityOf files entity → IsEntity entity
+  is_entity _ (of_file {number = number} {file = file} counts at) = good number file at
+  is_entity _ (of_package {number = number} {count = count} {facts = facts} counts has some few) =
+      package-is facts count (laws.named facts (origins number facts has)) some few
+  is_entity _ (of_declaration {number = number} {index = index} {facts = facts} {declared = declared} counts has) =
+      let origin = origins number facts has.has_facts in
+      declaration-is facts declared (laws.named facts origin) (laws.paths facts origin)
+      (contained facts.declarations index declared has.numbered)
+
+  -- a declaration is one of the facts of a file that counts
+  record IsDeclared (entity : Entity) : Type 0 where
+    number : ℕ
+    facts : Facts
+    counted : AreCounted files number facts
+    declared : Declaration
+    listed : Contains facts.declarations declared
+    is : declaration_at facts declared ≡ entity
+
+  -- no declaration, so that any declarations will do
+  IsElse : Entity → Type 0
+  IsElse entity = (declarations : List Entity) → IsAmong declarations entity
+
+  kind_of : (entity : Entity) → IsEntityOf files entity → IsDeclared entity ⊎ IsElse entity
+  unfolding IsElse
+  kind_of _ (of_file counts at) = inr (λ declarations. tt)
+  kind_of _ (of_package counts has some few) = inr (λ declarations. tt)
+  kind_of _ (of_declaration {number = number} {index = index} {facts = facts} {declared = declared} counts has) =
+      inl (record {
+        number = number;
+        facts = facts;
+        counted = record { is_reachable = counts; known = has.has_facts };
+        declared = declared;
+        listed = contained facts.declarations index declared has.numbered;
+        is = refl;
+      })
+
+  among : (entity : Entity) (is : IsDeclared entity) (all : List Facts) → Contains all is.facts
+      → IsAmong (declarations_of all) entity
+  among entity is all there = subst (IsAmong (declarations_of all)) is.is (put all is.facts is.declared there is.listed)
+
+  no_facts : AreWithoutClash []
+  no_facts = record {
+    held = All-nil (λ (x : Facts). AreHeld x.package_name x.declarations);
+    one_name = λ facts others d e there also listed its same. absurd (in_nothing facts there);
+  }
+
+  module _ (id its_id : Package) (is_package : IsPackage id) (is_fine : IsPackage its_id) where
+    -- two entities, each of facts that count, or of none
+    one_of : (m n : ℕ) (f g : Facts) → AreCounted files m f → AreCounted files n g → (entity other : Entity)
+        → IsEntity entity → IsEntity other
+        → IsAmong (declarations_of (f ∷ (g ∷ []))) entity → IsAmong (declarations_of (f ∷ (g ∷ []))) other
+        → text_of id entity ≡ text_of its_id other → entity ≡ other
+    one_of m n f g a b entity other its also here there same =
+        one-text files origins clear laws.one_name (spelled laws) laws.symbols laws.unclashed m n f g a b id its_id
+        is_package is_fine entity other its also here there same
+
+    one_else : (entity other : Entity) → IsEntity entity → IsEntity other → IsElse entity → IsElse other
+        → text_of id entity ≡ text_of its_id other → entity ≡ other
+    unfolding text_of IsElse
+    one_else entity other its also here there same =
+        laws.symbols id its_id (declarations_of []) is_package is_fine (laws.unclashed [] no_facts) entity other its
+        also (here (declarations_of [])) (there (declarations_of [])) same
+
+    one_by : (entity other : Entity) → IsEntity entity → IsEntity other → IsDeclared entity ⊎ IsElse entity
+        → IsDeclared other ⊎ IsElse other
+        → text_of id entity ≡ text_of its_id other → entity ≡ other
+    unfolding IsElse
+    one_by entity other its also (inl a) (inl b) same =
+        let all : List Facts = a.facts ∷ (b.facts ∷ []) in
+        one_of a.number b.number a.facts b.facts a.counted b.counted entity other its also
+        (among entity a all (in_front a.facts (b.facts ∷ [])))
+        (among other b all (behind_it a.facts (b.facts ∷ []) b.facts (in_front b.facts []))) same
+    one_by entity other its also (inl a) (inr b) same =
+        let all : List Facts = a.facts ∷ (a.facts ∷ []) in
+        one_of a.number a.number a.facts a.facts a.counted a.counted entity other its also
+        (among entity a all (in_front a.facts (a.facts ∷ []))) (b (declarations_of all)) same
+    one_by entity other its also (inr a) (inl b) same =
+        let all : List Facts = b.facts ∷ (b.facts ∷ []) in
+        one_of b.number b.number b.facts b.facts b.counted b.counted entity other its also (a (declarations_of all))
+        (among other b all (in_front b.facts (b.facts ∷ []))) same
+    one_by entity other its also (inr a) (inr b) same = one_else entity other its also a b same
+
+    one_text_one : (entity other : Entity) → IsEntityOf files entity → IsEntityOf files other
+        → text_of id entity ≡ text_of its_id other → entity ≡ other
+    one_text_one entity other its also same =
+        one_by entity other (is_entity entity its) (is_entity other also) (kind_of entity its) (kind_of other also) same
+
+  -- ---- a declaration's entity is its own
+
+  abbrev full_name_in : Entity → List ℕ
+  full_name_in (OfFile path) = []
+  full_name_in (OfPackage components) = []
+  full_name_in (OfDeclaration components way) = dotted (components ++ names_of way)
+
+  full_name_is : (number index : ℕ) (facts : Facts) (declared : Declaration)
+      → HasDeclaration files number index facts declared
+      → declared.full_name ≡ full_name_in (declaration_at facts declared)
+  full_name_is number index facts declared has =
+      let Is : Declaration → Type 0 =
+      λ d. d.full_name ≡ dotted (component_names facts.package_name ++ names_of d.path) in
+      All-contains Is facts.declarations declared (laws.held facts (origins number facts has.has_facts)).full_names
+      (contained facts.declarations index declared has.numbered)
+
+  pub own_entity : (number index other its : ℕ) (facts more : Facts) (a b : Declaration) → IsReachable files number
+      → IsReachable files other
+      → HasDeclaration files number index facts a → HasDeclaration files other its more b
+      → declaration_at facts a ≡ declaration_at more b → (number ≡ other) × (index ≡ its)
+  own_entity number index other its facts more a b counts also has there same =
+      laws.one_name files origins clear number index other its a b
+      (record { facts = facts; is_reachable = counts; known = has.has_facts; stands = has.numbered })
+      (record { facts = more; is_reachable = also; known = there.has_facts; stands = there.numbered })
+      (full_name_is number index facts a has ∙ (ap full_name_in same ∙ sym (full_name_is other its more b there)))
+
+  -- ---- an entity has one package
+
+  module _ (ids : Packages) where
+    -- the package of an entity is one of the packages
+    home_good : ArePackages ids → (entity : Entity) (is : IsEntityOf files entity)
+        → IsPackage (package_of_entity files ids is)
+    home_good are _ (of_file {number = number} counts at) = file_good files ids number are
+    home_good are _ (of_package counts has some few) = are.run
+    home_good are _ (of_declaration {number = number} counts has) = file_good files ids number are
+
+    path_of : (a b : List ℕ) → OfFile a ≡ OfFile b → a ≡ b
+    path_of a b e = cc
+
+    -- of a file it goes by the path
+    file_home : (path : List ℕ) (entity : Entity) (is : IsEntityOf files entity) → entity ≡ OfFile path
+        → package_of_entity files ids is ≡ package_of_path ids path
+    file_home path _ (of_file {number = number} {file = file} counts at) same =
+        by_path files ids number file at ∙ ap (package_of_path ids) (path_of file.path path same)
+    file_home path _ (of_package counts has some few) same = absurd cc
+    file_home path _ (of_declaration counts has) same = absurd cc
+
+    -- of a package it is the run's
+    package_home : (components : List (List ℕ)) (entity : Entity) (is : IsEntityOf files entity)
+        → entity ≡ OfPackage components → package_of_entity files ids is ≡ ids.run
+    package_home components _ (of_file counts at) same = absurd cc
+    package_home components _ (of_package counts has some few) same = refl
+    package_home components _ (of_declaration counts has) same = absurd cc
+
+    -- of a declaration it is that of the file
+    declaration_home : (number index : ℕ) (facts : Facts) (declared : Declaration) → IsReachable files number
+        → HasDeclaration files number index facts declared → (entity : Entity) (is : IsEntityOf files entity)
+        → entity ≡ declaration_at facts declared → package_of_entity files ids is ≡ package_of_file files ids number
+    declaration_home number index facts declared counts has _ (of_file also at) same = absurd cc
+    declaration_home number index facts declared counts has _ (of_package also its some few) same = absurd cc
+    declaration_home number index facts declared counts has _
+        (of_declaration {number = other} {index = its} {facts = more} {declared = declaration} also there) same =
+        ap (package_of_file files ids)
+        (own_entity other its number index more facts declaration declared also counts there has same).0
+
+    pub one_home : (entity other : Entity) (is : IsEntityOf files entity) (its : IsEntityOf files other)
+        → entity ≡ other → package_of_entity files ids is ≡ package_of_entity files ids its
+    one_home entity _ is (of_file {number = number} {file = file} counts at) same =
+        file_home file.path entity is same ∙ sym (by_path files ids number file at)
+    one_home entity _ is (of_package {count = count} {facts = facts} counts has some few) same =
+        package_home (component_names (take count facts.package_name)) entity is same
+    one_home entity _ is
+        (of_declaration {number = number} {index = index} {facts = facts} {declared = declared} counts has) same =
+        declaration_home number index facts declared counts has entity is same
+
+    -- entities of the files with one symbol are one
+    pub one_entity : ArePackages ids → (entity other : Entity) (is : IsEntityOf files entity)
+        (its : IsEntityOf files other)
+        → text_of (package_of_entity files ids is) entity ≡ text_of (package_of_entity files ids its) other
+        → entity ≡ other
+    one_entity are entity other is its same =
+        one_text_one (package_of_entity files ids is) (package_of_entity files ids its) (home_good are entity is)
+        (home_good are other its) entity other is its same
+
+    -- and have one symbol
+    pub one_symbol : (entity other : Entity) (is : IsEntityOf files entity) (its : IsEntityOf files other)
+        → entity ≡ other
+        → text_of (package_of_entity files ids is) entity ≡ text_of (package_of_entity files ids its) other
+    one_symbol entity other is its same =
+        ap (λ (id : Package). text_of id entity) (one_home entity other is its same)
+        ∙ ap (text_of (package_of_entity files ids its)) same
+
+    -- ---- the symbol of an occurrence
+
+    module _ (source : ℕ) (is_source : IsSource files source) where
+      part_home : (component : Component) (part : Part) (entity : Entity) → NamesIn files source component part entity
+          → (is : IsEntityOf files entity) → package_of_part files ids part ≡ package_of_entity files ids is
+      part_home component (link.Package count) entity names is =
+          sym (package_home (take count (components_of names.target.name)) entity is names.entity_is)
+      part_home component (link.Declared number index) entity names is =
+          let named = names.is_target.named names.index (link.Declared number index) names.part_is in
+          let counts = named_file_counts files origins laws source is_source names.target.name _
+          (link.Declared number index) named number index refl in
+          let of = names.entity_is in
+          sym (declaration_home number index of.facts of.declaration counts of.has entity is of.is)
+
+      -- it is that of the entity, in its package
+      pub symbol_is : (chosen : Chosen) (encoding : Encoding) (text : List ℕ) (o : Occurrence)
+          (occurs : Occurs files chosen ids encoding source text o) (is : IsEntityOf files (entity_of occurs))
+          → o.symbol ≡ text_of (package_of_entity files ids is) (entity_of occurs)
+      symbol_is chosen encoding text _ (rule.of_file {file = file} numbered) is =
+          ap (λ (id : Package). text_of id (OfFile file.path))
+          (by_path files ids source file numbered ∙ sym (file_home file.path (OfFile file.path) is refl))
+      symbol_is chosen encoding text _ (rule.of_import {imported = imported} has listed there) is =
+          ap (λ (id : Package). text_of id (OfFile imported.path))
+          (sym (file_home imported.path (OfFile imported.path) is refl))
+      symbol_is chosen encoding text _ (rule.of_package {facts = facts} index has stands) is =
+          let entity = package_at facts (index + 1) in
+          ap (λ (id : Package). text_of id entity)
+          (sym (package_home (component_names (take (index + 1) facts.package_name)) entity is refl))
+      symbol_is chosen encoding text _ (rule.of_declaration {facts = facts} index {declared = declared} has kept) is =
+          let entity = declaration_at facts declared in
+          ap (λ (id : Package). text_of id entity)
+          (sym (declaration_home source index facts declared (source-counts files source is_source) has entity is refl))
+      symbol_is chosen encoding text _ (rule.of_component {component = component} {part = part} {entity = entity} names
+          shown) is =
+          ap (λ (id : Package). text_of id entity) (part_home component part entity names is)

@@ -1,0 +1,149 @@
+-- The files that a fault of a build names are files of its tree.
+use Rattle.std.proofs.Common.{◌≡◌, ◌∙◌, inl, inr, ℕ, ◌<◌, List, length, Option, Some, None, sym, subst}
+use Rattle.std.specs.List.{Contains, slice_get}
+use Rattle.std.proofs.lemmas.List.Elements.{All-contains_itself, All-weaker}
+use Rattle.std.proofs.lemmas.Option.{slice_get_within}
+use Rattle.std.proofs.lemmas.List.{length-map}
+use Rattle.proto_visibility.proofs.KeptLemmas.{file_of as of_item}
+use Rattle.proto_parse.specs.dialect.Dialect.{Dialect}
+use Rattle.proto_decl.specs.Values.{Seen}
+use Rattle.proto_visibility.specs.declared.files.FilePlace.{FilePlace}
+use Rattle.proto_visibility.specs.declared.omissions.FileOmission.{FileOmission}
+use Rattle.proto_visibility.specs.declared.omissions.FileOmission.TheVariants as left_for
+use Rattle.proto_visibility.specs.Files.{File}
+use Rattle.proto_visibility.specs.Linked.MayRefuse.{clashing, absent_import}
+use Rattle.proto_visibility.specs.Kept.{Omissions, IsOmission, AreOmissions, kept_of, number_among_all}
+use Rattle.proto_visibility.specs.Clashes.{Item, IsItem, declared, packaged}
+use Rattle.proto_visibility.specs.Absences.{IsNeeded, of_source, of_included}
+use Rattle.proto_decl.specs.declared.imports.Imported.{Imported}
+use Rattle.index_hooks.specs.declared.choice.Choice.{Choice}
+use Rattle.source_tree.specs.Files.{TreeFile}
+use Rattle.scip_build.specs.Builds.{IsBuilt, IsBuildFault}
+use Rattle.scip_build.specs.Kept.{IsLeftFor, IsTold}
+use Rattle.scip_build.specs.Kept.IsTold.{of_file, of_import as told_import, of_use}
+use Rattle.scip_build.specs.Files.{ReadFile}
+use Rattle.scip_build.specs.Linking.{linked_file, linked_files, HasFault}
+use Rattle.scip_build.specs.Linking.MayRefuseParsed.{is_unread, is_duplicate, is_missing}
+use Rattle.scip_build.specs.declared.faulty.Faulty.{Faulty}
+use Rattle.scip_build.specs.declared.faulty.Faulty.TheVariants.{Refuse}
+use Rattle.scip_build.specs.ParsedFiles.{AreParsedFiles}
+use Rattle.scip_build.specs.declared.settings.Settings.{Settings}
+use Rattle.scip_build.specs.declared.built.Built.{Built}
+use Rattle.scip_build.specs.declared.fault.BuildFault.{BuildFault}
+use Rattle.scip_build.specs.declared.fault.BuildFault.TheVariants as build
+use Rattle.scip_build.specs.declared.omission.Omission.{Omission}
+use Rattle.scip_build.specs.declared.omission.Omission.TheVariants as omitted
+use Rattle.scip_build.specs.declared.fault.FileFault.{FileFault}
+use Rattle.scip_build.specs.declared.fault.FileFault.TheVariants as file
+use Rattle.protoscip.specs.Faults.{fault_of_build, fault_of_omission}
+use Rattle.protoscip.specs.FaultLines.{HasFile, HasFilesOf, HaveFilesOf}
+use Rattle.protoscip.proofs.HeadlineLinkedLemmas.{at_all_linked}
+
+-- and so does an import that has to be there
+of_import : (files : List File) (number : ℕ) (import : Imported) → IsNeeded files number import → number < length files
+of_import files number import (of_source source has listed) = slice_get_within files number has.file has.numbered
+of_import files number import (of_included counts has listed public) =
+    slice_get_within files number has.file has.numbered
+
+module _ (allows : Seen → Choice → Type 0) (faulty : Faulty) (dialect : Dialect) (tree : List TreeFile) where
+  pub in_tree : (mode : Faulty) (parsed : List ReadFile) (number : ℕ)
+      → AreParsedFiles mode dialect allows tree parsed → number < length (linked_files parsed) → HasFile tree number
+  in_tree mode parsed number are within =
+      let count : length (linked_files parsed) ≡ length tree = length-map parsed linked_file ∙ are.one_each in
+      subst (λ (n : ℕ). number < n) count within
+
+  pub files_of_build : (workers : ℕ) (e : BuildFault) → IsBuildFault allows faulty dialect tree workers e
+      → HasFilesOf tree (fault_of_build e)
+  files_of_build workers build.Spawn is = tt
+  files_of_build workers build.Memory is = tt
+  files_of_build workers (build.File number (file.Lex e)) (refuse, inl first) =
+      slice_get_within tree number first.file first.numbered
+  files_of_build workers (build.File number (file.Syntax e)) (refuse, inl first) =
+      slice_get_within tree number first.file first.numbered
+  files_of_build workers (build.File number (file.Lex e)) (refuse, inr (parsed, are, is_unread none has)) =
+      subst (λ (n : ℕ). number < n) are.one_each (slice_get_within parsed number has.parsed_file has.numbered)
+  files_of_build workers (build.File number (file.Syntax e)) (refuse, inr (parsed, are, is_unread none has)) =
+      subst (λ (n : ℕ). number < n) are.one_each (slice_get_within parsed number has.parsed_file has.numbered)
+  files_of_build workers (build.Duplicate first second) (refuse, (parsed, are, is_duplicate (clashing read clash))) =
+      let files = linked_files parsed in
+      let earlier = of_item files clash.earlier clash.exclude.first_is in
+      let later = of_item files clash.later clash.exclude.second_is in
+      let Within : FilePlace → Type 0 = λ place. place.file < length files in (
+        in_tree Refuse parsed first.file are (subst Within clash.first_is earlier),
+        in_tree Refuse parsed second.file are (subst Within clash.second_is later),
+      )
+  files_of_build workers (build.MissingImport place)
+      (refuse, (parsed, are, is_missing (absent_import read clear absent))) =
+      let missing = absent.missing in
+      in_tree Refuse parsed place.file are
+      (of_import (linked_files parsed) place.file missing.import missing.needed)
+  files_of_build workers (build.Unresolved place) (refuse, is) =
+      let source = is.2.1.source in
+      in_tree Refuse is.0 place.file is.1 (slice_get_within (linked_files is.0) place.file source.file source.numbered)
+
+-- ---- the files of what is told
+
+module _ (allows : Seen → Choice → Type 0) (faulty : Faulty) (dialect : Dialect) (tree : List TreeFile)
+    (all : List ReadFile) (read : AreParsedFiles faulty dialect allows tree all) (omissions : Omissions)
+    (are : AreOmissions (linked_files all) omissions) where
+  within : (number : ℕ) → number < length (linked_files all) → HasFile tree number
+  within number = in_tree allows faulty dialect tree faulty all number read
+
+  abbrev kept : List File
+  kept = linked_files (kept_of omissions all)
+
+  kept_within : (number : ℕ) (file : File) → slice_get kept number ≡ Some file
+      → HasFile tree (number_among_all omissions number)
+  kept_within number file at =
+      let there = number_among_all omissions number in
+      within there (slice_get_within (linked_files all) there file (at_all_linked omissions all number file at))
+
+  fault_within : (number : ℕ) (fault : FileFault) → HasFault all number fault
+      → HasFilesOf tree (fault_of_omission (omitted.File number fault))
+  fault_within number (file.Lex e) has =
+      subst (λ (n : ℕ). number < n) read.one_each (slice_get_within all number has.parsed_file has.numbered)
+  fault_within number (file.Syntax e) has =
+      subst (λ (n : ℕ). number < n) read.one_each (slice_get_within all number has.parsed_file has.numbered)
+
+  of_left : (number : ℕ) (omission : FileOmission) (told : Omission)
+      → IsOmission (linked_files all) omissions number (Some omission) → IsLeftFor all number omission told
+      → HasFilesOf tree (fault_of_omission told)
+  of_left number left_for.Broken told out left =
+      let Has : Omission → Type 0 = λ o. HasFilesOf tree (fault_of_omission o) in
+      subst Has (sym left.2) (fault_within number left.0 left.1)
+  of_left number (left_for.Duplicate first second) told out left =
+      let files = linked_files all in
+      let earlier = of_item files out.earlier out.exclude.first_is.is_item in
+      let later = of_item files out.later out.exclude.second_is.is_item in
+      let Within : FilePlace → Type 0 = λ place. place.file < length files in
+      let Has : Omission → Type 0 = λ o. HasFilesOf tree (fault_of_omission o) in
+      subst Has (sym left) (
+        within first.file (subst Within out.first_is earlier),
+        within second.file (subst Within out.second_is later),
+      )
+
+  needed_at : (number : ℕ) (import : Imported) → IsNeeded kept number import
+      → (file : File) × (slice_get kept number ≡ Some file)
+  needed_at number import (of_source source has listed) = (has.file, has.numbered)
+  needed_at number import (of_included counts has listed public) = (has.file, has.numbered)
+
+  file_of_told : (told : Omission) → IsTold all omissions told → HasFilesOf tree (fault_of_omission told)
+  file_of_told told (of_file n o at left) = of_left n o told (are.each n (Some o) at) left
+  file_of_told _ (told_import p missing) =
+      let at = needed_at p.file missing.import missing.needed in kept_within p.file at.0 at.1
+  file_of_told _ (of_use p is) = kept_within p.file is.source.file is.source.numbered
+
+  pub files_of_told : (told : List Omission)
+      → ((omission : Omission) → Contains told omission → IsTold all omissions omission)
+      → HaveFilesOf tree told
+  files_of_told told is =
+      All-weaker (Contains told) (λ omission. HasFilesOf tree (fault_of_omission omission))
+      (λ omission there. file_of_told omission (is omission there)) told (All-contains_itself told)
+
+-- of what was built
+pub files_of_built : (allows : Seen → Choice → Type 0) (settings : Settings) (tree : List TreeFile) (built : Built)
+    → IsBuilt allows settings tree built → HaveFilesOf tree built.told
+files_of_built allows settings tree built is =
+    let kept = is.of_files.kept in
+    files_of_told allows settings.faulty settings.dialect tree is.all is.read kept.omissions kept.left_out
+    built.told (λ fault there. (kept.told_is.exact fault).0 there)

@@ -1,0 +1,100 @@
+-- Files that were read are linked with facts of their texts, and under the tree's paths.
+use Rattle.std.proofs.Common.{◌≡◌, ◌∙◌, ℕ, ◌<◌, List, [], ◌∷◌, length, Some, None, Result, Ok, Err, ap}
+use Rattle.std.proofs.Common.{sym}
+use Rattle.std.proofs.Common.{refl, subst}
+use Rattle.std.specs.Prelude.{All}
+use Rattle.std.specs.List.{slice_get}
+use Rattle.std.proofs.lemmas.Option.{same_Some, none-some, slice_get_within}
+use Rattle.std.proofs.lemmas.List.Elements.{All-contains}
+use Rattle.basics.proofs.ListLemmas.{item_at}
+use Rattle.proto_parse.specs.dialect.Dialect.{Dialect}
+use Rattle.proto_decl.specs.Facts.{Facts, AreFactsOf, AreOfSomeFile}
+use Rattle.proto_decl.specs.Values.{Seen}
+use Rattle.index_hooks.specs.declared.choice.Choice.{Choice}
+use Rattle.proto_visibility.specs.Files.{File, HaveOrigins}
+use Rattle.proto_visibility.specs.Kept.{Omissions, kept_of, number_among_all}
+use Rattle.proto_visibility.proofs.KeptLemmas.{at_all}
+use Rattle.basics.proofs.FirstLemmas.{contained}
+use Rattle.scip_symbol.specs.Path.{IsGoodPath}
+use Rattle.scip_model.specs.Conditions.{HaveGoodPaths}
+use Rattle.source_tree.specs.Files.{TreeFile}
+use Rattle.scip_build.specs.declared.fault.FileFault.{FileFault}
+use Rattle.scip_build.specs.Parsed.{AreFactsIn}
+use Rattle.scip_build.specs.Files.{FileContents, ReadFile}
+use Rattle.scip_build.specs.declared.faulty.Faulty.{Faulty}
+use Rattle.scip_build.specs.ParsedFiles.{HasContents, IsParsedFile, AreParsedFiles}
+use Rattle.scip_build.specs.Linking.{facts_in, linked_file, linked_files}
+use Rattle.scip_build.proofs.LinkingLemmas.{mapped_at}
+
+-- the files that are kept, among all
+linked_kept : (omissions : Omissions) (all : List ReadFile)
+    → linked_files (kept_of omissions all) ≡ kept_of omissions (linked_files all)
+linked_kept [] all = refl
+linked_kept (None ∷ omissions) [] = refl
+linked_kept (Some fault ∷ omissions) [] = refl
+linked_kept (None ∷ omissions) (parsed_file ∷ all) = ap (λ fs. linked_file parsed_file ∷ fs) (linked_kept omissions all)
+linked_kept (Some fault ∷ omissions) (parsed_file ∷ all) = linked_kept omissions all
+
+pub at_all_linked : (omissions : Omissions) (all : List ReadFile) (number : ℕ) (file : File)
+    → slice_get (linked_files (kept_of omissions all)) number ≡ Some file
+    → slice_get (linked_files all) (number_among_all omissions number) ≡ Some file
+at_all_linked omissions all number file at =
+    at_all omissions (linked_files all) number file
+    (subst (λ fs. slice_get fs number ≡ Some file) (linked_kept omissions all) at)
+
+module _ (faulty : Faulty) (dialect : Dialect) (allows : Seen → Choice → Type 0) (tree : List TreeFile)
+    (parsed : List ReadFile)
+    (are : AreParsedFiles faulty dialect allows tree parsed) where
+  -- a linked file, as it was read and as it is in the tree
+  record IsLinkedAt (number : ℕ) (file : File) : Type 0 where
+    parsed_file : ReadFile
+    of : TreeFile
+    linked : file ≡ linked_file parsed_file
+    numbered : slice_get tree number ≡ Some of
+    is : IsParsedFile faulty dialect allows number of parsed_file
+
+  linked_at : (number : ℕ) (file : File) → slice_get (linked_files parsed) number ≡ Some file → IsLinkedAt number file
+  linked_at number file at =
+      let read = mapped_at linked_file parsed number file at in
+      let within : number < length tree = rw (sym are.one_each) (slice_get_within parsed number read.0 read.1) in
+      let there = item_at tree number within in
+      record {
+        parsed_file = read.0;
+        of = there.0;
+        linked = read.2;
+        numbered = there.1;
+        is = are.each number there.0 read.0 there.1 read.1;
+      }
+
+  of_some_file : (number : ℕ) (bytes : List ℕ) (facts : Facts) → AreFactsIn dialect number bytes facts
+      → AreOfSomeFile facts
+  of_some_file number bytes facts has =
+      let Of : ℕ → Type 0 = λ n. AreFactsOf n has.lexed has.tree facts in
+      record {
+        lexed = has.lexed;
+        file = has.tree;
+        is_lexed = has.lexing.is_lexed;
+        derives = (dialect, has.derives);
+        of_file = subst Of (sym has.of_tree.numbered) has.of_tree;
+      }
+
+  origin_in : (number : ℕ) (file : TreeFile) (contents : Result FileContents FileFault)
+      → HasContents faulty dialect allows number file contents → (facts : Facts) → facts_in contents ≡ Some facts
+      → AreOfSomeFile facts
+  origin_in number file (Ok contents) has facts known =
+      subst AreOfSomeFile (same_Some contents.facts facts known)
+      (of_some_file number file.bytes contents.facts has.1.facts_in)
+  origin_in number file (Err fault) has facts known = absurd (none-some facts known)
+
+  pub have_origins : HaveOrigins (linked_files parsed)
+  have_origins number facts has =
+      let at = linked_at number has.file has.numbered in
+      origin_in number at.of at.parsed_file.contents at.is.contents facts
+      (sym (ap (λ (f : File). f.facts) at.linked) ∙ has.known)
+
+  pub good_paths : All (λ (file : TreeFile). IsGoodPath file.path) tree → HaveGoodPaths (linked_files parsed)
+  good_paths good number file at =
+      let here = linked_at number file at in
+      let Good : TreeFile → Type 0 = λ f. IsGoodPath f.path in
+      let path = ap (λ (f : File). f.path) here.linked ∙ here.is.path in
+      subst IsGoodPath (sym path) (All-contains Good tree here.of good (contained tree number here.of here.numbered))

@@ -1,0 +1,135 @@
+-- A use that names a type has a target, so each component of a use of a source names an entity.
+use Rattle.std.proofs.Common.{◌≡◌, ◌+◌, ◌-◌, ◌<◌, ◌≤◌, ℕ, zero, suc, true, List, [], ◌∷◌, length, take, Some, ap, refl}
+use Rattle.std.proofs.Common.{subst, arith}
+use Rattle.std.specs.Prelude.{Contains}
+use Rattle.std.specs.List.{slice_get}
+use Rattle.std.proofs.lemmas.Bool.{false≢true}
+use Rattle.std.proofs.lemmas.Option.{same_Some, none-some}
+use Rattle.std.proofs.lemmas.List.Elements.{All-contains}
+use Rattle.basics.proofs.ListLemmas.{item_at}
+use Rattle.proto_decl.specs.Names.{components_of, prefix_of}
+use Rattle.proto_decl.specs.Facts.{Facts, AreOfSomeFile}
+use Rattle.proto_decl.specs.Laws.{IsEntity, PrefixesAreEntities}
+use Rattle.proto_decl.specs.Laws.IsEntity.{packaged as entity_packaged, declared as entity_declared}
+use Rattle.proto_decl.specs.declared.declaration.Declaration.{Declaration}
+use Rattle.proto_decl.specs.declared.uses.Component.{Component}
+use Rattle.proto_decl.specs.declared.uses.Use.{Use}
+use Rattle.proto_visibility.specs.declared.lookup.Entity.{Entity as Part}
+use Rattle.proto_visibility.specs.declared.lookup.Entity.TheVariants as link
+use Rattle.proto_visibility.specs.Files.{File, HasFacts, HaveOrigins, IsSource}
+use Rattle.proto_visibility.specs.Sees.{Sees}
+use Rattle.proto_visibility.specs.Knows.{NameKind, Knows, is_type}
+use Rattle.proto_visibility.specs.Knows.NameKind.{OfPackage as IsPackageKind}
+use Rattle.proto_visibility.specs.Knows.Knows.{declared as known_declared, packaged as known_packaged}
+use Rattle.basics.proofs.FirstLemmas.{at_contained}
+use Rattle.proto_link.specs.Targets.{IsNamed}
+use Rattle.proto_link.specs.Targets.IsNamed.{packaged as named_package, declared as named_declared}
+use Rattle.proto_link.proofs.TargetLemmas.{used_fit, resolved_type}
+use Rattle.scip_symbol.specs.Entities.{Entity, OfPackage}
+use Rattle.scip_model.specs.Conditions.{IsResolved}
+use Rattle.scip_model.specs.Named.{NamesIn, IsNamedAs, declaration_at}
+use Rattle.protoscip.specs.UseLaws.{EachUseHasATarget}
+
+-- ---- a list of what there is for each place
+
+-- one of each place
+record AreEach {X : Type 0} (P : ℕ → X → Type 0) (n : ℕ) : Type 0 where
+  list : List X
+  one_each : length list ≡ n
+  each : (j : ℕ) (x : X) → slice_get list j ≡ Some x → P j x
+
+with_first : {X : Type 0} (P : ℕ → X → Type 0) (n : ℕ) (first : X) → P 0 first → AreEach (λ j. P (suc j)) n
+    → AreEach P (suc n)
+with_first {X} P n first is others =
+    record { list = first ∷ others.list; one_each = ap suc others.one_each; each = one }
+  where
+    one : (j : ℕ) (x : X) → slice_get (first ∷ others.list) j ≡ Some x → P j x
+    one zero x there = subst (P 0) (same_Some first x there) is
+    one (suc j) x there = others.each j x there
+
+are_each : {X : Type 0} (P : ℕ → X → Type 0) (n : ℕ) → ((j : ℕ) → j < n → (x : X) × P j x) → AreEach P n
+are_each P zero at = record { list = []; one_each = refl; each = λ j x there. absurd (none-some x there) }
+are_each P (suc n) at =
+    let first = at 0 (omega arith) in
+    with_first P n first.0 first.1 (are_each (λ j. P (suc j)) n (λ j within. at (suc j) (omega (arith, within))))
+
+-- ---- what the first components of a type's name name
+
+module _ (files : List File) (file : ℕ) where
+  -- a file that is seen names it, so that it is known
+  entity_named : (seen : ℕ) (facts : Facts) → Sees files file seen → HasFacts files seen facts
+      → (name : List ℕ) (count : ℕ) (front : List ℕ) → IsEntity facts front → front ≡ prefix_of name count
+      → (part : Part) × IsNamed files file name count part
+  entity_named seen facts sees has name count _ (entity_packaged some few) same =
+      let Is : List ℕ → Type 0 = λ front. Knows files file front IsPackageKind in
+      (link.Package count, named_package (subst Is same (known_packaged sees has some few)))
+  entity_named seen facts sees has name count _ (entity_declared {declaration = declared} there) same =
+      (link.Declared seen there.0, named_declared sees has (at_contained facts.declarations declared there) same)
+
+  module _ (fronts : (facts : Facts) → AreOfSomeFile facts → PrefixesAreEntities facts)
+      (origins : HaveOrigins files) where
+    front_named : (name : List ℕ) (kind : NameKind) → Knows files file name kind → is_type kind ≡ true → (count : ℕ)
+        → 0 < count → count ≤ length (components_of name)
+        → (part : Part) × IsNamed files file name count part
+    front_named _ _ (known_declared {seen = seen} {facts = facts} {declaration = declared} sees has listed) admitted
+        count some few =
+        let Fronts : Declaration → Type 0 = λ d. (n : ℕ) → 0 < n → n ≤ length (components_of d.full_name)
+        → IsEntity facts (prefix_of d.full_name n) in
+        let is = All-contains Fronts facts.declarations declared
+        (fronts facts (origins seen facts has)) listed count some few in
+        entity_named seen facts sees has declared.full_name count (prefix_of declared.full_name count) is refl
+    front_named _ _ (known_packaged sees has some few) admitted count one many = absurd (false≢true admitted)
+
+pub each_use_has_a_target : ((facts : Facts) → AreOfSomeFile facts → PrefixesAreEntities facts) → EachUseHasATarget
+each_use_has_a_target fronts files origins file type_use name resolves =
+    let is = resolved_type files file type_use name resolves in
+    let few = used_fit files file type_use name resolves in
+    let skipped = length (components_of name) - length type_use.components in
+    let parts = are_each (λ j part. IsNamed files file name (skipped + j + 1) part) (length type_use.components)
+    (λ j within. front_named files file fronts origins name is.kind is.known is.admitted (skipped + j + 1) (omega arith)
+    (omega (arith, within, few))) in (
+      record { name = name; parts = parts.list },
+      record {
+        resolves = resolves;
+        skipped = skipped;
+        split = omega (arith, few);
+        one_each = parts.one_each;
+        named = parts.each;
+      },
+    )
+
+-- ---- the components of a source's uses
+
+module _ (files : List File) (source : ℕ) where
+  -- what is named has a symbol
+  named_as : (name : List ℕ) (count : ℕ) (part : Part) → IsNamed files source name count part
+      → (entity : Entity) × IsNamedAs files name part entity
+  named_as name count _ (named_package known) = (OfPackage (take count (components_of name)), refl)
+  named_as name count _ (named_declared {facts = facts} {declaration = declared} sees has at full) = (
+    declaration_at facts declared,
+    record { facts = facts; declaration = declared; has = record { has_facts = has; numbered = at }; is = refl },
+  )
+
+  pub component_names : EachUseHasATarget → HaveOrigins files
+      → (facts : Facts) (type_use : Use) (component : Component) → IsSource files source → HasFacts files source facts
+      → Contains facts.uses type_use → Contains type_use.components component → IsResolved files source type_use
+      → (part : Part) × (entity : Entity) × NamesIn files source component part entity
+  component_names targets origins facts type_use component is has listed among type_name =
+      let target = targets files origins source type_use type_name.0 type_name.1 in
+      let part = item_at target.0.parts among.0 (omega (arith, among.1, target.1.one_each)) in
+      let entity = named_as target.0.name _ part.0 (target.1.named among.0 part.0 part.1) in (
+        part.0,
+        entity.0,
+        record {
+          facts = facts;
+          type_use = type_use;
+          target = target.0;
+          index = among.0;
+          has_facts = has;
+          listed = listed;
+          is_target = target.1;
+          component_is = at_contained type_use.components component among;
+          part_is = part.1;
+          entity_is = entity.1;
+        },
+      )

@@ -1,0 +1,288 @@
+-- Nothing is told of a tree without faults, and of no other.
+use Rattle.std.proofs.Common.{◌≡◌, ◌∙◌, ◌⊎◌, inl, inr, ℕ, ◌<◌, List, [], ◌∷◌, length, map, get_or, Option}
+use Rattle.std.proofs.Common.{Some, None, Result, Ok, Err, Bool, true, false, ap, sym, refl, subst, arith}
+use Rattle.std.specs.List.{Contains, slice_get}
+use Rattle.std.specs.Option.{option_map}
+use Rattle.std.proofs.lemmas.List.{length-map}
+use Rattle.std.proofs.lemmas.Option.{same_Some, none-some, slice_get_within, slice_get-get_or, slice_get-map}
+use Rattle.std.proofs.lemmas.Option.{get_or_from_slice_get}
+use Rattle.basics.proofs.ListLemmas.{in_front, in_nothing}
+use Rattle.proto_visibility.specs.declared.omissions.FileOmission.{FileOmission}
+use Rattle.proto_visibility.specs.declared.omissions.FileOmission.TheVariants as left_for
+use Rattle.proto_visibility.specs.Files.{File}
+use Rattle.proto_visibility.specs.Absences.{IsUnread}
+use Rattle.proto_visibility.specs.Linked.{CanBeLinked, HaveClearNames}
+use Rattle.proto_visibility.specs.Kept.{Omissions, IsOmission, AreOmissions, kept_of, AreAllKept}
+use Rattle.proto_visibility.specs.Kept.{NothingIsLeftOutOfGoodFiles}
+use Rattle.proto_visibility.proofs.KeptLemmas.{excludes_as}
+use Rattle.proto_lex.specs.declared.position.Encoding.{Encoding}
+use Rattle.proto_decl.specs.Values.{Seen}
+use Rattle.proto_visibility.specs.Sees.IsReachable.{seen}
+use Rattle.proto_visibility.specs.Sees.SeesBy.{itself}
+use Rattle.index_hooks.specs.declared.choice.Choice.{Choice}
+use Rattle.scip_model.specs.Packages.{Packages}
+use Rattle.scip_model.specs.Conditions.{AllResolve}
+use Rattle.scip_model.specs.Indexes.{IsIndexOf}
+use Rattle.source_tree.specs.Files.{TreeFile}
+use Rattle.scip_build.specs.declared.settings.Settings.{Settings}
+use Rattle.scip_build.specs.declared.faulty.Faulty.{Faulty}
+use Rattle.scip_build.specs.declared.faulty.Faulty.TheVariants.{Refuse, Skip}
+use Rattle.scip_build.specs.declared.fault.FileFault.{FileFault}
+use Rattle.scip_build.specs.declared.omission.Omission.{Omission}
+use Rattle.scip_build.specs.declared.omission.Omission.TheVariants as omitted
+use Rattle.scip_build.specs.Files.{FileContents, ReadFile}
+use Rattle.scip_build.specs.Linking.{facts_in, linked_file, linked_files, HasFault}
+use Rattle.scip_build.specs.Parsed.{IsUnreadable}
+use Rattle.scip_build.specs.ParsedFiles.{AreContentsOf, may_be_unread, HasContents, AreParsedFiles}
+use Rattle.scip_build.specs.Documents.{texts_of, AllAreDecided}
+use Rattle.scip_build.specs.BuildLaws.{SetTheSame, BuiltWhereNothingIsTold}
+use Rattle.scip_build.specs.Kept.{IsTold, NothingIsToldOfAGoodTree}
+use Rattle.scip_build.specs.Kept.IsTold.{of_file, of_import, of_use}
+use Rattle.scip_build.proofs.LinkingLemmas.{mapped_at}
+use Rattle.scip_build.proofs.KeptTreeLemmas.{all_of}
+
+-- ---- where nothing is left out
+
+abbrev not_one : File → Option FileOmission
+not_one file = None
+
+abbrev pub all_kept : List File → Omissions
+all_kept files = map not_one files
+
+-- of files without a clash nothing is left out
+pub good_files_are_kept : (files : List File) → HaveClearNames files → AreOmissions files (all_kept files)
+good_files_are_kept files good = record {
+  one_each = length-map files not_one;
+  each = λ number omission out.
+      by number omission (none_is (slice_get files number) omission (sym (slice_get-map not_one files number) ∙ out));
+}
+  where
+    none_is : (file : Option File) (omission : Option FileOmission) → option_map not_one file ≡ Some omission
+        → None ≡ omission
+    none_is None omission e = absurd (none-some omission e)
+    none_is (Some file) omission e = same_Some None omission e
+
+    by : (number : ℕ) (omission : Option FileOmission) → None ≡ omission
+        → IsOmission files (all_kept files) number omission
+    by number omission is =
+        let Is : Option FileOmission → Type 0 = λ o. IsOmission files (all_kept files) number o in
+        let kept : Is None = (
+          good.read number,
+          λ a b e. good.clear a b (excludes_as a b (λ m. m.is_item) (λ m. m.is_item) e),
+        ) in
+        subst Is is kept
+
+pub are_all_kept : (files : List File) → AreAllKept (all_kept files)
+are_all_kept files k d within =
+    let within_files : k < length files = let n = length-map files not_one in omega (arith, n, within) in
+    let at = slice_get-get_or (all_kept files) k d within in
+    let there = slice_get-map not_one files k ∙ ap (option_map not_one) (slice_get-get_or files k file within_files) in
+    sym (same_Some None (get_or (all_kept files) k d) (sym there ∙ at))
+  where
+    file : File
+    file = record { path = []; facts = None; is_included = false }
+
+-- ---- what is told where nothing is left out
+
+module _ (all : List ReadFile) (omissions : Omissions) (one_each : length omissions ≡ length all)
+    (none : AreAllKept omissions) where
+  kept_at : (number : ℕ) (omission : Option FileOmission) → slice_get omissions number ≡ Some omission → omission ≡ None
+  kept_at number omission at =
+      let within = slice_get_within omissions number omission at in
+      sym (get_or_from_slice_get omissions number omission omission at) ∙ none number omission within
+
+  all_are : kept_of omissions all ≡ all
+  all_are = all_of omissions all one_each none
+
+  pub none_told : CanBeLinked (linked_files all) → AllResolve (linked_files all) → (told : Omission)
+      → IsTold all omissions told → ⊥
+  none_told can resolve told (of_file n o at left) = none-some o (sym (kept_at n (Some o) at))
+  none_told can resolve _ (of_import p missing) =
+      let Can : List ReadFile → Type 0 = λ rs. CanBeLinked (linked_files rs) in
+      (subst Can (sym all_are) can).complete p missing
+  none_told can resolve _ (of_use p is) =
+      let Resolve : List ReadFile → Type 0 = λ rs. AllResolve (linked_files rs) in
+      let named = subst Resolve (sym all_are) resolve p.file is.facts is.type_use is.source is.known is.listed in
+      is.unresolved named.0 named.1
+
+none_listed : (told : List Omission) → ((fault : Omission) → Contains told fault → ⊥) → told ≡ []
+none_listed [] none = refl
+none_listed (x ∷ xs) none = absurd (none x (in_front x xs))
+
+-- ---- where nothing is told
+
+-- a file without facts has a fault
+pub fault_of : (all : List ReadFile) (number : ℕ) → IsUnread (linked_files all) number
+    → (fault : FileFault) × HasFault all number fault
+fault_of all number unread =
+    let of = mapped_at linked_file all number unread.file unread.numbered in
+    by of.0 of.1 of.0.contents refl (sym (ap (λ (f : File). f.facts) of.2) ∙ unread.unread)
+  where
+    by : (parsed_file : ReadFile) → slice_get all number ≡ Some parsed_file → (contents : Result FileContents FileFault)
+        → parsed_file.contents ≡ contents → facts_in contents ≡ None → (fault : FileFault) × HasFault all number fault
+    by parsed_file at (Ok contents) is no_facts = absurd (some_none no_facts)
+      where
+        some_none : Some contents.facts ≡ None → ⊥
+        some_none e = cc
+    by parsed_file at (Err fault) is no_facts =
+        (fault, record { parsed_file = parsed_file; numbered = at; unread = is })
+
+-- what is left out is told
+pub left_told : (all : List ReadFile) (omissions : Omissions) → AreOmissions (linked_files all) omissions → (number : ℕ)
+    (omission : Option FileOmission) → slice_get omissions number ≡ Some omission
+    → (omission ≡ None) ⊎ ((told : Omission) × IsTold all omissions told)
+left_told all omissions are number None at = inl refl
+left_told all omissions are number (Some left_for.Broken) at =
+    let fault = fault_of all number (are.each number (Some left_for.Broken) at) in
+    inr (omitted.File number fault.0, of_file number left_for.Broken at (fault.0, fault.1, refl))
+left_told all omissions are number (Some (left_for.Duplicate first second)) at =
+    inr (omitted.Duplicate first second, of_file number (left_for.Duplicate first second) at refl)
+
+module _ (good : NothingIsLeftOutOfGoodFiles) where
+  pub nothing_is_told : NothingIsToldOfAGoodTree
+  nothing_is_told all parsed told kept = (where_none, where_good)
+    where
+      one_each : length kept.omissions ≡ length all
+      one_each = kept.left_out.one_each ∙ length-map all linked_file
+
+      where_good : CanBeLinked (linked_files all) × AllResolve (linked_files all) → told ≡ []
+      where_good (can, resolve) =
+          let clear : HaveClearNames (linked_files all) = record { read = can.read; clear = can.clear } in
+          let all_kept = (good (linked_files all) kept.omissions kept.left_out).1 clear in
+          none_listed told (λ fault there.
+          none_told all kept.omissions one_each all_kept can resolve fault ((kept.told_is.exact fault).0 there))
+
+      where_none : told ≡ [] → CanBeLinked (linked_files all) × AllResolve (linked_files all)
+      where_none none = (
+        record {
+          read = clear.read;
+          clear = clear.clear;
+          complete = λ place missing. none_is _ (of_import place (rw all_are missing));
+        },
+        λ source facts type_use is known listed.
+            elim (decided source facts type_use is known listed) [
+              | inl resolved ↦ resolved
+              | inr unresolved ↦ absurd
+                  (none_is _ (of_use (record { file = source; span = type_use.span }) (rw all_are (record {
+                    source = is;
+                    facts = facts;
+                    known = known;
+                    type_use = type_use;
+                    listed = listed;
+                    stands = refl;
+                    unresolved = unresolved;
+                  }))))
+            ],
+      )
+        where
+          none_is : (fault : Omission) → IsTold all kept.omissions fault → ⊥
+          none_is fault is =
+              in_nothing fault (subst (λ (l : List Omission). Contains l fault) none
+              ((kept.told_is.exact fault).1 is))
+
+          all_kept : AreAllKept kept.omissions
+          all_kept k d within =
+              let at = slice_get-get_or kept.omissions k d within in
+              elim (left_told all kept.omissions kept.left_out k (get_or kept.omissions k d) at) [
+                | inl is ↦ is
+                | inr told_ ↦ absurd (none_is told_.0 told_.1)
+              ]
+
+          all_are : kept_of kept.omissions all ≡ all
+          all_are = all_of kept.omissions all one_each all_kept
+
+          clear : HaveClearNames (linked_files all)
+          clear = (good (linked_files all) kept.omissions kept.left_out).0 all_kept
+
+          decided : AllAreDecided (linked_files all)
+          decided = subst (λ (rs : List ReadFile). AllAreDecided (linked_files rs)) (kept.kept ∙ all_are) kept.decided
+
+  -- ---- the same is built where faults are refused
+
+  module _ (allows : Seen → Choice → Type 0) (settings another : Settings) (tree : List TreeFile)
+      (same : SetTheSame settings another) (all : List ReadFile)
+      (read : AreParsedFiles settings.faulty settings.dialect allows tree all)
+      (clear : HaveClearNames (linked_files all)) where
+    may_be : (faulty : Faulty) → may_be_unread faulty true ≡ true
+    may_be Refuse = refl
+    may_be Skip = refl
+
+    -- a file without contents is included
+    read_so : (number : ℕ) (file : TreeFile) (parsed_file : ReadFile) → slice_get tree number ≡ Some file
+        → slice_get all number ≡ Some parsed_file → (contents : Result FileContents FileFault)
+        → parsed_file.contents ≡ contents
+        → HasContents settings.faulty settings.dialect allows number file contents
+        → HasContents another.faulty another.dialect allows number file contents
+    read_so number file parsed_file at there (Ok contents) is has =
+        subst (λ c. AreContentsOf c allows number file.bytes contents) same.dialect has
+    read_so number file parsed_file at there (Err fault) is has = (
+      included file.is_included refl,
+      subst (λ c. IsUnreadable c file.bytes fault) same.dialect has.1,
+    )
+      where
+        linked : File
+        linked = linked_file parsed_file
+
+        numbered : slice_get (linked_files all) number ≡ Some linked
+        numbered = slice_get-map linked_file all number ∙ ap (option_map linked_file) there
+
+        included : (b : Bool) → file.is_included ≡ b → may_be_unread another.faulty file.is_included ≡ true
+        included true e = ap (may_be_unread another.faulty) e ∙ may_be another.faulty
+        included false e =
+            let source : linked.is_included ≡ false = (read.each number file parsed_file at there).is_included ∙ e in
+            absurd (clear.read number (record {
+              file = linked;
+              is_reachable = seen (record { file = linked; numbered = numbered; source = source }) itself;
+              numbered = numbered;
+              unread = ap facts_in is;
+            }))
+
+    pub read_by : AreParsedFiles another.faulty another.dialect allows tree all
+    read_by = record {
+      one_each = read.one_each;
+      each = λ number file parsed_file at there.
+          let is = read.each number file parsed_file at there in
+          record {
+            path = is.path;
+            is_included = is.is_included;
+            contents = read_so number file parsed_file at there parsed_file.contents refl is.contents;
+          };
+    }
+
+  pub built_where_nothing_is_told : (allows : Seen → Choice → Type 0) → BuiltWhereNothingIsTold allows
+  built_where_nothing_is_told allows settings another tree built same is none = record {
+    all = is.all;
+    read = read_by allows settings another tree same is.all is.read (record { read = can.read; clear = can.clear });
+    of_files = record {
+      parsed = is.of_files.parsed;
+      kept = is.of_files.kept;
+      clear = is.of_files.clear;
+      refused = λ refuse. record { none = none; all_kept = all_are; linked = can; resolved = good_tree.1 };
+      choices = is.of_files.choices;
+      index = index;
+    };
+  }
+    where
+      good_tree : CanBeLinked (linked_files is.all) × AllResolve (linked_files is.all)
+      good_tree = (nothing_is_told is.all is.of_files.parsed built.told is.of_files.kept).0 none
+
+      can : CanBeLinked (linked_files is.all)
+      can = good_tree.0
+
+      all_are : is.of_files.parsed ≡ is.all
+      all_are =
+          let kept = is.of_files.kept in
+          kept.kept ∙ all_of kept.omissions is.all (kept.left_out.one_each ∙ length-map is.all linked_file)
+          ((good (linked_files is.all) kept.omissions kept.left_out).1
+          (record { read = can.read; clear = can.clear }))
+
+      index : IsIndexOf (linked_files is.of_files.parsed) (texts_of is.of_files.parsed) built.choices
+          another.package another.encoding another.project_root built.index
+      index =
+          let fs = linked_files is.of_files.parsed in
+          let ts = texts_of is.of_files.parsed in
+          let Is : Packages → Encoding → List ℕ → Type 0 =
+          λ ids encoding root. IsIndexOf fs ts built.choices ids encoding root built.index in
+          subst (λ x. Is another.package another.encoding x) same.project_root
+          (subst (λ x. Is another.package x settings.project_root) same.encoding
+          (subst (λ x. Is x settings.encoding settings.project_root) same.id is.of_files.index))

@@ -1,0 +1,326 @@
+-- What is built by the same choices is one, and where one choice alone may come for what is seen, the choices are.
+use Rattle.std.proofs.Common.{◌≡◌, ◌∙◌, ℕ, ◌<◌, List, [], ◌∷◌, length, map, Option, Some, None, Result, Ok, Err, ap}
+use Rattle.std.proofs.Common.{sym}
+use Rattle.std.proofs.Common.{refl, subst}
+use Rattle.std.specs.declared.cmp.Ordering.{Ordering}
+use Rattle.std.specs.declared.cmp.Ordering.TheVariants.{Less}
+use Rattle.std.specs.Ordering.{on}
+use Rattle.std.specs.List.{AllByRecursion, Contains, slice_get}
+use Rattle.std.specs.List.Sorted.{IsStrictlySortedBy}
+use Rattle.std.specs.Option.{option_map}
+use Rattle.std.proofs.lemmas.List.{length-map, map-id}
+use Rattle.std.proofs.lemmas.Option.{same_Some, slice_get-map, slice_get_within}
+use Rattle.basics.proofs.ListLemmas.{contains_map, item_at}
+use Rattle.proto_parse.specs.dialect.Dialect.{Dialect}
+use Rattle.proto_decl.specs.Facts.{Facts}
+use Rattle.proto_decl.specs.Values.{Seen}
+use Rattle.proto_decl.specs.declared.declaration.Declaration.{Declaration}
+use Rattle.proto_lex.specs.declared.position.Encoding.{Encoding}
+use Rattle.proto_visibility.specs.declared.omissions.FileOmission.{FileOmission}
+use Rattle.proto_visibility.specs.declared.omissions.FileOmission.TheVariants as left_for
+use Rattle.proto_visibility.specs.Files.{File}
+use Rattle.proto_visibility.specs.Absences.{IsUnread, IsMissing}
+use Rattle.proto_visibility.specs.Kept.{Omissions, IsOmission, AreOmissions, kept_of}
+use Rattle.basics.proofs.FirstLemmas.{contained}
+use Rattle.proto_link.specs.Laws.{OneOmissionList}
+use Rattle.scip_model.specs.Packages.{Packages}
+use Rattle.index_hooks.specs.declared.choice.Choice.{Choice}
+use Rattle.scip_model.specs.Chosen.{Chosen}
+use Rattle.scip_model.specs.Indexes.{IsIndexOf}
+use Rattle.scip_model.specs.Laws.{OneIndex}
+use Rattle.source_tree.specs.Files.{TreeFile}
+use Rattle.source_tree.proofs.TreeLemmas.{mapped_from}
+use Rattle.scip_build.specs.declared.settings.Settings.{Settings}
+use Rattle.scip_build.specs.declared.built.Built.{Built}
+use Rattle.scip_build.specs.declared.faulty.Faulty.{Faulty}
+use Rattle.scip_build.specs.declared.fault.FileFault.{FileFault}
+use Rattle.scip_build.specs.declared.omission.Omission.{Omission}
+use Rattle.scip_build.specs.declared.omission.Omission.TheVariants as omitted
+use Rattle.scip_build.specs.Parsed.{IsUnreadable}
+use Rattle.scip_build.specs.Files.{FileContents, ReadFile}
+use Rattle.scip_build.specs.ParsedFiles.{seen_of, AreChosen, AreContentsOf, HasContents, AreParsedFiles}
+use Rattle.scip_build.specs.Linking.{linked_file, linked_files, choices_in, choices_of, HasFault}
+use Rattle.scip_build.specs.Documents.{text_in, text_of, texts_of, IsUnresolvedAt}
+use Rattle.scip_build.specs.Kept.{IsLeftFor, place_among_all, IsTold, Key, told_key, key_cmp}
+use Rattle.scip_build.specs.Kept.IsTold.{of_file, of_import, of_use}
+use Rattle.scip_build.specs.Builds.{IsBuilt}
+use Rattle.scip_build.specs.Laws.{OneListOfFacts, NoFactsWhereUnreadable, OneFileFault}
+use Rattle.scip_build.specs.BuildLaws.{SetTheSame, AllowOne, OneBuiltOfChoices, OneBuilt}
+use Rattle.scip_model.proofs.IndexSortLemmas.{one-ascending}
+use Rattle.scip_build.proofs.LinkingLemmas.{same_mapped, one_linking}
+use Rattle.scip_build.proofs.ReadyLemmas.{whole_at, have_origins}
+use Rattle.scip_build.proofs.KeptTreeLemmas.{map_kept}
+use Rattle.scip_build.proofs.KeptToldLemmas.{key_total, of_same, one_told}
+use Rattle.scip_build.proofs.BuildLawGoodTreeLemmas.{fault_of}
+
+-- a file with a fault can't be read
+unreadable : (faulty : Faulty) (dialect : Dialect) (allows : Seen → Choice → Type 0) (tree : List TreeFile)
+    (parsed : List ReadFile) → AreParsedFiles faulty dialect allows tree parsed → (number : ℕ) (fault : FileFault)
+    → HasFault parsed number fault
+    → (file : TreeFile) × (slice_get tree number ≡ Some file) × IsUnreadable dialect file.bytes fault
+unreadable faulty dialect allows tree parsed are number fault has =
+    let within : number < length tree =
+    rw (sym are.one_each) (slice_get_within parsed number has.parsed_file has.numbered) in
+    let there = item_at tree number within in
+    let Contents : Result FileContents FileFault → Type 0 = HasContents faulty dialect allows number there.0 in
+    let contents = subst Contents has.unread (are.each number there.0 has.parsed_file there.1 has.numbered).contents in
+    (there.0, there.1, contents.1)
+
+-- the choices for one list of declarations
+same_choices : (allows others : Seen → Choice → Type 0) → AllowOne allows others
+    → (declarations : List Declaration) (xs ys : List Choice)
+    → AreChosen allows declarations xs → AreChosen others declarations ys → xs ≡ ys
+same_choices allows others agree [] [] [] chosen also = refl
+same_choices allows others agree [] [] (y ∷ ys) chosen also = absurd also
+same_choices allows others agree [] (x ∷ xs) ys chosen also = absurd chosen
+same_choices allows others agree (d ∷ ds) [] ys chosen also = absurd chosen
+same_choices allows others agree (d ∷ ds) (x ∷ xs) [] chosen also = absurd also
+same_choices allows others agree (d ∷ ds) (x ∷ xs) (y ∷ ys) chosen also =
+    let here = agree (seen_of d) x y chosen.0 also.0 in
+    let more = same_choices allows others agree ds xs ys chosen.1 also.1 in
+    λ i. here i ∷ more i
+
+module _ (apart : NoFactsWhereUnreadable) (allows others : Seen → Choice → Type 0) (faulty another : Faulty)
+    (dialect : Dialect) where
+  -- what is the same of contents, and of any two faults, is of one file read twice
+  same_in : {Y : Type 0} (f : Result FileContents FileFault → Y) (number : ℕ) (file : TreeFile)
+      → ((a b : FileContents) → AreContentsOf dialect allows number file.bytes a
+      → AreContentsOf dialect others number file.bytes b → f (Ok a) ≡ f (Ok b))
+      → ((fault other : FileFault) → f (Err fault) ≡ f (Err other))
+      → (a b : Result FileContents FileFault)
+      → HasContents faulty dialect allows number file a → HasContents another dialect others number file b → f a ≡ f b
+  same_in f number file read unread (Ok a) (Ok b) has also = read a b has also
+  same_in f number file read unread (Ok a) (Err fault) has also =
+      absurd (apart dialect number file.bytes a.facts fault has.1.facts_in also.1)
+  same_in f number file read unread (Err fault) (Ok b) has also =
+      absurd (apart dialect number file.bytes b.facts fault also.1.facts_in has.1)
+  same_in f number file read unread (Err fault) (Err other) has also = unread fault other
+
+  chosen_alike : OneListOfFacts → AllowOne allows others → (number : ℕ) (file : TreeFile) (a b : FileContents)
+      → AreContentsOf dialect allows number file.bytes a → AreContentsOf dialect others number file.bytes b
+      → a.choices ≡ b.choices
+  chosen_alike one agree number file a b has also =
+      let facts : a.facts ≡ b.facts = one dialect number file.bytes a.facts b.facts has.1.facts_in also.1.facts_in in
+      let Of : Facts → Type 0 = λ f. AreChosen others f.declarations b.choices in
+      same_choices allows others agree a.facts.declarations a.choices b.choices has.1.chosen
+      (subst Of (sym facts) also.1.chosen)
+
+  module _ (tree : List TreeFile) (parsed again : List ReadFile)
+      (are : AreParsedFiles faulty dialect allows tree parsed)
+      (also : AreParsedFiles another dialect others tree again) where
+    -- both read the same file there
+    contents_at : (k : ℕ) (a b : ReadFile) → slice_get parsed k ≡ Some a → slice_get again k ≡ Some b
+        → (file : TreeFile) × HasContents faulty dialect allows k file a.contents
+        × HasContents another dialect others k file b.contents
+    contents_at k a b at and =
+        let within : k < length tree = rw (sym are.one_each) (slice_get_within parsed k a at) in
+        let there = item_at tree k within in
+        (there.0, (are.each k there.0 a there.1 at).contents, (also.each k there.0 b there.1 and).contents)
+
+    same_texts : texts_of parsed ≡ texts_of again
+    same_texts = same_mapped text_of parsed again (are.one_each ∙ sym also.one_each)
+        (λ k a b at and. let has = contents_at k a b at and in
+        same_in text_in k has.0 (λ x y is too. is.0 ∙ sym too.0) (λ x y. refl) a.contents b.contents has.1 has.2)
+
+    same_lists : OneListOfFacts → AllowOne allows others → map choices_of parsed ≡ map choices_of again
+    same_lists one agree = same_mapped choices_of parsed again (are.one_each ∙ sym also.one_each)
+        (λ k a b at and. let has = contents_at k a b at and in
+        same_in choices_in k has.0 (chosen_alike one agree k has.0) (λ x y. refl) a.contents b.contents has.1 has.2)
+
+-- what is the same of all is of those that are kept
+kept_same : {Y : Type 0} (f : ReadFile → Y) (all again parsed others : List ReadFile) (a b : Omissions)
+    → parsed ≡ kept_of a all → others ≡ kept_of b again → a ≡ b → map f all ≡ map f again
+    → map f parsed ≡ map f others
+kept_same f all again parsed others a b first second omissions whole =
+    ap (map f) first ∙ (map_kept f a all
+    ∙ (ap (kept_of a) whole ∙ (ap (λ o. kept_of o (map f again)) omissions
+    ∙ (sym (map_kept f b again) ∙ ap (map f) (sym second)))))
+
+module _ (one : OneListOfFacts) (apart : NoFactsWhereUnreadable) (one_fault : OneFileFault) (one_list : OneOmissionList)
+    (one_index : OneIndex) (allows others : Seen → Choice → Type 0)
+    (settings another : Settings) (tree : List TreeFile) (built other : Built)
+    (same : SetTheSame settings another) (is : IsBuilt allows settings tree built)
+    (also : IsBuilt others another tree other) where
+  abbrev all : List ReadFile
+  all = is.all
+
+  abbrev again : List ReadFile
+  again = also.all
+
+  abbrev a : Omissions
+  a = is.of_files.kept.omissions
+
+  abbrev b : Omissions
+  b = also.of_files.kept.omissions
+
+  read_again : AreParsedFiles another.faulty settings.dialect others tree again
+  read_again =
+      let Read : Dialect → Type 0 = λ c. AreParsedFiles another.faulty c others tree again in
+      subst Read (sym same.dialect) also.read
+
+  all_linked : linked_files all ≡ linked_files again
+  all_linked =
+      one_linking one apart settings.faulty another.faulty settings.dialect allows others tree all again is.read
+      read_again
+
+  same_omissions : a ≡ b
+  same_omissions =
+      let Are : List File → Type 0 = λ files. AreOmissions files b in
+      one_list (linked_files all)
+      (have_origins all (whole_at settings.faulty settings.dialect allows tree all is.read)) a b
+      is.of_files.kept.left_out (subst Are (sym all_linked) also.of_files.kept.left_out)
+
+  kept_alike : {Y : Type 0} (f : ReadFile → Y) → map f all ≡ map f again
+      → map f is.of_files.parsed ≡ map f also.of_files.parsed
+  kept_alike f = kept_same f all again is.of_files.parsed also.of_files.parsed a b is.of_files.kept.kept
+      also.of_files.kept.kept same_omissions
+
+  same_files : linked_files is.of_files.parsed ≡ linked_files also.of_files.parsed
+  same_files = kept_alike linked_file all_linked
+
+  choices_are : AllowOne allows others → built.choices ≡ other.choices
+  choices_are agree = is.of_files.choices ∙ (kept_alike choices_of
+      (same_lists apart allows others settings.faulty another.faulty settings.dialect tree all again
+      is.read read_again one agree) ∙ sym also.of_files.choices)
+
+  texts_are : texts_of is.of_files.parsed ≡ texts_of also.of_files.parsed
+  texts_are = kept_alike text_of
+      (same_texts apart allows others settings.faulty another.faulty settings.dialect tree all again
+      is.read read_again)
+
+  index_is : built.choices ≡ other.choices → built.index ≡ other.index
+  index_is choices =
+      let Is : List File → List (List ℕ) → Chosen → Packages → Encoding → List ℕ → Type 0 =
+      λ fs ts chosen ids encoding root. IsIndexOf fs ts chosen ids encoding root other.index in
+      let files = linked_files is.of_files.parsed in
+      let texts = texts_of is.of_files.parsed in
+      let lines = texts_of also.of_files.parsed in
+      let f = subst (λ x. Is x lines other.choices another.package another.encoding another.project_root)
+      (sym same_files) also.of_files.index in
+      let t = subst (λ x. Is files x other.choices another.package another.encoding another.project_root)
+      (sym texts_are) f in
+      let c = subst (λ x. Is files texts x another.package another.encoding another.project_root) (sym choices) t
+      in
+      let p = subst (λ x. Is files texts built.choices x another.encoding another.project_root) (sym same.id) c in
+      let e = subst (λ x. Is files texts built.choices settings.package x another.project_root) (sym same.encoding) p in
+      let r = subst (λ x. Is files texts built.choices settings.package settings.encoding x) (sym same.project_root) e
+      in
+      one_index files texts built.choices settings.package settings.encoding settings.project_root built.index
+      other.index is.of_files.index r
+
+  -- ---- what is told
+
+  -- two faults of a file that can't be read are one
+  same_unread : (number : ℕ) (fault more : FileFault) → HasFault all number fault → HasFault again number more
+      → fault ≡ more
+  same_unread number fault more has too =
+      let x = unreadable settings.faulty settings.dialect allows tree all is.read number fault has in
+      let y = unreadable another.faulty another.dialect others tree again also.read number more too in
+      let file : x.0 ≡ y.0 = same_Some x.0 y.0 (sym x.1 ∙ y.1) in
+      let bytes = subst (λ (f : TreeFile). IsUnreadable another.dialect f.bytes more) (sym file) y.2 in
+      one_fault settings.dialect x.0.bytes fault more x.2
+      (subst (λ c. IsUnreadable c x.0.bytes more) (sym same.dialect) bytes)
+
+  of_left : (number : ℕ) (omission : FileOmission) (told : Omission) → slice_get b number ≡ Some (Some omission)
+      → IsOmission (linked_files again) b number (Some omission) → IsLeftFor all number omission told
+      → IsTold again b told
+  of_left number left_for.Broken told at out left =
+      let fault = fault_of again number out in
+      let here = subst (HasFault again number) (sym (same_unread number left.0 fault.0 left.1 fault.1)) fault.1 in
+      of_file number left_for.Broken at (left.0, here, left.2)
+  of_left number (left_for.Duplicate first second) told at out left =
+      of_file number (left_for.Duplicate first second) at left
+
+  kept_files : linked_files (kept_of a all) ≡ linked_files (kept_of b again)
+  kept_files = kept_same linked_file all again (kept_of a all) (kept_of b again) a b refl refl same_omissions all_linked
+
+  -- what is told of one is told of the other
+  told_too : (told : Omission) → IsTold all a told → IsTold again b told
+  told_too told (of_file n o at left) =
+      let there : slice_get b n ≡ Some (Some o) =
+      subst (λ (x : Omissions). slice_get x n ≡ Some (Some o)) same_omissions at in
+      of_left n o told there (also.of_files.kept.left_out.each n (Some o) there) left
+  told_too _ (of_import p missing) =
+      let place : place_among_all a p ≡ place_among_all b p = ap (λ o. place_among_all o p) same_omissions in
+      let missing_too = subst (λ fs. IsMissing fs p) kept_files missing in
+      subst (IsTold again b) (ap omitted.MissingImport (sym place)) (of_import p missing_too)
+  told_too _ (of_use p is_use) =
+      let place : place_among_all a p ≡ place_among_all b p = ap (λ o. place_among_all o p) same_omissions in
+      let use_too = subst (λ fs. IsUnresolvedAt fs p) kept_files is_use in
+      subst (IsTold again b) (ap omitted.Unresolved (sym place)) (of_use p use_too)
+
+  keys_there : (key : Key) → Contains (map told_key built.told) key → Contains (map told_key other.told) key
+  keys_there key there =
+      let of = mapped_from told_key built.told key there in
+      let listed = (also.of_files.kept.told_is.exact of.0).1
+      (told_too of.0 ((is.of_files.kept.told_is.exact of.0).0 of.1)) in
+      subst (Contains (map told_key other.told)) of.2 (contains_map told_key other.told of.0 listed)
+
+-- the keys of a list in order are in order
+module _ {X K : Type 0} (f : X → K) (cmp : K → K → Ordering) where
+  all_mapped : (x : X) (xs : List X) → AllByRecursion (λ y. cmp (f x) (f y) ≡ Less) xs
+      → AllByRecursion (λ k. cmp (f x) k ≡ Less) (map f xs)
+  all_mapped x [] each = tt
+  all_mapped x (y ∷ ys) each = (each.0, all_mapped x ys each.1)
+
+  ascends_mapped : (xs : List X) → IsStrictlySortedBy (on f cmp) xs → IsStrictlySortedBy cmp (map f xs)
+  unfolding IsStrictlySortedBy
+  ascends_mapped [] up = tt
+  ascends_mapped (x ∷ xs) up = (all_mapped x xs up.0, ascends_mapped xs up.1)
+
+set_the_same : (settings another : Settings) → SetTheSame settings another → SetTheSame another settings
+set_the_same settings another same = record {
+  project_root = sym same.project_root;
+  id = sym same.id;
+  encoding = sym same.encoding;
+  dialect = sym same.dialect;
+}
+
+module _ (one : OneListOfFacts) (apart : NoFactsWhereUnreadable) (one_fault : OneFileFault) (one_list : OneOmissionList)
+    (one_index : OneIndex) (allows others : Seen → Choice → Type 0) where
+  pub one_built_of_choices : OneBuiltOfChoices allows others
+  one_built_of_choices settings another tree built other same choices is also =
+      λ i. record { index = index i; choices = choices i; told = told i }
+    where
+      index : built.index ≡ other.index
+      index = index_is one apart one_fault one_list one_index allows others settings another tree built other same is
+          also choices
+
+      keys : map told_key built.told ≡ map told_key other.told
+      keys = one-ascending key_total (map told_key built.told) (map told_key other.told)
+          (ascends_mapped told_key key_cmp built.told is.of_files.kept.told_is.ascends)
+          (ascends_mapped told_key key_cmp other.told also.of_files.kept.told_is.ascends)
+          (keys_there one apart one_fault one_list one_index allows others settings another tree built other same
+          is also)
+          (keys_there one apart one_fault one_list one_index others allows another settings tree other built
+          (set_the_same settings another same) also is)
+
+      -- what is at one place of the two lists is one
+      at_one_place : (k : ℕ) (x y : Omission) → slice_get built.told k ≡ Some x → slice_get other.told k ≡ Some y
+          → x ≡ y
+      at_one_place k x y at and =
+          let key_x : slice_get (map told_key built.told) k ≡ Some (told_key x) =
+          slice_get-map told_key built.told k ∙ ap (option_map told_key) at in
+          let key_y : slice_get (map told_key other.told) k ≡ Some (told_key y) =
+          slice_get-map told_key other.told k ∙ ap (option_map told_key) and in
+          let key : told_key x ≡ told_key y = same_Some (told_key x) (told_key y)
+          (sym key_x ∙ (ap (λ (l : List Key). slice_get l k) keys ∙ key_y)) in
+          let told_x = (is.of_files.kept.told_is.exact x).0 (contained built.told k x at) in
+          let told_y = (also.of_files.kept.told_is.exact y).0 (contained other.told k y and) in
+          let too = told_too one apart one_fault one_list one_index allows others settings another tree built
+          other same is also x told_x in
+          one_told also.all also.of_files.kept.omissions also.of_files.kept.left_out x y too told_y
+          (of_same (told_key x) (told_key y) key)
+
+      count : length built.told ≡ length other.told
+      count = sym (length-map built.told told_key) ∙ (ap length keys ∙ length-map other.told told_key)
+
+      told : built.told ≡ other.told
+      told = sym (map-id built.told)
+          ∙ (same_mapped (λ (x : Omission). x) built.told other.told count at_one_place ∙ map-id other.told)
+
+  pub one_built : OneBuilt allows others
+  one_built settings another tree built other agree same is also =
+      let choices = choices_are one apart one_fault one_list one_index allows others settings another tree built other
+      same is also agree in
+      one_built_of_choices settings another tree built other same choices is also

@@ -1,0 +1,278 @@
+-- What is told of a tree: just what is left out and what has no target, each once.
+use Rattle.std.proofs.Common.{◌≡◌, ◌∙◌, ◌↔◌, inl, inr, ℕ, ◌+◌, ◌++◌, Bool, true, false, List, []}
+use Rattle.std.proofs.Common.{length, map, Option, Some, None, Result, Err, ap, sym, refl, subst, arith}
+use Rattle.std.specs.List.{Contains, slice_get}
+use Rattle.std.specs.declared.cmp.Ordering.TheVariants.{Equal}
+use Rattle.std.specs.Ordering.{nat_cmp, bool_cmp, ordering_then, is_lt}
+use Rattle.std.specs.Cmp.{IsTotalOrder, IsStrictWeakOrder, bool_cmp_total}
+use Rattle.std.proofs.lemmas.Cmp.{on_total, then_total, nat_cmp_total}
+use Rattle.std.proofs.lemmas.List.Sorted.{ranks_by}
+use Rattle.std.proofs.lemmas.Map.Lookups.{exact_unsigned}
+use Rattle.std.proofs.lemmas.Option.{same_Some, slice_get_within}
+use Rattle.std.proofs.lemmas.List.Elements.{Contains-append_right, Contains-append_left, Contains-append_cases}
+use Rattle.basics.proofs.ListLemmas.{contains_map, in_nothing}
+use Rattle.proto_visibility.specs.declared.files.FilePlace.{FilePlace}
+use Rattle.proto_visibility.specs.declared.omissions.FileOmission.{FileOmission}
+use Rattle.proto_visibility.specs.declared.omissions.FileOmission.TheVariants as left_for
+use Rattle.proto_visibility.specs.Files as files
+use Rattle.proto_visibility.specs.Clashes.{IsItem, ClashBy}
+use Rattle.proto_visibility.specs.Absences.{IsNeeded, IsMissing, AreMissing}
+use Rattle.proto_visibility.specs.Absences.IsNeeded.{of_source, of_included}
+use Rattle.proto_visibility.specs.Kept.{Omissions, IsMet, IsOmission, AreOmissions, kept_of, number_among_all}
+use Rattle.proto_visibility.proofs.KeptLemmas.{is_kept, excludes_as}
+use Rattle.scip_build.specs.declared.fault.FileFault.{FileFault}
+use Rattle.scip_build.specs.declared.omission.Omission.{Omission}
+use Rattle.scip_build.specs.declared.omission.Omission.TheVariants.{File, Duplicate, MissingImport, Unresolved}
+use Rattle.scip_build.specs.Files.{FileContents, ReadFile}
+use Rattle.scip_build.specs.Linking.{linked_file, linked_files, HasFault}
+use Rattle.scip_build.specs.Documents.{IsUnresolvedAt}
+use Rattle.scip_build.specs.Kept.{IsLeftFor, place_among_all, IsTold, Key, told_key, key_cmp, told_cmp}
+use Rattle.scip_build.specs.Kept.IsTold.{of_file, of_import, of_use}
+use Rattle.scip_build.specs.Keeping.{kept_numbers}
+use Rattle.scip_build.specs.Telling.{Adds, FromFront, IsLeftIf, place_by, told_import, told_use, HaveOwnKeys}
+use Rattle.scip_build.proofs.LinkingLemmas.{mapped_at}
+use Rattle.scip_build.proofs.KeptTreeLemmas.{number_of}
+use Rattle.source_tree.proofs.TreeLemmas.{mapped_from}
+use Rattle.scip_model.proofs.OccurrenceOrderLemmas.{both_equal}
+
+-- ---- keys
+
+pub key_total : IsTotalOrder key_cmp
+key_total = then_total
+    (then_total (on_total (λ (x : Key). x.0.0) nat_cmp_total) (on_total (λ (x : Key). x.0.1) nat_cmp_total))
+    (then_total (on_total (λ (x : Key). x.1.0) nat_cmp_total) (on_total (λ (x : Key). x.1.1) bool_cmp_total))
+
+pub told_total : IsTotalOrder told_cmp
+told_total = on_total told_key key_total
+
+pub told_rank : IsStrictWeakOrder (λ x y. is_lt (told_cmp x y))
+told_rank = ranks_by told_total (λ (fault : Omission). fault)
+
+one_bool : (a b : Bool) → bool_cmp a b ≡ Equal → a ≡ b
+one_bool false false e = refl
+one_bool true true e = refl
+one_bool false true e = cc
+one_bool true false e = cc
+
+-- two keys are one
+pub record AreOneKey (x y : Key) : Type 0 where
+  pub file : x.0.0 ≡ y.0.0
+  pub start : x.0.1 ≡ y.0.1
+  pub end : x.1.0 ≡ y.1.0
+  pub is_use : x.1.1 ≡ y.1.1
+
+pub one_key : (x y : Key) → key_cmp x y ≡ Equal → AreOneKey x y
+one_key x y e =
+    let halves = both_equal (ordering_then (nat_cmp x.0.0 y.0.0) (nat_cmp x.0.1 y.0.1))
+    (ordering_then (nat_cmp x.1.0 y.1.0) (bool_cmp x.1.1 y.1.1)) e in
+    let first = both_equal (nat_cmp x.0.0 y.0.0) (nat_cmp x.0.1 y.0.1) halves.0 in
+    let second = both_equal (nat_cmp x.1.0 y.1.0) (bool_cmp x.1.1 y.1.1) halves.1 in
+    record {
+      file = exact_unsigned x.0.0 y.0.0 first.0;
+      start = exact_unsigned x.0.1 y.0.1 first.1;
+      end = exact_unsigned x.1.0 y.1.0 second.0;
+      is_use = one_bool x.1.1 y.1.1 second.1;
+    }
+
+pub of_same : (x y : Key) → x ≡ y → AreOneKey x y
+of_same x y e = record {
+  file = ap (λ (k : Key). k.0.0) e;
+  start = ap (λ (k : Key). k.0.1) e;
+  end = ap (λ (k : Key). k.1.0) e;
+  is_use = ap (λ (k : Key). k.1.1) e;
+}
+
+one_place : (a b : FilePlace) → a.file ≡ b.file → a.span.start ≡ b.span.start → a.span.end ≡ b.span.end → a ≡ b
+one_place a b file start end = λ i. record { file = file i; span = record { start = start i; end = end i } }
+
+-- ---- a file that is left out
+
+one_fault : (all : List ReadFile) (number : ℕ) (a b : FileFault) → HasFault all number a → HasFault all number b → a ≡ b
+one_fault all number a b first second =
+    let same : first.parsed_file ≡ second.parsed_file =
+    same_Some first.parsed_file second.parsed_file (sym first.numbered ∙ second.numbered) in
+    one (sym first.unread ∙ (ap (λ (r : ReadFile). r.contents) same ∙ second.unread))
+  where
+    one : ◌≡◌ {A = Result FileContents FileFault} (Err a) (Err b) → a ≡ b
+    one e = cc
+
+-- a file is left out for one fault
+pub one_left : (all : List ReadFile) (number : ℕ) (omission : FileOmission) (a b : Omission)
+    → IsLeftFor all number omission a → IsLeftFor all number omission b → a ≡ b
+one_left all number left_for.Broken a b first second =
+    first.2 ∙ (ap (File number) (one_fault all number first.0 second.0 first.1 second.1) ∙ sym second.2)
+one_left all number (left_for.Duplicate p q) a b first second = first ∙ sym second
+
+module _ (all : List ReadFile) (omissions : Omissions) (are : AreOmissions (linked_files all) omissions) where
+  abbrev kept : List files.File
+  kept = linked_files (kept_of omissions all)
+
+  -- the later place of a clash is one of the file that is left out for it
+  second_in : (number : ℕ) (first second : FilePlace)
+      → ClashBy (IsMet (IsItem (linked_files all)) omissions number) first second → second.file ≡ number
+  second_in number first second clash = elim clash.exclude.second_is.meets [
+    | inl own ↦ sym (ap (λ (p : FilePlace). p.file) clash.second_is) ∙ own
+    | inr before ↦ (
+        let there = clash.later.place.file in
+        let met : IsMet (IsItem (linked_files all)) omissions there clash.earlier = record {
+          is_item = clash.exclude.first_is.is_item;
+          meets = elim clash.exclude.ordered [
+            | inl less ↦ elim clash.exclude.first_is.meets [
+              | inl own ↦ absurd (let n = before.0 in omega (arith, own, less, n))
+              | inr is ↦ inr (less, is.1)
+            ]
+            | inr same ↦ inl same.0
+          ];
+        } in
+        let itself : IsMet (IsItem (linked_files all)) omissions there clash.later =
+        record { is_item = clash.exclude.second_is.is_item; meets = inl refl } in
+        absurd ((are.each there None before.1).1 clash.earlier clash.later
+        (excludes_as clash.earlier clash.later (λ _. met) (λ _. itself) clash.exclude)))
+  ]
+
+  left_in : (number : ℕ) (omission : FileOmission) (told : Omission)
+      → IsOmission (linked_files all) omissions number (Some omission) → IsLeftFor all number omission told
+      → (told_key told).0.0 ≡ number
+  left_in number left_for.Broken told is left = ap (λ (o : Omission). (told_key o).0.0) left.2
+  left_in number (left_for.Duplicate first second) told is left =
+      ap (λ (o : Omission). (told_key o).0.0) left ∙ second_in number first second is
+
+  -- the number of a file that is left out is none of a file that is kept
+  not_kept : (number : ℕ) (omission : FileOmission) → slice_get omissions number ≡ Some (Some omission)
+      → (k : ℕ) (parsed_file : ReadFile) → slice_get (kept_of omissions all) k ≡ Some parsed_file
+      → number ≡ number_among_all omissions k → ⊥
+  not_kept number omission at k parsed_file there same =
+      let is = is_kept omissions all k parsed_file there in
+      some_is (same_Some (Some omission) None (sym at ∙ (ap (λ n. slice_get omissions n) same ∙ is)))
+    where
+      some_is : ◌≡◌ {A = Option FileOmission} (Some omission) None → ⊥
+      some_is e = cc
+
+  parsed_file_at : (k : ℕ) (file : files.File) → slice_get kept k ≡ Some file
+      → (parsed_file : ReadFile) × (slice_get (kept_of omissions all) k ≡ Some parsed_file)
+  parsed_file_at k file at = let of = mapped_at linked_file (kept_of omissions all) k file at in (of.0, of.1)
+
+  pub import_at : (place : FilePlace) → IsMissing kept place
+      → (parsed_file : ReadFile) × (slice_get (kept_of omissions all) place.file ≡ Some parsed_file)
+  import_at place missing = by place.file missing.needed
+    where
+      by : (number : ℕ) → IsNeeded kept number missing.import
+          → (parsed_file : ReadFile) × (slice_get (kept_of omissions all) number ≡ Some parsed_file)
+      by number (of_source is has listed) = parsed_file_at number has.file has.numbered
+      by number (of_included is_reachable has listed public) = parsed_file_at number has.file has.numbered
+
+  pub use_at : (place : FilePlace) → IsUnresolvedAt kept place
+      → (parsed_file : ReadFile) × (slice_get (kept_of omissions all) place.file ≡ Some parsed_file)
+  use_at place is = parsed_file_at place.file is.source.file is.source.numbered
+
+  -- ---- no two are told at one key
+
+  left_of : (number : ℕ) (omission : FileOmission) (told : Omission)
+      → slice_get omissions number ≡ Some (Some omission)
+      → IsLeftFor all number omission told → (told_key told).0.0 ≡ number
+  left_of number omission told at left = left_in number omission told (are.each number (Some omission) at) left
+
+  pub one_told : (a b : Omission) → IsTold all omissions a → IsTold all omissions b
+      → AreOneKey (told_key a) (told_key b) → a ≡ b
+  one_told a b (of_file n o at left) (of_file m p and right) same =
+      let numbers : n ≡ m = sym (left_of n o a at left) ∙ (same.file ∙ left_of m p b and right) in
+      let omission : o ≡ p =
+      same_Some o p (same_Some (Some o) (Some p) (sym at ∙ (ap (λ k. slice_get omissions k) numbers ∙ and))) in
+      let here = subst (λ k. IsLeftFor all k o a) numbers left in
+      one_left all m p a b (subst (λ (x : FileOmission). IsLeftFor all m x a) omission here) right
+  one_told a _ (of_file n o at left) (of_import q missing) same =
+      let there = import_at q missing in
+      absurd (not_kept n o at q.file there.0 there.1 (sym (left_of n o a at left) ∙ same.file))
+  one_told a _ (of_file n o at left) (of_use q is) same =
+      let there = use_at q is in
+      absurd (not_kept n o at q.file there.0 there.1 (sym (left_of n o a at left) ∙ same.file))
+  one_told _ b (of_import p missing) (of_file m o and right) same =
+      let there = import_at p missing in
+      absurd (not_kept m o and p.file there.0 there.1 (sym (left_of m o b and right) ∙ sym same.file))
+  one_told _ _ (of_import p missing) (of_import q also) same =
+      ap MissingImport (one_place (place_among_all omissions p) (place_among_all omissions q) same.file same.start
+      same.end)
+  one_told _ _ (of_import p missing) (of_use q is) same = absurd (apart same.is_use)
+    where
+      apart : false ≡ true → ⊥
+      apart e = cc
+  one_told _ b (of_use p is) (of_file m o and right) same =
+      let there = use_at p is in
+      absurd (not_kept m o and p.file there.0 there.1 (sym (left_of m o b and right) ∙ sym same.file))
+  one_told _ _ (of_use p is) (of_import q missing) same = absurd (apart same.is_use)
+    where
+      apart : true ≡ false → ⊥
+      apart e = cc
+  one_told _ _ (of_use p is) (of_use q also) same =
+      ap Unresolved (one_place (place_among_all omissions p) (place_among_all omissions q) same.file same.start
+      same.end)
+
+  -- ---- what is told
+
+  of_left : (number : ℕ) (omission : Option FileOmission) (told : Omission) → slice_get omissions number ≡ Some omission
+      → IsLeftIf all number omission told → IsTold all omissions told
+  of_left number None told at is = absurd is
+  of_left number (Some left) told at is = of_file number left at is
+
+  moved : (place : FilePlace) (parsed_file : ReadFile) → slice_get (kept_of omissions all) place.file ≡ Some parsed_file
+      → place_by (kept_numbers 0 omissions) place ≡ place_among_all omissions place
+  moved place parsed_file at =
+      let to : ℕ → FilePlace = λ n. record { file = n; span = place.span } in
+      ap to (number_of omissions all place.file parsed_file at)
+
+  module _ (left : List Omission) (missing unresolved_uses : List FilePlace)
+      (left_are : Adds (FromFront (IsLeftIf all) omissions (length omissions)) [] left)
+      (missing_are : AreMissing kept missing)
+      (unresolved_are : (place : FilePlace) → Contains unresolved_uses place ↔ IsUnresolvedAt kept place) where
+    abbrev imports : List Omission
+    imports = map (told_import (kept_numbers 0 omissions)) missing
+
+    abbrev uses : List Omission
+    uses = map (told_use (kept_numbers 0 omissions)) unresolved_uses
+
+    pub is_told : (fault : Omission) → Contains ((left ++ imports) ++ uses) fault → IsTold all omissions fault
+    is_told fault there = elim (Contains-append_cases (left ++ imports) uses fault there) [
+      | inl front ↦ elim (Contains-append_cases left imports fault front) [
+        | inl one ↦ elim ((left_are fault).0 one) [
+          | inl none ↦ absurd (in_nothing fault none)
+          | inr from ↦ of_left from.index from.element fault from.stands from.is
+        ]
+        | inr import ↦ (
+            let of = mapped_from (told_import (kept_numbers 0 omissions)) missing fault import in
+            let is = (missing_are.each of.0).0 of.1 in
+            let at = import_at of.0 is in
+            subst (IsTold all omissions) (ap MissingImport (sym (moved of.0 at.0 at.1)) ∙ of.2) (of_import of.0 is))
+      ]
+      | inr use_ ↦ (
+          let of = mapped_from (told_use (kept_numbers 0 omissions)) unresolved_uses fault use_ in
+          let is = (unresolved_are of.0).0 of.1 in
+          let at = use_at of.0 is in
+          subst (IsTold all omissions) (ap Unresolved (sym (moved of.0 at.0 at.1)) ∙ of.2) (of_use of.0 is))
+    ]
+
+    pub told_is : (fault : Omission) → IsTold all omissions fault → Contains ((left ++ imports) ++ uses) fault
+    told_is fault (of_file n o at found) =
+        let there = (left_are fault).1 (inr (record {
+          index = n;
+          element = Some o;
+          within = slice_get_within omissions n (Some o) at;
+          stands = at;
+          is = found;
+        })) in
+        Contains-append_left (left ++ imports) uses fault (Contains-append_left left imports fault there)
+    told_is _ (of_import p is) =
+        let at = import_at p is in
+        let there = contains_map (told_import (kept_numbers 0 omissions)) missing p ((missing_are.each p).1 is) in
+        let fault : Omission = MissingImport (place_among_all omissions p) in
+        Contains-append_left (left ++ imports) uses fault (Contains-append_right left imports fault
+        (subst (Contains imports) (ap MissingImport (moved p at.0 at.1)) there))
+    told_is _ (of_use p is) =
+        let at = use_at p is in
+        let there = contains_map (told_use (kept_numbers 0 omissions)) unresolved_uses p ((unresolved_are p).1 is) in
+        let fault : Omission = Unresolved (place_among_all omissions p) in
+        Contains-append_right (left ++ imports) uses fault
+        (subst (Contains uses) (ap Unresolved (moved p at.0 at.1)) there)
+
+    pub own_keys : HaveOwnKeys ((left ++ imports) ++ uses)
+    own_keys a b first second equal =
+        one_told a b (is_told a first) (is_told b second) (one_key (told_key a) (told_key b) equal)

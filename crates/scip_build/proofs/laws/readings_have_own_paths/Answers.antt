@@ -1,6 +1,0 @@
-use Rattle.scip_build.proofs.LinkingLemmas.{own_paths}
-use Rattle.scip_build.proofs.laws.readings_have_own_paths.Goals as goal
-
-pub returns : goal.returns
-returns g c = λ faulty dialect files readings are own. own_paths faulty dialect
-    (g.C.Chooses.allows c.args.chooser.now) files readings are own

@@ -1,0 +1,65 @@
+-- What is said of linked sources (`LinkedSources`), from which documents are made: of the files that were read, those
+-- files as they are linked, what was chosen for their declarations, the settings, and how many sources there are. Each
+-- word is another file's, of these parts.
+use Rattle.std.specs.Prelude.{ℕ, List, Result}
+use Rattle.proto_visibility.specs.Files.{IsSource}
+use Rattle.scip_records.specs.declared.records.Document.{Document}
+use Rattle.scip_model.specs.Chosen.{HaveChoices}
+use Rattle.scip_model.specs.Conditions.{HaveGoodPaths, HasText}
+use Rattle.scip_model.specs.declared.source_document.SourceDocument.{SourceDocument}
+use Rattle.proto_visibility.specs.declared.files.FilePlace.{FilePlace}
+use Rattle.scip_build.specs.Documents.{AreReady, GivesDocument, HasReadText, IsRead, MayRefuseDocuments, SourceWork}
+use Rattle.scip_build.specs.Forms.{AreMade, IsMadeInForm}
+use Rattle.scip_build.specs.declared.fault.BuildFault.{BuildFault}
+use Rattle.scip_build.specs.declared.linked_sources.LinkedSources.{LinkedSources}
+use Rattle.scip_build.specs.declared.made.MadeDocument.{MadeDocument}
+use Rattle.scip_build.specs.declared.parts.Parts.{Parts}
+use Rattle.scip_build.specs.declared.source_document.NoDocument.{NoDocument}
+
+module _ (sources : LinkedSources) where
+  abbrev pub work_of : SourceWork
+  work_of = record {
+    parsed = sources.parsed.now;
+    files = sources.linker.now;
+    chosen = sources.choices.now;
+    settings = sources.settings.now;
+    count = sources.count;
+  }
+
+  -- ---- one source
+
+  abbrev pub HasSource : (number : ℕ) → Type 0
+  HasSource = IsSource sources.linker.now
+
+  abbrev pub HasReadSource : (number : ℕ) → Type 0
+  HasReadSource = IsRead sources.parsed.now
+
+  abbrev pub HasTextRead : (number : ℕ) → Type 0
+  HasTextRead number =
+      (text : List ℕ) → HasReadText sources.parsed.now number text → HasText sources.linker.now number text
+
+  abbrev pub GivesDocumentOf : (number : ℕ) → Result SourceDocument NoDocument → Type 0
+  GivesDocumentOf = GivesDocument sources.parsed.now sources.linker.now sources.choices.now sources.settings.now
+
+  -- ---- all of them
+
+  abbrev pub HasGoodPaths : Type 0
+  HasGoodPaths = HaveGoodPaths sources.linker.now
+
+  abbrev pub HasChosen : Type 0
+  HasChosen = HaveChoices sources.linker.now sources.choices.now
+
+  abbrev pub IsReady : Type 0
+  IsReady = AreReady sources.parsed.now sources.linker.now sources.choices.now sources.count
+
+  abbrev pub MayRefuseAny : (workers : ℕ) → BuildFault → Type 0
+  MayRefuseAny = MayRefuseDocuments sources.settings.now.faulty sources.linker.now
+
+  module _ {Out : Type 0} (Is : Document → Out → Type 0) where
+    abbrev pub AreMadeFrom : List (MadeDocument Out) → Type 0
+    AreMadeFrom =
+        AreMade Is sources.parsed.now sources.linker.now sources.choices.now sources.settings.now
+
+    abbrev pub IsMadeFrom : Parts Out → List FilePlace → Type 0
+    IsMadeFrom =
+        IsMadeInForm Is sources.parsed.now sources.linker.now sources.choices.now sources.settings.now

@@ -1,0 +1,23 @@
+//! What an index lacks.
+
+use crate::fault::FileFault;
+use proto_link::FilePlace;
+
+/// What an index lacks of its tree, if faults are skipped: a file that is left out, or an import or a use without a
+/// target, which doesn't occur. Each is named as the fault for which the tree would be refused, but needn't be the
+/// first.
+///
+/// A file is named by its number in the tree.
+#[derive(Clone, Copy, Debug, Drop, PartialEq, Eq)]
+pub enum Omission {
+    /// The number of a file that can't be read, and why.
+    File(usize, FileFault),
+    /// The places of two declarations, or of a declaration and a component of a package statement, that give one full
+    /// name. The file of the second is left out; that of the first is the same, or is kept and comes before it. Of such
+    /// pairs it is that with the least second place, and then the least first.
+    Duplicate(FilePlace, FilePlace),
+    /// An import of a path that no file has that is kept, by its literal's place.
+    MissingImport(FilePlace),
+    /// A use that names no type in the files that are kept, by the place of the whole use.
+    Unresolved(FilePlace),
+}

@@ -1,0 +1,56 @@
+//! What is known of a file after it was read.
+
+use crate::fault::FileFault;
+use basics::Sequence;
+use index_hooks::Choice;
+use proto_decl::FileFacts;
+use proto_lex::Text;
+use std::marker::Model;
+
+/// The contents of a file.
+///
+/// Contracts see the bytes of its text, its facts, and the list of choices.
+#[derive(Drop)]
+pub struct Contents<'a> {
+    /// Its text.
+    pub text: Text<'a>,
+    /// What it declares, imports and uses.
+    pub facts: FileFacts<'a>,
+    /// The choice for each declaration, in their order.
+    pub choices: Sequence<Choice>,
+}
+
+impl<'a> Model for Contents<'a> {
+    ghost use Rattle.scip_build.specs.Files.{FileContents};
+
+    ghost Value = { FileContents };
+
+    ghost view = { λ contents. record { text = contents.text; facts = contents.facts; choices = contents.choices } };
+}
+
+/// A file after it was read: its contents, or why it has none; a source is without only if such are skipped.
+///
+/// Contracts see its path's bytes, whether it is included, and the contents or the fault.
+#[derive(Drop)]
+pub struct ParsedFile<'a> {
+    /// Its path below its root.
+    pub path: &'a str,
+    /// Whether it is included: linked, but not indexed.
+    pub is_included: bool,
+    /// Its contents, or why it can't be read.
+    pub contents: Result<Contents<'a>, FileFault>,
+}
+
+impl<'a> Model for ParsedFile<'a> {
+    ghost use Rattle.scip_build.specs.Files.{ReadFile};
+
+    ghost Value = { ReadFile };
+
+    ghost view = { λ parsed_file.
+        record {
+          path = parsed_file.path.now;
+          is_included = parsed_file.is_included;
+          contents
+              = parsed_file.contents;
+        } };
+}

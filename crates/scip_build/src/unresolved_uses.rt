@@ -1,0 +1,47 @@
+//! What was made of the sources, apart: what is kept of their documents, and their uses that name no type.
+
+ghost use Rattle.std.specs.Prelude.{◌≡◌, ◌++◌, IfOk, OnOk, map};
+ghost use Rattle.scip_build.specs.Made.{place_in, unresolved_from};
+
+use crate::made::MadeDocument;
+use proto_lex::Span;
+use proto_link::FilePlace;
+use std::alloc::{AllocError, Global};
+
+/// Adds the places of spans of a file.
+fn push_places(places: &mut Vec<FilePlace>, file: usize, spans: &[Span]) -> Result<(), AllocError>
+    ensures { OnOk result (places.new.items ≡ places.old.items ++ map (place_in file) spans.now) }
+{
+    for span in spans {
+        places.push(FilePlace { file, span: *span })?;
+    }
+    Ok(())
+}
+
+/// The places of the uses that name no type, by source, and in order.
+pub(crate) fn unresolved_of<T: Drop>(
+    alloc: Global,
+    made: &[MadeDocument<T>],
+) -> Result<Vec<FilePlace>, AllocError>
+    ensures { IfOk result (λ places. places.items ≡ unresolved_from 0 made.now) }
+{
+    let mut places = Vec::new(alloc);
+    for (file, document) in made.iter().enumerate() {
+        push_places(&mut places, file, document.unresolved.as_slice())?;
+    }
+    Ok(places)
+}
+
+/// What is kept of the documents, in order.
+pub(crate) fn documents_of<T: Drop>(
+    alloc: Global,
+    made: Vec<MadeDocument<T>>,
+) -> Result<Vec<T>, AllocError>
+    ensures { IfOk result (λ documents. documents.items ≡ map (λ document. document.kept) made.items) }
+{
+    let mut documents = Vec::with_capacity(alloc, made.len())?;
+    for document in made {
+        documents.push(document.kept)?;
+    }
+    Ok(documents)
+}

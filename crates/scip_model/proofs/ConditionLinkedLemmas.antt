@@ -1,0 +1,30 @@
+-- Sources of files that can be linked: they count, and have facts.
+use Rattle.std.proofs.Common.{◌≡◌, ℕ, Option, Some, None, List, refl}
+use Rattle.std.specs.List.{slice_get}
+use Rattle.proto_decl.specs.Facts.{Facts}
+use Rattle.proto_visibility.specs.Files.{File, HasFacts, IsSource}
+use Rattle.proto_visibility.specs.Sees.{IsReachable}
+use Rattle.proto_visibility.specs.Sees.SeesBy.{itself}
+use Rattle.proto_visibility.specs.Sees.IsReachable.{seen}
+use Rattle.proto_visibility.specs.Absences.{NoneBroken}
+
+pub source-counts : (files : List File) (source : ℕ) → IsSource files source → IsReachable files source
+source-counts files source is = seen is itself
+
+-- a file that counts has facts
+pub counted-facts : (files : List File) (number : ℕ) (file : File) → NoneBroken files → IsReachable files number
+    → slice_get files number ≡ Some file → (facts : Facts) × HasFacts files number facts
+counted-facts files number file read is_reachable at = by file.facts refl
+  where
+    by : (o : Option Facts) → file.facts ≡ o → (facts : Facts) × HasFacts files number facts
+    by None none = absurd (read number (record {
+      file = file;
+      is_reachable = is_reachable;
+      numbered = at;
+      unread = none;
+    }))
+    by (Some facts) some = (facts, record { file = file; numbered = at; known = some })
+
+pub source-facts : (files : List File) (source : ℕ) → NoneBroken files → IsSource files source
+    → (facts : Facts) × HasFacts files source facts
+source-facts files source read is = counted-facts files source is.file read (source-counts files source is) is.numbered

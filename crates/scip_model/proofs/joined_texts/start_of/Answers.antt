@@ -1,5 +1,0 @@
-use Rattle.scip_model.proofs.JoinedLemmas.{start_is}
-use Rattle.scip_model.proofs.joined_texts.start_of.Goals as goal
-
-pub returns-else-index-eq0 : goal.returns-else-index-eq0
-returns-else-index-eq0 c = start_is c.args.ends.now c.args.index c.if-index-eq0.false c.requires

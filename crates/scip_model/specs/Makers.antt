@@ -1,0 +1,160 @@
+-- What is said of what the document of a source is made from (`DocumentMaker`): its files, what was chosen for their
+-- declarations, the packages of their symbols, the encoding, the source's number and its text. Each word is another
+-- file's, of these parts.
+use Rattle.std.specs.Prelude.{ℕ, List, Option, ◌<◌, length}
+use Rattle.std.specs.Option.{option_map}
+use Rattle.proto_lex.specs.Lexed.{IsPart}
+use Rattle.proto_lex.specs.declared.span.Span.{Span}
+use Rattle.proto_decl.specs.Facts.{Facts}
+use Rattle.proto_decl.specs.declared.declaration.Declaration.{Declaration}
+use Rattle.proto_decl.specs.declared.imports.Imported.{Imported}
+use Rattle.proto_decl.specs.declared.uses.Component.{Component}
+use Rattle.proto_decl.specs.declared.uses.Use.{Use}
+use Rattle.proto_link.specs.declared.target.Target.{Target}
+use Rattle.proto_visibility.specs.Files.{HasFacts, HasPathAt, IsSource}
+use Rattle.proto_visibility.specs.declared.lookup.Entity.{Entity}
+use Rattle.proto_visibility.specs.declared.fault.LinkFault.{LinkFault}
+use Rattle.scip_records.specs.declared.records.Document.{Document}
+use Rattle.scip_records.specs.declared.records.Occurrence.{Occurrence}
+use Rattle.scip_records.specs.declared.records.SymbolInformation.{SymbolInformation}
+use Rattle.scip_symbol.specs.Entities as symbols
+use Rattle.scip_symbol.specs.Package.{Package}
+use Rattle.index_hooks.specs.declared.choice.Choice.{Choice}
+use Rattle.scip_model.specs.Chosen.{HasChoice, HaveChoices}
+use Rattle.scip_model.specs.Conditions.{HaveGoodPaths, AreUnresolvedUses, IsFound}
+use Rattle.scip_model.specs.Entries.{HasEntry}
+use Rattle.scip_model.specs.Indexes.{IsDocumentOf}
+use Rattle.scip_model.specs.Named.{HasDeclaration, text_of}
+use Rattle.scip_model.specs.Occurs.{Occurs}
+use Rattle.scip_model.specs.Packages.{package_of_file, package_of_part}
+use Rattle.scip_model.specs.Conditions.{AreOfText, HasText, MayRefuseDocument, UsesResolve}
+use Rattle.scip_model.specs.Tables.Listing.{entity_of, declared_by, IsNameable, AreNameable}
+use Rattle.scip_model.specs.Tables.Listing.{at_import, at_declaration, at_entity, at_part, at_component, at_target}
+use Rattle.scip_model.specs.Tables.Listing.{at_use}
+use Rattle.scip_model.specs.Tables.EntryLists.{choices_for}
+use Rattle.scip_model.specs.Tables.Plans.{HasOwnTexts, own_texts}
+use Rattle.scip_model.specs.declared.document_maker.DocumentMaker.{DocumentMaker}
+
+module _ (maker : DocumentMaker) where
+  -- ---- its source
+
+  abbrev pub IsOfSource : Type 0
+  IsOfSource = IsSource maker.linker.now maker.source
+
+  abbrev pub IsOfFile : Type 0
+  IsOfFile = maker.source < length maker.linker.now
+
+  abbrev pub HasSourcePath : (path : List ℕ) → Type 0
+  HasSourcePath path = HasPathAt maker.linker.now path maker.source
+
+  abbrev pub HasSourceFacts : Facts → Type 0
+  HasSourceFacts = HasFacts maker.linker.now maker.source
+
+  abbrev pub HasSourceText : Type 0
+  HasSourceText = HasText maker.linker.now maker.source maker.text.now
+
+  abbrev pub HasTextFor : Facts → Type 0
+  HasTextFor = AreOfText maker.text.now
+
+  abbrev pub HasPart : Span → Type 0
+  HasPart = IsPart maker.text.now
+
+  -- ---- its files, and what was chosen for their declarations
+
+  abbrev pub HasGoodPaths : Type 0
+  HasGoodPaths = HaveGoodPaths maker.linker.now
+
+  abbrev pub HasChosen : Type 0
+  HasChosen = HaveChoices maker.linker.now maker.choices.now
+
+  abbrev pub HasChosenFor : (index : ℕ) → Type 0
+  HasChosenFor = HasChoice maker.choices.now maker.source
+
+  abbrev pub choices_of : List Choice
+  choices_of = choices_for maker.choices.now maker.source
+
+  -- ---- what its uses name
+
+  abbrev pub Finds : Use → Option Target → Type 0
+  Finds = IsFound maker.linker.now maker.source
+
+  abbrev pub CanName : (name : List ℕ) → Entity → Type 0
+  CanName = IsNameable maker.linker.now
+
+  abbrev pub CanNameParts : Target → Type 0
+  CanNameParts = AreNameable maker.linker.now
+
+  abbrev pub HasDeclared : (file index : ℕ) → Type 0
+  HasDeclared file index =
+      (facts : Facts) × (declared : Declaration) × HasDeclaration maker.linker.now file index facts declared
+
+  abbrev pub entity_named : (name : List ℕ) → Entity → Option symbols.Entity
+  entity_named = entity_of maker.linker.now
+
+  abbrev pub part_package : Entity → Package
+  part_package = package_of_part maker.linker.now maker.package.now
+
+  -- the text of the symbol of a declaration, and of what a part of a full name names
+  abbrev pub declared_symbol : (file index : ℕ) → Option (List ℕ)
+  declared_symbol file index =
+      option_map (text_of (package_of_file maker.linker.now maker.package.now file))
+      (declared_by maker.linker.now file index)
+
+  abbrev pub part_symbol : (name : List ℕ) → Entity → Option (List ℕ)
+  part_symbol name part = option_map (text_of (part_package part)) (entity_named name part)
+
+  -- ---- the texts of the symbols of what the source has itself
+
+  abbrev pub source_texts : (path : List ℕ) → Facts → List (List ℕ)
+  source_texts =
+      own_texts (package_of_file maker.linker.now maker.package.now maker.source) maker.package.now.run
+
+  abbrev pub HasSourceTexts : (texts : List (List ℕ)) → Type 0
+  HasSourceTexts = HasOwnTexts maker.linker.now maker.package.now maker.source
+
+  -- ---- what occurs
+
+  abbrev pub at_its_import : ℕ → Imported → List Occurrence
+  at_its_import = at_import maker.package.now maker.encoding maker.text.now maker.linker.now
+
+  abbrev pub at_its_declaration : Package → Facts → ℕ → Declaration → List Occurrence
+  at_its_declaration id = at_declaration id maker.encoding maker.text.now maker.choices.now maker.source
+
+  abbrev pub at_its_entity : (name : List ℕ) → Span → Entity → List Occurrence
+  at_its_entity name span part =
+      at_entity (part_package part) maker.encoding maker.text.now span (entity_named name part)
+
+  abbrev pub at_its_part : (name : List ℕ) → Span → Option Entity → List Occurrence
+  at_its_part = at_part maker.package.now maker.encoding maker.text.now maker.linker.now maker.choices.now
+
+  abbrev pub at_its_component : Target → ℕ → Component → List Occurrence
+  at_its_component =
+      at_component maker.package.now maker.encoding maker.text.now maker.linker.now maker.choices.now
+
+  abbrev pub at_its_target : Option Target → Use → List Occurrence
+  at_its_target = at_target maker.package.now maker.encoding maker.text.now maker.linker.now maker.choices.now
+
+  abbrev pub at_its_use : List (Option Target) → ℕ → Use → List Occurrence
+  at_its_use = at_use maker.package.now maker.encoding maker.text.now maker.linker.now maker.choices.now
+
+  abbrev pub OccursIn : Occurrence → Type 0
+  OccursIn =
+      Occurs maker.linker.now maker.choices.now maker.package.now maker.encoding maker.source maker.text.now
+
+  -- ---- its document
+
+  abbrev pub IsItsEntry : SymbolInformation → Type 0
+  IsItsEntry = HasEntry maker.linker.now maker.choices.now maker.package.now maker.source
+
+  abbrev pub IsItsDocument : Document → Type 0
+  IsItsDocument =
+      IsDocumentOf maker.linker.now maker.choices.now maker.package.now maker.encoding maker.source maker.text.now
+
+  abbrev pub AreItsGaps : List Span → Type 0
+  AreItsGaps = AreUnresolvedUses maker.linker.now maker.source
+
+  abbrev pub HasResolvedUses : Type 0
+  HasResolvedUses = UsesResolve maker.linker.now maker.source
+
+  abbrev pub MayRefuseIts : LinkFault → Type 0
+  MayRefuseIts = MayRefuseDocument maker.linker.now maker.source

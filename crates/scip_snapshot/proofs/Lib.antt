@@ -1,2 +1,0 @@
-mod OutcomeLemmas
-pub mod ShowLemmas

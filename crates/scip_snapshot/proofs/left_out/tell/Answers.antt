@@ -1,8 +1,0 @@
-use Rattle.std.proofs.Common.{◌∙◌, subst, ℕ, List}
-use Rattle.scip_snapshot.specs.Showing.{IsSaid, silent, said}
-use Rattle.scip_snapshot.proofs.left_out.tell.Goals as goal
-
-pub returns : goal.returns
-returns g c =
-    said (subst (λ (l : List ℕ). IsSaid g.M.Sink.contents g.M.Sink.failures l c.args.messages.now c.say.new.messages)
-    (c.as_str.ensures.value ∙ c.in_ok-line.ensures) c.say.ensures) silent

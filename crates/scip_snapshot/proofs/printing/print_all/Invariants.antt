@@ -1,9 +1,0 @@
-use Rattle.scip_snapshot.specs.Showing.{writer, ArePrinted}
-use Rattle.scip_snapshot.proofs.ShowLemmas.{Stands}
-use Rattle.scip_snapshot.proofs.printing.print_all.Given as goal
-
--- the documents so far are shown
-abbrev pub invariant-loop-number : goal.invariant-loop-number
-invariant-loop-number g l =
-    Stands g.M.Sink.contents g.M.Sink.failures (g.F.ReadFiles.gives l.files) l.root l.queries
-    l.fn.messages l.messages (ArePrinted (writer g.W.Sink.contents g.W.Sink.failures l.fn.out l.out)) l.number

@@ -1,7 +1,0 @@
-use Rattle.std.proofs.Common.{◌≡◌, All, length, []}
-use Rattle.source_page.proofs.code.empty_lists.Given as goal
-
--- empty lists so far
-abbrev pub invariant-loop : goal.invariant-loop
-invariant-loop l = record
-    { count : length l.table.items ≡ l.counter; empty : All (λ listed. listed.items ≡ []) l.table.items }

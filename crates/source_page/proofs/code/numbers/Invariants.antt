@@ -1,7 +1,0 @@
-use Rattle.std.proofs.Common.{◌≡◌}
-use Rattle.scip_query.specs.Tables.{numbers}
-use Rattle.source_page.proofs.code.numbers.Given as goal
-
--- the numbers so far
-abbrev pub invariant-loop-number : goal.invariant-loop-number
-invariant-loop-number l = l.listed.items ≡ numbers l.number

@@ -1,7 +1,0 @@
-use Rattle.std.proofs.Common.{◌≡◌, take}
-use Rattle.source_page.specs.CodeText.{spans_of}
-use Rattle.source_page.proofs.code.spans_of.Given as goal
-
--- what the occurrences so far mark
-abbrev pub invariant-loop-number : goal.invariant-loop-number
-invariant-loop-number l = l.spans.items ≡ spans_of l.unit l.occurrences l.line (take l.number-index l.marking)

@@ -1,5 +1,0 @@
-use Rattle.source_page.proofs.LawLemmas.{leads_to_a_page, leads_if_defined}
-use Rattle.source_page.proofs.laws.uses_lead_to_definitions.Goals as goal
-
-pub returns : goal.returns
-returns c = record { leads = leads_to_a_page; defined = leads_if_defined }

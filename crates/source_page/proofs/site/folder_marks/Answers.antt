@@ -1,7 +1,0 @@
-use Rattle.std.specs.String.{string_bytes}
-use Rattle.source_page.proofs.FolderLemmas.{scanned_all}
-use Rattle.source_page.proofs.site.folder_marks.Goals as goal
-
-pub returns : goal.returns
-returns c = scanned_all (string_bytes c.loop-rest.marks) c.loop-rest.rest.now c.args.path.now c.in_default.len_below
-    c.loop-rest.invariant

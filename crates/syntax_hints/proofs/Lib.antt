@@ -1,3 +1,0 @@
--- what could stand, and how it is told
-mod HintLemmas
-mod WordingLemmas

@@ -1,4 +1,0 @@
-use Rattle.syntax_hints.proofs.wording.+push_listed.Given as goal
-
-abbrev pub decreases-push_listed : goal.decreases-push_listed
-decreases-push_listed l = l.room

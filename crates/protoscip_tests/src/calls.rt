@@ -172,6 +172,19 @@ fn due_of(text: &[u8], room: usize, pace: Pace, in_session: bool) -> Due<'_> {
     }
 }
 
+/// Adds the same of writers that take so many bytes, at each pace.
+fn add_dues<'t>(
+    dues: &mut Vec<Due<'t>>,
+    text: &'t [u8],
+    room: usize,
+    in_session: bool,
+) -> Result<(), AllocError> {
+    for pace in &PACES {
+        dues.push(due_of(text, room, *pace, in_session))?;
+    }
+    Ok(())
+}
+
 /// The same of writers that take each number of its bytes, at each pace.
 pub(crate) fn dues_of(
     alloc: Global,
@@ -180,9 +193,7 @@ pub(crate) fn dues_of(
 ) -> Result<Vec<Due<'_>>, AllocError> {
     let mut dues = Vec::new(alloc);
     for room in 0..=text.len() {
-        for pace in &PACES {
-            dues.push(due_of(text, room, *pace, in_session))?;
-        }
+        add_dues(&mut dues, text, room, in_session)?;
     }
     Ok(dues)
 }

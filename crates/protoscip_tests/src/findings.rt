@@ -117,42 +117,65 @@ impl<'a, R: Threads + Wait + Abort> Desk<'a, R> {
         skipped(self.alloc, &given.tree, told.as_slice())
     }
 
-    /// The report of a tree that is refused: with what is told of it, or else of the fault alone.
+    /// The report of a tree that is refused for this: with what is told of it, or else of the fault alone.
+    fn report_of_fault(
+        &self,
+        given: &Given,
+        fault: &Fault,
+        is_alone: bool,
+    ) -> Result<Vec<u8>, AllocError>
+        requires { HasFilesOf given.now.tree fault.now }
+    {
+        if is_alone {
+            return refused(self.alloc, &given.tree, fault, &[]);
+        }
+        let told = self.told(given)?;
+        refused(self.alloc, &given.tree, fault, told.as_slice())
+    }
+
+    /// The report of a tree that is refused.
     fn report_refused(&self, given: &Given, is_alone: bool) -> Result<Vec<u8>, AllocError> {
         let (tree, settings) = (&given.tree, &given.settings);
         let mut out = writer(self.alloc, ROOM)?;
         match index_tree(&self.run(2), tree, given.registry, settings, &mut out) {
             Ok(_) => Ok(Vec::new(self.alloc)),
-            Err(fault) => {
-                if fault.status() == WANT {
-                    return Err(AllocError);
-                }
-                if is_alone {
-                    return refused(self.alloc, tree, &fault, &[]);
-                }
-                let told = self.told(given)?;
-                refused(self.alloc, tree, &fault, told.as_slice())
-            }
+            Err(fault) if fault.status() == WANT => Err(AllocError),
+            Err(fault) => self.report_of_fault(given, &fault, is_alone),
         }
+    }
+
+    /// Whether this is the report of an index that lacks what is told.
+    fn is_skipped(&self, given: &Given, due: &str) -> Result<bool, AllocError> {
+        let report = self.report_skipped(given)?;
+        Ok(report.as_slice() == due.as_bytes())
+    }
+
+    /// Whether this is the report of a tree that is refused.
+    fn is_refused(&self, given: &Given, is_alone: bool, due: &str) -> Result<bool, AllocError> {
+        let report = self.report_refused(given, is_alone)?;
+        Ok(report.as_slice() == due.as_bytes())
+    }
+
+    /// Sees the reports of a tree.
+    fn see_reports_of(&self, given: &Given, row: &Row) -> Result<(), AllocError> {
+        see(self.rt, self.is_skipped(given, row.skipped)?, "skipped");
+        let is_so = self.is_refused(given, false, row.refused)?;
+        see(self.rt, is_so, "refused");
+        see(self.rt, self.is_refused(given, true, row.alone)?, "alone");
+        Ok(())
     }
 
     /// Sees the reports of the tree of a row.
     fn see_reports(&self, registry: &Registry, row: &Row) -> Result<(), AllocError> {
         let given = self.given(registry, row.files, Encoding::Utf8, Faulty::Refuse)?;
-        let report = self.report_skipped(&given)?;
-        see(
-            self.rt,
-            report.as_slice() == row.skipped.as_bytes(),
-            "skipped",
-        );
-        let report = self.report_refused(&given, false)?;
-        see(
-            self.rt,
-            report.as_slice() == row.refused.as_bytes(),
-            "refused",
-        );
-        let report = self.report_refused(&given, true)?;
-        see(self.rt, report.as_slice() == row.alone.as_bytes(), "alone");
+        self.see_reports_of(&given, row)
+    }
+
+    /// Sees the reports of each row.
+    fn see_all_reports(&self, registry: &Registry) -> Result<(), AllocError> {
+        for row in &ROWS {
+            self.see_reports(registry, row)?;
+        }
         Ok(())
     }
 }
@@ -161,9 +184,5 @@ impl<'a, R: Threads + Wait + Abort> Desk<'a, R> {
 fn reports_of_trees(rt: HostRuntime) -> Result<(), Fail> {
     let registry = Registry::new(rt.alloc());
     findings_come_once(&registry);
-    let desk = Desk::new(&rt, rt.alloc());
-    for row in &ROWS {
-        desk.see_reports(&registry, row)?;
-    }
-    Ok(())
+    Ok(Desk::new(&rt, rt.alloc()).see_all_reports(&registry)?)
 }

@@ -178,17 +178,27 @@ fn spelled_out(alloc: Global, marked: &str) -> Result<String, AllocError> {
 }
 
 impl<'a, R: Threads + Wait + Abort> Desk<'a, R> {
+    /// Sees that these commands about the files of the long row are answered as is due.
+    fn see_long_with(
+        &self,
+        registry: &Registry,
+        files: &str,
+        commands: &str,
+    ) -> Result<(), AllocError> {
+        let answers = spelled_out(self.alloc, LONG.answers)?;
+        let row = Row {
+            files,
+            commands,
+            answers: answers.as_str(),
+        };
+        self.see_row(registry, &row, &[1])
+    }
+
     /// Sees that the commands of the long row are answered as is due.
     fn see_long(&self, registry: &Registry) -> Result<(), AllocError> {
         let files = spelled_out(self.alloc, LONG.files)?;
         let commands = spelled_out(self.alloc, LONG.commands)?;
-        let answers = spelled_out(self.alloc, LONG.answers)?;
-        let row = Row {
-            files: files.as_str(),
-            commands: commands.as_str(),
-            answers: answers.as_str(),
-        };
-        self.see_row(registry, &row, &[1])
+        self.see_long_with(registry, files.as_str(), commands.as_str())
     }
 }
 
@@ -273,12 +283,17 @@ impl<'a, R: Threads + Wait + Abort> Desk<'a, R> {
         Ok(())
     }
 
+    /// Sees what is due of writers that fail, and of readers.
+    fn see_both(&self, given: &Given, dues: &[Due<'_>]) -> Result<(), AllocError> {
+        self.see_writers(given, dues)?;
+        self.see_readers(given)
+    }
+
     /// Sees what is due of writers and readers that fail.
     fn see_streams(&self, registry: &Registry) -> Result<(), AllocError> {
         let dues = dues_of(self.alloc, DEFINITION, true)?;
         let given = self.given(registry, FIELDS, Encoding::Utf8, Faulty::Refuse)?;
-        self.see_writers(&given, &dues)?;
-        self.see_readers(&given)
+        self.see_both(&given, &dues)
     }
 }
 

@@ -2,7 +2,7 @@
 
 ghost use Rattle.protoscip.specs.FaultLines.{HaveFilesOf};
 
-use crate::calls::{Desk, see, writer};
+use crate::calls::{Desk, Given, see, writer};
 use index_hooks::Registry;
 use proto_lex::Encoding;
 use protoscip::{
@@ -100,32 +100,49 @@ fn report_of(
     report_bytes(alloc, ReportFormat::JsonLines, findings.as_slice(), &counts)
 }
 
+/// How that is told which an index lacks, beside these paths.
+fn telling_of<'u>(given: &Given, unread: &'u [String], is_explained: bool) -> Telling<'u> {
+    Telling {
+        unread,
+        explain: explain_in(is_explained, given.settings.dialect),
+    }
+}
+
+/// What is due of a row.
+fn due_of(row: &Row, is_explained: bool) -> &'static str {
+    if is_explained {
+        row.explained
+    } else {
+        row.plain
+    }
+}
+
 impl<'a, R: Threads + Wait + Abort> Desk<'a, R> {
-    /// Sees what is told of a row, and that the text of an index is the same.
-    fn see_text(
-        &self,
-        registry: &Registry,
-        row: &Row,
-        is_explained: bool,
-    ) -> Result<(), AllocError> {
-        let given = self.given(registry, row.files, Encoding::Utf8, Faulty::Skip)?;
-        let unread = paths_of(self.alloc, row.unread)?;
-        let (tree, settings) = (&given.tree, &given.settings);
-        let telling = Telling {
-            unread: unread.as_slice(),
-            explain: explain_in(is_explained, settings.dialect),
-        };
-        let due = if is_explained {
-            row.explained
-        } else {
-            row.plain
-        };
-        let told = self.told(&given)?;
-        let text = told_text_with(self.alloc, tree, told.as_slice(), &telling)?;
+    /// Sees what is told of a tree.
+    fn see_told(&self, given: &Given, telling: &Telling<'_>, due: &str) -> Result<(), AllocError> {
+        let told = self.told(given)?;
+        let text = told_text_with(self.alloc, &given.tree, told.as_slice(), telling)?;
         see(self.rt, text.as_str() == due, due);
+        Ok(())
+    }
+
+    /// Sees that the text of an index is the same.
+    fn see_indexed(
+        &self,
+        given: &Given,
+        telling: &Telling<'_>,
+        due: &str,
+    ) -> Result<(), AllocError> {
+        let (tree, registry, settings) = (&given.tree, given.registry, &given.settings);
         let mut out = writer(self.alloc, ROOM)?;
-        let made = index_and_tell(&self.run(1), tree, registry, settings, &telling, &mut out);
-        let is_so = match &made {
+        let is_so = match index_and_tell(
+            &self.run(1),
+            tree,
+            registry,
+            settings,
+            telling,
+            &mut out,
+        ) {
             Ok(kept) => is_text(&kept.text, due),
             Err(_) => false,
         };
@@ -133,17 +150,64 @@ impl<'a, R: Threads + Wait + Abort> Desk<'a, R> {
         Ok(())
     }
 
+    /// Sees both of a tree, beside which these paths couldn't be read.
+    fn see_text_of(
+        &self,
+        given: &Given,
+        unread: &[String],
+        row: &Row,
+        is_explained: bool,
+    ) -> Result<(), AllocError> {
+        let telling = telling_of(given, unread, is_explained);
+        let due = due_of(row, is_explained);
+        self.see_told(given, &telling, due)?;
+        self.see_indexed(given, &telling, due)
+    }
+
+    /// Sees what is told of a row, and that the text of an index is the same.
+    fn see_text(
+        &self,
+        registry: &Registry,
+        row: &Row,
+        is_explained: bool,
+    ) -> Result<(), AllocError> {
+        let unread = paths_of(self.alloc, row.unread)?;
+        let given = self.given(registry, row.files, Encoding::Utf8, Faulty::Skip)?;
+        self.see_text_of(&given, &unread, row, is_explained)
+    }
+
+    /// The report of a tree, beside which these paths couldn't be read.
+    fn unread_report(&self, given: &Given, unread: &[String]) -> Result<Vec<u8>, AllocError> {
+        let told = self.told(given)?;
+        report_of(self.alloc, &given.tree, unread, told.as_slice())
+    }
+
+    /// Sees that report.
+    fn see_report_of(&self, given: &Given, unread: &[String], due: &str) -> Result<(), AllocError> {
+        let report = self.unread_report(given, unread)?;
+        see(self.rt, report.as_slice() == due.as_bytes(), due);
+        Ok(())
+    }
+
     /// Sees the report of a row.
     fn see_unread_report(&self, registry: &Registry, row: &Row) -> Result<(), AllocError> {
-        let given = self.given(registry, row.files, Encoding::Utf8, Faulty::Skip)?;
         let unread = paths_of(self.alloc, row.unread)?;
-        let told = self.told(&given)?;
-        let report = report_of(self.alloc, &given.tree, unread.as_slice(), told.as_slice())?;
-        see(
-            self.rt,
-            report.as_slice() == row.report.as_bytes(),
-            row.report,
-        );
+        let given = self.given(registry, row.files, Encoding::Utf8, Faulty::Skip)?;
+        self.see_report_of(&given, &unread, row.report)
+    }
+
+    /// Sees all of a row.
+    fn see_all_of(&self, registry: &Registry, row: &Row) -> Result<(), AllocError> {
+        self.see_text(registry, row, false)?;
+        self.see_text(registry, row, true)?;
+        self.see_unread_report(registry, row)
+    }
+
+    /// Sees all of each row.
+    fn see_all_unread(&self, registry: &Registry) -> Result<(), AllocError> {
+        for row in &ROWS {
+            self.see_all_of(registry, row)?;
+        }
         Ok(())
     }
 }
@@ -151,11 +215,5 @@ impl<'a, R: Threads + Wait + Abort> Desk<'a, R> {
 #[test]
 fn what_is_told_of_what_is_unread(rt: HostRuntime) -> Result<(), Fail> {
     let registry = Registry::new(rt.alloc());
-    let desk = Desk::new(&rt, rt.alloc());
-    for row in &ROWS {
-        desk.see_text(&registry, row, false)?;
-        desk.see_text(&registry, row, true)?;
-        desk.see_unread_report(&registry, row)?;
-    }
-    Ok(())
+    Ok(Desk::new(&rt, rt.alloc()).see_all_unread(&registry)?)
 }

@@ -6,7 +6,7 @@ use index_hooks::Registry;
 use index_pool::{Gate, Workers};
 use proto_lex::Encoding;
 use proto_parse::{CustomOptions, Dialect};
-use scip_build::{BuildFault, Built, Faulty, Run, Settings, build};
+use scip_build::{BuildFault, Built, Faulty, Omission, Run, Settings, build};
 use scip_model::FilePackages;
 use scip_records::{Document, Occurrence};
 use scip_symbol::PackageId;
@@ -15,44 +15,61 @@ use std::alloc::{AllocError, Global};
 use std::process::Abort;
 use std::sync::Wait;
 use std::thread::Threads;
-use test_kit::tree_of;
+use test_kit::{Draft, tree_of};
 
 /// Sees that what a case says holds. (A formatted assertion is proved once, here.)
 pub(crate) fn see(rt: &impl Abort, holds: bool, case: &str) {
     assert!(rt; holds, "{case}");
 }
 
-/// Appends a line for an occurrence: where it begins and ends, its roles, and its symbol without the
-/// scheme and the empty package.
-fn push_occurrence(text: &mut String, occurrence: &Occurrence) -> Result<(), AllocError> {
-    let symbol = occurrence.symbol.as_str();
-    let symbol = symbol.strip_prefix("scip-protobuf . . . ").unwrap_or("?");
-    let (range, roles) = (occurrence.range, occurrence.symbol_roles);
-    let (line, column) = (range.start_line(), range.start_column());
-    let (end_line, end) = (range.end_line(), range.end_column());
-    writeln!(text, "{line} {column} {end_line} {end} {roles} {symbol}")
+/// Adds a number, and a space behind it.
+fn add_field(draft: &mut Draft, number: i64) {
+    draft.add_number(number);
+    draft.add(" ");
 }
 
-/// Appends a line with the path of a document, and one for each of its occurrences.
-fn push_document(text: &mut String, document: &Document) -> Result<(), AllocError> {
-    let path = document.relative_path.as_str();
-    writeln!(text, "{path}")?;
+/// Adds a line for an occurrence: where it begins and ends, its roles, and its symbol without the scheme and the empty
+/// package.
+fn add_occurrence(draft: &mut Draft, occurrence: &Occurrence) {
+    let range = occurrence.range;
+    add_field(draft, i64::from(range.start_line()));
+    add_field(draft, i64::from(range.start_column()));
+    add_field(draft, i64::from(range.end_line()));
+    add_field(draft, i64::from(range.end_column()));
+    add_field(draft, i64::from(occurrence.symbol_roles));
+    let symbol = occurrence.symbol.as_str();
+    draft.add(symbol.strip_prefix("scip-protobuf . . . ").unwrap_or("?"));
+    draft.add("\n");
+}
+
+/// Adds a line with the path of a document, and one for each of its occurrences.
+fn add_document(draft: &mut Draft, document: &Document) {
+    draft.add(document.relative_path.as_str());
+    draft.add("\n");
     for occurrence in document.occurrences.as_slice() {
-        push_occurrence(text, occurrence)?;
+        add_occurrence(draft, occurrence);
     }
-    Ok(())
+}
+
+/// Adds a line for a thing that is told.
+fn add_omission(draft: &mut Draft, omission: &Omission) {
+    match format!(in draft.alloc(); "{omission:?}") {
+        Ok(text) => draft.add(text.as_str()),
+        Err(_) => draft.cut(),
+    }
+    draft.add("\n");
 }
 
 /// A line for each thing that is told, and then the documents.
 fn listing_of(alloc: Global, built: &Built) -> Result<String, AllocError> {
-    let mut text = String::new(alloc);
+    let mut draft = Draft::new(alloc);
     for omission in built.told.as_slice() {
-        writeln!(text, "{omission:?}")?;
+        add_omission(&mut draft, omission);
     }
     for document in built.index.documents.as_slice() {
-        push_document(&mut text, document)?;
+        add_document(&mut draft, document);
     }
-    Ok(text)
+    draft.finish()
 }
 
 /// A tree, the settings that it is built with, and the callbacks that are asked.

@@ -46,6 +46,25 @@ fn is_written_as(alloc: Global, record: DocumentRecord, due: &[u8]) -> Result<bo
     Ok(answer == Ok(()) && left == 0 && *room == *due)
 }
 
+/// The bytes of the index of one document alone, if they aren't too many.
+fn bytes_of(alloc: Global, document: Document) -> Result<Option<Vec<u8>>, AllocError> {
+    let index = index_with(alloc, document)?;
+    spell_index(alloc, &index)
+}
+
+/// Whether a document's plan is spelled as these bytes, which are those of its record.
+fn is_spelled_as(
+    alloc: Global,
+    document: &mut DocumentPlan<'_, '_>,
+    due: &Option<Vec<u8>>,
+) -> Result<bool, AllocError> {
+    let record = spell_document(alloc, document)?;
+    match due {
+        Some(bytes) => is_written_as(alloc, record, bytes.as_slice()),
+        None => Ok(false),
+    }
+}
+
 impl DocumentForm for AreAlike {
     ghost use Rattle.std.specs.Prelude.{⊤};
 
@@ -54,13 +73,8 @@ impl DocumentForm for AreAlike {
     ghost is_kept = { λ document alike. ⊤ };
 
     fn keep(&self, alloc: Global, mut document: DocumentPlan<'_, '_>) -> Result<bool, AllocError> {
-        let records = records_of(alloc, &document)?;
-        let record = spell_document(alloc, &mut document)?;
-        let index = index_with(alloc, records)?;
-        match spell_index(alloc, &index)? {
-            Some(bytes) => is_written_as(alloc, record, bytes.as_slice()),
-            None => Ok(false),
-        }
+        let due = bytes_of(alloc, records_of(alloc, &document)?)?;
+        is_spelled_as(alloc, &mut document, &due)
     }
 }
 

@@ -11,8 +11,8 @@ use Rattle.proto_decl.specs.Names.{IsAround}
 use Rattle.proto_decl.specs.Declares.{step_named, simple_name}
 use Rattle.proto_decl.specs.Comments.{IsLeadingText, IsTrailingText}
 use Rattle.proto_decl.specs.Facts.{Facts, AreFactsOf, AreOfSomeFile, component_spans, name_spans, use_spans}
-use Rattle.proto_decl.specs.declared.declaration.DeclarationKind.TheVariants.{Message, Field, Enum, Service, Oneof, Value}
-use Rattle.proto_decl.specs.declared.declaration.DeclarationKind.TheVariants.{Method}
+use Rattle.proto_decl.specs.declared.declaration.DeclarationKind.TheVariants.{Message, Field, Enum, Service, Oneof}
+use Rattle.proto_decl.specs.declared.declaration.DeclarationKind.TheVariants.{Value, Method}
 use Rattle.proto_decl.specs.declared.declaration.DeclarationStep.{DeclarationStep}
 use Rattle.proto_decl.specs.declared.declaration.Declaration.{Declaration}
 use Rattle.proto_decl.specs.declared.imports.Imported.{Imported}

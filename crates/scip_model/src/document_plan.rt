@@ -11,7 +11,9 @@ use basics::{OwnedText, Sequence};
 use index_hooks::Choice;
 use proto_decl::FileFacts;
 use proto_lex::{Encoding, Span};
-use scip_records::{DocumentParts, InformationRef, OccurrenceRef, Range, SymbolRef, TextsRef};
+use scip_records::{
+    DetailsRef, DocumentParts, InformationRef, OccurrenceRef, Range, SymbolRef, TextsRef,
+};
 use std::alloc::Global;
 use std::marker::Model;
 
@@ -43,6 +45,7 @@ pub struct DocumentPlan<'a, 't> {
 
 impl<'a, 't> Model for DocumentPlan<'a, 't> {
     ghost use Rattle.std.specs.Prelude.{map};
+    ghost use Rattle.scip_records.specs.Details.{no_details};
     ghost use Rattle.scip_records.specs.declared.records.Document.{Document};
     ghost use Rattle.scip_model.specs.Indexes.{encoding_number};
     ghost use Rattle.scip_model.specs.Tables.Plans.{occurrence_of, entry_of};
@@ -109,12 +112,18 @@ fn name_at<'a>(path: &'a str, names: &'a [OwnedText], number: usize) -> &'a str
 
 /// An entry without documentation.
 fn undocumented<'a>(symbol: SymbolRef<'a>, display_name: &'a str) -> InformationRef<'a>
-    ensures { result ≡ record { symbol = symbol.entry; documentation = []; display_name = display_name.now } }
+    ensures { result ≡ record {
+      symbol = symbol.entry;
+      documentation = [];
+      display_name = display_name.now;
+      details = no_details;
+    } }
 {
     InformationRef {
         symbol,
         documentation: TextsRef::of_list(&[]),
         display_name,
+        details: DetailsRef::none(),
     }
 }
 
@@ -185,6 +194,7 @@ impl<'a, 't> DocumentParts for DocumentPlan<'a, 't> {
             range: planned.range,
             symbol: self.texts.at(planned.symbol),
             symbol_roles: planned.symbol_roles,
+            enclosing_range: None,
         }
     }
 

@@ -3,13 +3,13 @@
 use crate::listed::is_listed;
 use proto_decl::{FileFacts, declare};
 use proto_lex::{Text, Tokens};
-use proto_parse::parse;
+use proto_parse::{Dialect, parse_with};
 use std::alloc::Global;
 use test_kit::{text_of, tokens_of};
 
 /// The facts of tokens, of the file with the number 7; nothing if they derive no tree, or if memory runs out.
 fn facts_once<'t>(alloc: Global, tokens: &Tokens<'_, 't>) -> Option<FileFacts<'t>> {
-    match parse(alloc, tokens) {
+    match parse_with(alloc, tokens, Dialect::All) {
         Ok(file) => declare(alloc, 7, tokens, &file).ok(),
         Err(_) => None,
     }

@@ -1,6 +1,7 @@
 //! What files declare, use and import, as texts of a line for each.
 
 use crate::calls::is_source_listed;
+use comment_texts::CommentForm;
 use proto_decl::{
     Component, DeclView, Declaration, DeclarationKind, DeclarationStep, FileFacts, Imported,
     NamedDeclaration, Use,
@@ -74,6 +75,23 @@ const COMMENTED: &str =
 const COMMENTS_LISTED: &str = "package
 message A (A): message A; [One.\nTwo.] [tail]
 field A.x (x): message A; field x; [] [ unit ]
+";
+
+/// Comments with stars, third signs and indentation.
+const DECORATED: &str =
+    "syntax = \"proto3\";\n/**\n * One.\n *   Two.\n */\nmessage A { /* tail\n  * more */
+  /// x.\n  int32 x = 1; //! unit \n}\n";
+
+/// They are listed as they are written,
+const DECORATED_LISTED: &str = "package
+message A (A): message A; [*\n * One.\n *   Two.\n ] [ tail\n  * more ]
+field A.x (x): message A; field x; [/ x.] [! unit ]
+";
+
+/// and cleaned.
+const CLEAN_LISTED: &str = "package
+message A (A): message A; [One.\n  Two.] [tail\nmore]
+field A.x (x): message A; field x; [x.] [unit]
 ";
 
 /// What `extend` extends, in a file and in a message, beside a field's type.
@@ -239,11 +257,14 @@ pub(crate) fn is_listed(alloc: Global, source: &str, facts: &FileFacts, want: &s
 
 #[test]
 fn facts_of_sources(rt: HostRuntime) {
-    for (source, want) in [
-        (EVERY_KIND, LISTED),
-        (COMMENTED, COMMENTS_LISTED),
-        (EXTENDING, EXTENDING_LISTED),
+    for (form, source, want) in [
+        (CommentForm::Raw, EVERY_KIND, LISTED),
+        (CommentForm::Clean, EVERY_KIND, LISTED),
+        (CommentForm::Raw, COMMENTED, COMMENTS_LISTED),
+        (CommentForm::Raw, DECORATED, DECORATED_LISTED),
+        (CommentForm::Clean, DECORATED, CLEAN_LISTED),
+        (CommentForm::Raw, EXTENDING, EXTENDING_LISTED),
     ] {
-        assert!(rt; is_source_listed(rt.alloc(), source, want), "{want}");
+        assert!(rt; is_source_listed(rt.alloc(), form, source, want), "{want}");
     }
 }

@@ -42,14 +42,16 @@ Answers files file bytes result is_extended has_dot words from =
     (λ name. ResolvesIn files file is_extended has_dot words from (bytes name))
 
 module _ {S : Type 0} (files : List File) (file : ℕ) (bytes : S → List ℕ) (from : List ℕ) where
+  no_absolute : (is_extended : Bool) (words : List (List ℕ)) (text name : List ℕ) → text ≡ dotted words
+      → (KnowsAs files file (wanted is_extended) text → ⊥) → ResolvesIn files file is_extended true words from name → ⊥
+  no_absolute is_extended words text name is none (absolute known) =
+      none (subst (KnowsAs files file (wanted is_extended)) (sym is) known)
+
   absolute_by : (is_extended : Bool) (words : List (List ℕ)) (text : List ℕ) (result : Option S) → text ≡ dotted words
       → MatchOption result (KnowsAs files file (wanted is_extended) text → ⊥)
       (λ name. (bytes name ≡ text) × KnowsAs files file (wanted is_extended) text)
       → Answers files file bytes result is_extended true words from
-  absolute_by is_extended words text None is none = λ name r. not name r
-    where
-      not : (name : List ℕ) → ResolvesIn files file is_extended true words from name → ⊥
-      not name (absolute known) = none (subst (KnowsAs files file (wanted is_extended)) (sym is) known)
+  absolute_by is_extended words text None is none = λ name r. no_absolute is_extended words text name is none r
   absolute_by is_extended words text (Some name) is some =
       subst (ResolvesIn files file is_extended true words from) (sym (some.0 ∙ is))
       (absolute (subst (KnowsAs files file (wanted is_extended)) is some.1))
@@ -78,17 +80,21 @@ module _ {S : Type 0} (files : List File) (file : ℕ) (bytes : S → List ℕ) 
       subst (ResolvesIn files file true false (word ∷ []) from) (sym some.name_is)
       (extended some.innermost (subst (KnowsAs files file is_message) some.name_is some.known))
 
+  no_compound : (is_extended : Bool) (first second : List ℕ) (others : List (List ℕ)) (text name : List ℕ)
+      → text ≡ dotted (first ∷ (second ∷ others))
+      → ((name : List ℕ) → IsCompound files file is_extended first text from name → ⊥)
+      → ResolvesIn files file is_extended false (first ∷ (second ∷ others)) from name → ⊥
+  no_compound is_extended first second others text name is none (compound {scope = scope} innermost known) =
+      none (qualified scope (dotted (first ∷ (second ∷ others))))
+      (record { start = scope; innermost = innermost; name_is = ap (qualified scope) (sym is); known = known })
+
   compound_of : (is_extended : Bool) (first second : List ℕ) (others : List (List ℕ)) (text : List ℕ)
       (result : Option S) → text ≡ dotted (first ∷ (second ∷ others))
       → MatchOption result ((name : List ℕ) → IsCompound files file is_extended first text from name → ⊥)
       (λ name. IsCompound files file is_extended first text from (bytes name))
       → Answers files file bytes result is_extended false (first ∷ (second ∷ others)) from
-  compound_of is_extended first second others text None is none = λ name r. not name r
-    where
-      not : (name : List ℕ) → ResolvesIn files file is_extended false (first ∷ (second ∷ others)) from name → ⊥
-      not name (compound {scope = scope} innermost known) =
-          none (qualified scope (dotted (first ∷ (second ∷ others))))
-          (record { start = scope; innermost = innermost; name_is = ap (qualified scope) (sym is); known = known })
+  compound_of is_extended first second others text None is none =
+      λ name r. no_compound is_extended first second others text name is none r
   compound_of is_extended first second others text (Some name) is some =
       let name_is = some.name_is ∙ ap (qualified some.start) is in
       subst (ResolvesIn files file is_extended false (first ∷ (second ∷ others)) from) (sym name_is)

@@ -4,6 +4,7 @@ ghost use Rattle.std.specs.Prelude.{◌≡◌, ◌∷◌, []};
 ghost use Rattle.std.specs.List.{slice_get};
 ghost use Rattle.scip_model.specs.Indexes.{encoding_number};
 ghost use Rattle.scip_model.specs.Tables.Plans.{text_at, shown_as, entry_of};
+ghost use Rattle.scip_records.specs.Details.{no_details};
 
 use crate::entries::ref_entry;
 use crate::symbol_table::SymbolTable;
@@ -45,7 +46,6 @@ pub struct DocumentPlan<'a, 't> {
 
 impl<'a, 't> Model for DocumentPlan<'a, 't> {
     ghost use Rattle.std.specs.Prelude.{map};
-    ghost use Rattle.scip_records.specs.Details.{no_details};
     ghost use Rattle.scip_records.specs.declared.records.Document.{Document};
     ghost use Rattle.scip_model.specs.Indexes.{encoding_number};
     ghost use Rattle.scip_model.specs.Tables.Plans.{occurrence_of, entry_of};

@@ -1,5 +1,5 @@
 -- The texts of the symbols of a file's own declarations, what has them, and texts that are kept as one.
-use Rattle.std.specs.Prelude.{ℕ, ℤ, List, map, ◌≡◌, zero, suc, ◌≤◌, [], ◌∷◌, ◌++◌, length, slice_range}
+use Rattle.std.specs.Prelude.{ℕ, ℤ, None, List, map, ◌≡◌, zero, suc, ◌≤◌, [], ◌∷◌, ◌++◌, length, slice_range}
 use Rattle.std.specs.Str.{IsCharBoundary}
 use Rattle.proto_lex.specs.declared.span.Span.{Span}
 use Rattle.proto_lex.specs.declared.position.Encoding.{Encoding}

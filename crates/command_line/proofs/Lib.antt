@@ -7,5 +7,7 @@ pub mod RequestAnswerLemmas
 pub mod ValueLemmas
 -- The limit that a text gives
 pub mod ValueLimitLemmas
+-- Where the value of an option comes from
+pub mod ValueRealLemmas
 -- The number of threads that a text gives
 pub mod ValueWorkersLemmas

@@ -5,6 +5,7 @@ use Rattle.clap.specs.Words.{Row, Rule}
 use Rattle.command_line.specs.Arguments.{texts_at}
 use Rattle.command_line.specs.Values.{text_of}
 use Rattle.command_line.specs.Options.Accept.{accept_rule, accept_words, dialect_of}
+use Rattle.command_line.specs.Options.Comments.{comments_of, comments_rule, comments_words}
 use Rattle.command_line.specs.Options.CustomOptions.{custom_options_rule, custom_options_words}
 use Rattle.command_line.specs.Options.Doc.{doc_of, doc_rule, doc_words}
 use Rattle.command_line.specs.Options.Exclude.{exclude_of, exclude_rule}
@@ -20,8 +21,10 @@ use Rattle.command_line.specs.Options.Package.{release_rule}
 use Rattle.command_line.specs.Options.Positions.{encoding_of, positions_rule, positions_words}
 use Rattle.command_line.specs.Options.ProjectRoot.{project_root_of, project_root_rule}
 use Rattle.command_line.specs.Options.Quiet.{quiet_in, quiet_rule}
+use Rattle.command_line.specs.Options.Real.{is_real, real_rule}
 use Rattle.command_line.specs.Options.Report.{CarriesReport, format_rule, format_words, report_rule}
 use Rattle.command_line.specs.Options.To.{to_of}
+use Rattle.command_line.specs.Options.WellKnown.{well_known_in, well_known_rule}
 use Rattle.command_line.specs.Options.Workers.{workers_of, workers_rule}
 use Rattle.command_line.specs.declared.options.DumpOptions.{DumpOptions}
 use Rattle.command_line.specs.declared.options.IndexOptions.{IndexOptions}
@@ -30,6 +33,7 @@ use Rattle.command_line.specs.declared.options.PagesOptions.{PagesOptions}
 use Rattle.command_line.specs.declared.options.SnapshotOptions.{SnapshotOptions}
 use Rattle.command_line.specs.declared.options.WordLists.{WordLists}
 pub mod Accept
+pub mod Comments
 pub mod CustomOptions
 pub mod Doc
 pub mod Exclude
@@ -43,8 +47,10 @@ pub mod Package
 pub mod Positions
 pub mod ProjectRoot
 pub mod Quiet
+pub mod Real
 pub mod Report
 pub mod To
+pub mod WellKnown
 pub mod Workers
 
 -- ---- their rules
@@ -52,6 +58,7 @@ pub mod Workers
 -- the lists hold the words of the options that take only listed words
 pub record AreListed (lists : WordLists) : Type 0 where
   pub doc : texts_at lists.doc ≡ doc_words
+  pub comments : texts_at lists.comments ≡ comments_words
   pub positions : texts_at lists.positions ≡ positions_words
   pub accept : texts_at lists.accept ≡ accept_words
   pub custom_options : texts_at lists.custom_options ≡ custom_options_words
@@ -63,13 +70,14 @@ pub record AreListed (lists : WordLists) : Type 0 where
 abbrev pub own_rules : List Rule
 own_rules = quiet_rule ∷ max_skipped_rule ∷ min_sources_rule ∷ []
 
--- those of `index` and of `shell`: on the run and on the package
+-- those of `index` and of `shell`: for trees as they lie, on the run and on the package
 abbrev pub setting_rules : List Rule
-setting_rules = workers_rule ∷ project_root_rule ∷ manager_rule ∷ package_rule ∷ release_rule ∷ []
+setting_rules = real_rule ∷ workers_rule ∷ project_root_rule ∷ manager_rule ∷ package_rule ∷ release_rule ∷ []
 
 -- on what is indexed
 abbrev pub choice_rules : WordLists → List Rule
-choice_rules lists = only_rule ∷ doc_rule lists.doc ∷ include_rule ∷ include_package_rule ∷ []
+choice_rules lists = only_rule ∷ doc_rule lists.doc ∷ comments_rule lists.comments ∷ include_rule ∷ include_package_rule
+    ∷ well_known_rule ∷ []
 
 -- on how it is read
 abbrev pub reading_rules : WordLists → List Rule
@@ -97,6 +105,7 @@ index_option_rules lists = own_rules ++ tree_rules lists
 -- the options of `index` and of `shell` are those that the rows give, each by its name
 pub record Carries (rows : List Row) (options : IndexOptions) : Type 0 where
   pub root : string_bytes options.root ≡ text_of (codes "ROOT") rows
+  pub is_real : options.is_real ≡ is_real rows
   pub workers : options.workers ≡ workers_of rows
   pub project_root : string_bytes options.project_root ≡ project_root_of rows
   pub manager : string_bytes options.manager ≡ manager_of rows
@@ -104,8 +113,10 @@ pub record Carries (rows : List Row) (options : IndexOptions) : Type 0 where
   pub release : string_bytes options.release ≡ release_of rows
   pub only : option_map string_bytes options.only ≡ only_of rows
   pub doc : options.doc ≡ doc_of rows
+  pub comments : options.comments ≡ comments_of rows
   pub include : map string_bytes options.include.items ≡ include_of rows
   pub include_packages : map folder_of options.include_packages.items ≡ package_folders_of rows
+  pub well_known : options.well_known ≡ well_known_in rows
   pub encoding : options.encoding ≡ encoding_of rows
   pub dialect : options.dialect ≡ dialect_of rows
   pub faulty : options.faulty ≡ faulty_of rows

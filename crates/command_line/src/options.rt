@@ -20,6 +20,7 @@ ghost use Rattle.command_line.specs.Options.{
 };
 
 pub(crate) mod accept;
+mod comments;
 pub(crate) mod custom_options;
 mod doc;
 mod exclude;
@@ -33,12 +34,15 @@ mod package;
 mod positions;
 mod project_root;
 mod quiet;
+mod real;
 pub(crate) mod report;
 pub(crate) mod to;
+mod well_known;
 mod workers;
 
 use crate::names::{INDEX_FILE, OUT, ROOT};
 use crate::options::accept::dialect_of;
+use crate::options::comments::comments_of;
 use crate::options::doc::doc_of;
 use crate::options::explain::explains_in;
 use crate::options::faulty::faulty_of;
@@ -47,10 +51,13 @@ use crate::options::limits::limits_of;
 use crate::options::links::links_of;
 use crate::options::positions::encoding_of;
 use crate::options::quiet::quiet_in;
+use crate::options::real::is_real;
 use crate::options::report::report_options_of;
+use crate::options::well_known::well_known_in;
 use crate::options::workers::workers_of;
 use crate::values::{optional_text_of, text_of, texts_of};
 use clap::{Arg, ArgMatches};
+use comment_texts::CommentForm;
 pub use include::PackageFolder;
 use index_hooks::DocChoice;
 use index_pool::Workers;
@@ -66,6 +73,7 @@ use std::alloc::{AllocError, Global};
 #[derive(Clone, Copy)]
 pub(crate) struct WordLists<'a> {
     pub(crate) doc: &'a [&'a str],
+    pub(crate) comments: &'a [&'a str],
     pub(crate) positions: &'a [&'a str],
     pub(crate) accept: &'a [&'a str],
     pub(crate) custom_options: &'a [&'a str],
@@ -81,6 +89,7 @@ impl<'a> WordLists<'a> {
     {
         WordLists {
             doc: doc::WORDS.as_slice(),
+            comments: comments::WORDS.as_slice(),
             positions: positions::WORDS.as_slice(),
             accept: accept::WORDS.as_slice(),
             custom_options: custom_options::WORDS.as_slice(),
@@ -97,6 +106,8 @@ impl<'a> WordLists<'a> {
 pub struct IndexOptions {
     /// The path of the folder whose sources are indexed, as it was written.
     pub root: String,
+    /// Whether the tree is taken as it lies.
+    pub is_real: bool,
     /// How many threads.
     pub workers: Workers,
     /// Where the sources' folder is, as a URI; `file:///` if it isn't given.
@@ -111,10 +122,14 @@ pub struct IndexOptions {
     pub only: Option<String>,
     /// Which comments document a declaration, if it is given.
     pub doc: Option<DocChoice>,
+    /// How the texts of comments are given; as they are written if it isn't given.
+    pub comments: CommentForm,
     /// The paths of the folders with included files, in the order of the words.
     pub include: Vec<String>,
     /// The folders with included files that have a package of their own, in the order of the words.
     pub include_packages: Vec<PackageFolder>,
+    /// Whether the well-known files are included.
+    pub well_known: bool,
     /// The unit of columns; UTF-8 if it isn't given.
     pub encoding: Encoding,
     /// Which sources are read; proto3 alone, and custom options refused, if it isn't given.
@@ -190,11 +205,12 @@ fn own_options<'a>(alloc: Global) -> Result<Vec<Arg<'a>>, AllocError>
     ]?)
 }
 
-/// The options on the run and on the package.
+/// The option for trees as they lie, and those on the run and on the package.
 fn settings<'a>(alloc: Global) -> Result<Vec<Arg<'a>>, AllocError>
     ensures { IfOk result (λ args. map rule_of args.items ≡ setting_rules) }
 {
     Ok(vec![in alloc;
+        real::arg(alloc),
         workers::arg(alloc),
         project_root::arg(alloc),
         package::manager(alloc),
@@ -210,8 +226,10 @@ fn choices<'a>(alloc: Global, lists: WordLists<'a>) -> Result<Vec<Arg<'a>>, Allo
     Ok(vec![in alloc;
         only::arg(alloc),
         doc::arg(alloc, lists.doc),
+        comments::arg(alloc, lists.comments),
         include::include(alloc),
         include::include_package(alloc),
+        well_known::arg(alloc),
     ]?)
 }
 
@@ -274,6 +292,7 @@ pub(crate) fn options_of(alloc: Global, given: &ArgMatches<'_>) -> Result<IndexO
 {
     Ok(IndexOptions {
         root: text_of(alloc, given, ROOT)?,
+        is_real: is_real(given),
         workers: workers_of(given),
         project_root: text_of(alloc, given, project_root::NAME)?,
         manager: text_of(alloc, given, package::MANAGER)?,
@@ -281,8 +300,10 @@ pub(crate) fn options_of(alloc: Global, given: &ArgMatches<'_>) -> Result<IndexO
         release: text_of(alloc, given, package::RELEASE)?,
         only: optional_text_of(alloc, given, only::NAME)?,
         doc: doc_of(given),
+        comments: comments_of(given),
         include: texts_of(alloc, given, include::INCLUDE)?,
         include_packages: package_folders_of(alloc, given)?,
+        well_known: well_known_in(given),
         encoding: encoding_of(given),
         dialect: dialect_of(given),
         faulty: faulty_of(given),

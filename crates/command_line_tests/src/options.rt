@@ -15,7 +15,9 @@ pub(crate) const OWN_OPTIONS: &str = "      --quiet
 ";
 
 /// The options of `index` and of `shell`, as their help shows them.
-pub(crate) const OPTIONS: &str = "      --workers <N>
+pub(crate) const OPTIONS: &str = "      --real
+          A tree as it lies: --accept all --faulty skip --well-known --doc both --comments clean, unless given
+      --workers <N>
           How many threads to use, 1 to 16; the index is the same for any number [default: 4]
       --project-root <URI>
           Where the sources' folder is, for the index's metadata [default: file:///]
@@ -29,10 +31,14 @@ pub(crate) const OPTIONS: &str = "      --workers <N>
           Keeps only the declaration with this full name and those below it
       --doc <WORD>
           Which comments document a declaration; if not given, those before it [possible values: leading, trailing, both, nothing]
+      --comments <WORD>
+          How comments are given: as they are written, or without stars and indentation [default: raw] [possible values: raw, clean]
       --include <DIR>
           A folder with sources that may be imported but aren't indexed; may be given again
       --include-package <MANAGER> <NAME> <RELEASE> <DIR>
           Like --include, for a folder whose files belong to this package; may be given again
+      --well-known
+          Includes google/protobuf/*.proto of the protoc on the PATH, of /usr/local or of /usr
       --positions <WORD>
           The unit of columns: bytes, or UTF-16 code units [default: utf8] [possible values: utf8, utf16]
       --accept <WORD>
@@ -63,7 +69,7 @@ struct Asked {
 
 // The fourth row reads: `dump --explain --custom-options skip` asks for a dump that reads past custom options, and
 // explains a fault.
-static ASKED: [Asked; 15] = [
+static ASKED: [Asked; 17] = [
     Asked {
         words: "query a.scip",
         request: "Query(\"a.scip\", false)",
@@ -86,27 +92,35 @@ static ASKED: [Asked; 15] = [
     },
     Asked {
         words: "index api out",
-        request: "Index(IndexRequest { options: IndexOptions { root: \"api\", workers: Workers { count: 4 }, project_root: \"file:///\", manager: \"\", package: \"\", release: \"\", only: None, doc: None, include: [], include_packages: [], encoding: Utf8, dialect: Proto3(Refuse), faulty: Refuse, explain: false, exclude: [], links: Ignore, report: ReportOptions { path: None, format: JsonLines } }, out: \"out\", quiet: false, limits: Limits { max_skipped: None, min_sources: None } })",
+        request: "Index(IndexRequest { options: IndexOptions { root: \"api\", is_real: false, workers: Workers { count: 4 }, project_root: \"file:///\", manager: \"\", package: \"\", release: \"\", only: None, doc: None, comments: Raw, include: [], include_packages: [], well_known: false, encoding: Utf8, dialect: Proto3(Refuse), faulty: Refuse, explain: false, exclude: [], links: Ignore, report: ReportOptions { path: None, format: JsonLines } }, out: \"out\", quiet: false, limits: Limits { max_skipped: None, min_sources: None } })",
     },
     Asked {
-        words: "index --workers 2 --quiet --max-skipped 3 --min-sources=812 --report f --report-format sarif --project-root u --manager m --package p --release r --only o --doc both --include j --include i --positions utf16 --accept all --custom-options skip --faulty skip --explain api out",
-        request: "Index(IndexRequest { options: IndexOptions { root: \"api\", workers: Workers { count: 2 }, project_root: \"u\", manager: \"m\", package: \"p\", release: \"r\", only: Some(\"o\"), doc: Some(Both), include: [\"j\", \"i\"], include_packages: [], encoding: Utf16, dialect: All, faulty: Skip, explain: true, exclude: [], links: Ignore, report: ReportOptions { path: Some(\"f\"), format: Sarif } }, out: \"out\", quiet: true, limits: Limits { max_skipped: Some(3), min_sources: Some(812) } })",
+        words: "index --workers 2 --quiet --max-skipped 3 --min-sources=812 --report f --report-format sarif --project-root u --manager m --package p --release r --only o --doc both --comments clean --include j --include i --positions utf16 --accept all --custom-options skip --faulty skip --explain api out",
+        request: "Index(IndexRequest { options: IndexOptions { root: \"api\", is_real: false, workers: Workers { count: 2 }, project_root: \"u\", manager: \"m\", package: \"p\", release: \"r\", only: Some(\"o\"), doc: Some(Both), comments: Clean, include: [\"j\", \"i\"], include_packages: [], well_known: false, encoding: Utf16, dialect: All, faulty: Skip, explain: true, exclude: [], links: Ignore, report: ReportOptions { path: Some(\"f\"), format: Sarif } }, out: \"out\", quiet: true, limits: Limits { max_skipped: Some(3), min_sources: Some(812) } })",
     },
     Asked {
-        words: "shell --workers 16 --project-root=u --manager=m --package=p --release=r --report=f --report-format=jsonl --only=o --doc=trailing --include=i --positions=utf8 --accept=proto3 --custom-options=refuse --faulty=refuse -- -api",
-        request: "Shell(IndexOptions { root: \"-api\", workers: Workers { count: 16 }, project_root: \"u\", manager: \"m\", package: \"p\", release: \"r\", only: Some(\"o\"), doc: Some(Trailing), include: [\"i\"], include_packages: [], encoding: Utf8, dialect: Proto3(Refuse), faulty: Refuse, explain: false, exclude: [], links: Ignore, report: ReportOptions { path: Some(\"f\"), format: JsonLines } })",
+        words: "shell --workers 16 --project-root=u --manager=m --package=p --release=r --report=f --report-format=jsonl --only=o --doc=trailing --comments=raw --include=i --positions=utf8 --accept=proto3 --custom-options=refuse --faulty=refuse -- -api",
+        request: "Shell(IndexOptions { root: \"-api\", is_real: false, workers: Workers { count: 16 }, project_root: \"u\", manager: \"m\", package: \"p\", release: \"r\", only: Some(\"o\"), doc: Some(Trailing), comments: Raw, include: [\"i\"], include_packages: [], well_known: false, encoding: Utf8, dialect: Proto3(Refuse), faulty: Refuse, explain: false, exclude: [], links: Ignore, report: ReportOptions { path: Some(\"f\"), format: JsonLines } })",
     },
     Asked {
         words: "index api --include a --include-package m n r d --include b out --include-package '' '' '' e --include c",
-        request: "Index(IndexRequest { options: IndexOptions { root: \"api\", workers: Workers { count: 4 }, project_root: \"file:///\", manager: \"\", package: \"\", release: \"\", only: None, doc: None, include: [\"a\", \"b\", \"c\"], include_packages: [PackageFolder { manager: \"m\", name: \"n\", release: \"r\", folder: \"d\" }, PackageFolder { manager: \"\", name: \"\", release: \"\", folder: \"e\" }], encoding: Utf8, dialect: Proto3(Refuse), faulty: Refuse, explain: false, exclude: [], links: Ignore, report: ReportOptions { path: None, format: JsonLines } }, out: \"out\", quiet: false, limits: Limits { max_skipped: None, min_sources: None } })",
+        request: "Index(IndexRequest { options: IndexOptions { root: \"api\", is_real: false, workers: Workers { count: 4 }, project_root: \"file:///\", manager: \"\", package: \"\", release: \"\", only: None, doc: None, comments: Raw, include: [\"a\", \"b\", \"c\"], include_packages: [PackageFolder { manager: \"m\", name: \"n\", release: \"r\", folder: \"d\" }, PackageFolder { manager: \"\", name: \"\", release: \"\", folder: \"e\" }], well_known: false, encoding: Utf8, dialect: Proto3(Refuse), faulty: Refuse, explain: false, exclude: [], links: Ignore, report: ReportOptions { path: None, format: JsonLines } }, out: \"out\", quiet: false, limits: Limits { max_skipped: None, min_sources: None } })",
     },
     Asked {
         words: "index api out --max-skipped +0 --min-sources 04294967295 --report f",
-        request: "Index(IndexRequest { options: IndexOptions { root: \"api\", workers: Workers { count: 4 }, project_root: \"file:///\", manager: \"\", package: \"\", release: \"\", only: None, doc: None, include: [], include_packages: [], encoding: Utf8, dialect: Proto3(Refuse), faulty: Refuse, explain: false, exclude: [], links: Ignore, report: ReportOptions { path: Some(\"f\"), format: JsonLines } }, out: \"out\", quiet: false, limits: Limits { max_skipped: Some(0), min_sources: Some(4294967295) } })",
+        request: "Index(IndexRequest { options: IndexOptions { root: \"api\", is_real: false, workers: Workers { count: 4 }, project_root: \"file:///\", manager: \"\", package: \"\", release: \"\", only: None, doc: None, comments: Raw, include: [], include_packages: [], well_known: false, encoding: Utf8, dialect: Proto3(Refuse), faulty: Refuse, explain: false, exclude: [], links: Ignore, report: ReportOptions { path: Some(\"f\"), format: JsonLines } }, out: \"out\", quiet: false, limits: Limits { max_skipped: Some(0), min_sources: Some(4294967295) } })",
     },
     Asked {
-        words: "index api --exclude .git --links follow --exclude=a/**/b out",
-        request: "Index(IndexRequest { options: IndexOptions { root: \"api\", workers: Workers { count: 4 }, project_root: \"file:///\", manager: \"\", package: \"\", release: \"\", only: None, doc: None, include: [], include_packages: [], encoding: Utf8, dialect: Proto3(Refuse), faulty: Refuse, explain: false, exclude: [\".git\", \"a/**/b\"], links: Follow, report: ReportOptions { path: None, format: JsonLines } }, out: \"out\", quiet: false, limits: Limits { max_skipped: None, min_sources: None } })",
+        words: "index api --exclude .git --links follow --exclude=a/**/b out --well-known",
+        request: "Index(IndexRequest { options: IndexOptions { root: \"api\", is_real: false, workers: Workers { count: 4 }, project_root: \"file:///\", manager: \"\", package: \"\", release: \"\", only: None, doc: None, comments: Raw, include: [], include_packages: [], well_known: true, encoding: Utf8, dialect: Proto3(Refuse), faulty: Refuse, explain: false, exclude: [\".git\", \"a/**/b\"], links: Follow, report: ReportOptions { path: None, format: JsonLines } }, out: \"out\", quiet: false, limits: Limits { max_skipped: None, min_sources: None } })",
+    },
+    Asked {
+        words: "index api --real --include i out",
+        request: "Index(IndexRequest { options: IndexOptions { root: \"api\", is_real: true, workers: Workers { count: 4 }, project_root: \"file:///\", manager: \"\", package: \"\", release: \"\", only: None, doc: Some(Both), comments: Clean, include: [\"i\"], include_packages: [], well_known: true, encoding: Utf8, dialect: All, faulty: Skip, explain: false, exclude: [], links: Ignore, report: ReportOptions { path: None, format: JsonLines } }, out: \"out\", quiet: false, limits: Limits { max_skipped: None, min_sources: None } })",
+    },
+    Asked {
+        words: "shell --accept proto3 --custom-options skip --faulty refuse --doc nothing --comments raw --real api",
+        request: "Shell(IndexOptions { root: \"api\", is_real: true, workers: Workers { count: 4 }, project_root: \"file:///\", manager: \"\", package: \"\", release: \"\", only: None, doc: Some(Nothing), comments: Raw, include: [], include_packages: [], well_known: true, encoding: Utf8, dialect: Proto3(Skip), faulty: Refuse, explain: false, exclude: [], links: Ignore, report: ReportOptions { path: None, format: JsonLines } })",
     },
     Asked {
         words: "snapshot a.scip api",
@@ -173,6 +187,10 @@ error: invalid value '0' for '--workers <N>': 0 is not in 1..=16
 index api out --doc none
 error: invalid value 'none' for '--doc <WORD>'
   [possible values: leading, trailing, both, nothing]
+
+index api out --comments none
+error: invalid value 'none' for '--comments <WORD>'
+  [possible values: raw, clean]
 
 shell api --positions UTF8
 error: invalid value 'UTF8' for '--positions <WORD>'

@@ -6,8 +6,9 @@ mod callbacks;
 use anyhow::{Result, bail};
 use callbacks::{BothOfFields, Commented, OnlyCommented};
 use protoscip::{
-    AnyAnswer, CustomOptions, Dialect, DocRule, Encoding, Faulty, FilePackages, Filter, NoGate,
-    OwnedText, PackageId, Registry, Run, Settings, Sink, Source, Std, Tree, Workers, index_tree,
+    AnyAnswer, CommentForm, CustomOptions, Dialect, DocRule, Encoding, Faulty, FilePackages,
+    Filter, NoGate, OwnedText, PackageId, Registry, Run, Settings, Sink, Source, Std, Tree,
+    Workers, index_tree,
 };
 use scip_query::Queries;
 use scip_wire::read_index;
@@ -67,6 +68,7 @@ fn own_settings(alloc: Global) -> Result<Settings> {
         package: FilePackages::of_run(alloc, package),
         encoding: Encoding::Utf8,
         dialect: Dialect::Proto3(CustomOptions::Refuse),
+        comments: CommentForm::Raw,
         faulty: Faulty::Refuse,
     })
 }

@@ -1,8 +1,8 @@
 -- Which kinds a set has.
 use Rattle.std.specs.Prelude.{Bool, IsTrue}
 use Rattle.proto_decl.specs.declared.declaration.DeclarationKind.{DeclarationKind}
-use Rattle.proto_decl.specs.declared.declaration.DeclarationKind.TheVariants.{Message, Enum, Service, Field, Oneof, Value}
-use Rattle.proto_decl.specs.declared.declaration.DeclarationKind.TheVariants.{Method}
+use Rattle.proto_decl.specs.declared.declaration.DeclarationKind.TheVariants.{Message, Enum, Service, Field, Oneof}
+use Rattle.proto_decl.specs.declared.declaration.DeclarationKind.TheVariants.{Value, Method}
 use Rattle.index_hooks.specs.declared.kinds.Kinds.{Kinds}
 
 -- whether it has a kind

@@ -33,3 +33,7 @@ mod StartingRules
 mod TreeRunLemmas
 -- What is said of an index, by what it lacks
 mod TreeRunOmissionLemmas
+-- The path that is missing by a finding
+mod MissingLemmas
+-- What is said of the folder with the well-known files, and whether it is one of those that are read
+mod WellKnownLemmas

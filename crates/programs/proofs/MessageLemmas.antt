@@ -1,6 +1,6 @@
 -- What is said of a line that is there, or isn't.
 use Rattle.std.proofs.Common.{◌≡◌, ◌⊎◌, inl, inr, ℕ, Bool, true, false, List, Ok, Err, subst}
-use Rattle.std.specs.Prelude.{Option, Result, IfErr, IfOk, MatchResult, OnOk}
+use Rattle.std.specs.Prelude.{Result, IfErr, IfOk, MatchResult, OnOk}
 use Rattle.streams.specs.Writers.{IsCutOff, IsWritten, SinkOf, Writer, writing}
 use Rattle.streams.specs.declared.whole_writes.CutOff.{CutOff}
 use Rattle.programs.specs.Messages.{IsSilent, Says, Tells, TellsOne, memory_line, memory_status}

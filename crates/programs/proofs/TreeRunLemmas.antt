@@ -1,5 +1,5 @@
 -- A run over a tree that hands out more than what is recorded.
-use Rattle.std.proofs.Common.{◌≡◌, ℕ, List, Option, Result, Ok, Err}
+use Rattle.std.proofs.Common.{◌≡◌, ℕ, Bool, List, Option, Result, Ok, Err}
 use Rattle.std.specs.Prelude.{MatchResult}
 use Rattle.std.specs.Result.{result_map_both}
 use Rattle.streams.specs.Writers.{Writer}
@@ -31,12 +31,12 @@ holds_of_part f P (Err e) holds = holds
 -- a run ends alike, if what is told is of the part
 pub ends_alike : {M A B : Type 0} (f : A → B) (told_of : B → List Omission)
     (says : (List ℕ → Type 0) → Writer M → (status : ℕ) → Type 0) (none_found : Option (List ℕ) → Type 0)
-    (explain : Option Dialect) (tree : List TreeFile) (unread : List (List ℕ)) (done : Result A Fault)
+    (explain : Option Dialect) (real : Bool) (tree : List TreeFile) (unread : List (List ℕ)) (done : Result A Fault)
     (messages : Writer M) (status : ℕ)
-    → Ends says none_found explain tree unread (λ a. told_of (f a)) done messages status
-    → Ends says none_found explain tree unread told_of (part_of f done) messages status
-ends_alike f told_of says none_found explain tree unread (Ok a) messages status ends = ends
-ends_alike f told_of says none_found explain tree unread (Err e) messages status ends = ends
+    → Ends says none_found explain real tree unread (λ a. told_of (f a)) done messages status
+    → Ends says none_found explain real tree unread told_of (part_of f done) messages status
+ends_alike f told_of says none_found explain real tree unread (Ok a) messages status ends = ends
+ends_alike f told_of says none_found explain real tree unread (Err e) messages status ends = ends
 
 -- a tree is indexed alike, if the line of none found is one of which `none_found` holds
 pub into_of : {P W Q V M : Type 0} (none_found : List TreeFile → Option (List ℕ) → Type 0) (asked : IndexRequest)
@@ -50,13 +50,15 @@ into_of none_found asked allows settings workers tree unread at report messages 
 into_of none_found asked allows settings workers tree unread at report messages status line found
     (into_part done apart fills ends) =
     into_part done apart fills
-    (ends_of SaysOfSuccess (none_found tree) (explain_in asked.options.explain settings.dialect) tree messages status
+    (ends_of SaysOfSuccess (none_found tree) (explain_in asked.options.explain settings.dialect) asked.options.is_real
+    tree messages status
     unread (λ recorded. recorded.told) done line found ends)
 into_of none_found asked allows settings workers tree unread at report messages status line found
     (too_poor recorded fault apart forgoes breaks ends) =
     too_poor recorded fault apart forgoes breaks (
       ends.0,
-      omissions_said SaysOfSuccess (none_found tree) (explain_in asked.options.explain settings.dialect) tree
+      omissions_said SaysOfSuccess (none_found tree) (explain_in asked.options.explain settings.dialect)
+          asked.options.is_real tree
           (record messages { after = ends.0 }) 0 line found unread recorded.told ends.1,
       ends.2,
     )

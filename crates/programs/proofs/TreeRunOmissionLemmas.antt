@@ -4,7 +4,6 @@ use Rattle.std.proofs.Common.{length, ◌==◌, ◌&&◌, ◌∙◌, ◌+◌, �
 use Rattle.std.specs.List.{count_by}
 use Rattle.std.specs.Prelude.{IfSome}
 use Rattle.std.specs.Option.{option_map}
-use Rattle.std.proofs.lemmas.Bool.{eqb-true}
 use Rattle.std.proofs.lemmas.Option.{same_Some}
 use Rattle.basics.proofs.TestLemmas.{never_zero as no_items, first_holds}
 use Rattle.streams.specs.Writers.{Writer}
@@ -15,6 +14,7 @@ use Rattle.protoscip.specs.ToldLines.{IsTextOfAllOmissions, IsToldText, IsToldTe
 use Rattle.protoscip.specs.ToldLines.{is_skipped_source, is_use, numbers_line}
 use Rattle.protoscip.specs.declared.fault.Fault.{Fault}
 use Rattle.programs.specs.Messages.{Says, SaysIfAny, SaysOfSuccess}
+use Rattle.programs.specs.Missing.{IsIfAnyWithMissing, IsWithMissing}
 use Rattle.programs.specs.TreeRuns.{Ends, SaysOmissions, SaysAll}
 
 -- where all could be read, the text of what an index lacks is the whole text
@@ -30,13 +30,13 @@ all_read explain tree sources told text is =
     )
 
 module _ {M : Type 0} (says : (List ℕ → Type 0) → Writer M → (status : ℕ) → Type 0)
-    (none_found : Option (List ℕ) → Type 0) (explain : Option Dialect)
+    (none_found : Option (List ℕ) → Type 0) (explain : Option Dialect) (real : Bool)
     (tree : List TreeFile) (messages : Writer M) (status : ℕ) where
   module _ {X : Type 0} (path_of : X → List ℕ) where
     -- nothing is lacking
     pub nothing : (unread : List X) (told : List Omission) → (length unread == 0 && length told == 0) ≡ true
         → (line : Option (List ℕ)) → none_found line → SaysIfAny line messages status
-        → SaysOmissions says none_found explain tree (map path_of unread) told messages status
+        → SaysOmissions says none_found explain real tree (map path_of unread) told messages status
     nothing [] [] none line found said = (line, found, said)
     nothing [] (first ∷ others) none line found said = absurd (no_items (length others) none)
     nothing (path ∷ unread) told none line found said =
@@ -44,24 +44,24 @@ module _ {M : Type 0} (says : (List ℕ → Type 0) → Writer M → (status : �
 
     -- something is
     pub something : (unread : List X) (told : List Omission) → (length unread == 0 && length told == 0) ≡ false
-        → SaysAll says explain tree (map path_of unread) told messages status
-        → SaysOmissions says none_found explain tree (map path_of unread) told messages status
+        → SaysAll says explain real tree (map path_of unread) told messages status
+        → SaysOmissions says none_found explain real tree (map path_of unread) told messages status
     something [] [] some tells = absurd cc
     something [] (first ∷ others) some tells = tells
     something (path ∷ unread) told some tells = tells
 
   -- the line of none found is one of which `none_found` holds
   pub omissions_said : (line : Option (List ℕ)) → none_found line → (unread : List (List ℕ)) (told : List Omission)
-      → SaysOmissions says (λ l. l ≡ line) explain tree unread told messages status
-      → SaysOmissions says none_found explain tree unread told messages status
+      → SaysOmissions says (λ l. l ≡ line) explain real tree unread told messages status
+      → SaysOmissions says none_found explain real tree unread told messages status
   omissions_said line found [] [] lacks = (lacks.0, subst none_found (sym lacks.1) found, lacks.2)
   omissions_said line found [] (first ∷ others) lacks = lacks
   omissions_said line found (path ∷ unread) told lacks = lacks
 
   pub ends_of : {A : Type 0} (unread : List (List ℕ)) (told_of : A → List Omission) (done : Result A Fault)
       (line : Option (List ℕ)) → none_found line
-      → Ends says (λ l. l ≡ line) explain tree unread told_of done messages status
-      → Ends says none_found explain tree unread told_of done messages status
+      → Ends says (λ l. l ≡ line) explain real tree unread told_of done messages status
+      → Ends says none_found explain real tree unread told_of done messages status
   ends_of unread told_of (Ok made) line found ends = omissions_said line found unread (told_of made) ends
   ends_of unread told_of (Err fault) line found ends = ends
 
@@ -72,46 +72,64 @@ any_success messages status None silent = (silent.0, refl)
 any_success messages status (Some text) said = (refl, said.1)
 
 -- a success has the status 0
-pub is_success : {M : Type 0} (none_found : Option (List ℕ) → Type 0) (explain : Option Dialect)
+pub is_success : {M : Type 0} (none_found : Option (List ℕ) → Type 0) (explain : Option Dialect) (real : Bool)
     (tree : List TreeFile) (messages : Writer M) (status : ℕ) (unread : List (List ℕ)) (told : List Omission)
-    → SaysOmissions SaysOfSuccess none_found explain tree unread told messages status
-    → SaysOmissions SaysOfSuccess none_found explain tree unread told messages 0
-is_success none_found explain tree messages status [] [] lacks =
+    → SaysOmissions SaysOfSuccess none_found explain real tree unread told messages status
+    → SaysOmissions SaysOfSuccess none_found explain real tree unread told messages 0
+is_success none_found explain real tree messages status [] [] lacks =
     (lacks.0, lacks.1, any_success messages status lacks.0 lacks.2)
-is_success none_found explain tree messages status [] (first ∷ others) says =
+is_success none_found explain real tree messages status [] (first ∷ others) says =
     (says.0, says.1, (says.2.0, says.2.1, (refl, says.2.2.1)))
-is_success none_found explain tree messages status (path ∷ unread) told says =
+is_success none_found explain real tree messages status (path ∷ unread) told says =
     (says.0, says.1, (says.2.0, says.2.1, (refl, says.2.2.1)))
 
--- the text that was made of it is said; or, if there is none, the line of none found
-pub text_is_said : {M T : Type 0} (bytes : T → List ℕ) (explain : Option Dialect) (tree : List TreeFile)
-    (messages : Writer M) (status : ℕ) (line : Option (List ℕ)) (unread : List (List ℕ)) (told : List Omission)
-    (text : Option T)
+-- the text that was made of it is said, and what is missing behind it; or, if there is none, the line of none found
+pub text_is_said : {M T : Type 0} (bytes : T → List ℕ) (explain : Option Dialect) (real : Bool)
+    (tree : List TreeFile) (messages : Writer M) (status : ℕ) (line : Option (List ℕ)) (unread : List (List ℕ))
+    (told : List Omission) (text whole : Option T)
     → IsTextOfAllOmissions explain tree unread told (option_map bytes text)
-    → IfSome text (λ (t : T). Says (bytes t) 0 messages status)
-    → (text ≡ None → SaysIfAny line messages status)
-    → SaysOmissions SaysOfSuccess (λ l. l ≡ line) explain tree unread told messages status
-text_is_said bytes explain tree messages status line [] [] None is said silent = (line, refl, silent refl)
-text_is_said bytes explain tree messages status line [] [] (Some t) is said silent = absurd cc
-text_is_said bytes explain tree messages status line [] (first ∷ others) None is said silent =
+    → IsIfAnyWithMissing real tree told (option_map bytes text) (option_map bytes whole)
+    → IfSome whole (λ (t : T). Says (bytes t) 0 messages status)
+    → (whole ≡ None → SaysIfAny line messages status)
+    → SaysOmissions SaysOfSuccess (λ l. l ≡ line) explain real tree unread told messages status
+text_is_said bytes explain real tree messages status line unread told None (Some w) is with_line said silent =
+    absurd with_line
+text_is_said bytes explain real tree messages status line unread told (Some t) None is with_line said silent =
+    absurd with_line
+text_is_said bytes explain real tree messages status line [] [] None None is with_line said silent =
+    (line, refl, silent refl)
+text_is_said bytes explain real tree messages status line [] [] (Some t) (Some w) is with_line said silent = absurd cc
+text_is_said bytes explain real tree messages status line [] (first ∷ others) None None is with_line said silent =
     let never = is.2.2 in absurd cc
-text_is_said bytes explain tree messages status line [] (first ∷ others) (Some t) is said silent = (
-  is.0,
-  is.1,
-  (
-    is.2.0,
-    all_read explain tree is.0 (first ∷ others) is.2.0 is.2.1,
-    subst (λ (l : List ℕ). Says l 0 messages status) (same_Some (bytes t) is.2.0 is.2.2) said,
-  ),
-)
-text_is_said bytes explain tree messages status line (path ∷ unread) told None is said silent =
+text_is_said bytes explain real tree messages status line [] (first ∷ others) (Some t) (Some w) is with_line said
+    silent = (
+      is.0,
+      is.1,
+      (
+        bytes w,
+        (
+          is.2.0,
+          all_read explain tree is.0 (first ∷ others) is.2.0 is.2.1,
+          subst (λ (l : List ℕ). IsWithMissing real tree (first ∷ others) l (bytes w))
+              (same_Some (bytes t) is.2.0 is.2.2) with_line,
+        ),
+        said,
+      ),
+    )
+text_is_said bytes explain real tree messages status line (path ∷ unread) told None None is with_line said silent =
     let never = is.2.2 in absurd cc
-text_is_said bytes explain tree messages status line (path ∷ unread) told (Some t) is said silent = (
-  is.0,
-  is.1,
-  (
-    is.2.0,
-    is.2.1,
-    subst (λ (l : List ℕ). Says l 0 messages status) (same_Some (bytes t) is.2.0 is.2.2) said,
-  ),
-)
+text_is_said bytes explain real tree messages status line (path ∷ unread) told (Some t) (Some w) is with_line said
+    silent = (
+      is.0,
+      is.1,
+      (
+        bytes w,
+        (
+          is.2.0,
+          is.2.1,
+          subst (λ (l : List ℕ). IsWithMissing real tree told l (bytes w)) (same_Some (bytes t) is.2.0 is.2.2)
+              with_line,
+        ),
+        said,
+      ),
+    )

@@ -43,16 +43,16 @@ pub data IndexesInto {P W Q V M : Type 0} (none_found : List TreeFile → Option
       → Fills at (λ recorded. Breaks asked.limits tree unread recorded.told None)
       (λ begun written ran. Indexes allows settings tree workers (writing at.sink begun written) ran)
       (λ ran. Reports report asked.options.report asked.limits allows settings workers tree unread (told_by ran)) done
-      → Ends SaysOfSuccess (none_found tree) (explain_in asked.options.explain settings.dialect) tree
-      unread (λ recorded. recorded.told) done messages status
+      → Ends SaysOfSuccess (none_found tree) (explain_in asked.options.explain settings.dialect)
+      asked.options.is_real tree unread (λ recorded. recorded.told) done messages status
       → IndexesInto none_found asked allows settings workers tree unread at report messages status
   too_poor : (recorded : Recorded) (fault : LimitFault) → AreApart at report asked tree
       → Forgoes at (λ begun written ran. Indexes allows settings tree workers (writing at.sink begun written) ran)
       (λ ran. Reports report asked.options.report asked.limits allows settings workers tree unread (told_by ran))
       recorded
       → Breaks asked.limits tree unread recorded.told (Some fault)
-      → EndsShort (none_found tree) asked.options.explain (explain_in asked.options.explain settings.dialect) tree
-      unread recorded.told fault messages status
+      → EndsShort (none_found tree) asked.options.explain (explain_in asked.options.explain settings.dialect)
+      asked.options.is_real tree unread recorded.told fault messages status
       → IndexesInto none_found asked allows settings workers tree unread at report messages status
 
 -- It doesn't start, the place of the index is as it was, and the report, if one is asked for, tells why; or there is a

@@ -23,6 +23,7 @@ pub mod StartFaults
 pub mod StartExplanations
 pub mod Starting
 pub mod NoSources
+pub mod Missing
 pub mod Searches
 pub mod Settled
 pub mod TreeRuns
@@ -30,6 +31,7 @@ pub mod Dumping
 pub mod Limits
 pub mod Asked
 pub mod Placing
+pub mod WellKnown
 pub mod Reporting
 -- and what is reported of a run that doesn't start
 pub mod StartReports

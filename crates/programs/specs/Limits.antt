@@ -89,8 +89,9 @@ limit_status = SOURCES_STATUS
 -- the end of a run whose index lacks this and breaks a limit: what it lacks is said as after a success, and then the
 -- limit; `dialect` is the one with which the former is explained
 abbrev pub EndsShort : {M : Type 0} → (none_found : Option (List ℕ) → Type 0) → (explain : Bool)
-    → (dialect : Option Dialect) → List TreeFile → (unread : List (List ℕ)) → List Omission → LimitFault → Writer M
-    → (status : ℕ) → Type 0
-EndsShort {M} none_found explain dialect tree unread lacks fault messages status =
-    (said : M) × SaysOmissions SaysOfSuccess none_found dialect tree unread lacks (record messages { after = said }) 0
+    → (dialect : Option Dialect) → (real : Bool) → List TreeFile → (unread : List (List ℕ)) → List Omission
+    → LimitFault → Writer M → (status : ℕ) → Type 0
+EndsShort {M} none_found explain dialect real tree unread lacks fault messages status =
+    (said : M)
+    × SaysOmissions SaysOfSuccess none_found dialect real tree unread lacks (record messages { after = said }) 0
     × Tells (told explain fault) limit_status (record messages { before = said }) status

@@ -8,7 +8,7 @@ use Rattle.source_files.specs.declared.folder_place.FolderPlace.{Ghosts as Folde
 use Rattle.streams.specs.Writers.{IsUntouched, Writer, writing}
 use Rattle.scip_records.specs.declared.records.Index.{Index}
 use Rattle.source_files.specs.FolderPlaces.{IsEmpty}
-use Rattle.source_files.specs.Made.{Made, MadeFile}
+use Rattle.source_files.specs.Made.{MadeFile}
 use Rattle.scip_site.specs.declared.show_fault.ShowFault.TheVariants.{Write, Memory}
 use Rattle.scip_site.specs.Making.{MakesSite}
 use Rattle.scip_site.specs.declared.site_fault.SiteFault.{SiteFault}

@@ -56,7 +56,8 @@ pub data Served {Q V R W M : Type 0} (lists : List ℕ → List ℕ → Option L
       → Serves commands answers (allowed_by options) (settings_in options ids) tree options.workers ran
       → Reports report options.report no_limits (allowed_by options) (settings_in options ids) options.workers tree
       unread (told_by ran) reported
-      → Ends TellsOfSuccess (none_found tree) (explain_in options.explain (settings_in options ids).dialect) tree
+      → Ends TellsOfSuccess (none_found tree) (explain_in options.explain (settings_in options ids).dialect)
+      options.is_real tree
       unread (λ recorded. recorded.told) (settled ran reported) messages status
       → Served lists gives blames none_found suspects options report commands answers messages status
 

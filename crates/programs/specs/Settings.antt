@@ -31,6 +31,7 @@ settings_in options ids = record {
   «package» = ids;
   encoding = options.encoding;
   dialect = options.dialect;
+  comments = options.comments;
   faulty = options.faulty;
 }
 

@@ -1,7 +1,7 @@
 -- How the programs about a tree end: `index` and `shell`.
 -- `lists` and `gives` are what the system of files gives, and `messages` is the stream of messages. `none_found` says
 -- which line, if any, is said of a tree whose index lacks nothing: that it has no source.
-use Rattle.std.specs.Prelude.{ℕ, List, [], ◌∷◌, Option, Result, Ok, Err}
+use Rattle.std.specs.Prelude.{ℕ, Bool, List, [], ◌∷◌, Option, Result, Ok, Err}
 use Rattle.streams.specs.Writers.{Writer}
 use Rattle.proto_parse.specs.dialect.Dialect.{Dialect}
 use Rattle.source_tree.specs.Files.{TreeFile}
@@ -17,39 +17,46 @@ use Rattle.protoscip.specs.FaultTexts.{status_of}
 use Rattle.protoscip.specs.ToldLines.{IsToldTextWith}
 use Rattle.command_line.specs.declared.options.IndexOptions.{IndexOptions}
 use Rattle.programs.specs.Messages.{SaysIfAny, TellsOne}
+use Rattle.programs.specs.Missing.{IsWithMissing}
 use Rattle.programs.specs.Folders.{AreFolders}
 use Rattle.programs.specs.Settings.{allowed_by, settings_in}
 use Rattle.source_files.specs.Listings.{Listing}
 
--- `says` says how a text with a property is written after a success: here a line for each thing that couldn't be read
--- or that an index lacks, and then their numbers
+-- a line for each thing that couldn't be read or that an index lacks, then their numbers, and for a tree as it lies
+-- what is missing
+abbrev pub IsWholeText : (explain : Option Dialect) → (real : Bool) → List TreeFile → (sources : ℕ)
+    → (unread : List (List ℕ)) → List Omission → (text : List ℕ) → Type 0
+IsWholeText explain real tree sources unread told text =
+    (front : List ℕ) × IsToldTextWith explain tree sources unread told front × IsWithMissing real tree told front text
+
+-- `says` says how a text with a property is written after a success: here all that
 abbrev pub SaysAll : {M : Type 0} → (says : (List ℕ → Type 0) → Writer M → (status : ℕ) → Type 0)
-    → (explain : Option Dialect) → List TreeFile → (unread : List (List ℕ)) → List Omission → Writer M
+    → (explain : Option Dialect) → (real : Bool) → List TreeFile → (unread : List (List ℕ)) → List Omission → Writer M
     → (status : ℕ) → Type 0
-SaysAll says explain tree unread told messages status =
+SaysAll says explain real tree unread told messages status =
     (sources : ℕ) × IsSourceCount tree sources
-    × says (IsToldTextWith explain tree sources unread told) messages status
+    × says (IsWholeText explain real tree sources unread told) messages status
 
 -- the end of a run that made an index which lacks this, of a tree without what couldn't be read. If nothing is lacking,
 -- the line of none found is said, if there is one; else all that is
 abbrev pub SaysOmissions : {M : Type 0} → (says : (List ℕ → Type 0) → Writer M → (status : ℕ) → Type 0)
-    → (none_found : Option (List ℕ) → Type 0) → (explain : Option Dialect) → List TreeFile
+    → (none_found : Option (List ℕ) → Type 0) → (explain : Option Dialect) → (real : Bool) → List TreeFile
     → (unread : List (List ℕ)) → List Omission → Writer M → (status : ℕ) → Type 0
-SaysOmissions says none_found explain tree [] [] messages status =
+SaysOmissions says none_found explain real tree [] [] messages status =
     (line : Option (List ℕ)) × none_found line × SaysIfAny line messages status
-SaysOmissions says none_found explain tree [] (first ∷ others) messages status =
-    SaysAll says explain tree [] (first ∷ others) messages status
-SaysOmissions says none_found explain tree (path ∷ unread) told messages status =
-    SaysAll says explain tree (path ∷ unread) told messages status
+SaysOmissions says none_found explain real tree [] (first ∷ others) messages status =
+    SaysAll says explain real tree [] (first ∷ others) messages status
+SaysOmissions says none_found explain real tree (path ∷ unread) told messages status =
+    SaysAll says explain real tree (path ∷ unread) told messages status
 
 -- the end of a run over a tree: after a success, what is told of it is said; after a fault, the line of the fault
 -- alone, explained if that is asked for, with its status
 abbrev pub Ends : {M A : Type 0} → (says : (List ℕ → Type 0) → Writer M → (status : ℕ) → Type 0)
-    → (none_found : Option (List ℕ) → Type 0) → (explain : Option Dialect) → List TreeFile
+    → (none_found : Option (List ℕ) → Type 0) → (explain : Option Dialect) → (real : Bool) → List TreeFile
     → (unread : List (List ℕ)) → (A → List Omission) → Result A Fault → Writer M → (status : ℕ) → Type 0
-Ends says none_found explain tree unread told_of (Ok done) messages status =
-    SaysOmissions says none_found explain tree unread (told_of done) messages status
-Ends says none_found explain tree unread told_of (Err fault) messages status =
+Ends says none_found explain real tree unread told_of (Ok done) messages status =
+    SaysOmissions says none_found explain real tree unread (told_of done) messages status
+Ends says none_found explain real tree unread told_of (Err fault) messages status =
     TellsOne (IsFaultText explain tree fault) (status_of fault) messages status
 
 -- There is a tree of the files that the options name, but for what couldn't be read, and an index of it by what they

@@ -1,23 +1,56 @@
 //! How a program about a tree ends.
 
-ghost use Rattle.std.specs.Prelude.{◌≡◌, map, string_bytes};
+ghost use Rattle.std.specs.Prelude.{◌≡◌, ℕ, IfOk, map, string_bytes};
 ghost use Rattle.std.specs.Option.{option_map};
+ghost use Rattle.source_tree.specs.Trees.{IsSourceCount};
 ghost use Rattle.streams.specs.Writers.{writer};
 ghost use Rattle.protoscip.specs.Explanations.{IsFaultText};
 ghost use Rattle.protoscip.specs.FaultLines.{HasFilesOf, HaveFilesOf};
 ghost use Rattle.protoscip.specs.FaultTexts.{status_of};
 ghost use Rattle.programs.specs.Messages.{SaysIfAny, TellsOfSuccess, TellsOne};
-ghost use Rattle.programs.specs.TreeRuns.{SaysOmissions};
+ghost use Rattle.programs.specs.TreeRuns.{IsWholeText, SaysOmissions};
 
 use crate::messages::report;
+use crate::missing::with_missing;
 use crate::starting::TreeRun;
 use proto_parse::Dialect;
 use protoscip::{Fault, Telling, fault_text, omits_nothing, told_text_with};
 use scip_build::Omission;
 use scip_site::say;
 use source_tree::Tree;
-use std::alloc::Global;
+use std::alloc::{AllocError, Global};
 use streams::Sink;
+
+/// How that is told which an index lacks.
+#[derive(Clone, Copy)]
+pub(crate) struct Closing {
+    /// With what faults are explained, if that is asked for.
+    pub(crate) explain: Option<Dialect>,
+    /// Whether the tree is taken as it lies: what is missing of it is told at the end.
+    pub(crate) is_real: bool,
+}
+
+/// The text of what couldn't be read, and of what an index of the tree lacks.
+fn whole_text(
+    alloc: Global,
+    run: &TreeRun,
+    told: &[Omission],
+    closing: Closing,
+) -> Result<String, AllocError>
+    requires { HaveFilesOf run.now.tree told.now }
+    ensures { (sources : ℕ) × IsSourceCount run.now.tree sources
+        × IfOk result (λ text. IsWholeText closing.explain closing.is_real run.now.tree sources
+        (map string_bytes run.now.unread.items) told.now (string_bytes text)) }
+{
+    let telling = Telling {
+        unread: run.unread.as_slice(),
+        explain: closing.explain,
+    };
+    match told_text_with(alloc, &run.tree, told, &telling) {
+        Ok(text) => Ok(with_missing(alloc, closing.is_real, &run.tree, told, text)),
+        Err(refused) => Err(refused),
+    }
+}
 
 /// Says what couldn't be read, and what an index of the tree lacks, if anything is lacking, and else the line that says
 /// that there are no sources, if there is one; and gives the exit status.
@@ -25,27 +58,19 @@ pub(crate) fn tell<M: Sink>(
     alloc: Global,
     run: &TreeRun,
     told: &[Omission],
-    explain: Option<Dialect>,
+    closing: Closing,
     messages: &mut M,
 ) -> u8
     requires { HaveFilesOf run.now.tree told.now }
     ensures { SaysOmissions TellsOfSuccess (λ line. line ≡ option_map string_bytes run.now.none_found)
-        explain run.now.tree
+        closing.explain closing.is_real run.now.tree
         (map string_bytes run.now.unread.items) told.now
         (writer M.Sink messages) result }
 {
-    let telling = Telling {
-        unread: run.unread.as_slice(),
-        explain,
-    };
-    if omits_nothing(telling.unread, told) {
+    if omits_nothing(run.unread.as_slice(), told) {
         return say_line(&run.none_found, messages);
     }
-    report(
-        told_text_with(alloc, &run.tree, told, &telling),
-        0,
-        messages,
-    )
+    report(whole_text(alloc, run, told, closing), 0, messages)
 }
 
 /// Says a line of a success, if there is one, and gives the exit status.

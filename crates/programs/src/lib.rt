@@ -26,6 +26,7 @@ mod site_faults;
 mod choices;
 mod ending;
 mod folders;
+mod missing;
 mod no_sources;
 mod package;
 mod settings;
@@ -33,6 +34,9 @@ mod start_explanations;
 mod start_fault;
 mod start_reports;
 mod starting;
+
+// The well-known files, where they are asked for.
+mod well_known;
 
 // `index`: the index of a tree goes to a file, and its report, too.
 mod asking_ahead;
@@ -62,3 +66,4 @@ pub use messages::report;
 pub use places::Places;
 pub use progress::{LineWiped, Progress};
 pub use running::{links_followed, out_path, report_path, run};
+pub use well_known::{variable, with_well_known};

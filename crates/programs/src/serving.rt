@@ -12,7 +12,7 @@ ghost use Rattle.programs.specs.Searches.{blamed_by, searched_by};
 ghost use Rattle.programs.specs.Serving.{AnswersNavigable, Served};
 ghost use Rattle.programs.specs.TreeRuns.{Ends};
 
-use crate::ending::{stop, tell};
+use crate::ending::{Closing, stop, tell};
 use crate::host::Host;
 use crate::laws::headline_of_options;
 use crate::limits::NO_LIMITS;
@@ -22,7 +22,6 @@ use crate::start_reports::put_start_report;
 use crate::starting::{TreeRun, start};
 use command_line::IndexOptions;
 use index_pool::NoGate;
-use proto_parse::Dialect;
 use protoscip::{Fault, Recorded, explain_in, session};
 use scip_build::Omission;
 use source_files::{Excluding, LookAgain, OutPlace, ReadFiles};
@@ -37,18 +36,19 @@ fn end<M: Sink>(
     alloc: Global,
     run: &TreeRun,
     done: &Result<Recorded, Fault>,
-    explain: Option<Dialect>,
+    closing: Closing,
     messages: &mut M,
 ) -> u8
     requires files { IfErr done.now (HasFilesOf run.now.tree) }
     requires told { IfOk done.now (λ recorded. HaveFilesOf run.now.tree recorded.told) }
-    ensures { Ends TellsOfSuccess (λ line. line ≡ option_map string_bytes run.now.none_found) explain run.now.tree
+    ensures { Ends TellsOfSuccess (λ line. line ≡ option_map string_bytes run.now.none_found) closing.explain
+        closing.is_real run.now.tree
         (map string_bytes run.now.unread.items) (λ recorded. recorded.told) done.now
         (writer M.Sink messages) result }
 {
     match done {
-        Ok(recorded) => tell(alloc, run, recorded.told.as_slice(), explain, messages),
-        Err(fault) => stop(alloc, &run.tree, fault, explain, messages),
+        Ok(recorded) => tell(alloc, run, recorded.told.as_slice(), closing, messages),
+        Err(fault) => stop(alloc, &run.tree, fault, closing.explain, messages),
     }
 }
 
@@ -121,8 +121,11 @@ fn shell<
     };
     let reported = report_run(&reporter, told_in(&ran), fault_in(&ran), report);
     let done = settle(ran, reported);
-    let explain = explain_in(options.explain, run.settings.dialect);
-    end(host.alloc, &run, &done, explain, messages)
+    let closing = Closing {
+        explain: explain_in(options.explain, run.settings.dialect),
+        is_real: options.is_real,
+    };
+    end(host.alloc, &run, &done, closing, messages)
 }
 
 /// The same of the files that the options don't exclude.

@@ -34,6 +34,7 @@ pub(crate) fn settings_of(
         package: packages,
         encoding: options.encoding,
         dialect: options.dialect,
+        comments: options.comments,
         faulty: options.faulty,
     })
 }

@@ -24,4 +24,6 @@ mod shared;
 #[cfg(test)]
 mod tree_runs;
 #[cfg(test)]
+mod well_known;
+#[cfg(test)]
 mod written;

@@ -3,6 +3,7 @@ use Rattle.std.proofs.Common.{◌≡◌, ◌∙◌, ap, refl, subst, ℕ, List, 
 use Rattle.std.specs.List.{AllZip}
 use Rattle.proto_lex.specs.declared.span.Span.{Span}
 use Rattle.proto_lex.specs.Lexed.{Lexed, AreInOrder}
+use Rattle.comment_texts.specs.declared.form.CommentForm.{CommentForm}
 use Rattle.proto_parse.specs.Lexeme.{Lexeme}
 use Rattle.proto_parse.specs.Walk.{Mark, MarksAreInOrder, Among, names_marks, marks_in, PackageIsAmongItems}
 use Rattle.proto_parse.specs.tree.FileItem.{FileItem}
@@ -16,13 +17,13 @@ use Rattle.proto_decl.proofs.WalkedLemmas.{outlines-append}
 use Rattle.proto_decl.proofs.OutlineOrderLemmas.{package_in_order}
 
 -- declarations stand at the names of their outlines
-pub same_names : (lexed : Lexed) (outlines : List Outline) (declarations : List Declaration)
-    → AllZip (IsDeclaration lexed) outlines declarations
+pub same_names : (form : CommentForm) (lexed : Lexed) (outlines : List Outline) (declarations : List Declaration)
+    → AllZip (IsDeclaration form lexed) outlines declarations
     → map (λ (d : Declaration). d.name) declarations ≡ heading_names outlines
-same_names lexed [] [] all = refl
-same_names lexed [] (d ∷ ds) all = absurd all
-same_names lexed (o ∷ os) [] all = absurd all
-same_names lexed (o ∷ os) (d ∷ ds) all = λ i. all.0.name i ∷ same_names lexed os ds all.1 i
+same_names form lexed [] [] all = refl
+same_names form lexed [] (d ∷ ds) all = absurd all
+same_names form lexed (o ∷ os) [] all = absurd all
+same_names form lexed (o ∷ os) (d ∷ ds) all = λ i. all.0.name i ∷ same_names form lexed os ds all.1 i
 
 -- what is there for each of two lists in a row
 
@@ -48,7 +49,8 @@ parts R (x ∷ xs) ys (z ∷ zs) all =
 
 -- the package's name stands between two declared names
 
-module _ (number : ℕ) (lexed : Lexed) (file : File) (facts : Facts) (is : AreFactsOf number lexed file facts) where
+module _ (form : CommentForm) (number : ℕ) (lexed : Lexed) (file : File) (facts : Facts)
+    (is : AreFactsOf form number lexed file facts) where
   abbrev outlines : List FileItem → List Outline
   outlines items = outlines_in lexed.text (file_surrounding lexed.text file) items
 
@@ -59,8 +61,8 @@ module _ (number : ℕ) (lexed : Lexed) (file : File) (facts : Facts) (is : AreF
   among_items before behind components items name m =
       let both : outlines_of lexed.text file ≡ outlines before ++ outlines behind =
       ap outlines items ∙ outlines-append lexed.text (file_surrounding lexed.text file) before behind in
-      let two = parts (IsDeclaration lexed) (outlines before) (outlines behind) facts.declarations
-      (subst (λ (os : List Outline). AllZip (IsDeclaration lexed) os facts.declarations) both is.declarations) in
+      let two = parts (IsDeclaration form lexed) (outlines before) (outlines behind) facts.declarations
+      (subst (λ (os : List Outline). AllZip (IsDeclaration form lexed) os facts.declarations) both is.declarations) in
       let spans : component_spans facts.package_name ≡ components =
       ap component_spans is.package_name ∙ (spans_of_components lexed.text (package_spans file.package_name) ∙ name)
       in
@@ -69,9 +71,9 @@ module _ (number : ℕ) (lexed : Lexed) (file : File) (facts : Facts) (is : AreF
         behind = two.second;
         split = two.whole;
         in_order = rw (
-          same_names lexed (outlines before) two.first two.left,
+          same_names form lexed (outlines before) two.first two.left,
           spans,
-          same_names lexed (outlines behind) two.second two.right,
+          same_names form lexed (outlines behind) two.second two.right,
         )
             (package_in_order lexed.text file before behind components m);
       }

@@ -1,6 +1,6 @@
 -- The places of a file's facts are parts of its text, as the spans of its tree are.
 use Rattle.std.proofs.Common.{sym, subst, ℕ, ◌<◌, ◌≤◌, Option, Some, None, List, [], ◌∷◌, length, map}
-use Rattle.std.proofs.Common.{arith}
+use Rattle.std.proofs.Common.{Bool, arith}
 use Rattle.std.specs.Prelude.{IsCharBoundary}
 use Rattle.std.specs.List.{All}
 use Rattle.std.proofs.lemmas.List.Elements.{All-nil, All-cons, All-head, All-tail, All-append}
@@ -22,7 +22,7 @@ use Rattle.proto_decl.specs.Names.{components_at}
 use Rattle.proto_decl.specs.Spans.{OfTypeName, OfType, OfHead, OfPart, OfPackage}
 use Rattle.proto_decl.specs.Imports.{start_of, end_of, imports_of}
 use Rattle.proto_decl.specs.Declares.{inside_part, file_surrounding, package_spans}
-use Rattle.proto_decl.specs.Uses.{use_of, used_by, uses_of}
+use Rattle.proto_decl.specs.Uses.{use_of, is_extending, used_by, uses_of}
 use Rattle.proto_decl.specs.Facts.{component_spans, name_spans, use_spans}
 use Rattle.proto_decl.specs.Laws.{IsNamedAt}
 use Rattle.proto_decl.specs.declared.declaration.Declaration.{Declaration}
@@ -41,16 +41,17 @@ module _ (text : List ℕ) where
   components_part spans all =
       subst (λ (found : List Span). All (IsPart text) found) (sym (spans_of_components text spans)) all
 
-  name_part : (scope : List ℕ) (name : TypeName) → OfTypeName (IsPart text) name → OfUse (use_of text scope name)
-  name_part scope name h = components_part name.components h.1
+  name_part : (is_extended : Bool) (scope : List ℕ) (name : TypeName) → OfTypeName (IsPart text) name
+      → OfUse (use_of is_extended text scope name)
+  name_part is_extended scope name h = components_part name.components h.1
 
-  types_part : (scope : List ℕ) (names : List TypeName) → All (OfTypeName (IsPart text)) names
-      → All OfUse (map (use_of text scope) names)
-  types_part scope [] all = All-nil OfUse
-  types_part scope (name ∷ names) all =
-      All-cons OfUse (use_of text scope name) (map (use_of text scope) names)
-      (name_part scope name (All-head (OfTypeName (IsPart text)) name names all))
-      (types_part scope names (All-tail (OfTypeName (IsPart text)) name names all))
+  types_part : (is_extended : Bool) (scope : List ℕ) (names : List TypeName) → All (OfTypeName (IsPart text)) names
+      → All OfUse (map (use_of is_extended text scope) names)
+  types_part is_extended scope [] all = All-nil OfUse
+  types_part is_extended scope (name ∷ names) all =
+      All-cons OfUse (use_of is_extended text scope name) (map (use_of is_extended text scope) names)
+      (name_part is_extended scope name (All-head (OfTypeName (IsPart text)) name names all))
+      (types_part is_extended scope names (All-tail (OfTypeName (IsPart text)) name names all))
 
   one_name : (name : TypeName) → OfTypeName (IsPart text) name → All (OfTypeName (IsPart text)) (name ∷ [])
   one_name name h = All-cons (OfTypeName (IsPart text)) name [] h (All-nil (OfTypeName (IsPart text)))
@@ -88,7 +89,8 @@ module _ (text : List ℕ) where
       all_parts (uses_of text file)
       (flat-all (λ (p : Placed Surrounding). used_by text p.around p.part)
       (λ (p : Placed Surrounding). OfPart (IsPart text) p.part) (λ used. Unit {0}) OfUse
-      (λ p of_part known. types_part p.around.scope (types_of p.part) (part_names p.part of_part))
+      (λ p of_part known.
+      types_part (is_extending p.part) p.around.scope (types_of p.part) (part_names p.part of_part))
       (placed_parts (inside_part text) surrounding file.items)
       (placed-all (inside_part text) (OfPart (IsPart text)) surrounding file.items h) (λ k d h. tt))
 

@@ -8,6 +8,7 @@ use Rattle.std.proofs.lemmas.List.Elements.{Contains-append_right}
 use Rattle.basics.proofs.ListLemmas.{in_front, behind_it, each_weaker as each-weaker}
 use Rattle.proto_lex.specs.Lexed.{Lexed, part_of}
 use Rattle.proto_lex.specs.declared.span.Span.{Span}
+use Rattle.comment_texts.specs.declared.form.CommentForm.{CommentForm}
 use Rattle.proto_parse.specs.tree.Heading.{Heading}
 use Rattle.proto_parse.specs.tree.Head.{Head}
 use Rattle.proto_parse.specs.tree.Head.TheVariants as head
@@ -363,9 +364,9 @@ component-names : (text : List ℕ) (spans : List Span)
 component-names text [] = refl
 component-names text (span ∷ spans) = ap (λ (l : List (List ℕ)). part_of text span ∷ l) (component-names text spans)
 
-module _ (lexed : Lexed) where
+module _ (form : CommentForm) (lexed : Lexed) where
   named-outlines : (outlines : List Outline) (declarations : List Declaration)
-      → AllZip (IsDeclaration lexed) outlines declarations
+      → AllZip (IsDeclaration form lexed) outlines declarations
       → AllByRecursion (λ d. All (λ step. Spells Identifier step.name) d.path) declarations
       → AllByRecursion (λ o. StepsAreSome o.path) outlines
   named-outlines [] [] z h = tt
@@ -378,7 +379,7 @@ module _ (lexed : Lexed) where
   )
 
   named-declarations : (components : List (List ℕ)) (outlines : List Outline) (declarations : List Declaration)
-      → AllZip (IsDeclaration lexed) outlines declarations
+      → AllZip (IsDeclaration form lexed) outlines declarations
       → AllByRecursion (IsNamedFrom components) outlines
       → AllByRecursion (λ d. d.full_name ≡ dotted (components ++ names_of d.path)) declarations
   named-declarations components [] [] z h = tt
@@ -395,7 +396,8 @@ module _ (lexed : Lexed) where
     same : found.path ≡ path
 
   stands : (outlines : List Outline) (declarations : List Declaration)
-      → AllZip (IsDeclaration lexed) outlines declarations → AllByRecursion (λ o. Stands declarations o.path) outlines
+      → AllZip (IsDeclaration form lexed) outlines declarations
+      → AllByRecursion (λ o. Stands declarations o.path) outlines
   stands [] ds z = tt
   stands (o ∷ os) [] z = absurd z
   stands (o ∷ os) (d ∷ ds) z = (
@@ -406,7 +408,7 @@ module _ (lexed : Lexed) where
   )
 
   held-declarations : (all : List Outline) (outlines : List Outline) (declarations : List Declaration)
-      → AllZip (IsDeclaration lexed) outlines declarations
+      → AllZip (IsDeclaration form lexed) outlines declarations
       → AllByRecursion (IsHeldFrom [] all) outlines
       → AllByRecursion (λ d. (outer inner : List DeclarationStep) → outer ≢ [] → d.path ≡ outer ++ inner
       → Leads all outer) declarations
@@ -418,9 +420,10 @@ module _ (lexed : Lexed) where
     held-declarations all os ds z.1 h.1,
   )
 
-pub declarations-held : (number : ℕ) (lexed : Lexed) (file : File) (facts : Facts) → AreFactsOf number lexed file facts
+pub declarations-held : (form : CommentForm) (number : ℕ) (lexed : Lexed) (file : File) (facts : Facts)
+    → AreFactsOf form number lexed file facts
     → AreNamed facts.package_name facts.declarations → AreHeld facts.package_name facts.declarations
-declarations-held number lexed file facts are named =
+declarations-held form number lexed file facts are named =
     let text = lexed.text in
     let s = file_surrounding text file in
     let all : List Outline = outlines_of text file in
@@ -434,17 +437,17 @@ declarations-held number lexed file facts are named =
     let steps = recursion_from_All
     (λ (d : Declaration). All (λ step. Spells Identifier step.name) d.path) facts.declarations named.of_steps in
     let full = named-in components some tree tt scope
-    (named-outlines lexed all facts.declarations are.declarations steps) in
-    let held = held-declarations lexed all all facts.declarations are.declarations (held-in tree) in
+    (named-outlines form lexed all facts.declarations are.declarations steps) in
+    let held = held-declarations form lexed all all facts.declarations are.declarations (held-in tree) in
     record {
       holder = λ d outer inner has e more.
           let leads = All-contains
           (λ (x : Declaration). (outer inner : List DeclarationStep) → outer ≢ [] → x.path ≡ outer ++ inner
           → Leads all outer) facts.declarations d
           (All-from_recursion _ facts.declarations held) has outer inner more e in
-          let stand = All-contains (λ (x : Outline). Stands lexed facts.declarations x.path) all leads.outline
-          (All-from_recursion _ all (stands lexed all facts.declarations are.declarations)) leads.listed in
+          let stand = All-contains (λ (x : Outline). Stands form lexed facts.declarations x.path) all leads.outline
+          (All-from_recursion _ all (stands form lexed all facts.declarations are.declarations)) leads.listed in
           (stand.found, stand.listed, stand.same ∙ leads.same);
       full_names = All-from_recursion _ facts.declarations
-          (named-declarations lexed components all facts.declarations are.declarations full);
+          (named-declarations form lexed components all facts.declarations are.declarations full);
     }

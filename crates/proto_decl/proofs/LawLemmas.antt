@@ -1,10 +1,11 @@
 -- A file's facts and comment texts are the only ones.
-use Rattle.std.proofs.Common.{◌≡◌, ◌∙◌, sym, ap, refl, ℕ, List, [], ◌∷◌, map}
-use Rattle.std.specs.List.{AllZip, join_with_byte}
+use Rattle.std.proofs.Common.{◌≡◌, ◌∙◌, sym, ap, refl, ℕ, List, [], ◌∷◌}
+use Rattle.std.specs.List.{AllZip}
 use Rattle.proto_lex.specs.declared.span.Span.{Span}
 use Rattle.proto_lex.specs.Lexed.{Lexed}
+use Rattle.comment_texts.specs.declared.form.CommentForm.{CommentForm}
 use Rattle.proto_parse.specs.tree.File.{File}
-use Rattle.proto_decl.specs.Comments.{first_line, text_of, IsLeadingText, IsTrailingText}
+use Rattle.proto_decl.specs.Comments.{first_line, texts_in, IsLeadingText, IsTrailingText}
 use Rattle.proto_decl.specs.Comments.IsLeadingText.{leading, not_first}
 use Rattle.proto_decl.specs.Comments.IsTrailingText.{trailing, none}
 use Rattle.proto_decl.specs.Declares.{outlines_of, IsDeclaration}
@@ -14,25 +15,26 @@ use Rattle.proto_decl.specs.declared.declaration.Outline.{Outline}
 use Rattle.proto_decl.proofs.CommentLeadingLemmas.{CommentsInOrder, one_longest}
 use Rattle.proto_decl.proofs.CommentTrailingLemmas.{one_trailing}
 
-module _ (lexed : Lexed) (ordered : CommentsInOrder lexed.comments) where
-  pub one_leading_text : (first : Span) {text other : List ℕ} → IsLeadingText lexed first text
-      → IsLeadingText lexed first other → text ≡ other
+module _ (form : CommentForm) (lexed : Lexed) (ordered : CommentsInOrder lexed.comments) where
+  pub one_leading_text : (first : Span) {text other : List ℕ} → IsLeadingText form lexed first text
+      → IsLeadingText form lexed first other → text ≡ other
   one_leading_text first (leading {comments = a} f longest) (leading {comments = b} g also) =
-      ap (λ comments. join_with_byte 10 (map (text_of lexed) comments))
+      ap (texts_in form lexed)
       (one_longest lexed (first_line lexed first) ordered a b longest also)
   one_leading_text first (leading f longest) (not_first g) = absurd (g f)
   one_leading_text first (not_first f) (leading g longest) = absurd (f g)
   one_leading_text first (not_first f) (not_first g) = refl
 
-  pub one_trailing_text : (closing : Span) {text other : List ℕ} → IsTrailingText lexed closing text
-      → IsTrailingText lexed closing other → text ≡ other
+  pub one_trailing_text : (closing : Span) {text other : List ℕ} → IsTrailingText form lexed closing text
+      → IsTrailingText form lexed closing other → text ≡ other
   one_trailing_text closing (trailing {comment = a} t) (trailing {comment = b} u) =
-      ap (text_of lexed) (one_trailing lexed closing a b ordered t u)
+      ap (λ comment. texts_in form lexed (comment ∷ [])) (one_trailing lexed closing a b ordered t u)
   one_trailing_text closing (trailing {comment = a} t) (none f) = absurd (f a t)
   one_trailing_text closing (none f) (trailing {comment = b} u) = absurd (f b u)
   one_trailing_text closing (none f) (none g) = refl
 
-  one_declaration : (o : Outline) (d e : Declaration) → IsDeclaration lexed o d → IsDeclaration lexed o e → d ≡ e
+  one_declaration : (o : Outline) (d e : Declaration) → IsDeclaration form lexed o d → IsDeclaration form lexed o e
+      → d ≡ e
   one_declaration o d e a b =
       let kind = a.kind ∙ sym b.kind in
       let full_name = a.full_name ∙ sym b.full_name in
@@ -49,8 +51,8 @@ module _ (lexed : Lexed) (ordered : CommentsInOrder lexed.comments) where
         trailing = behind i;
       }
 
-  one_list : (os : List Outline) (ds es : List Declaration) → AllZip (IsDeclaration lexed) os ds
-      → AllZip (IsDeclaration lexed) os es → ds ≡ es
+  one_list : (os : List Outline) (ds es : List Declaration) → AllZip (IsDeclaration form lexed) os ds
+      → AllZip (IsDeclaration form lexed) os es → ds ≡ es
   one_list [] [] [] a b = refl
   one_list [] [] (e ∷ es) a b = absurd b
   one_list [] (d ∷ ds) es a b = absurd a
@@ -58,8 +60,8 @@ module _ (lexed : Lexed) (ordered : CommentsInOrder lexed.comments) where
   one_list (o ∷ os) (d ∷ ds) [] a b = absurd b
   one_list (o ∷ os) (d ∷ ds) (e ∷ es) a b = λ i. one_declaration o d e a.0 b.0 i ∷ one_list os ds es a.1 b.1 i
 
-  pub one_facts : (number : ℕ) (file : File) (facts other : Facts) → AreFactsOf number lexed file facts
-      → AreFactsOf number lexed file other → facts ≡ other
+  pub one_facts : (number : ℕ) (file : File) (facts other : Facts) → AreFactsOf form number lexed file facts
+      → AreFactsOf form number lexed file other → facts ≡ other
   one_facts number file facts other a b =
       let numbered = a.numbered ∙ sym b.numbered in
       let package_name = a.package_name ∙ sym b.package_name in

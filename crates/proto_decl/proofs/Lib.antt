@@ -1,7 +1,7 @@
 -- Each file is named after the spec or source that it serves.
 -- The comments that lead a declaration, by their places in the list of comments
 pub mod CommentLeadingLemmas
--- The marks of comments, and texts of several
+-- The texts of several comments
 pub mod CommentTextLemmas
 -- The comment that trails a declaration: the first one behind its closing token
 pub mod CommentTrailingLemmas

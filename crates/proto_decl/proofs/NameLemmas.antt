@@ -7,6 +7,7 @@ use Rattle.std.proofs.lemmas.List.{length-take-le, length-drop, length-map}
 use Rattle.std.proofs.lemmas.List.Elements.{All-nil, All-cons, All-head, All-tail, All-contains_itself}
 use Rattle.proto_lex.specs.declared.span.Span.{Span}
 use Rattle.proto_lex.specs.Lexed.{Lexed, IsPart, part_of}
+use Rattle.comment_texts.specs.declared.form.CommentForm.{CommentForm}
 use Rattle.proto_parse.specs.tree.Heading.{Heading}
 use Rattle.proto_parse.specs.tree.Head.{Head}
 use Rattle.proto_parse.specs.tree.Head.TheVariants as head
@@ -116,14 +117,14 @@ module _ (text : List ℕ) (K : Outline → Type 0) where
       (placed-all (inside_part text) (OfPart (IsPart text)) surrounding items spans) known
 
 -- from outlines to declarations
-module _ (lexed : Lexed) (declarations : List Declaration) where
+module _ (form : CommentForm) (lexed : Lexed) (declarations : List Declaration) where
   -- a declaration of the outline is among all
   record IsDeclared (outline : Outline) : Type 0 where
     found : Declaration
     listed : Contains declarations found
-    declared : IsDeclaration lexed outline found
+    declared : IsDeclaration form lexed outline found
 
-  all_declared : (os : List Outline) (ds : List Declaration) → AllZip (IsDeclaration lexed) os ds
+  all_declared : (os : List Outline) (ds : List Declaration) → AllZip (IsDeclaration form lexed) os ds
       → All (Contains declarations) ds → All IsDeclared os
   all_declared [] [] all listed = All-nil IsDeclared
   all_declared [] (d ∷ ds) all listed = absurd all
@@ -133,8 +134,8 @@ module _ (lexed : Lexed) (declarations : List Declaration) where
       (record { found = d; listed = All-head (Contains declarations) d ds listed; declared = all.0 })
       (all_declared os ds all.1 (All-tail (Contains declarations) d ds listed))
 
-  group_named : (o message : Outline) (d : Declaration) → IsDeclaration lexed o d → OfGroup lexed.text o message
-      → (found : Declaration) → IsDeclaration lexed message found → AreOfGroup lexed.text d found
+  group_named : (o message : Outline) (d : Declaration) → IsDeclaration form lexed o d → OfGroup lexed.text o message
+      → (found : Declaration) → IsDeclaration form lexed message found → AreOfGroup lexed.text d found
   group_named o message d is group found of_message = record {
     place = rw of_message.name group.place;
     outer = group.outer;
@@ -145,14 +146,14 @@ module _ (lexed : Lexed) (declarations : List Declaration) where
         (sym of_message.name));
   }
 
-  name_spelled : (o : Outline) (d : Declaration) → IsDeclaration lexed o d → HasName lexed.text IsDeclared o
+  name_spelled : (o : Outline) (d : Declaration) → IsDeclaration form lexed o d → HasName lexed.text IsDeclared o
       → IsSpelled lexed.text declarations d
   name_spelled o d is (at_place simple) =
       as_it_stands (ap simple_name is.path ∙ (simple ∙ ap (part_of lexed.text) (sym is.name)))
   name_spelled o d is (of_group {message = message} known group) =
       as_its_group known.listed (group_named o message d is group known.found known.declared)
 
-  declared_named : (o : Outline) (d : Declaration) → IsDeclaration lexed o d → IsNamed lexed.text IsDeclared o
+  declared_named : (o : Outline) (d : Declaration) → IsDeclaration form lexed o d → IsNamed lexed.text IsDeclared o
       → IsNamedAt lexed.text declarations d
   declared_named o d is named = record {
     place = rw is.name named.place;
@@ -161,7 +162,7 @@ module _ (lexed : Lexed) (declarations : List Declaration) where
     full = is.full_name ∙ (named.full ∙ ap (λ path. qualified named.scope (simple_name path)) (sym is.path));
   }
 
-  all_named : (os : List Outline) (ds : List Declaration) → AllZip (IsDeclaration lexed) os ds
+  all_named : (os : List Outline) (ds : List Declaration) → AllZip (IsDeclaration form lexed) os ds
       → All (IsNamed lexed.text IsDeclared) os → All (IsNamedAt lexed.text declarations) ds
   all_named [] [] all names = All-nil (IsNamedAt lexed.text declarations)
   all_named [] (d ∷ ds) all names = absurd all
@@ -171,13 +172,13 @@ module _ (lexed : Lexed) (declarations : List Declaration) where
       (declared_named o d all.0 (All-head (IsNamed lexed.text IsDeclared) o os names))
       (all_named os ds all.1 (All-tail (IsNamed lexed.text IsDeclared) o os names))
 
-pub declarations_named : (lexed : Lexed) (file : File) (ds : List Declaration)
+pub declarations_named : (form : CommentForm) (lexed : Lexed) (file : File) (ds : List Declaration)
     → All (OfPart (IsPart lexed.text)) (parts_of file)
-    → AllZip (IsDeclaration lexed) (outlines_of lexed.text file) ds → All (IsNamedAt lexed.text ds) ds
-declarations_named lexed file ds spans all =
-    let known = all_declared lexed ds (outlines_of lexed.text file) ds all (All-contains_itself ds) in
-    all_named lexed ds (outlines_of lexed.text file) ds all
-    (items_named lexed.text (IsDeclared lexed ds) (file_surrounding lexed.text file) file.items spans known)
+    → AllZip (IsDeclaration form lexed) (outlines_of lexed.text file) ds → All (IsNamedAt lexed.text ds) ds
+declarations_named form lexed file ds spans all =
+    let known = all_declared form lexed ds (outlines_of lexed.text file) ds all (All-contains_itself ds) in
+    all_named form lexed ds (outlines_of lexed.text file) ds all
+    (items_named lexed.text (IsDeclared form lexed ds) (file_surrounding lexed.text file) file.items spans known)
 
 -- a name in a scope is no shorter than the name
 qualified-length : (scope name : List ℕ) → length name ≤ length (qualified scope name)

@@ -7,6 +7,7 @@ use Rattle.proto_lex.specs.Lexed.{Lexed, IsLexed, part_of}
 use Rattle.proto_lex.specs.declared.span.Span.{Span}
 use Rattle.proto_lex.specs.declared.token.TokenKind.{TokenKind}
 use Rattle.proto_lex.specs.declared.token.TokenKind.TheVariants.{Identifier}
+use Rattle.comment_texts.specs.declared.form.CommentForm.{CommentForm}
 use Rattle.proto_parse.specs.Lexeme.{lexemes_of}
 use Rattle.proto_parse.specs.tree.Heading.{Heading}
 use Rattle.proto_parse.specs.tree.Field.{Field}
@@ -171,26 +172,27 @@ identifiers lexed is among =
     (λ k d h kind. subst (λ (k' : TokenKind). Spells k' (part_of lexed.text (slice_index_or lexed.tokens k d).span))
     kind (is.spelled k d h)))
 
-declared_on : (lexed : Lexed) (os : List Outline) (ds : List Declaration) → AllZip (IsDeclaration lexed) os ds
+declared_on : (form : CommentForm) (lexed : Lexed) (os : List Outline) (ds : List Declaration)
+    → AllZip (IsDeclaration form lexed) os ds
     → All IsOnPath os → All (λ (d : Declaration). OnPath d.path) ds
-declared_on lexed [] [] all on_paths = All-nil (λ (d : Declaration). OnPath d.path)
-declared_on lexed [] (d ∷ ds) all on_paths = absurd all
-declared_on lexed (o ∷ os) [] all on_paths = absurd all
-declared_on lexed (o ∷ os) (d ∷ ds) all on_paths =
+declared_on form lexed [] [] all on_paths = All-nil (λ (d : Declaration). OnPath d.path)
+declared_on form lexed [] (d ∷ ds) all on_paths = absurd all
+declared_on form lexed (o ∷ os) [] all on_paths = absurd all
+declared_on form lexed (o ∷ os) (d ∷ ds) all on_paths =
     All-cons (λ (x : Declaration). OnPath x.path) d ds (subst OnPath (sym all.0.path) (All-head IsOnPath o os on_paths))
-    (declared_on lexed os ds all.1 (All-tail IsOnPath o os on_paths))
+    (declared_on form lexed os ds all.1 (All-tail IsOnPath o os on_paths))
 
-pub facts_named : (number : ℕ) (lexed : Lexed) (file : File) (facts : Facts)
-    → IsLexed lexed.text lexed.tokens lexed.comments → AreFactsOf number lexed file facts
+pub facts_named : (form : CommentForm) (number : ℕ) (lexed : Lexed) (file : File) (facts : Facts)
+    → IsLexed lexed.text lexed.tokens lexed.comments → AreFactsOf form number lexed file facts
     → Among (marks_of_items file) (lexemes_of lexed.text lexed.tokens)
     → Among (marks_of_package file) (lexemes_of lexed.text lexed.tokens)
     → AreNamed facts.package_name facts.declarations
-facts_named number lexed file facts is of_file items package_name = record {
+facts_named form number lexed file facts is of_file items package_name = record {
   of_components = subst (λ (components : List Component). All (Spells Identifier) (component_names components))
       (sym of_file.package_name)
       (package_on lexed.text file.package_name
       (subst (OfNames (Ident lexed.text)) (sym (package_is file)) (identifiers lexed is package_name)));
-  of_steps = declared_on lexed (outlines_of lexed.text file) facts.declarations of_file.declarations
+  of_steps = declared_on form lexed (outlines_of lexed.text file) facts.declarations of_file.declarations
       (items_on lexed.text (file_surrounding lexed.text file) file.items (All-nil IsSpelled)
       (of_part_names (Ident lexed.text) (parts_of file)
       (subst (OfNames (Ident lexed.text)) (sym (parts_are file.items)) (identifiers lexed is items))));

@@ -1,6 +1,6 @@
 -- The declared names of a part of the tree and the components of its uses are picked from its marks, in their order.
 use Rattle.std.proofs.Common.{◌≡◌, ◌∙◌, sym, ap, refl, subst, ℕ, List, [], ◌∷◌, ◌++◌, map, Option, Some, None}
-use Rattle.std.proofs.Common.{append-nil}
+use Rattle.std.proofs.Common.{Bool, true, false, append-nil}
 use Rattle.std.specs.List.{flat_map}
 use Rattle.std.proofs.lemmas.List.{map-append}
 use Rattle.std.proofs.lemmas.Grind.{flat_map-append}
@@ -106,8 +106,9 @@ pub spans_of_components : (text : List ℕ) (spans : List Span)
 spans_of_components text [] = refl
 spans_of_components text (span ∷ spans) = ap (λ ys. span ∷ ys) (spans_of_components text spans)
 
-components_of_use : (text scope : List ℕ) (name : TypeName) → name.components ≡ use_spans (use_of text scope name ∷ [])
-components_of_use text scope name = sym (append-nil _ ∙ spans_of_components text name.components)
+components_of_use : (is_extended : Bool) (text scope : List ℕ) (name : TypeName)
+    → name.components ≡ use_spans (use_of is_extended text scope name ∷ [])
+components_of_use is_extended text scope name = sym (append-nil _ ∙ spans_of_components text name.components)
 
 pub names-append : (outlines others : List Outline)
     → heading_names outlines ++ heading_names others ≡ heading_names (outlines ++ others)
@@ -132,15 +133,15 @@ dot_picked : (dot : Option Span) (components : List Span) (behind : List Mark)
 dot_picked None components behind = as_components components behind
 dot_picked (Some dot) components behind = skip (as_components components behind)
 
-type_name_picked : (text scope : List ℕ) (name : TypeName) (behind : List Mark)
-    → Picked (type_name_then name behind) [] (use_spans (use_of text scope name ∷ [])) behind
-type_name_picked text scope name behind =
-    retyped refl (components_of_use text scope name) (dot_picked name.leading_dot name.components behind)
+type_name_picked : (is_extended : Bool) (text scope : List ℕ) (name : TypeName) (behind : List Mark)
+    → Picked (type_name_then name behind) [] (use_spans (use_of is_extended text scope name ∷ [])) behind
+type_name_picked is_extended text scope name behind =
+    retyped refl (components_of_use is_extended text scope name) (dot_picked name.leading_dot name.components behind)
 
 type_picked : (text scope : List ℕ) (type : FieldType) (behind : List Mark)
     → Picked (type_then type behind) [] (use_spans (uses_of_type text scope type)) behind
 type_picked text scope (Scalar word) behind = skip none
-type_picked text scope (Named name) behind = type_name_picked text scope name behind
+type_picked text scope (Named name) behind = type_name_picked false text scope name behind
 
 -- behind a type, a name and a closing token
 closed : (components : List Span) (marks : List Mark) (name closing : Span) (behind : List Mark)
@@ -178,7 +179,7 @@ head_picked : (text : List ℕ) (surrounding : Surrounding) (head : Head) (behin
 head_picked text surrounding (head.Message heading) behind = heading_picked heading behind
 head_picked text surrounding (head.Group group) behind = skip (a_name (a_name (skip none)))
 head_picked text surrounding (head.Oneof heading) behind = heading_picked heading behind
-head_picked text surrounding (head.Extend type) behind = type_name_picked text surrounding.scope type behind
+head_picked text surrounding (head.Extend type) behind = type_name_picked true text surrounding.scope type behind
 
 leaf_picked : (text : List ℕ) (surrounding : Surrounding) (leaf : Leaf) (behind : List Mark)
     → Picked (leaf_then leaf behind) (heading_names (in_leaf text surrounding leaf))
@@ -224,8 +225,9 @@ method_picked : (text : List ℕ) (surrounding : Surrounding) (method : Method) 
 method_picked text surrounding method behind =
     let scope = surrounding.scope in
     skip (a_name (retyped refl
-    (append-nil _ ∙ components-append (use_of text scope method.input ∷ []) (use_of text scope method.output ∷ []))
-    (join (join (type_name_picked text scope method.input _) (type_name_picked text scope method.output _))
+    (append-nil _
+    ∙ components-append (use_of false text scope method.input ∷ []) (use_of false text scope method.output ∷ []))
+    (join (join (type_name_picked false text scope method.input _) (type_name_picked false text scope method.output _))
     (skip none))))
 
 service_picked : (text : List ℕ) (surrounding : Surrounding) (service : Service) (behind : List Mark)

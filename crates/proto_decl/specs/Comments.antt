@@ -1,22 +1,24 @@
 -- Which comments document a declaration (proto3 language guide, "Adding Comments"; the rules are the profile's).
-use Rattle.std.specs.Prelude.{ℕ, ◌≡◌, ◌+◌, ◌<◌, ◌≤◌, List, [], ◌∷◌, ◌++◌, length, drop, map, All, Contains}
+use Rattle.std.specs.Prelude.{ℕ, ◌≡◌, ◌+◌, ◌<◌, ◌≤◌, List, [], ◌∷◌, ◌++◌, length, map, All, Contains}
 use Rattle.std.specs.List.{join_with_byte}
 use Rattle.proto_lex.specs.Ascii as ascii
 use Rattle.proto_lex.specs.Position.{line_of}
-use Rattle.proto_lex.specs.Comments.{IsComment}
-use Rattle.proto_lex.specs.Lexed.{Lexed, IsPart, part_of}
+use Rattle.proto_lex.specs.Lexed.{Lexed, part_of}
 use Rattle.proto_lex.specs.CommentTexts.{Touches, StandsAlone, NoneBetween, comment_text}
 use Rattle.proto_lex.specs.declared.span.Span.{Span}
 use Rattle.proto_lex.specs.declared.token.Comment.{Comment}
+use Rattle.comment_texts.specs.Cleaned.{clean_text, written_in}
+use Rattle.comment_texts.specs.declared.form.CommentForm.{CommentForm}
+use Rattle.comment_texts.specs.declared.form.CommentForm.TheVariants.{Raw, Clean}
 
 -- the text of a comment, without its marks
 abbrev pub text_of : Lexed → Comment → List ℕ
 text_of lexed comment = comment_text comment.kind (part_of lexed.text comment.span)
 
--- a comment is in the text, spelled as one of its kind
-pub record StandsIn (lexed : Lexed) (comment : Comment) : Type 0 where
-  pub part : IsPart lexed.text comment.span
-  pub spelled : IsComment comment.kind (part_of lexed.text comment.span) (drop comment.span.end lexed.text)
+-- the texts of comments: as they are written, a line each, or cleaned
+abbrev pub texts_in : CommentForm → Lexed → List Comment → List ℕ
+texts_in Raw lexed comments = join_with_byte ascii.line_feed (map (text_of lexed) comments)
+texts_in Clean lexed comments = clean_text (map (written_in lexed.text) comments)
 
 -- the line on which a span begins, and that on which it ends
 abbrev pub first_line : Lexed → Span → ℕ
@@ -59,13 +61,13 @@ pub record AreLongestLeading (lexed : Lexed) (line : ℕ) (comments : List Comme
   pub leading : AreLeading lexed line comments
   pub longest : (others : List Comment) → AreLeading lexed line others → length others ≤ length comments
 
--- The leading text of a declaration with this first token: the texts of the longest such list, a line each. If the
--- token isn't the first on its line, there is none.
-pub data IsLeadingText (lexed : Lexed) (first : Span) : List ℕ → Type 0 where
+-- The leading text of a declaration with this first token: the texts of the longest such list. If the token isn't the
+-- first on its line, there is none.
+pub data IsLeadingText (form : CommentForm) (lexed : Lexed) (first : Span) : List ℕ → Type 0 where
   leading : {comments : List Comment} → IsFirstOnLine lexed first
       → AreLongestLeading lexed (first_line lexed first) comments
-      → IsLeadingText lexed first (join_with_byte ascii.line_feed (map (text_of lexed) comments))
-  not_first : (IsFirstOnLine lexed first → ⊥) → IsLeadingText lexed first []
+      → IsLeadingText form lexed first (texts_in form lexed comments)
+  not_first : (IsFirstOnLine lexed first → ⊥) → IsLeadingText form lexed first []
 
 -- The first comment after a declaration's closing token, if it begins on that token's line and no token is between.
 pub record IsTrailing (lexed : Lexed) (closing : Span) (comment : Comment) : Type 0 where
@@ -76,7 +78,7 @@ pub record IsTrailing (lexed : Lexed) (closing : Span) (comment : Comment) : Typ
   pub none_between : NoneBetween lexed.tokens closing.end comment.span.start
 
 -- The trailing text of a declaration with this closing token.
-pub data IsTrailingText (lexed : Lexed) (closing : Span) : List ℕ → Type 0 where
+pub data IsTrailingText (form : CommentForm) (lexed : Lexed) (closing : Span) : List ℕ → Type 0 where
   trailing : {comment : Comment} → IsTrailing lexed closing comment
-      → IsTrailingText lexed closing (text_of lexed comment)
-  none : ((comment : Comment) → IsTrailing lexed closing comment → ⊥) → IsTrailingText lexed closing []
+      → IsTrailingText form lexed closing (texts_in form lexed (comment ∷ []))
+  none : ((comment : Comment) → IsTrailing lexed closing comment → ⊥) → IsTrailingText form lexed closing []

@@ -5,6 +5,7 @@ use Rattle.std.specs.Prelude.{ℕ, Option, Some, None, List, [], ◌∷◌, ◌+
 use Rattle.std.specs.List.{flat_map, AllZip}
 use Rattle.proto_lex.specs.declared.span.Span.{Span}
 use Rattle.proto_lex.specs.Lexed.{part_of, Lexed}
+use Rattle.comment_texts.specs.declared.form.CommentForm.{CommentForm}
 use Rattle.proto_parse.specs.tree.Heading.{Heading}
 use Rattle.proto_parse.specs.tree.Group.{Group}
 use Rattle.proto_parse.specs.tree.Head.{Head}
@@ -131,19 +132,20 @@ outlines_in text surrounding items =
 abbrev pub outlines_of : (text : List ℕ) → File → List Outline
 outlines_of text file = outlines_in text (file_surrounding text file) file.items
 
--- ---- the same, with the comments that document it
+-- ---- the same, with the comments that document it, their texts in a form
 
-pub record IsDeclaration (lexed : Lexed) (outline : Outline) (declaration : Declaration) : Type 0 where
+pub record IsDeclaration (form : CommentForm) (lexed : Lexed) (outline : Outline)
+    (declaration : Declaration) : Type 0 where
   pub kind : declaration.kind ≡ outline.kind
   pub full_name : declaration.full_name ≡ outline.full_name
   pub path : declaration.path ≡ outline.path
   pub name : declaration.name ≡ outline.heading.name
-  pub leading : IsLeadingText lexed outline.heading.first declaration.leading
-  pub trailing : IsTrailingText lexed outline.heading.closing declaration.trailing
+  pub leading : IsLeadingText form lexed outline.heading.first declaration.leading
+  pub trailing : IsTrailingText form lexed outline.heading.closing declaration.trailing
 
 -- The declarations of a file, in order of their names' places.
-abbrev pub Declares : Lexed → File → List Declaration → Type 0
-Declares lexed file declarations = AllZip (IsDeclaration lexed) (outlines_of lexed.text file) declarations
+abbrev pub Declares : CommentForm → Lexed → File → List Declaration → Type 0
+Declares form lexed file declarations = AllZip (IsDeclaration form lexed) (outlines_of lexed.text file) declarations
 
 -- The simple name of what a path leads to.
 abbrev pub simple_name : List DeclarationStep → List ℕ

@@ -3,6 +3,7 @@ use Rattle.std.specs.Prelude.{ℕ, ◌≡◌, ◌<◌, List, ◌++◌, length, m
 use Rattle.std.specs.List.{flat_map}
 use Rattle.proto_lex.specs.declared.span.Span.{Span}
 use Rattle.proto_lex.specs.Lexed.{Lexed, IsLexed, AreInOrder}
+use Rattle.comment_texts.specs.declared.form.CommentForm.{CommentForm}
 use Rattle.proto_parse.specs.tree.File.{File}
 use Rattle.proto_parse.specs.Derives.{DerivesBySome}
 use Rattle.proto_decl.specs.Names.{components_at}
@@ -22,21 +23,22 @@ pub record Facts : Type 0 where
   pub declarations : List Declaration
   pub uses : List Use
 
--- The facts of the file with this number.
-pub record AreFactsOf (number : ℕ) (lexed : Lexed) (file : File) (facts : Facts) : Type 0 where
+-- The facts of the file with this number, with the texts of comments in a form.
+pub record AreFactsOf (form : CommentForm) (number : ℕ) (lexed : Lexed) (file : File) (facts : Facts) : Type 0 where
   pub numbered : facts.number ≡ number
   pub package_name : facts.package_name ≡ components_at lexed.text (package_spans file.package_name)
   pub imports : facts.imports ≡ imports_of lexed.text file.imports
-  pub declarations : Declares lexed file facts.declarations
+  pub declarations : Declares form lexed file facts.declarations
   pub uses : facts.uses ≡ uses_of lexed.text file
 
--- The facts of some file: of a text that has a lexing, of which the tokens derive a tree.
+-- The facts of some file, in some form: of a text that has a lexing, of which the tokens derive a tree.
 pub record AreOfSomeFile (facts : Facts) : Type 0 where
+  pub form : CommentForm
   pub lexed : Lexed
   pub file : File
   pub is_lexed : IsLexed lexed.text lexed.tokens lexed.comments
   pub derives : DerivesBySome lexed.text lexed.tokens file
-  pub of_file : AreFactsOf facts.number lexed file facts
+  pub of_file : AreFactsOf form facts.number lexed file facts
 
 -- Where declared names are.
 abbrev pub name_spans : List Declaration → List Span

@@ -4,6 +4,7 @@ use Rattle.proto_lex.specs.declared.span.Span.{Span}
 use Rattle.proto_lex.specs.Lexed.{Lexed, IsLexed, IsPart, part_of, AreApart}
 use Rattle.proto_lex.specs.Lexes.{Spells}
 use Rattle.proto_lex.specs.declared.token.TokenKind.TheVariants.{Identifier}
+use Rattle.comment_texts.specs.declared.form.CommentForm.{CommentForm}
 use Rattle.proto_parse.specs.tree.File.{File}
 use Rattle.proto_parse.specs.Derives.{DerivesBySome}
 use Rattle.proto_decl.specs.Names.{qualified, IsSimple, small_letters, dotted, components_of, package_of, prefix_of}
@@ -11,29 +12,30 @@ use Rattle.proto_decl.specs.Names.{IsAround}
 use Rattle.proto_decl.specs.Declares.{step_named, simple_name}
 use Rattle.proto_decl.specs.Comments.{IsLeadingText, IsTrailingText}
 use Rattle.proto_decl.specs.Facts.{Facts, AreFactsOf, AreOfSomeFile, component_spans, name_spans, use_spans}
-use Rattle.proto_decl.specs.declared.declaration.DeclarationKind.TheVariants.{Message, Field, Enum, Service, Oneof, Value}
-use Rattle.proto_decl.specs.declared.declaration.DeclarationKind.TheVariants.{Method}
+use Rattle.proto_decl.specs.declared.declaration.DeclarationKind.TheVariants.{Message, Field, Enum, Service, Oneof}
+use Rattle.proto_decl.specs.declared.declaration.DeclarationKind.TheVariants.{Value, Method}
 use Rattle.proto_decl.specs.declared.declaration.DeclarationStep.{DeclarationStep}
 use Rattle.proto_decl.specs.declared.declaration.Declaration.{Declaration}
 use Rattle.proto_decl.specs.declared.imports.Imported.{Imported}
 use Rattle.proto_decl.specs.declared.declaration.DeclarationKind.{DeclarationKind}
 use Rattle.proto_decl.specs.declared.uses.Component.{Component}
 
--- A token leads one text and trails one, in a text with the tokens and comments of its lexing.
+-- A token leads one text and trails one in each form, in a text with the tokens and comments of its lexing.
 abbrev pub OneLeadingText : Type 0
-OneLeadingText = (lexed : Lexed) (first : Span) (text other : List ℕ) → IsLexed lexed.text lexed.tokens lexed.comments
-    → IsLeadingText lexed first text → IsLeadingText lexed first other → text ≡ other
+OneLeadingText = (form : CommentForm) (lexed : Lexed) (first : Span) (text other : List ℕ)
+    → IsLexed lexed.text lexed.tokens lexed.comments
+    → IsLeadingText form lexed first text → IsLeadingText form lexed first other → text ≡ other
 
 abbrev pub OneTrailingText : Type 0
-OneTrailingText = (lexed : Lexed) (closing : Span) (text other : List ℕ)
+OneTrailingText = (form : CommentForm) (lexed : Lexed) (closing : Span) (text other : List ℕ)
     → IsLexed lexed.text lexed.tokens lexed.comments
-    → IsTrailingText lexed closing text → IsTrailingText lexed closing other → text ≡ other
+    → IsTrailingText form lexed closing text → IsTrailingText form lexed closing other → text ≡ other
 
--- A file has one list of facts.
+-- A file has one list of facts in each form.
 abbrev pub OneFacts : Type 0
-OneFacts = (number : ℕ) (lexed : Lexed) (file : File) (facts other : Facts)
+OneFacts = (form : CommentForm) (number : ℕ) (lexed : Lexed) (file : File) (facts other : Facts)
     → IsLexed lexed.text lexed.tokens lexed.comments
-    → AreFactsOf number lexed file facts → AreFactsOf number lexed file other → facts ≡ other
+    → AreFactsOf form number lexed file facts → AreFactsOf form number lexed file other → facts ≡ other
 
 -- The field and the message of one group: the message is named as it stands, and the field so in small letters.
 pub record AreOfGroup (text : List ℕ) (field message : Declaration) : Type 0 where
@@ -58,9 +60,9 @@ pub record IsNamedAt (text : List ℕ) (declarations : List Declaration) (declar
   pub full : declaration.full_name ≡ qualified scope (simple_name declaration.path)
 
 abbrev pub NamesAreSpelled : Type 0
-NamesAreSpelled = (number : ℕ) (lexed : Lexed) (file : File) (facts : Facts)
+NamesAreSpelled = (form : CommentForm) (number : ℕ) (lexed : Lexed) (file : File) (facts : Facts)
     → IsLexed lexed.text lexed.tokens lexed.comments
-    → DerivesBySome lexed.text lexed.tokens file → AreFactsOf number lexed file facts
+    → DerivesBySome lexed.text lexed.tokens file → AreFactsOf form number lexed file facts
     → All (IsNamedAt lexed.text facts.declarations) facts.declarations
 
 -- The full name of a scope of a file: of its package, which is the root's if it has none, or of a declaration.

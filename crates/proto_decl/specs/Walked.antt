@@ -1,5 +1,5 @@
 -- What is declared and used in each of what a walk goes through, at a surrounding, and its parts.
-use Rattle.std.specs.Prelude.{ℕ, List, map}
+use Rattle.std.specs.Prelude.{ℕ, false, List, map}
 use Rattle.proto_parse.specs.tree.FieldType.{FieldType}
 use Rattle.proto_parse.specs.tree.Enum.{Enum}
 use Rattle.proto_parse.specs.tree.Head.{Head}
@@ -38,7 +38,7 @@ abbrev pub in_item : (text : List ℕ) → Surrounding → FileItem → List Out
 in_item text surrounding item = of_item (inside_part text) (declared_by text) surrounding item
 
 abbrev pub uses_of_type : (text scope : List ℕ) → FieldType → List Use
-uses_of_type text scope type = map (use_of text scope) (named_by type)
+uses_of_type text scope type = map (use_of false text scope) (named_by type)
 
 abbrev pub uses_of_head : (text : List ℕ) → Surrounding → Head → List Use
 uses_of_head text surrounding head = used_by text surrounding (BlockPart head)

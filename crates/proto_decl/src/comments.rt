@@ -10,16 +10,17 @@ ghost use Rattle.proto_lex.specs.CommentTexts.{StandsAlone, NoneBetween};
 ghost use Rattle.proto_lex.specs.declared.token.Comment.{Comment};
 ghost use Rattle.proto_lex.specs.Ascii as ascii;
 ghost use Rattle.proto_lex.specs.CommentTexts as texts;
+ghost use Rattle.comment_texts.specs.Comments.{IsCommentIn};
 ghost use Rattle.proto_decl.specs.Layout.{AreBegun, IsFreeFrom};
-ghost use Rattle.proto_decl.specs.Comments.{StandsIn, text_of};
+ghost use Rattle.proto_decl.specs.Comments.{text_of};
 ghost use Rattle.proto_decl.specs.Comments as spec;
 
 use crate::layout::{
     Begun, comments_above, comments_begun, free_from, is_adjoining, is_none_between,
     is_on_later_line,
 };
-use crate::names::spelling_at;
-use basics::{KeptText, OwnedText, TextRef};
+use basics::{KeptText, OwnedText};
+use comment_texts::{CommentForm, between_marks, clean_text};
 use proto_lex::{Comment, CommentKind, Span, Tokens};
 use std::alloc::{AllocError, Global};
 
@@ -52,7 +53,7 @@ fn leading_comments<'a>(
     requires begun { AreBegun lexed.now offset begun }
     requires free { IsFreeFrom lexed.now offset from }
     ensures longest { spec.AreLongestLeading lexed.now (line_of lexed.now.text offset) result.now }
-    ensures stand { All (spec.StandsIn lexed.now) result.now }
+    ensures stand { All (IsCommentIn lexed.now.text) result.now }
 {
     let comments = lexed.comments();
     let end = comments_above(lexed, begun, offset);
@@ -93,8 +94,8 @@ fn joined_texts(
     first: Comment,
     others: &[Comment],
 ) -> Result<OwnedText, AllocError>
-    requires first { spec.StandsIn lexed.now first }
-    requires others { All (spec.StandsIn lexed.now) others.now }
+    requires first { IsCommentIn lexed.now.text first }
+    requires others { All (IsCommentIn lexed.now.text) others.now }
     ensures { IfOk result (λ text. text ≡ join_with_byte ascii.line_feed
         (map (spec.text_of lexed.now) (first ∷ others.now))) }
 {
@@ -112,7 +113,7 @@ fn texts_of<'t>(
     lexed: &Tokens<'_, 't>,
     comments: &[Comment],
 ) -> Result<KeptText<'t>, AllocError>
-    requires { All (spec.StandsIn lexed.now) comments.now }
+    requires { All (IsCommentIn lexed.now.text) comments.now }
     ensures { IfOk result (λ text. text ≡ join_with_byte ascii.line_feed (map (spec.text_of lexed.now) comments.now)) }
 {
     match comments {
@@ -125,19 +126,38 @@ fn texts_of<'t>(
     }
 }
 
-/// The leading text of a declaration with this first token, before which so many tokens and comments begin.
+/// The texts of comments, in a form.
+fn texts_in<'t>(
+    alloc: Global,
+    form: CommentForm,
+    lexed: &Tokens<'_, 't>,
+    comments: &[Comment],
+) -> Result<KeptText<'t>, AllocError>
+    requires { All (IsCommentIn lexed.now.text) comments.now }
+    ensures { IfOk result (λ text. text ≡ spec.texts_in form lexed.now comments.now) }
+{
+    match form {
+        CommentForm::Raw => texts_of(alloc, lexed, comments),
+        CommentForm::Clean => clean_text(alloc, lexed.text().as_str(), comments),
+    }
+}
+
+/// The leading text, in a form, of a declaration with this first token, before which so many tokens and comments
+/// begin.
 pub(crate) fn leading_text<'t>(
     alloc: Global,
+    form: CommentForm,
     lexed: &Tokens<'_, 't>,
     begun: Begun,
     first: Span,
 ) -> Result<KeptText<'t>, AllocError>
     requires { AreBegun lexed.now first.start begun }
-    ensures { IfOk result (λ text. spec.IsLeadingText lexed.now first text) }
+    ensures { IfOk result (λ text. spec.IsLeadingText form lexed.now first text) }
 {
     match free_from(lexed, begun, first) {
-        Some(from) => texts_of(
+        Some(from) => texts_in(
             alloc,
+            form,
             lexed,
             leading_comments(lexed, begun, from, first.start as usize),
         ),
@@ -162,7 +182,7 @@ fn follows(lexed: &Tokens<'_, '_>, comment: Span, closing: Span) -> bool
 fn trailing_comment(lexed: &Tokens<'_, '_>, near: usize, closing: Span) -> Option<Comment>
     ensures found { MatchOption result ((comment : Comment) → spec.IsTrailing lexed.now closing comment → ⊥)
         (spec.IsTrailing lexed.now closing) }
-    ensures stands { IfSome result (spec.StandsIn lexed.now) }
+    ensures stands { IfSome result (IsCommentIn lexed.now.text) }
 {
     let comments = lexed.comments();
     let begun = comments_begun(lexed, near, closing.end as usize);
@@ -176,13 +196,20 @@ fn trailing_comment(lexed: &Tokens<'_, '_>, near: usize, closing: Span) -> Optio
     Some(comment)
 }
 
-/// The trailing text of a declaration with this closing token, looked for from the comment with the index `near` on.
-pub(crate) fn trailing_text<'t>(lexed: &Tokens<'_, 't>, near: usize, closing: Span) -> TextRef<'t>
-    ensures { spec.IsTrailingText lexed.now closing result }
+/// The trailing text, in a form, of a declaration with this closing token, looked for from the comment with the index
+/// `near` on.
+pub(crate) fn trailing_text<'t>(
+    alloc: Global,
+    form: CommentForm,
+    lexed: &Tokens<'_, 't>,
+    near: usize,
+    closing: Span,
+) -> Result<KeptText<'t>, AllocError>
+    ensures { IfOk result (λ text. spec.IsTrailingText form lexed.now closing text) }
 {
     match trailing_comment(lexed, near, closing) {
-        Some(comment) => TextRef::new(text_of(lexed, comment)),
-        None => TextRef::new(""),
+        Some(comment) => texts_in(alloc, form, lexed, &[comment]),
+        None => Ok(KeptText::borrowed("")),
     }
 }
 
@@ -210,12 +237,12 @@ fn without_first_space(text: &str) -> &str
 
 /// The text of a comment.
 fn text_of<'t>(lexed: &Tokens<'_, 't>, comment: Comment) -> &'t str
-    requires { StandsIn lexed.now comment }
+    requires { IsCommentIn lexed.now.text comment }
     ensures { result.now ≡ text_of lexed.now comment }
 {
-    let spelling = spelling_at(lexed.text().as_str(), comment.span);
+    let between = between_marks(lexed.text().as_str(), comment);
     match comment.kind {
-        CommentKind::Line => without_first_space(without_return(&spelling[2..])),
-        CommentKind::Block => &spelling[2..spelling.len() - 2],
+        CommentKind::Line => without_first_space(without_return(between)),
+        CommentKind::Block => between,
     }
 }

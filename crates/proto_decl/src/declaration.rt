@@ -7,7 +7,7 @@ ghost use Rattle.proto_decl.specs.Declares.{simple_name};
 use crate::full_name::FullName;
 use crate::surrounding::Surrounding;
 use crate::view::NamedDeclaration;
-use basics::{KeptText, TextRef};
+use basics::KeptText;
 use proto_lex::Span;
 use proto_parse::Heading;
 use std::alloc::{AllocError, Global};
@@ -84,7 +84,7 @@ pub struct Declaration<'t> {
     last: DeclarationStep<'t>,
     name: Span,
     leading: KeptText<'t>,
-    trailing: TextRef<'t>,
+    trailing: KeptText<'t>,
 }
 
 impl<'t> Model for Declaration<'t> {
@@ -110,7 +110,7 @@ impl<'t> Declaration<'t> {
     pub(crate) fn new(
         outline: Outline<'t>,
         leading: KeptText<'t>,
-        trailing: TextRef<'t>,
+        trailing: KeptText<'t>,
     ) -> Declaration<'t>
         ensures { result ≡ record {
           kind = outline.entry.kind;

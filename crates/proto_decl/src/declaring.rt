@@ -3,6 +3,7 @@
 ghost use Rattle.std.specs.Prelude.{◌≡◌, ◌++◌, [], List, All, IfOk, OnOk};
 ghost use Rattle.std.specs.List.{AllZip};
 ghost use Rattle.proto_lex.specs.Lexed.{IsPart, IsLexed};
+ghost use Rattle.comment_texts.specs.declared.form.CommentForm.TheVariants.{Raw};
 ghost use Rattle.proto_parse.specs.Derives.{DerivesBySome};
 ghost use Rattle.proto_decl.specs.Spans.{OfParts, OfPackage};
 ghost use Rattle.proto_decl.specs.Imports.{IsLiteral};
@@ -23,6 +24,7 @@ use crate::surrounding::Surrounding;
 use crate::uses::{Use, components_at};
 use crate::walk::walk_last;
 use basics::{OwnedText, Sequence};
+use comment_texts::CommentForm;
 use proto_lex::Tokens;
 use proto_parse::{File, FileItem, spans_of_tokens};
 use std::alloc::{AllocError, Global};
@@ -54,19 +56,21 @@ fn spans_of_tree(lexed: &Tokens<'_, '_>, file: &File)
     spans_of_tokens();
 }
 
-/// A declaration with the comments that document it. So many tokens and comments begin before its first token.
+/// A declaration with the comments that document it, in a form. So many tokens and comments begin before its first
+/// token.
 fn documented<'t>(
     alloc: Global,
+    form: CommentForm,
     lexed: &Tokens<'_, 't>,
     begun: Begun,
     outline: Outline<'t>,
 ) -> Result<Declaration<'t>, AllocError>
     requires { AreBegun lexed.now outline.heading.first.start begun }
-    ensures { IfOk result (IsDeclaration lexed.now outline.entry) }
+    ensures { IfOk result (IsDeclaration form lexed.now outline.entry) }
 {
     let heading = outline.heading();
-    let leading = leading_text(alloc, lexed, begun, heading.first)?;
-    let trailing = trailing_text(lexed, begun.comments, heading.closing);
+    let leading = leading_text(alloc, form, lexed, begun, heading.first)?;
+    let trailing = trailing_text(alloc, form, lexed, begun.comments, heading.closing)?;
     Ok(Declaration::new(outline, leading, trailing))
 }
 
@@ -74,13 +78,14 @@ fn documented<'t>(
 /// one's comments are looked for from those of the one before on.
 fn push_documented<'t>(
     alloc: Global,
+    form: CommentForm,
     lexed: &Tokens<'_, 't>,
     outlines: Vec<Outline<'t>>,
     declared: &mut Declared<'t>,
 ) -> Result<(), AllocError>
     ensures { OnOk result ((before : List Outline)
-        → AllZip (IsDeclaration lexed.now) before declared.old.declarations.items
-        → AllZip (IsDeclaration lexed.now) (before ++ outlines.entry.items) declared.new.declarations.items) }
+        → AllZip (IsDeclaration form lexed.now) before declared.old.declarations.items
+        → AllZip (IsDeclaration form lexed.now) (before ++ outlines.entry.items) declared.new.declarations.items) }
 {
     for outline in outlines {
         declared.begun = begun_before(
@@ -88,7 +93,7 @@ fn push_documented<'t>(
             declared.begun,
             outline.heading().first.start as usize,
         );
-        let declaration = documented(alloc, lexed, declared.begun, outline)?;
+        let declaration = documented(alloc, form, lexed, declared.begun, outline)?;
         declared.declarations.push(declaration)?;
     }
     Ok(())
@@ -98,13 +103,14 @@ fn push_documented<'t>(
 /// outlines of each item are let go when its declarations are made.
 fn declared_at<'t>(
     alloc: Global,
+    form: CommentForm,
     lexed: &Tokens<'_, 't>,
     text: &'t str,
     surrounding: &Surrounding<'t>,
     items: &[FileItem],
 ) -> Result<(Vec<Declaration<'t>>, Vec<Use<'t>>), AllocError>
     requires { All (λ item. OfParts (IsPart text.now) (parts_in_item item)) items.now }
-    ensures declarations { IfOk result (λ made. AllZip (IsDeclaration lexed.now)
+    ensures declarations { IfOk result (λ made. AllZip (IsDeclaration form lexed.now)
         (outlines_in text.now surrounding.now items.now) made.0.items) }
     ensures uses { IfOk result (λ made. made.1.items ≡ uses_in text.now surrounding.now items.now) }
 {
@@ -119,7 +125,7 @@ fn declared_at<'t>(
     for item in items {
         let found = walk_last(alloc, text, surrounding, item, uses)?;
         uses = found.uses;
-        push_documented(alloc, lexed, found.outlines, &mut declared)?;
+        push_documented(alloc, form, lexed, found.outlines, &mut declared)?;
     }
     Ok((declared.declarations, uses))
 }
@@ -127,33 +133,35 @@ fn declared_at<'t>(
 /// What a file's items declare and use, in the scope of the file's package.
 fn declared_in<'t>(
     alloc: Global,
+    form: CommentForm,
     lexed: &Tokens<'_, 't>,
     text: &'t str,
     scope: OwnedText,
     items: &[FileItem],
 ) -> Result<(Vec<Declaration<'t>>, Vec<Use<'t>>), AllocError>
     requires { All (λ item. OfParts (IsPart text.now) (parts_in_item item)) items.now }
-    ensures declarations { IfOk result (λ made. AllZip (IsDeclaration lexed.now)
+    ensures declarations { IfOk result (λ made. AllZip (IsDeclaration form lexed.now)
         (outlines_in text.now (record { scope = scope; path = [] }) items.now) made.0.items) }
     ensures uses { IfOk result (λ made. made.1.items
         ≡ uses_in text.now (record { scope = scope; path = [] }) items.now) }
 {
     let surrounding = Surrounding::new(alloc, scope, Sequence::new(alloc))?;
-    declared_at(alloc, lexed, text, &surrounding, items)
+    declared_at(alloc, form, lexed, text, &surrounding, items)
 }
 
-/// The facts of the file with this number, whose tree these tokens derive.
+/// The facts of the file with this number, whose tree these tokens derive, with the texts of comments in this form.
 ///
 /// The tree must be that of these tokens: its spans are read off their text, of which the names of the
 /// facts are parts. It is refused only for want of memory. The facts hold nothing of the tree.
-pub fn declare<'t>(
+pub fn declare_in<'t>(
     alloc: Global,
+    form: CommentForm,
     number: usize,
     lexed: &Tokens<'_, 't>,
     file: &File,
 ) -> Result<FileFacts<'t>, AllocError>
     requires { DerivesBySome lexed.now.text lexed.now.tokens file.now }
-    ensures { IfOk result (AreFactsOf number lexed.now file.now) }
+    ensures { IfOk result (AreFactsOf form number lexed.now file.now) }
 {
     are_lexed(lexed);
     spans_of_tree(lexed, file);
@@ -164,6 +172,7 @@ pub fn declare<'t>(
     let imports = imports_of(alloc, text, file.imports.as_slice())?;
     let (mut declarations, mut uses) = declared_in(
         alloc,
+        form,
         lexed,
         text,
         scope,
@@ -174,4 +183,18 @@ pub fn declare<'t>(
     let declarations = Sequence::from_vec(declarations);
     let uses = Sequence::from_vec(uses);
     Ok(FileFacts::new(number, package_name, imports, declarations, uses))
+}
+
+/// The facts of the file with this number, whose tree these tokens derive, with the texts of comments as they are
+/// written: `declare_in` says what is asked and given.
+pub fn declare<'t>(
+    alloc: Global,
+    number: usize,
+    lexed: &Tokens<'_, 't>,
+    file: &File,
+) -> Result<FileFacts<'t>, AllocError>
+    requires { DerivesBySome lexed.now.text lexed.now.tokens file.now }
+    ensures { IfOk result (AreFactsOf Raw number lexed.now file.now) }
+{
+    declare_in(alloc, CommentForm::Raw, number, lexed, file)
 }

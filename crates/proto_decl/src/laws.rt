@@ -2,6 +2,7 @@
 
 ghost use Rattle.std.specs.Prelude.{All, ℕ, ◌≢◌, []};
 ghost use Rattle.proto_lex.specs.Lexed.{Lexed};
+ghost use Rattle.comment_texts.specs.declared.form.CommentForm.{CommentForm};
 ghost use Rattle.proto_parse.specs.tree.File.{File};
 ghost use Rattle.proto_decl.specs.Facts.{Facts, AreOfSomeFile, NamesInOrder, UsesInOrder, ImportsInOrder};
 ghost use Rattle.proto_decl.specs.Facts.{PackageInOrder, NamesAreFilled, UsesAreFilled, AreFactsOf};
@@ -13,13 +14,13 @@ ghost use Rattle.proto_decl.specs.Laws.{AreNamed, AreHeld};
 
 use proto_parse::{names_have_components, spans_in_order, spans_of_tokens};
 
-/// A declaration has one leading and one trailing text.
+/// A declaration has one leading and one trailing text in each form.
 pub fn one_comment_text()
     ensures leading { OneLeadingText }
     ensures trailing { OneTrailingText }
 {}
 
-/// A file has one list of facts.
+/// A file has one list of facts in each form of comments' texts.
 pub fn one_list_of_facts()
     ensures { OneFacts }
 {}
@@ -101,7 +102,8 @@ pub fn scopes_nest()
 /// What holds a declaration of a file is declared there too, and the full name of each is that of its
 /// package, of the scopes on the path to it and its own name, joined by dots.
 pub fn declarations_stand_in_declarations()
-    ensures { (number : ℕ) (lexed : Lexed) (file : File) (facts : Facts) → AreFactsOf number lexed file facts
+    ensures { (form : CommentForm) (number : ℕ) (lexed : Lexed) (file : File) (facts : Facts)
+        → AreFactsOf form number lexed file facts
         → AreNamed facts.package_name facts.declarations → AreHeld facts.package_name facts.declarations }
 {}
 

@@ -32,7 +32,7 @@ mod layout;
 mod laws;
 
 pub use declaration::{Declaration, DeclarationKind, DeclarationPath, DeclarationStep};
-pub use declaring::declare;
+pub use declaring::{declare, declare_in};
 pub use facts::FileFacts;
 pub use full_name::FullName;
 pub use imports::Imported;

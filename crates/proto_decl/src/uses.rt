@@ -32,6 +32,8 @@ pub struct Use<'t> {
     pub components: Sequence<Component<'t>>,
     /// Whether a dot stands before the first component.
     pub has_leading_dot: bool,
+    /// Whether the name is that of the type that an `extend` extends.
+    pub is_extended: bool,
     /// From the first token, the leading dot included, to the last one.
     pub span: Span,
     /// The full name of the innermost scope: the message or the service around the use. From each
@@ -68,20 +70,22 @@ fn name_start(leading_dot: Option<Span>, components: &[Span]) -> u32
     }
 }
 
-/// The use of a type in a surrounding.
+/// The use of a type in a surrounding, by an `extend` or not.
 fn use_of<'t>(
     alloc: Global,
     text: &'t str,
     surrounding: &Surrounding<'t>,
     name: &TypeName,
+    is_extended: bool,
 ) -> Result<Use<'t>, AllocError>
     requires { OfTypeName (IsPart text.now) name.now }
-    ensures { IfOk result (λ found. found ≡ spec.use_of text.now surrounding.now.scope name.now) }
+    ensures { IfOk result (λ found. found ≡ spec.use_of is_extended text.now surrounding.now.scope name.now) }
 {
     let components = name.components.as_slice();
     Ok(Use {
         components: components_at(alloc, text, components)?,
         has_leading_dot: name.leading_dot.is_some(),
+        is_extended,
         span: Span {
             start: name_start(name.leading_dot, components),
             end: end_of(components),
@@ -105,7 +109,7 @@ fn use_type<'t>(
     match field_type {
         FieldType::Scalar(_) => Ok(()),
         FieldType::Named(name) => {
-            uses.push(use_of(alloc, text, surrounding, name)?)?;
+            uses.push(use_of(alloc, text, surrounding, name, false)?)?;
             Ok(())
         }
     }
@@ -124,8 +128,8 @@ pub(crate) fn use_methods<'t>(
         ≡ uses.old.items ++ flat_map (walked.uses_of_method text.now surrounding.now) methods.now) }
 {
     for method in methods {
-        uses.push(use_of(alloc, text, surrounding, &method.input)?)?;
-        uses.push(use_of(alloc, text, surrounding, &method.output)?)?;
+        uses.push(use_of(alloc, text, surrounding, &method.input, false)?)?;
+        uses.push(use_of(alloc, text, surrounding, &method.output, false)?)?;
     }
     Ok(())
 }
@@ -164,7 +168,7 @@ pub(crate) fn use_head<'t>(
 {
     match head {
         Head::Extend(name) => {
-            uses.push(use_of(alloc, text, surrounding, name)?)?;
+            uses.push(use_of(alloc, text, surrounding, name, true)?)?;
             Ok(())
         }
         Head::Message(_) | Head::Group(_) | Head::Oneof(_) => Ok(()),

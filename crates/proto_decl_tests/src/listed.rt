@@ -1,6 +1,7 @@
 //! What files declare, use and import, as texts of a line for each.
 
 use crate::calls::is_source_listed;
+use comment_texts::CommentForm;
 use proto_decl::{
     Component, DeclView, Declaration, DeclarationKind, DeclarationStep, FileFacts, Imported,
     NamedDeclaration, Use,
@@ -74,6 +75,38 @@ const COMMENTED: &str =
 const COMMENTS_LISTED: &str = "package
 message A (A): message A; [One.\nTwo.] [tail]
 field A.x (x): message A; field x; [] [ unit ]
+";
+
+/// Comments with stars, third signs and indentation.
+const DECORATED: &str =
+    "syntax = \"proto3\";\n/**\n * One.\n *   Two.\n */\nmessage A { /* tail\n  * more */
+  /// x.\n  int32 x = 1; //! unit \n}\n";
+
+/// They are listed as they are written,
+const DECORATED_LISTED: &str = "package
+message A (A): message A; [*\n * One.\n *   Two.\n ] [ tail\n  * more ]
+field A.x (x): message A; field x; [/ x.] [! unit ]
+";
+
+/// and cleaned.
+const CLEAN_LISTED: &str = "package
+message A (A): message A; [One.\n  Two.] [tail\nmore]
+field A.x (x): message A; field x; [x.] [unit]
+";
+
+/// What `extend` extends, in a file and in a message, beside a field's type.
+const EXTENDING: &str =
+    "package p;\nmessage A { optional A a = 1; extend .p.A { optional A b = 5; } }\nextend p.A {}\n";
+
+/// Its third line from behind reads: `.p.A` has the components `p` and `A`, in the scope `p.A`, and is extended.
+const EXTENDING_LISTED: &str = "package p
+message p.A (A): message A; [] []
+field p.A.a (a): message A; field a; [] []
+field p.A.b (b): message A; field b; [] []
+use A: A in p.A
+extend .p.A: . p A in p.A
+use A: A in p.A
+extend p.A: p A in p
 ";
 
 /// Appends a part. One that memory isn't there for is left out, and then the listing is another.
@@ -194,7 +227,7 @@ fn add_named(alloc: Global, text: &mut String, source: &str, declaration: &Decla
 
 /// Adds the line of a use.
 fn add_use(text: &mut String, source: &str, found: &Use) {
-    add(text, "use ");
+    add(text, if found.is_extended { "extend " } else { "use " });
     add_part(text, source, found.span);
     add(text, if found.has_leading_dot { ": ." } else { ":" });
     add_components(text, source, found.components.as_slice());
@@ -224,7 +257,14 @@ pub(crate) fn is_listed(alloc: Global, source: &str, facts: &FileFacts, want: &s
 
 #[test]
 fn facts_of_sources(rt: HostRuntime) {
-    for (source, want) in [(EVERY_KIND, LISTED), (COMMENTED, COMMENTS_LISTED)] {
-        assert!(rt; is_source_listed(rt.alloc(), source, want), "{want}");
+    for (form, source, want) in [
+        (CommentForm::Raw, EVERY_KIND, LISTED),
+        (CommentForm::Clean, EVERY_KIND, LISTED),
+        (CommentForm::Raw, COMMENTED, COMMENTS_LISTED),
+        (CommentForm::Raw, DECORATED, DECORATED_LISTED),
+        (CommentForm::Clean, DECORATED, CLEAN_LISTED),
+        (CommentForm::Raw, EXTENDING, EXTENDING_LISTED),
+    ] {
+        assert!(rt; is_source_listed(rt.alloc(), form, source, want), "{want}");
     }
 }

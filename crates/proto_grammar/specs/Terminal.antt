@@ -8,7 +8,7 @@ use Rattle.proto_lex.specs.Ascii as ascii
 use Rattle.proto_lex.specs.contracts.token.TokenKind.{the_type}
 use Rattle.proto_lex.specs.declared.token.TokenKind.{TokenKind}
 use Rattle.proto_lex.specs.declared.token.TokenKind.TheVariants.{Identifier, Integer, Float, StringLiteral, CloseBrace}
-use Rattle.proto_lex.specs.declared.token.TokenKind.TheVariants.{Dot, Plus, Minus}
+use Rattle.proto_lex.specs.declared.token.TokenKind.TheVariants.{Plus, Minus}
 use Rattle.proto_grammar.specs.Lexeme.{Lexeme, Place}
 
 -- Whether the kind is the wanted one.
@@ -35,6 +35,14 @@ is_word word t = is_kind Identifier t.kind && bytes_eq t.spelling word
 
 abbrev pub is_scalar : Lexeme → Bool
 is_scalar t = is_kind Identifier t.kind && list_any (bytes_eq t.spelling) scalar_words
+
+-- the word of a scalar type, as a type: no `.` follows
+abbrev pub is_scalar_type : Lexeme → Bool
+is_scalar_type t = is_scalar t && not t.dotted
+
+-- the word `group` in front of a group: no `.` follows
+abbrev pub is_group_word : Lexeme → Bool
+is_group_word t = is_word (codes "group") t && not t.dotted
 
 abbrev pub is_key : Lexeme → Bool
 is_key t = is_kind Identifier t.kind && list_any (bytes_eq t.spelling) key_words
@@ -98,10 +106,10 @@ abbrev pub is_end : List Lexeme → Bool
 is_end [] = true
 is_end (t ∷ rest) = false
 
--- Whether a scalar type is next: its word, which no `.` follows.
+-- Whether a scalar type is next.
 abbrev pub begins_scalar : List Lexeme → Bool
-begins_scalar tokens = first_is is_scalar tokens && not_next Dot (others tokens)
+begins_scalar tokens = first_is is_scalar_type tokens
 
--- Whether a group is next, in proto2: the word `group`, which no `.` follows.
+-- Whether a group is next, in proto2.
 abbrev pub begins_group : List Lexeme → Bool
-begins_group tokens = first_is (is_word (codes "group")) tokens && not_next Dot (others tokens)
+begins_group tokens = first_is is_group_word tokens

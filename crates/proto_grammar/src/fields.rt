@@ -86,7 +86,7 @@ impl<'t> Parser<'t> {
     {
         let first = self.span()?;
         self.label(Syntax::Proto3(custom))?;
-        self.pass_type_name()?;
+        self.pass_type()?;
         self.numbered(custom, first)?;
         Ok(())
     }

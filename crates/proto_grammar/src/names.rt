@@ -5,7 +5,7 @@ ghost use Rattle.proto_grammar.specs.Gives.{Gives};
 ghost use Rattle.proto_grammar.specs.declared.dialect.CustomOptions.TheVariants.{Skip};
 ghost use Rattle.proto_grammar.specs.Reading.Names.{dot_name_at, dot_names_at, name_at, pass_dot_name_at, pass_name_at};
 ghost use Rattle.proto_grammar.specs.Reading.Names.{pass_dot_names_at, leading_dot_at, type_name_at, pass_type_name_at};
-ghost use Rattle.proto_grammar.specs.Reading.Names.{named_type_at, type_at};
+ghost use Rattle.proto_grammar.specs.Reading.Names.{named_type_at, type_at, pass_type_at};
 
 use crate::fault::SyntaxFault;
 use crate::kept::keep;
@@ -128,5 +128,17 @@ impl<'t> Parser<'t> {
             return Ok(FieldType::Scalar(self.scalar()?));
         }
         Ok(FieldType::Named(self.type_name(alloc)?))
+    }
+
+    /// A field's type that isn't kept.
+    #[tactic(auto, unfolding(crate::specs::Reading::Names::pass_type_at))]
+    pub(crate) fn pass_type(&mut self) -> Result<(), SyntaxFault>
+        ensures { Gives Skip (λ x. x) self.new result (pass_type_at self.old) }
+    {
+        if self.is_at_scalar() {
+            self.scalar()?;
+            return Ok(());
+        }
+        self.pass_type_name()
     }
 }

@@ -1,6 +1,6 @@
 //! The parser's place among the tokens, and single tokens.
 
-ghost use Rattle.std.specs.Prelude.{◌≡◌, ◌==◌, length, option_map, slice_get, bytes_eq};
+ghost use Rattle.std.specs.Prelude.{◌≡◌, ◌==◌, false, length, option_map, slice_get, bytes_eq};
 ghost use Rattle.std.specs.List.{list_any};
 ghost use Rattle.std.specs.Option.{option_map_or};
 ghost use Rattle.proto_lex.specs.Ascii as ascii;
@@ -8,11 +8,13 @@ ghost use Rattle.proto_grammar.specs.Gives.{Gives};
 ghost use Rattle.proto_grammar.specs.declared.dialect.CustomOptions.TheVariants.{Skip};
 ghost use Rattle.proto_grammar.specs.Terminal.{first, others, first_is, of_kind, is_word, key_words, scalar_words};
 ghost use Rattle.proto_grammar.specs.Terminal.{is_scalar, is_key, is_sign, is_numeral, is_number, is_plain_literal};
-ghost use Rattle.proto_grammar.specs.Terminal.{between_quotes, begins_scalar, begins_group, is_capitalized};
-ghost use Rattle.proto_grammar.specs.Terminal.{is_group_name, is_end, offset_at, behind};
+ghost use Rattle.proto_grammar.specs.Terminal.{between_quotes, is_scalar_type, is_group_word, begins_scalar};
+ghost use Rattle.proto_grammar.specs.Terminal.{begins_group, is_capitalized, is_group_name, is_end, offset_at, behind};
+ghost use Rattle.proto_grammar.specs.Terminal.{is_kind};
 ghost use Rattle.proto_grammar.specs.Reading.Repetition.{token_that, plain_literal_at, span_at};
 ghost use Rattle.proto_grammar.specs.Lexeme.{start_of};
 ghost use Rattle.proto_grammar.specs.View.{lexeme_view};
+ghost use Rattle.proto_lex.specs.declared.token.TokenKind.TheVariants.{Dot};
 
 use crate::fault::SyntaxFault;
 use proto_lex::{Span, TokenKind, Tokens};
@@ -27,6 +29,8 @@ pub struct Lexeme<'t> {
     pub spelling: &'t str,
     /// Where it is in the text, in bytes.
     pub span: Span,
+    /// Whether a `.` is the next token.
+    pub dotted: bool,
 }
 
 impl<'t> Lexeme<'t> {
@@ -52,6 +56,20 @@ impl<'t> Lexeme<'t> {
         ensures { result ≡ is_scalar (lexeme_view self.entry) }
     {
         self.kind == TokenKind::Identifier && is_scalar_word(self.spelling)
+    }
+
+    /// Whether it is the word of a scalar type, which no `.` follows.
+    fn is_scalar_type(self) -> bool
+        ensures { result ≡ is_scalar_type (lexeme_view self.entry) }
+    {
+        self.is_scalar() && !self.dotted
+    }
+
+    /// Whether it is the word `group`, which no `.` follows.
+    fn is_group_word(self) -> bool
+        ensures { result ≡ is_group_word (lexeme_view self.entry) }
+    {
+        self.is_word("group") && !self.dotted
     }
 
     /// Whether it is the word of a scalar type that may be a map's key (proto3 specification,
@@ -153,6 +171,16 @@ fn offset_at(tokens: &Tokens<'_, '_>, place: usize) -> usize
     }
 }
 
+/// Whether a `.` is at a place.
+fn is_dot_at(tokens: &Tokens<'_, '_>, place: usize) -> bool
+    ensures { result ≡ option_map_or (λ t. is_kind Dot t.kind) (slice_get tokens.now.tokens place) false }
+{
+    match tokens.tokens().get(place) {
+        Some(token) => token.kind == TokenKind::Dot,
+        None => false,
+    }
+}
+
 /// A place among the tokens of a text. Contracts see the tokens after it, with their spellings, and where the text
 /// ends.
 #[derive(Drop)]
@@ -188,10 +216,12 @@ impl<'t> Parser<'t> {
         let tokens = self.tokens;
         let token = tokens.tokens().get(self.next)?;
         let spelling = tokens.slice(self.next);
+        let dotted = self.is_dotted();
         Some(Lexeme {
             kind: token.kind,
             spelling,
             span: token.span,
+            dotted,
         })
     }
 
@@ -206,7 +236,7 @@ impl<'t> Parser<'t> {
     }
 
     /// Moves past the next token, if there is one.
-    #[tactic(auto, using(crate::proofs::TerminalPlaceLemmas::others_drop))]
+    #[tactic(auto, using(crate::proofs::TerminalPlaceLemmas::others_drop, crate::proofs::TerminalPlaceLemmas::others_past))]
     pub fn advance(&mut self)
         ensures { self.new ≡ behind self.old }
     {
@@ -216,6 +246,7 @@ impl<'t> Parser<'t> {
     }
 
     /// How many tokens are left.
+    #[tactic(auto, using(crate::proofs::TerminalPlaceLemmas::length_left))]
     pub(crate) fn left(&self) -> usize
         ensures { result ≡ length self.now.left }
     {
@@ -278,6 +309,20 @@ impl<'t> Parser<'t> {
         behind
     }
 
+    /// Whether the next token is a `.`.
+    fn is_at_dot(&self) -> bool
+        ensures { result ≡ first_is (of_kind Dot) self.now.left }
+    {
+        is_dot_at(self.tokens, self.next)
+    }
+
+    /// Whether the token after the next one is a `.`.
+    fn is_dotted(&self) -> bool
+        ensures { result ≡ first_is (of_kind Dot) (others self.now.left) }
+    {
+        self.behind().is_at_dot()
+    }
+
     /// Whether the token after the next one is of the kind.
     pub fn is_before(&self, kind: TokenKind) -> bool
         ensures { result ≡ first_is (of_kind kind) (others self.now.left) }
@@ -290,7 +335,7 @@ impl<'t> Parser<'t> {
         ensures { result ≡ begins_scalar self.now.left }
     {
         match self.peek() {
-            Some(lexeme) => lexeme.is_scalar() && !self.is_before(TokenKind::Dot),
+            Some(lexeme) => lexeme.is_scalar_type(),
             None => false,
         }
     }
@@ -299,7 +344,10 @@ impl<'t> Parser<'t> {
     pub fn is_at_group(&self) -> bool
         ensures { result ≡ begins_group self.now.left }
     {
-        self.is_at_word("group") && !self.is_before(TokenKind::Dot)
+        match self.peek() {
+            Some(lexeme) => lexeme.is_group_word(),
+            None => false,
+        }
     }
 
     /// Where the next token is. It isn't taken.

@@ -1,5 +1,5 @@
 -- What the last components of a name that a use resolves to name.
-use Rattle.std.proofs.Common.{◌≡◌, inl, inr, ℕ, ◌+◌, ◌-◌, ◌<◌, ◌≤◌, ◌==◌, Bool, true, zero, suc, List, [], ◌∷◌, ◌++◌}
+use Rattle.std.proofs.Common.{◌≡◌, inl, inr, ℕ, ◌+◌, ◌-◌, ◌<◌, ◌≤◌, ◌==◌, Bool, true, false, zero, suc, List, [], ◌∷◌, ◌++◌}
 use Rattle.std.proofs.Common.{length, get_or, take, map, Some, None, Option, MatchOption, IsSome, refl, ap, sym, ◌∙◌}
 use Rattle.std.proofs.Common.{subst, cond, arith}
 use Rattle.std.specs.List.{slice_get, count_by}
@@ -19,12 +19,15 @@ use Rattle.proto_decl.specs.declared.declaration.Declaration.{Declaration}
 use Rattle.proto_visibility.specs.declared.lookup.Entity.{Entity}
 use Rattle.proto_visibility.specs.Files.{File, HasFacts}
 use Rattle.proto_visibility.specs.Sees.{Sees}
-use Rattle.proto_visibility.specs.Knows.{NameKind, Knows, KnowsAs, is_type, DeclaresName, DeclaresNameAs, SeesGiving}
-use Rattle.proto_visibility.specs.Knows.NameKind.{OfPackage}
+use Rattle.proto_decl.specs.declared.declaration.DeclarationKind.TheVariants.{Message, Enum, Service, Field, Oneof}
+use Rattle.proto_decl.specs.declared.declaration.DeclarationKind.TheVariants.{Value, Method}
+use Rattle.proto_visibility.specs.Knows.{NameKind, Knows, KnowsAs, is_type, is_message, DeclaresName, DeclaresNameAs}
+use Rattle.proto_visibility.specs.Knows.{SeesGiving}
+use Rattle.proto_visibility.specs.Knows.NameKind.{OfPackage, OfDeclaration}
 use Rattle.proto_visibility.specs.Knows.Knows.{packaged as known_packaged}
-use Rattle.proto_link.specs.Resolves.{Innermost, ResolvesIn, Resolves}
+use Rattle.proto_link.specs.Resolves.{Innermost, ResolvesIn, Resolves, wanted}
 use Rattle.proto_link.specs.Resolves.Innermost.{here, farther}
-use Rattle.proto_link.specs.Resolves.ResolvesIn.{absolute, single, compound}
+use Rattle.proto_link.specs.Resolves.ResolvesIn.{absolute, single, extended, compound}
 use Rattle.proto_link.specs.declared.target.Target.{Target}
 use Rattle.proto_link.specs.Targets.{IsNamed, IsTarget}
 use Rattle.proto_link.specs.Targets.IsNamed.{packaged as named_packaged, declared as named_declared}
@@ -88,10 +91,12 @@ qualified_fit (byte ∷ scope) name =
     ∙ ap (λ n. count_by is_dot (byte ∷ scope) + n) (sum_by-cons ones 46 name) in
     omega (arith, reachable, length-slice_split is_dot name, length-slice_split is_dot ((byte ∷ scope) ++ 46 ∷ name))
 
-fits : {files : List File} {file : ℕ} {dot : Bool} {words : List (List ℕ)} {from name : List ℕ}
-    → ResolvesIn files file dot words from name → length words ≤ length (components_of name)
+fits : {files : List File} {file : ℕ} {is_extended has_dot : Bool} {words : List (List ℕ)} {from name : List ℕ}
+    → ResolvesIn files file is_extended has_dot words from name → length words ≤ length (components_of name)
 fits (absolute {words = words} known) = words_fit words
 fits (single {word = word} {scope = scope} innermost) = omega (arith, words_fit (word ∷ []), qualified_fit scope word)
+fits (extended {word = word} {scope = scope} innermost known) =
+    omega (arith, words_fit (word ∷ []), qualified_fit scope word)
 fits (compound {first = first} {second = second} {scope = scope} {others = others} innermost known) =
     omega (arith, words_fit (first ∷ (second ∷ others)), qualified_fit scope (dotted (first ∷ (second ∷ others))))
 
@@ -107,11 +112,28 @@ pub known_there : {files : List File} {file : ℕ} {admits : NameKind → Bool} 
 known_there (here known) = known
 known_there (farther absent is innermost) = known_there innermost
 
-pub is_of_type : {files : List File} {file : ℕ} {dot : Bool} {words : List (List ℕ)} {from name : List ℕ}
-    → ResolvesIn files file dot words from name → KnowsAs files file is_type name
-is_of_type (absolute known) = known
+message_type : (kind : NameKind) → is_message kind ≡ true → is_type kind ≡ true
+message_type OfPackage e = absurd (false≢true e)
+message_type (OfDeclaration Message) e = refl
+message_type (OfDeclaration Enum) e = absurd (false≢true e)
+message_type (OfDeclaration Service) e = absurd (false≢true e)
+message_type (OfDeclaration Field) e = absurd (false≢true e)
+message_type (OfDeclaration Oneof) e = absurd (false≢true e)
+message_type (OfDeclaration Value) e = absurd (false≢true e)
+message_type (OfDeclaration Method) e = absurd (false≢true e)
+
+of_wanted : {files : List File} {file : ℕ} {name : List ℕ} (is_extended : Bool)
+    → KnowsAs files file (wanted is_extended) name → KnowsAs files file is_type name
+of_wanted true known =
+    record { kind = known.kind; known = known.known; admitted = message_type known.kind known.admitted }
+of_wanted false known = known
+
+pub is_of_type : {files : List File} {file : ℕ} {is_extended has_dot : Bool} {words : List (List ℕ)}
+    {from name : List ℕ} → ResolvesIn files file is_extended has_dot words from name → KnowsAs files file is_type name
+is_of_type (absolute {is_extended = is_extended} known) = of_wanted is_extended known
 is_of_type (single innermost) = known_there innermost
-is_of_type (compound innermost known) = known
+is_of_type (extended innermost known) = of_wanted true known
+is_of_type (compound {is_extended = is_extended} innermost known) = of_wanted is_extended known
 
 pub resolved_type : (files : List File) (file : ℕ) (type_use : Use) (name : List ℕ) → Resolves files file type_use name
     → KnowsAs files file is_type name

@@ -1,10 +1,10 @@
 //! Which name a use has in its scopes.
 
-ghost use Rattle.std.specs.Prelude.{List, ℕ, ◌≡◌, ◌<◌, ◌↔◌, IsTrue, IfOk, OnOk, MatchOption, ◌∷◌, map, length};
+ghost use Rattle.std.specs.Prelude.{List, [], ℕ, ◌≡◌, ◌<◌, ◌↔◌, IsTrue, IfOk, OnOk, MatchOption, ◌∷◌, false, map, length};
 ghost use Rattle.std.specs.String.{string_bytes};
 ghost use Rattle.proto_decl.specs.Names.{qualified, dotted};
 ghost use Rattle.proto_visibility.specs.Knows.{KnowsAs, is_type, admits};
-ghost use Rattle.proto_link.specs.Resolves.{Innermost, Resolves};
+ghost use Rattle.proto_link.specs.Resolves.{Innermost, Resolves, wanted, words_of};
 ghost use Rattle.proto_link.specs.Targets.{IsUnresolved};
 ghost use Rattle.proto_link.specs.Tables.Found.{IsSingle, IsCompound};
 
@@ -70,23 +70,43 @@ pub(crate) fn full_name_of_use(
     let components = type_use.components.as_slice();
     if type_use.has_leading_dot {
         let words = joined(alloc, components)?;
-        return Ok(if_type(namespace, file, words));
+        return Ok(if_wanted(namespace, file, type_use.is_extended, words));
     }
-    let scope = type_use.scope.as_str();
     match components {
         [] => Ok(None),
-        [word] => single(alloc, namespace, file, scope, word.name.as_str()),
+        [word] => one_word(alloc, namespace, file, type_use, word.name.as_str()),
         [first, _, ..] => {
             let words = joined(alloc, components)?;
             compound(
                 alloc,
                 namespace,
                 file,
-                scope,
+                type_use,
                 first.name.as_str(),
                 words.as_str(),
             )
         }
+    }
+}
+
+/// The same for a use of one word, without a dot before it.
+fn one_word(
+    alloc: Global,
+    namespace: &Namespace,
+    file: usize,
+    type_use: &Use,
+    word: &str,
+) -> Result<Option<String>, AllocError>
+    requires file { file < length namespace.now }
+    requires plain { type_use.now.has_leading_dot ≡ false }
+    requires alone { words_of type_use.now ≡ word.now ∷ [] }
+    ensures { IfOk result (λ found. MatchOption found (IsUnresolved namespace.now file type_use.now)
+        (λ name. Resolves namespace.now file type_use.now (string_bytes name))) }
+{
+    if type_use.is_extended {
+        compound(alloc, namespace, file, type_use, word, word)
+    } else {
+        single(alloc, namespace, file, type_use.scope.as_str(), word)
     }
 }
 
@@ -139,39 +159,52 @@ fn single(
     }
 }
 
-/// The same for more words, of which this is the first.
+/// The full name of the words of a use, of which this is the first, in the scope in which the first is an aggregate.
 fn compound(
     alloc: Global,
     namespace: &Namespace,
     file: usize,
-    scope: &str,
+    type_use: &Use,
     first: &str,
     words: &str,
 ) -> Result<Option<String>, AllocError>
     requires { file < length namespace.now }
-    ensures { IfOk result (λ found. MatchOption found ((name : List ℕ) → IsCompound namespace.now file first.now
-        words.now scope.now name → ⊥) (λ name. IsCompound namespace.now file first.now words.now
-        scope.now (string_bytes name))) }
+    ensures { IfOk result (λ found. MatchOption found ((name : List ℕ) → IsCompound namespace.now file
+        type_use.now.is_extended first.now words.now type_use.now.scope name → ⊥) (λ name. IsCompound namespace.now file
+        type_use.now.is_extended first.now words.now type_use.now.scope (string_bytes name))) }
 {
+    let scope = type_use.scope.as_str();
     let mut text = String::with_capacity(alloc, room_under(scope, words))?;
     match innermost(namespace, file, Role::AsAggregate, scope, first, &mut text)? {
         Some(start) => {
             put_under(&mut text, start, words)?;
-            Ok(if_type(namespace, file, text))
+            Ok(if_wanted(namespace, file, type_use.is_extended, text))
         }
         None => Ok(None),
     }
 }
 
-/// The text, if a file knows a type by it.
-fn if_type(namespace: &Namespace, file: usize, text: String) -> Option<String>
+/// The text, if a file knows by it what a use may name, which an `extend` extends or not.
+fn if_wanted(namespace: &Namespace, file: usize, is_extended: bool, text: String) -> Option<String>
     requires { file < length namespace.now }
-    ensures { MatchOption result (KnowsAs namespace.now file is_type (string_bytes text) → ⊥)
-        (λ name. (string_bytes name ≡ string_bytes text) × KnowsAs namespace.now file is_type (string_bytes text)) }
+    ensures { MatchOption result (KnowsAs namespace.now file (wanted is_extended) (string_bytes text) → ⊥)
+        (λ name. (string_bytes name ≡ string_bytes text)
+        × KnowsAs namespace.now file (wanted is_extended) (string_bytes text)) }
 {
-    if namespace.knows(file, text.as_str(), Role::AsType) {
+    if namespace.knows(file, text.as_str(), role_wanted(is_extended)) {
         Some(text)
     } else {
         None
+    }
+}
+
+/// As what a use names what it names: as a message, if an `extend` extends it.
+fn role_wanted(is_extended: bool) -> Role
+    ensures { admits result ≡ wanted is_extended }
+{
+    if is_extended {
+        Role::AsMessage
+    } else {
+        Role::AsType
     }
 }

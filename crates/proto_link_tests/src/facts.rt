@@ -2,7 +2,7 @@
 
 use proto_decl::{FileFacts, declare};
 use proto_lex::{LexFault, Text, Tokens, lex};
-use proto_parse::{SyntaxFault, parse};
+use proto_parse::{Dialect, SyntaxFault, parse_with};
 use std::alloc::{AllocError, Global};
 use test_kit::Made;
 
@@ -16,7 +16,7 @@ fn some_of<'t>(facts: Made<FileFacts<'t>>) -> Facts<'t> {
 
 /// The facts of tokens.
 fn facts_of_tokens<'t>(alloc: Global, number: usize, tokens: &Tokens<'_, 't>) -> Facts<'t> {
-    match parse(alloc, tokens) {
+    match parse_with(alloc, tokens, Dialect::All) {
         Ok(file) => some_of(declare(alloc, number, tokens, &file)),
         Err(SyntaxFault::Memory) => Err(AllocError),
         Err(_) => Ok(None),

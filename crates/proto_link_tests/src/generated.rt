@@ -9,11 +9,12 @@ const WORDS: [&str; 12] = ["a", "b", "c", "d", "e", "f", "g", "h", "i", "j", "k"
 
 /// Parts of a file. `#` stands for one of six words, `^` and `~` for two that the whole part has, `@` for a
 /// type, and `%` for the word of a file's path.
-const PARTS: [&str; 12] = [
+const PARTS: [&str; 13] = [
     "message ^ { message ~ { @ x = 1; ^.~ # = 2; } ~ x = 1; @ y = 2; }\n",
     "message ^ { @ x = 1; message ~ { enum # { # = 0; } @ y = 1; } .^.~ # = 2; }\n",
     "enum # { # = 0; }\n",
     "service # { rpc #(@) returns (@); }\n",
+    "message ^ { enum ~ { # = 0; } extend @ {} extend ~ {} }\n",
     "import \"%.proto\";\n",
     "import \"%.proto\";\n",
     "import weak \"%.proto\";\n",
@@ -85,7 +86,7 @@ fn add_path(draft: &mut Draft, dice: &mut Dice) {
 /// Adds a part of a file.
 fn add_part(draft: &mut Draft, dice: &mut Dice) {
     let (outer, inner) = (dice.word(), dice.word());
-    for mark in dice.one_of(&PARTS, 12).chars() {
+    for mark in dice.one_of(&PARTS, 13).chars() {
         match mark {
             '^' => draft.add(outer),
             '~' => draft.add(inner),

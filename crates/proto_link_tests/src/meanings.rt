@@ -9,19 +9,28 @@ use proto_link::{FilePlace, LinkFault, LinkFile};
 use std::alloc::Global;
 use test_kit::{Draft, Made};
 
-/// Whether a name of this kind is one of a type, or, where those are asked for, of another aggregate.
-fn is_sought(kind: Option<DeclarationKind>, aggregates: bool) -> bool {
-    match kind {
-        Some(DeclarationKind::Message | DeclarationKind::Enum) => true,
-        Some(DeclarationKind::Service) | None => aggregates,
-        Some(_) => false,
+/// What a name is looked for as.
+#[derive(Clone, Copy)]
+enum Sought {
+    Message,
+    Type,
+    Aggregate,
+}
+
+/// Whether a name of this kind is looked for. A package has none.
+fn is_sought(kind: Option<DeclarationKind>, sought: Sought) -> bool {
+    match (kind, sought) {
+        (Some(DeclarationKind::Message), _) => true,
+        (Some(DeclarationKind::Enum), Sought::Type | Sought::Aggregate) => true,
+        (Some(DeclarationKind::Service) | None, Sought::Aggregate) => true,
+        (_, _) => false,
     }
 }
 
 /// Whether a name is one of these items'.
-fn is_known(known: &[Item], name: &str, aggregates: bool) -> bool {
+fn is_known(known: &[Item], name: &str, sought: Sought) -> bool {
     for item in known {
-        if item.full_name.as_str() == name && is_sought(item.kind, aggregates) {
+        if item.full_name.as_str() == name && is_sought(item.kind, sought) {
             return true;
         }
     }
@@ -52,10 +61,10 @@ fn is_known_in(
     scope: &str,
     count: usize,
     components: &[Component],
-    aggregates: bool,
+    sought: Sought,
 ) -> Made<bool> {
     let name = name_in(alloc, scope, count, components)?;
-    Ok(is_known(known, name.as_str(), aggregates))
+    Ok(is_known(known, name.as_str(), sought))
 }
 
 /// With how many words a scope is the innermost one in which components are known: all scopes are
@@ -65,11 +74,11 @@ fn innermost(
     known: &[Item],
     scope: &str,
     components: &[Component],
-    aggregates: bool,
+    sought: Sought,
 ) -> Made<Option<usize>> {
     let mut found = None;
     for count in 0..=words_of(scope) {
-        if is_known_in(alloc, known, scope, count, components, aggregates)? {
+        if is_known_in(alloc, known, scope, count, components, sought)? {
             found = Some(count);
         }
     }
@@ -84,15 +93,25 @@ fn start_of(alloc: Global, known: &[Item], type_use: &Use) -> Made<Option<usize>
         return Ok(Some(0));
     }
     let scope = type_use.scope.as_str();
-    innermost(alloc, known, scope, first, components.len() > 1)
+    let sought = if type_use.is_extended || components.len() > 1 {
+        Sought::Aggregate
+    } else {
+        Sought::Type
+    };
+    innermost(alloc, known, scope, first, sought)
 }
 
 /// The full name of the type that a use names.
 fn name_of(alloc: Global, known: &[Item], type_use: &Use) -> Made<Option<String>> {
     let scope = type_use.scope.as_str();
     let components = type_use.components.as_slice();
+    let sought = if type_use.is_extended {
+        Sought::Message
+    } else {
+        Sought::Type
+    };
     match start_of(alloc, known, type_use)? {
-        Some(count) if is_known_in(alloc, known, scope, count, components, false)? => {
+        Some(count) if is_known_in(alloc, known, scope, count, components, sought)? => {
             Ok(Some(name_in(alloc, scope, count, components)?))
         }
         _ => Ok(None),

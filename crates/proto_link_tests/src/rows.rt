@@ -15,7 +15,7 @@ struct Row {
 /// `a.proto` at the bytes 81 to 106 names no type. In the second it names the type
 /// `google.protobuf.Timestamp`, by a package of one word, one of two, and the first declaration of
 /// file 2.
-static ROWS: [Row; 17] = [
+static ROWS: [Row; 20] = [
     Row {
         tree: "a.proto\nsyntax = \"proto3\";\npackage acme;\nimport \"b.proto\";\nimport \"t.proto\";\nmessage M { google.protobuf.Timestamp t = 1; }\n|\
 b.proto\nsyntax = \"proto3\";\npackage acme.google;\n|\
@@ -73,19 +73,19 @@ m.proto\nsyntax = \"proto3\";\nimport \"a\"\n\"b.proto\";\n|",
     Row {
         tree: "a.proto\nsyntax = \"proto3\";\nimport \"t.proto\";\nmessage M { lib.T t = 1; }\n|\
 +t.proto\nsyntax = \"proto3\";\npackage lib;\n// A thing.\nmessage T { int32 n = 1; }\n|\
-+u.proto\nsyntax = \"proto2\";\n|",
++u.proto\nedition = \"2023\";\n|",
         answer: "a.proto 110; lib.T 1 1/0\n+t.proto 010\n+u.proto 001\n",
     },
     Row {
         tree: "a.proto\nsyntax = \"proto3\";\nimport \"t.proto\";\nmessage M { lib.T t = 1; }\nimport \"u.proto\";\n|\
 +t.proto\nsyntax = \"proto3\";\npackage lib;\n// A thing.\nmessage T { int32 n = 1; }\n|\
-+u.proto\nsyntax = \"proto2\";\n|",
++u.proto\nedition = \"2023\";\n|",
         answer: "broken 2\n",
     },
     Row {
         tree: "a.proto\nsyntax = \"proto3\";\nimport \"t.proto\";\nmessage M { lib.T t = 1; }\n|\
 +t.proto\nsyntax = \"proto3\";\npackage lib;\n// A thing.\nmessage T { Gone n = 1; }\nimport \"gone.proto\";\n|\
-+u.proto\nsyntax = \"proto2\";\n|",
++u.proto\nedition = \"2023\";\n|",
         answer: "a.proto 110; lib.T 1 1/0\n+t.proto 010\n+u.proto 001\n",
     },
     Row {
@@ -97,6 +97,18 @@ m.proto\nsyntax = \"proto3\";\nimport \"a\"\n\"b.proto\";\n|",
         tree: "a.proto\nsyntax = \"proto3\";\nmessage M {}\n|\
 +t.proto\nsyntax = \"proto3\";\nmessage M {}\n|",
         answer: "a.proto 10\n+t.proto 01\n",
+    },
+    Row {
+        tree: "a.proto\npackage p;\nmessage B { extensions 5; }\nextend B {}\nmessage M { enum C { Z = 0; } extend M.C {} extend C {} extend p.B {} }\n|",
+        answer: "a.proto 1; p.B 0/0; ? 0 88..91; ? 0 102..103; p.B 1 0/0\n",
+    },
+    Row {
+        tree: "a.proto\npackage p;\nmessage B {}\nmessage M { enum B { Z = 0; } extend B {} extend .p.B {} }\n|",
+        answer: "a.proto 1; ? 0 61..62; p.B 1 0/0\n",
+    },
+    Row {
+        tree: "a.proto\npackage p;\nservice B {}\nextend B {}\nextend p {}\n|",
+        answer: "a.proto 1; ? 0 31..32; ? 0 43..44\n",
     },
     Row {
         tree: "a.proto\nsyntax = \"proto3\";\n|b.proto\n|a.proto\n|",

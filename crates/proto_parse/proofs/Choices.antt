@@ -52,7 +52,7 @@ use Rattle.proto_parse.specs.Grammar.Services.IsService.{service}
 -- ---- a word, by its spelling
 
 abbrev pub named : List ℕ → Lexeme
-named word = record { kind = Identifier; spelling = word; span = record { start = 0; end = 0 } }
+named word = record { kind = Identifier; spelling = word; span = record { start = 0; end = 0 }; dotted = false }
 
 word_parts : (word : List ℕ) (t : Lexeme) → is_word word t ≡ true → (t.kind ≡ Identifier) × (t.spelling ≡ word)
 word_parts word t is =

@@ -1,8 +1,8 @@
 -- A front of the tokens, and whether it goes on behind a token at which the machine stops.
-use Rattle.std.proofs.Common.{◌≡◌, ℕ, Bool, true, false, cond, not, is_some, Result, Ok}
+use Rattle.std.proofs.Common.{◌≡◌, ℕ, Bool, true, false, cond, is_some, Result, Ok}
 use Rattle.std.proofs.Common.{Err, None, List, [], ◌∷◌, ◌++◌, refl, sym, ◌∙◌, ap, subst, codes}
 use Rattle.std.proofs.Common.{append_assoc}
-use Rattle.proto_lex.specs.declared.token.TokenKind.TheVariants.{Dot}
+use Rattle.std.proofs.lemmas.Bool.{and_parts}
 use Rattle.proto_grammar.specs.declared.fault.SyntaxFault.{SyntaxFault}
 use Rattle.proto_grammar.specs.declared.dialect.CustomOptions.TheVariants.{Refuse, Skip}
 use Rattle.proto_grammar.specs.declared.dialect.Dialect.{Dialect}
@@ -11,7 +11,7 @@ use Rattle.proto_grammar.specs.declared.dialect.Syntax.{Syntax}
 use Rattle.proto_grammar.specs.declared.dialect.Syntax.TheVariants as grammar
 use Rattle.proto_grammar.specs.declared.tree.File.{File}
 use Rattle.proto_grammar.specs.Lexeme.{Lexeme, Place, place_of}
-use Rattle.proto_grammar.specs.Terminal.{first_is, of_kind, is_word, not_next, is_end}
+use Rattle.proto_grammar.specs.Terminal.{first_is, is_word, is_end}
 use Rattle.proto_grammar.specs.Reading.Repetition.{until_at}
 use Rattle.proto_grammar.proofs.TerminalTokenLemmas.{word_kind}
 use Rattle.proto_parse.specs.Limits.{max_message_depth}
@@ -22,15 +22,15 @@ use Rattle.proto_parse.specs.Refused.{GoesOn, IsWrong, NamesAVersion, group_star
 use Rattle.proto_parse.specs.Refused.{is_label}
 use Rattle.proto_parse.proofs.Found.Files.{file_found}
 use Rattle.proto_parse.proofs.Exact.Files.{file_exact}
-use Rattle.proto_parse.proofs.RefusedMachine.{Why, Step, Fed, machine, going, feed, dots}
+use Rattle.proto_parse.proofs.RefusedMachine.{Why, Step, Fed, machine, going, feed}
 use Rattle.proto_parse.proofs.RefusedMachine.Refusal.{GroupNext}
 use Rattle.proto_parse.proofs.RefusedMachine.Why.{Misplaced, Escaped, Refused}
 use Rattle.proto_parse.proofs.RefusedMachine.Outcome.{Whole, Missing}
 use Rattle.proto_parse.proofs.RefusedMachine.Fed.{Went, Halted}
-use Rattle.proto_parse.proofs.RefusedMachine.Finishing.{Fit, Fits, finish, finish_undotted, machine_finish, feed_fits}
+use Rattle.proto_parse.proofs.RefusedMachine.Finishing.{Fit, Fits, finish, machine_finish, feed_fits}
 use Rattle.proto_parse.proofs.RefusedMachine.Reads.{Reads, StopsAt, reads_machine, reads_fits}
 use Rattle.proto_parse.proofs.RefusedMachine.Reads.Reads.{here}
-use Rattle.proto_parse.proofs.RefusedMachine.Reads.{IsHalt, reads_on, front_finished, token_wrong}
+use Rattle.proto_parse.proofs.RefusedMachine.Reads.{IsHalt, front_finished, token_wrong}
 use Rattle.proto_parse.proofs.RefusedMachine.Swapped.{FedSwaps, halts_at}
 use Rattle.proto_parse.proofs.RefusedMachine.Tells.{Tells}
 use Rattle.proto_parse.proofs.RefusedParts.{statement_step}
@@ -93,63 +93,39 @@ module _ (levels : ℕ) (dialect : Dialect) (syntax : Syntax) (start : List Lexe
 
 -- ---- what goes on, and what doesn't, behind the start
 
-pub not_dots : (l : List Lexeme) → dots l ≡ false → not_next Dot l ≡ true
-not_dots l e = ap not e
-
-pub are_no_dots : (l : List Lexeme) → not_next Dot l ≡ true → dots l ≡ false
-are_no_dots l e = by_test (dots l) e
-  where
-    by_test : (b : Bool) → not b ≡ true → b ≡ false
-    by_test true e = absurd cc
-    by_test false e = refl
-
 module _ (levels : ℕ) (dialect : Dialect) (syntax : Syntax) (start : List Lexeme) (opens : Opens dialect syntax start)
   where
-    pub goes_on : (front behind more : List Lexeme) (seen : Bool) → Allows start (front ++ more) → dots more ≡ false
+    pub goes_on : (front more : List Lexeme) (seen : Bool) → Allows start (front ++ more)
         → machine (statement_step levels syntax) (front ++ more) [] false ≡ Whole seen
-        → GoesOn levels dialect (start ++ front) behind
-    goes_on front behind more seen allows undotted e =
+        → GoesOn levels dialect (start ++ front)
+    goes_on front more seen allows e =
         let f = machine_file levels dialect syntax start opens (front ++ more) seen allows e in
         record {
           more = more;
           tree = f.0;
           is_file = subst (λ all. IsFileWithin levels dialect all f.0) (sym (append_assoc start front more)) f.1;
-          no_dot = λ none. not_dots more undotted;
         }
 
-    goes_machine : (front behind : List Lexeme) (g : GoesOn levels dialect (start ++ front) behind)
-        → Allows start (front ++ g.more)
-        → machine (statement_step levels syntax) (front ++ g.more) [] false ≡ Whole (is_some g.tree.package_name)
-    goes_machine front behind g allows =
-        file_machine levels dialect syntax start opens (front ++ g.more) g.tree allows
-        (subst (λ all. IsFileWithin levels dialect all g.tree) (append_assoc start front g.more) g.is_file)
-
     -- the same with a token behind the front
-    with_token : (front behind : List Lexeme) (t : Lexeme) (c : List Lexeme) (seen : Bool)
-        → Allows start (front ++ t ∷ c) → dots c ≡ false
+    with_token : (front : List Lexeme) (t : Lexeme) (c : List Lexeme) (seen : Bool) → Allows start (front ++ t ∷ c)
         → machine (statement_step levels syntax) (front ++ t ∷ c) [] false ≡ Whole seen
-        → GoesOn levels dialect ((start ++ front) ++ t ∷ []) behind
-    with_token front behind t c seen allows undotted e =
+        → GoesOn levels dialect ((start ++ front) ++ t ∷ [])
+    with_token front t c seen allows e =
         let f = machine_file levels dialect syntax start opens (front ++ t ∷ c) seen allows e in
         record {
           more = c;
           tree = f.0;
           is_file = subst (λ all. IsFileWithin levels dialect all f.0)
               (sym (append_assoc start front (t ∷ c)) ∙ sym (append_assoc (start ++ front) (t ∷ []) c)) f.1;
-          no_dot = λ none. not_dots c undotted;
         }
 
-    token_machine : (front behind : List Lexeme) (t : Lexeme)
-        (g : GoesOn levels dialect ((start ++ front) ++ t ∷ []) behind) → Allows start (front ++ t ∷ g.more)
+    token_machine : (front : List Lexeme) (t : Lexeme) (g : GoesOn levels dialect ((start ++ front) ++ t ∷ []))
+        → Allows start (front ++ t ∷ g.more)
         → machine (statement_step levels syntax) (front ++ t ∷ g.more) [] false ≡ Whole (is_some g.tree.package_name)
-    token_machine front behind t g allows =
+    token_machine front t g allows =
         file_machine levels dialect syntax start opens (front ++ t ∷ g.more) g.tree allows
         (subst (λ all. IsFileWithin levels dialect all g.tree)
         (append_assoc (start ++ front) (t ∷ []) g.more ∙ append_assoc start front (t ∷ g.more)) g.is_file)
-
-    dots_more : (front behind : List Lexeme) (g : GoesOn levels dialect front behind) → dots behind ≡ false
-        → dots g.more ≡ false
-    dots_more front behind g none = are_no_dots g.more (g.no_dot (not_dots behind none))
 
 -- what is allowed is told by the first token
 pub allows_first : (start : List Lexeme) (t : Lexeme) (a b : List Lexeme) → Allows start (t ∷ a) → Allows start (t ∷ b)
@@ -168,13 +144,13 @@ allows_none (s ∷ start) = tt
 
 -- what finishes the steps behind a front is allowed
 pub allows_finish : (by : Step) (start front : List Lexeme) (t : Lexeme) (a : List Lexeme) (next : List Step)
-    (d now : Bool)
-    → Allows start (front ++ t ∷ a) → Reads by [] false front d next now → Allows start (front ++ finish next)
-allows_finish by start [] t a next d now allows reads = none_left next now reads
+    (now : Bool) → Allows start (front ++ t ∷ a) → Reads by [] false front next now
+    → Allows start (front ++ finish next)
+allows_finish by start [] t a next now allows reads = none_left next now reads
   where
-    none_left : (next : List Step) (now : Bool) → Reads by [] false [] d next now → Allows start (finish next)
+    none_left : (next : List Step) (now : Bool) → Reads by [] false [] next now → Allows start (finish next)
     none_left next now here = allows_none start
-allows_finish by start (u ∷ front) t a next d now allows reads =
+allows_finish by start (u ∷ front) t a next now allows reads =
     allows_first start u (front ++ t ∷ a) (front ++ finish next) allows
 
 -- ---- a token at which the machine stops is wrong
@@ -186,10 +162,10 @@ allows_short start [] t a allows = allows_none start
 allows_short start (u ∷ front) t a allows = allows_first start u (front ++ t ∷ a) front allows
 
 pub allows_all : (by : Step) (start l : List Lexeme) (next : List Step) (now : Bool) → Allows start l
-    → Reads by [] false l false next now → Allows start (l ++ finish next)
+    → Reads by [] false l next now → Allows start (l ++ finish next)
 allows_all by start [] next now allows reads = none_left next now reads
   where
-    none_left : (next : List Step) (now : Bool) → Reads by [] false [] false next now → Allows start (finish next)
+    none_left : (next : List Step) (now : Bool) → Reads by [] false [] next now → Allows start (finish next)
     none_left next now here = allows_none start
 allows_all by start (u ∷ l) next now allows reads = allows_first start u l (l ++ finish next) allows
 
@@ -228,9 +204,9 @@ pub front_quiet : (levels : ℕ) (syntax : Syntax) (l left : List Lexeme)
     (s : StopsAt (statement_step levels syntax) l [] false left (Halted (Refused GroupNext))) → LastNoLabel s.front
 front_quiet levels syntax l left s =
     reads_quiet (statement_calm levels syntax) tt s.reads
-    (halts_noisy (statement_step levels syntax) (statement_quiet levels syntax) s.next s.now s.token (dots s.behind)
-    (word_kind (codes "group") s.token
-    (halts_at (statement_step levels syntax) s.next s.now s.token (dots s.behind) (Refused GroupNext) s.halts)) s.halts)
+    (halts_noisy (statement_step levels syntax) (statement_quiet levels syntax) s.next s.now s.token
+    (word_kind (codes "group") s.token (and_parts (is_word (codes "group") s.token) _
+    (halts_at (statement_step levels syntax) s.next s.now s.token (Refused GroupNext) s.halts)).0) s.halts)
 
 -- the front of a text that names a version
 pub record Front (dialect : Dialect) (syntax : Syntax) (start l : List Lexeme) : Type 0 where
@@ -260,53 +236,40 @@ module _ (dialect : Dialect) (syntax : Syntax) (start l left : List Lexeme) (end
   pub base : Fit grammar_step None
   base = fit_statement max_message_depth syntax None
 
-  pub no_dot_reads : Reads grammar_step [] false s.front false s.next s.now
-  no_dot_reads = reads_on grammar_step l [] false left fed base tt halt s
-
   pub next_fits : Fits s.next
-  next_fits = reads_fits base no_dot_reads tt
+  next_fits = reads_fits base s.reads tt
 
-  pub is_wrong : IsWrong dialect before s.token s.behind
+  pub is_wrong : IsWrong dialect before s.token
   is_wrong = record {
-    before = goes_on max_message_depth dialect syntax start f.opens s.front (s.token ∷ s.behind) (finish s.next) s.now
-        (allows_finish grammar_step start s.front s.token s.behind s.next false s.now (allowed s.behind) no_dot_reads)
-        (front_finished grammar_step l [] false left fed base tt halt s).1
-        (front_finished grammar_step l [] false left fed base tt halt s).0;
-    here = λ g. token_wrong grammar_step l [] false left fed halt s g.more
-        (dots_more max_message_depth dialect syntax start f.opens (before ++ s.token ∷ []) s.behind g)
-        (is_some g.tree.package_name)
-        (token_machine max_message_depth dialect syntax start f.opens s.front s.behind s.token g (allowed g.more));
+    before = goes_on max_message_depth dialect syntax start f.opens s.front (finish s.next) s.now
+        (allows_finish grammar_step start s.front s.token s.behind s.next s.now (allowed s.behind) s.reads)
+        (front_finished grammar_step l [] false left fed base tt s);
+    here = λ g. token_wrong grammar_step l [] false left fed halt s g.more (is_some g.tree.package_name)
+        (token_machine max_message_depth dialect syntax start f.opens s.front s.token g (allowed g.more));
   }
 
   -- where other steps take a token in its place, it goes on
   pub goes_with : (levels : ℕ) (other_dialect : Dialect) (other : Syntax) → Opens other_dialect other start
-      → (t : Lexeme) → ((c : List Lexeme) → Allows start (s.front ++ t ∷ c)) → of_kind Dot t ≡ false
-      → (next k : List Step) (now : Bool)
-      → Reads (statement_step levels other) [] false s.front false k s.now
-      → feed (statement_step levels other) k s.now t false ≡ Went next now
-      → GoesOn levels other_dialect (before ++ t ∷ []) s.behind
-  goes_with levels other_dialect other opens t allows no_dot next k now reads went =
+      → (t : Lexeme) → ((c : List Lexeme) → Allows start (s.front ++ t ∷ c)) → (next k : List Step) (now : Bool)
+      → Reads (statement_step levels other) [] false s.front k s.now
+      → feed (statement_step levels other) k s.now t ≡ Went next now
+      → GoesOn levels other_dialect (before ++ t ∷ [])
+  goes_with levels other_dialect other opens t allows next k now reads went =
       let fits : Fits next =
-      feed_fits (statement_step levels other) (fit_statement levels other None) k next s.now now t false
+      feed_fits (statement_step levels other) (fit_statement levels other None) k next s.now now t
       (reads_fits (fit_statement levels other None) reads tt) went in
-      let undotted : dots (finish next) ≡ false = finish_undotted next fits in
-      with_token levels other_dialect other start opens s.front s.behind t (finish next) now
-      (allows (finish next)) undotted
-      (reads_machine reads (t ∷ finish next) no_dot
-      ∙ ap (λ d. going (statement_step levels other) (feed (statement_step levels other) k s.now t d)
-      (λ further seen. machine (statement_step levels other) (finish next) further seen) (t ∷ finish next)) undotted
+      with_token levels other_dialect other start opens s.front t (finish next) now (allows (finish next))
+      (reads_machine reads (t ∷ finish next)
       ∙ ap (λ x. going (statement_step levels other) x
       (λ further seen. machine (statement_step levels other) (finish next) further seen) (t ∷ finish next)) went
       ∙ machine_finish (statement_step levels other) next now fits)
 
   -- where other steps halt at a token in its place, it doesn't
   pub stops_with : (levels : ℕ) (other_dialect : Dialect) (other : Syntax) → Opens other_dialect other start
-      → (t : Lexeme) → ((c : List Lexeme) → Allows start (s.front ++ t ∷ c)) → of_kind Dot t ≡ of_kind Dot s.token
-      → (k : List Step) (fed2 : Fed) → IsHalt fed2
-      → Reads (statement_step levels other) [] false s.front (of_kind Dot s.token) k s.now
-      → feed (statement_step levels other) k s.now t (dots s.behind) ≡ fed2
-      → GoesOn levels other_dialect (before ++ t ∷ []) s.behind → ⊥
-  stops_with levels other_dialect other opens t allows same k fed2 halt2 reads halts g =
+      → (t : Lexeme) → ((c : List Lexeme) → Allows start (s.front ++ t ∷ c)) → (k : List Step) (fed2 : Fed)
+      → IsHalt fed2 → Reads (statement_step levels other) [] false s.front k s.now
+      → feed (statement_step levels other) k s.now t ≡ fed2 → GoesOn levels other_dialect (before ++ t ∷ []) → ⊥
+  stops_with levels other_dialect other opens t allows k fed2 halt2 reads halts g =
       let stop : StopsAt (statement_step levels other) (s.front ++ t ∷ s.behind) [] false (t ∷ s.behind) fed2 =
       record {
         front = s.front;
@@ -316,10 +279,9 @@ module _ (dialect : Dialect) (syntax : Syntax) (start l left : List Lexeme) (end
         now = s.now;
         whole = refl;
         rest = refl;
-        reads = subst (λ d. Reads (statement_step levels other) [] false s.front d k s.now) (sym same) reads;
+        reads = reads;
         halts = halts;
       } in
       token_wrong (statement_step levels other) (s.front ++ t ∷ s.behind) [] false (t ∷ s.behind) fed2 halt2 stop g.more
-      (dots_more levels other_dialect other start opens (before ++ t ∷ []) s.behind g)
       (is_some g.tree.package_name)
-      (token_machine levels other_dialect other start opens s.front s.behind t g (allows g.more))
+      (token_machine levels other_dialect other start opens s.front t g (allows g.more))

@@ -2,9 +2,8 @@
 use Rattle.std.proofs.Common.{◌≡◌, ℕ, Bool, true, false, cond, List, [], ◌∷◌, ◌++◌, refl, sym, ◌∙◌, ap, subst}
 use Rattle.std.proofs.Common.{codes}
 use Rattle.std.proofs.Common.{append_assoc}
-use Rattle.std.proofs.lemmas.List.{append-nil}
 use Rattle.proto_lex.specs.declared.token.TokenKind.{TokenKind}
-use Rattle.proto_lex.specs.declared.token.TokenKind.TheVariants.{Identifier, StringLiteral, OpenBrace, Dot}
+use Rattle.proto_lex.specs.declared.token.TokenKind.TheVariants.{Identifier, StringLiteral, OpenBrace}
 use Rattle.proto_lex.specs.declared.token.TokenKind.TheVariants.{OpenParenthesis}
 use Rattle.proto_grammar.specs.declared.fault.SyntaxFault.{SyntaxFault}
 use Rattle.proto_grammar.specs.declared.fault.SyntaxFault.TheVariants.{NotProto3, CustomOption, Aggregate, Extend}
@@ -15,7 +14,7 @@ use Rattle.proto_grammar.specs.declared.dialect.Dialect.TheVariants.{Proto3}
 use Rattle.proto_grammar.specs.declared.dialect.Syntax.{Syntax}
 use Rattle.proto_grammar.specs.declared.tree.File.{File}
 use Rattle.proto_grammar.specs.Lexeme.{Lexeme, place_of}
-use Rattle.proto_grammar.specs.Terminal.{is_kind, first_is, of_kind, is_word, not_next, offset_at}
+use Rattle.proto_grammar.specs.Terminal.{is_kind, first_is, of_kind, is_word, offset_at}
 use Rattle.proto_grammar.specs.Grammar.Repetition.One.{one}
 use Rattle.proto_grammar.specs.Syntax.{custom_in}
 use Rattle.proto_parse.specs.Faults.{is_of_custom_options}
@@ -40,22 +39,14 @@ heads e = cc
 pub tails : {A : Type 0} {x y : A} {xs ys : List A} → x ∷ xs ≡ y ∷ ys → xs ≡ ys
 tails e = cc
 
-no_dot_further : (m rest more : List Lexeme) → (not_next Dot rest ≡ true → not_next Dot more ≡ true)
-    → not_next Dot (m ++ rest) ≡ true → not_next Dot (m ++ more) ≡ true
-no_dot_further [] rest more so none = so none
-no_dot_further (u ∷ m) rest more so none = none
-
 -- a front of a front that goes on goes on
-goes_further : (levels : ℕ) (dialect : Dialect) (front : List Lexeme) (t : Lexeme) (m rest behind : List Lexeme)
-    → GoesOn levels dialect (front ++ t ∷ m) rest → behind ≡ m ++ rest
-    → GoesOn levels dialect (front ++ t ∷ []) behind
-goes_further levels dialect front t m rest behind on e = record {
+goes_further : (levels : ℕ) (dialect : Dialect) (front : List Lexeme) (t : Lexeme) (m : List Lexeme)
+    → GoesOn levels dialect (front ++ t ∷ m) → GoesOn levels dialect (front ++ t ∷ [])
+goes_further levels dialect front t m on = record {
   more = m ++ on.more;
   tree = on.tree;
   is_file = subst (λ all. IsFileWithin levels dialect all on.tree)
       (append_assoc front (t ∷ m) on.more ∙ sym (append_assoc front (t ∷ []) (m ++ on.more))) on.is_file;
-  no_dot = λ none. no_dot_further m rest on.more on.no_dot
-      (subst (λ left. not_next Dot left ≡ true) e none);
 }
 
 -- two places in one list
@@ -78,26 +69,26 @@ ordered (x ∷ f) t b (y ∷ g) u c e same before after =
     (λ m p r. after m (ap (λ z. z ∷ f) head ∙ ap (λ l. y ∷ l) p) r)
 
 -- only one token is wrong
-not_both : (dialect : Dialect) (f : List Lexeme) (t : Lexeme) (b g : List Lexeme) (u : Lexeme) (c m : List Lexeme)
-    → IsWrong dialect f t b → IsWrong dialect g u c → g ≡ f ++ t ∷ m → b ≡ m ++ u ∷ c → ⊥
-not_both dialect f t b g u c m v w p r =
-    v.here (goes_further max_message_depth dialect f t m (u ∷ c) b
-    (subst (λ front. GoesOn max_message_depth dialect front (u ∷ c)) p w.before) r)
+not_both : (dialect : Dialect) (f : List Lexeme) (t : Lexeme) (g : List Lexeme) (u : Lexeme) (m : List Lexeme)
+    → IsWrong dialect f t → IsWrong dialect g u → g ≡ f ++ t ∷ m → ⊥
+not_both dialect f t g u m v w p =
+    v.here (goes_further max_message_depth dialect f t m
+    (subst (λ front. GoesOn max_message_depth dialect front) p w.before))
 
 wrong_once : {P : Type 0} (dialect : Dialect) (f : List Lexeme) (t : Lexeme) (b g : List Lexeme) (u : Lexeme)
-    (c : List Lexeme) → IsWrong dialect f t b → IsWrong dialect g u c → f ++ t ∷ b ≡ g ++ u ∷ c
+    (c : List Lexeme) → IsWrong dialect f t → IsWrong dialect g u → f ++ t ∷ b ≡ g ++ u ∷ c
     → (f ≡ g → t ≡ u → b ≡ c → P) → P
 wrong_once dialect f t b g u c v w e same =
     ordered f t b g u c e same
-    (λ m p r. absurd (not_both dialect f t b g u c m v w p r))
-    (λ m p r. absurd (not_both dialect g u c f t b m w v p r))
+    (λ m p r. absurd (not_both dialect f t g u m v w p))
+    (λ m p r. absurd (not_both dialect g u f t m w v p))
 
 -- where all tokens go on, none is wrong
 none_wrong : (dialect : Dialect) (tokens f : List Lexeme) (t : Lexeme) (b : List Lexeme)
-    → GoesOn max_message_depth dialect tokens [] → tokens ≡ f ++ t ∷ b → IsWrong dialect f t b → ⊥
+    → GoesOn max_message_depth dialect tokens → tokens ≡ f ++ t ∷ b → IsWrong dialect f t → ⊥
 none_wrong dialect tokens f t b on e w =
-    w.here (goes_further max_message_depth dialect f t b [] b
-    (subst (λ all. GoesOn max_message_depth dialect all []) e on) (sym (append-nil b)))
+    w.here (goes_further max_message_depth dialect f t b
+    (subst (λ all. GoesOn max_message_depth dialect all) e on))
 
 -- ---- versions
 
@@ -156,24 +147,24 @@ word_no : (word : List ℕ) (kind : TokenKind) (t : Lexeme) → is_kind kind Ide
     → of_kind kind t ≡ false
 word_no word kind t differs is = other_kind Identifier kind t differs (word_kind word t is)
 
-kind_is : (dialect : Dialect) (front : List Lexeme) (t : Lexeme) (behind : List Lexeme) {fault : SyntaxFault}
-    → WouldGoOn dialect front t behind fault → fault ≡ kind_of front t
-kind_is dialect front t behind (custom_option d is on) = rw is refl
-kind_is dialect front t behind (aggregate d is on) = rw (other_kind OpenBrace OpenParenthesis t refl is, is) refl
-kind_is dialect front t behind (import_escape plain is escaped p on) =
+kind_is : (dialect : Dialect) (front : List Lexeme) (t : Lexeme) {fault : SyntaxFault}
+    → WouldGoOn dialect front t fault → fault ≡ kind_of front t
+kind_is dialect front t (custom_option d is on) = rw is refl
+kind_is dialect front t (aggregate d is on) = rw (other_kind OpenBrace OpenParenthesis t refl is, is) refl
+kind_is dialect front t (import_escape plain is escaped p on) =
     rw (
       other_kind StringLiteral OpenParenthesis t refl is,
       other_kind StringLiteral OpenBrace t refl is,
       is,
     ) refl
-kind_is dialect front t behind (extend d is on) =
+kind_is dialect front t (extend d is on) =
     rw (
       word_no (codes "extend") OpenParenthesis t refl is,
       word_no (codes "extend") OpenBrace t refl is,
       word_no (codes "extend") StringLiteral t refl is,
       is,
     ) refl
-kind_is dialect front t behind (two_packages is d some) =
+kind_is dialect front t (two_packages is d some) =
     rw (
       word_no (codes "package") OpenParenthesis t refl is,
       word_no (codes "package") OpenBrace t refl is,
@@ -181,7 +172,7 @@ kind_is dialect front t behind (two_packages is d some) =
       other_word (codes "package") (codes "extend") t refl is,
       is,
     ) refl
-kind_is dialect front t behind (too_deep is on) =
+kind_is dialect front t (too_deep is on) =
     rw (
       word_no (codes "message") OpenParenthesis t refl is,
       word_no (codes "message") OpenBrace t refl is,
@@ -190,7 +181,7 @@ kind_is dialect front t behind (too_deep is on) =
       other_word (codes "message") (codes "package") t refl is,
       is,
     ) refl
-kind_is dialect front t behind (group_too_deep is on) =
+kind_is dialect front t (group_too_deep is on) =
     rw (
       word_no (codes "group") OpenParenthesis t refl is,
       word_no (codes "group") OpenBrace t refl is,
@@ -200,17 +191,16 @@ kind_is dialect front t behind (group_too_deep is on) =
       other_word (codes "group") (codes "message") t refl is,
     ) refl
 
-kind_once : (dialect : Dialect) (f : List Lexeme) (t : Lexeme) (b g : List Lexeme) (u : Lexeme) (c : List Lexeme)
-    {fault second : SyntaxFault} → WouldGoOn dialect f t b fault → WouldGoOn dialect g u c second → f ≡ g → t ≡ u
+kind_once : (dialect : Dialect) (f : List Lexeme) (t : Lexeme) (g : List Lexeme) (u : Lexeme)
+    {fault second : SyntaxFault} → WouldGoOn dialect f t fault → WouldGoOn dialect g u second → f ≡ g → t ≡ u
     → fault ≡ second
-kind_once dialect f t b g u c v w p q =
-    kind_is dialect f t b v ∙ ap (λ x. kind_of x t) p ∙ ap (λ y. kind_of g y) q ∙ sym (kind_is dialect g u c w)
+kind_once dialect f t g u v w p q =
+    kind_is dialect f t v ∙ ap (λ x. kind_of x t) p ∙ ap (λ y. kind_of g y) q ∙ sym (kind_is dialect g u w)
 
-moved : (dialect : Dialect) (f : List Lexeme) (t : Lexeme) (b g : List Lexeme) (u : Lexeme) (c : List Lexeme)
-    {fault : SyntaxFault} → WouldGoOn dialect f t b fault → f ≡ g → t ≡ u → b ≡ c → WouldGoOn dialect g u c fault
-moved dialect f t b g u c {fault} v p q r =
-    subst (λ x. WouldGoOn dialect g u x fault) r
-    (subst (λ x. WouldGoOn dialect g x b fault) q (subst (λ x. WouldGoOn dialect x t b fault) p v))
+moved : (dialect : Dialect) (f : List Lexeme) (t : Lexeme) (g : List Lexeme) (u : Lexeme)
+    {fault : SyntaxFault} → WouldGoOn dialect f t fault → f ≡ g → t ≡ u → WouldGoOn dialect g u fault
+moved dialect f t g u {fault} v p q =
+    subst (λ x. WouldGoOn dialect g x fault) q (subst (λ x. WouldGoOn dialect x t fault) p v)
 
 -- ---- the laws
 
@@ -218,46 +208,51 @@ pub one_fault : {dialect : Dialect} {tokens : List Lexeme} {end : ℕ} {fault se
     → IsRefused dialect tokens end fault → IsRefused dialect tokens end second → fault ≡ second
 one_fault {end = end} (not_proto3 e n) (not_proto3 e' n') =
     ap (λ left. NotProto3 (offset_at (place_of end left))) (version_once n n' (sym e ∙ e'))
-one_fault (not_proto3 e n) (would_go_on v e' w g) = absurd (v _ _ e n)
-one_fault (not_proto3 e n) (wrong v e' w none) = absurd (v _ _ e n)
+one_fault (not_proto3 e n) (would_go_on b v e' w g) = absurd (v _ _ e n)
+one_fault (not_proto3 e n) (wrong b v e' w none) = absurd (v _ _ e n)
 one_fault (not_proto3 e n) (missing v on none) = absurd (v _ _ e n)
-one_fault (would_go_on v e w g) (not_proto3 e' n) = absurd (v _ _ e' n)
-one_fault (wrong v e w none) (not_proto3 e' n) = absurd (v _ _ e' n)
+one_fault (would_go_on b v e w g) (not_proto3 e' n) = absurd (v _ _ e' n)
+one_fault (wrong b v e w none) (not_proto3 e' n) = absurd (v _ _ e' n)
 one_fault (missing v on none) (not_proto3 e n) = absurd (v _ _ e n)
-one_fault {dialect} (would_go_on v e w g) (would_go_on v' e' w' g') =
-    wrong_once dialect _ _ _ _ _ _ w w' (sym e ∙ e') (λ p q r. kind_once dialect _ _ _ _ _ _ g g' p q)
-one_fault {dialect} {fault = fault} (would_go_on v e w g) (wrong v' e' w' none) =
-    wrong_once dialect _ _ _ _ _ _ w w' (sym e ∙ e') (λ p q r. absurd (none fault (moved dialect _ _ _ _ _ _ g p q r)))
-one_fault {dialect} {second = fault} (wrong v e w none) (would_go_on v' e' w' g) =
-    wrong_once dialect _ _ _ _ _ _ w' w (sym e' ∙ e) (λ p q r. absurd (none fault (moved dialect _ _ _ _ _ _ g p q r)))
-one_fault {dialect} (wrong v e w none) (wrong v' e' w' none') =
-    wrong_once dialect _ _ _ _ _ _ w w' (sym e ∙ e') (λ p q r. ap (λ (t : Lexeme). Grammar t.span.start) q)
-one_fault {dialect} {tokens} (missing v on none) (would_go_on v' e w g) =
-    absurd (none_wrong dialect tokens _ _ _ on e w)
-one_fault {dialect} {tokens} (missing v on none) (wrong v' e w none') =
-    absurd (none_wrong dialect tokens _ _ _ on e w)
-one_fault {dialect} {tokens} (would_go_on v e w g) (missing v' on none) =
-    absurd (none_wrong dialect tokens _ _ _ on e w)
-one_fault {dialect} {tokens} (wrong v e w none') (missing v' on none) =
-    absurd (none_wrong dialect tokens _ _ _ on e w)
+one_fault {dialect} (would_go_on {front = f} {t = t} b v e w g)
+    (would_go_on {front = h} {t = u} c v' e' w' g') =
+    wrong_once dialect f t b h u c w w' (sym e ∙ e') (λ p q r. kind_once dialect f t h u g g' p q)
+one_fault {dialect} {fault = fault} (would_go_on {front = f} {t = t} b v e w g)
+    (wrong {front = h} {t = u} c v' e' w' none) =
+    wrong_once dialect f t b h u c w w' (sym e ∙ e') (λ p q r. absurd (none fault (moved dialect f t h u g p q)))
+one_fault {dialect} {second = fault} (wrong {front = h} {t = u} c v e w none)
+    (would_go_on {front = f} {t = t} b v' e' w' g) =
+    wrong_once dialect f t b h u c w' w (sym e' ∙ e) (λ p q r. absurd (none fault (moved dialect f t h u g p q)))
+one_fault {dialect} (wrong {front = f} {t = t} b v e w none)
+    (wrong {front = h} {t = u} c v' e' w' none') =
+    wrong_once dialect f t b h u c w w' (sym e ∙ e') (λ p q r. ap (λ (t : Lexeme). Grammar t.span.start) q)
+one_fault {dialect} {tokens} (missing v on none) (would_go_on {front = f} {t = t} b v' e w g) =
+    absurd (none_wrong dialect tokens f t b on e w)
+one_fault {dialect} {tokens} (missing v on none) (wrong {front = f} {t = t} b v' e w none') =
+    absurd (none_wrong dialect tokens f t b on e w)
+one_fault {dialect} {tokens} (would_go_on {front = f} {t = t} b v e w g) (missing v' on none) =
+    absurd (none_wrong dialect tokens f t b on e w)
+one_fault {dialect} {tokens} (wrong {front = f} {t = t} b v e w none') (missing v' on none) =
+    absurd (none_wrong dialect tokens f t b on e w)
 one_fault (missing v on none) (missing v' on' none') = refl
 
 -- a file begins with each of its fronts
 begins : (dialect : Dialect) (tokens f : List Lexeme) (t : Lexeme) (b : List Lexeme) (tree : File)
-    → IsFile dialect tokens tree → tokens ≡ f ++ t ∷ b → GoesOn max_message_depth dialect (f ++ t ∷ []) b
+    → IsFile dialect tokens tree → tokens ≡ f ++ t ∷ b → GoesOn max_message_depth dialect (f ++ t ∷ [])
 begins dialect tokens f t b tree d e = record {
   more = b;
   tree = tree;
   is_file = subst (λ all. IsFileWithin max_message_depth dialect all tree) (e ∙ sym (append_assoc f (t ∷ []) b)) d;
-  no_dot = λ none. none;
 }
 
 pub no_fault : {dialect : Dialect} {tokens : List Lexeme} {end : ℕ} {fault : SyntaxFault} (tree : File)
     → IsFile dialect tokens tree → IsRefused dialect tokens end fault → ⊥
 no_fault {dialect} tree (file {b = b} {syntax = x} s u) (not_proto3 e n) =
     version_named n (subst (λ all. IsSyntax dialect all x b) e s)
-no_fault {dialect} {tokens} tree d (would_go_on v e w g) = w.here (begins dialect tokens _ _ _ tree d e)
-no_fault {dialect} {tokens} tree d (wrong v e w none) = w.here (begins dialect tokens _ _ _ tree d e)
+no_fault {dialect} {tokens} tree d (would_go_on {front = f} {t = t} b v e w g) =
+    w.here (begins dialect tokens f t b tree d e)
+no_fault {dialect} {tokens} tree d (wrong {front = f} {t = t} b v e w none) =
+    w.here (begins dialect tokens f t b tree d e)
 no_fault tree d (missing v on none) = none tree d
 
 -- ---- where custom options are read past
@@ -265,8 +260,8 @@ no_fault tree d (missing v on none) = none tree d
 never_refused : {dialect : Dialect} → custom_in dialect ≡ Skip → dialect ≡ Proto3 Refuse → true ≡ false
 never_refused skips is = let same : Refuse ≡ Skip = sym (ap custom_in is) ∙ skips in cc
 
-no_option : {dialect : Dialect} {front : List Lexeme} {t : Lexeme} {behind : List Lexeme} {fault : SyntaxFault}
-    → custom_in dialect ≡ Skip → WouldGoOn dialect front t behind fault → is_of_custom_options fault ≡ false
+no_option : {dialect : Dialect} {front : List Lexeme} {t : Lexeme} {fault : SyntaxFault}
+    → custom_in dialect ≡ Skip → WouldGoOn dialect front t fault → is_of_custom_options fault ≡ false
 no_option skips (custom_option is k on) = never_refused skips is
 no_option skips (aggregate is k on) = never_refused skips is
 no_option skips (extend is k on) = never_refused skips is
@@ -278,6 +273,6 @@ no_option skips (group_too_deep is on) = refl
 pub no_option_fault : {dialect : Dialect} {tokens : List Lexeme} {end : ℕ} {fault : SyntaxFault}
     → custom_in dialect ≡ Skip → IsRefused dialect tokens end fault → is_of_custom_options fault ≡ false
 no_option_fault skips (not_proto3 e n) = refl
-no_option_fault skips (would_go_on v e w g) = no_option skips g
-no_option_fault skips (wrong v e w none) = refl
+no_option_fault skips (would_go_on b v e w g) = no_option skips g
+no_option_fault skips (wrong b v e w none) = refl
 no_option_fault skips (missing v on none) = refl

@@ -1,14 +1,13 @@
 -- The grammar as steps, and a machine that takes tokens one by one by the steps that are still to come.
-use Rattle.std.proofs.Common.{◌≡◌, ℕ, zero, suc, ◌==◌, Bool, true, false, cond, ◌&&◌, ◌||◌, not, Option, Some, None}
+use Rattle.std.proofs.Common.{◌≡◌, ℕ, ◌==◌, Bool, true, false, cond, ◌&&◌, ◌||◌, Option}
 use Rattle.std.proofs.Common.{List, [], ◌∷◌, refl, sym, ◌∙◌, ap, codes}
 use Rattle.std.specs.Option.{option_map_or}
-use Rattle.proto_lex.specs.declared.span.Span.{Span}
 use Rattle.proto_lex.specs.declared.token.TokenKind.{TokenKind}
 use Rattle.proto_lex.specs.declared.token.TokenKind.TheVariants.{StringLiteral, CloseBrace}
-use Rattle.proto_lex.specs.declared.token.TokenKind.TheVariants.{OpenParenthesis, OpenBrace, Dot}
+use Rattle.proto_lex.specs.declared.token.TokenKind.TheVariants.{OpenParenthesis, OpenBrace}
 use Rattle.proto_grammar.specs.Lexeme.{Lexeme}
-use Rattle.proto_grammar.specs.Terminal.{first, first_is, of_kind, is_word, is_scalar, is_key, is_sign, is_numeral}
-use Rattle.proto_grammar.specs.Terminal.{is_number, is_group_name, is_plain_literal}
+use Rattle.proto_grammar.specs.Terminal.{first_is, of_kind, is_word, is_scalar, is_key, is_sign, is_numeral}
+use Rattle.proto_grammar.specs.Terminal.{is_number, is_group_name, is_plain_literal, is_scalar_type, is_group_word}
 use Rattle.proto_grammar.specs.Reading.Options.{depth_behind}
 pub mod Reads
 pub mod Finishing
@@ -24,6 +23,9 @@ pub data Test : Type 0 where
   OfKind : TokenKind → Test
   Word : List ℕ → Test
   Scalar : Test
+  -- these where no `.` follows: the word of a scalar type, and `group`
+  ScalarType : Test
+  GroupWord : Test
   Key : Test
   Sign : Test
   Numeral : Test
@@ -34,6 +36,8 @@ abbrev pub passes : Test → Lexeme → Bool
 passes (OfKind kind) = of_kind kind
 passes (Word word) = is_word word
 passes Scalar = is_scalar
+passes ScalarType = is_scalar_type
+passes GroupWord = is_group_word
 passes Key = is_key
 passes Sign = is_sign
 passes Numeral = is_numeral
@@ -52,7 +56,7 @@ pub data Refusal : Type 0 where
   MessageNext : Refusal
   GroupNext : Refusal
   LabelledGroupNext : Refusal
-  -- extension ranges, and scalar words that no `.` follows, where there are none
+  -- extension ranges, and scalar types, where there are none
   RangesNext : Refusal
   ScalarNext : Refusal
 
@@ -62,10 +66,10 @@ test_of CustomOptionNext = OfKind OpenParenthesis
 test_of AggregateNext = OfKind OpenBrace
 test_of ExtendNext = Word (codes "extend")
 test_of MessageNext = Word (codes "message")
-test_of GroupNext = Word (codes "group")
-test_of LabelledGroupNext = Word (codes "group")
+test_of GroupNext = GroupWord
+test_of LabelledGroupNext = GroupWord
 test_of RangesNext = Word (codes "extensions")
-test_of ScalarNext = Scalar
+test_of ScalarNext = ScalarType
 
 -- why nothing is taken
 pub data Why : Type 0 where
@@ -86,10 +90,6 @@ pub data Step : Type 0 where
   If : Test → Step → Step → Step
   -- the step, unless what is refused is next
   Ban : Refusal → Step → Step
-  -- a word that is refused unless a `.` follows, and what is behind it; or else the other step
-  Lone : Refusal → Step → Step → Step
-  -- a word, and what is behind it if no `.` follows, and if one does; or else the other step
-  Fork : Test → Step → Step → Step → Step
   -- a token that passes and what is behind it, any number of times
   Many : Test → Step → Step
   -- up to a `}`
@@ -108,25 +108,21 @@ or_next (Took k) next = Took k
 or_next Passed next = next
 or_next (Stopped why) next = Stopped why
 
--- With this token next, and with or without a `.` behind it: the steps that are left, those behind the step included.
-abbrev pub take_by : Step → List Step → Lexeme → Bool → Taken
-take_by Done k t d = Passed
-take_by (Token test) k t d = cond (passes test t) (Took k) (Stopped Misplaced)
-take_by Plain k t d =
+-- With this token next: the steps that are left, those behind the step included.
+abbrev pub take_by : Step → List Step → Lexeme → Taken
+take_by Done k t = Passed
+take_by (Token test) k t = cond (passes test t) (Took k) (Stopped Misplaced)
+take_by Plain k t =
     cond (is_plain_literal t) (Took k) (cond (of_kind StringLiteral t) (Stopped Escaped) (Stopped Misplaced))
-take_by Plains k t d =
+take_by Plains k t =
     cond (is_plain_literal t) (Took (Plains ∷ k)) (cond (of_kind StringLiteral t) (Stopped Escaped) Passed)
-take_by Never k t d = Stopped Misplaced
-take_by (Then a b) k t d = or_next (take_by a (b ∷ k) t d) (take_by b k t d)
-take_by (If test a b) k t d = cond (passes test t) (Took (a ∷ k)) (take_by b k t d)
-take_by (Ban r b) k t d = cond (passes (test_of r) t) (Stopped (Refused r)) (take_by b k t d)
-take_by (Lone r dotted b) k t d =
-    cond (passes (test_of r) t) (cond d (Took (dotted ∷ k)) (Stopped (Refused r))) (take_by b k t d)
-take_by (Fork word alone dotted b) k t d =
-    cond (passes word t) (cond d (Took (dotted ∷ k)) (Took (alone ∷ k))) (take_by b k t d)
-take_by (Many test a) k t d = cond (passes test t) (Took (a ∷ (Many test a ∷ k))) Passed
-take_by (Block a) k t d = cond (of_kind CloseBrace t) Passed (take_by a (Block a ∷ k) t d)
-take_by (Closed depth) k t d = cond (depth == 0) Passed (Took (Closed (depth_behind t depth) ∷ k))
+take_by Never k t = Stopped Misplaced
+take_by (Then a b) k t = or_next (take_by a (b ∷ k) t) (take_by b k t)
+take_by (If test a b) k t = cond (passes test t) (Took (a ∷ k)) (take_by b k t)
+take_by (Ban r b) k t = cond (passes (test_of r) t) (Stopped (Refused r)) (take_by b k t)
+take_by (Many test a) k t = cond (passes test t) (Took (a ∷ (Many test a ∷ k))) Passed
+take_by (Block a) k t = cond (of_kind CloseBrace t) Passed (take_by a (Block a ∷ k) t)
+take_by (Closed depth) k t = cond (depth == 0) Passed (Took (Closed (depth_behind t depth) ∷ k))
 
 -- whether a step may end where no token is left
 abbrev pub ended : Step → Bool
@@ -138,8 +134,6 @@ ended Never = false
 ended (Then a b) = ended a && ended b
 ended (If test a b) = ended b
 ended (Ban r b) = ended b
-ended (Lone r dotted b) = ended b
-ended (Fork word alone dotted b) = ended b
 ended (Many test a) = true
 ended (Block a) = false
 ended (Closed depth) = depth == 0
@@ -156,9 +150,6 @@ pub data Fed : Type 0 where
 
 abbrev pub is_package : Lexeme → Bool
 is_package t = is_word (codes "package") t
-
-abbrev pub dots : List Lexeme → Bool
-dots a = first_is (of_kind Dot) a
 
 -- where the tokens end
 pub data Outcome : Type 0 where
@@ -179,10 +170,10 @@ module _ (statement : Step) where
   fed_by Passed seen next = next
   fed_by (Stopped why) seen next = Halted why
 
-  abbrev pub feed : List Step → Bool → Lexeme → Bool → Fed
-  feed [] seen t d =
-      cond (seen && is_package t) SecondPackage (begun (take_by statement [] t d) (seen || is_package t))
-  feed (s ∷ k) seen t d = fed_by (take_by s k t d) seen (feed k seen t d)
+  abbrev pub feed : List Step → Bool → Lexeme → Fed
+  feed [] seen t =
+      cond (seen && is_package t) SecondPackage (begun (take_by statement [] t) (seen || is_package t))
+  feed (s ∷ k) seen t = fed_by (take_by s k t) seen (feed k seen t)
 
   abbrev pub going : Fed → (List Step → Bool → Outcome) → List Lexeme → Outcome
   going (Went k seen) next left = next k seen
@@ -192,7 +183,7 @@ module _ (statement : Step) where
   abbrev pub machine : List Lexeme → List Step → Bool → Outcome
   machine [] k seen = cond (all_ended k) (Whole seen) Missing
   machine (t ∷ rest) k seen =
-      going (feed k seen t (dots rest)) (λ next now. machine rest next now) (t ∷ rest)
+      going (feed k seen t) (λ next now. machine rest next now) (t ∷ rest)
 
   -- ---- the machine, by the first step
   pub machine_done : (l : List Lexeme) (k : List Step) (seen : Bool) → machine l (Done ∷ k) seen ≡ machine l k seen
@@ -214,8 +205,7 @@ module _ (statement : Step) where
   machine_then [] a b k seen = ap (λ e. cond e (Whole seen) Missing) (and_assoc (ended a) (ended b) (all_ended k))
   machine_then (t ∷ rest) a b k seen =
       ap (λ f. going f (λ next now. machine rest next now) (t ∷ rest))
-      (or_next_fed (take_by a (b ∷ k) t (dots rest)) (take_by b k t (dots rest)) seen
-      (feed k seen t (dots rest)))
+      (or_next_fed (take_by a (b ∷ k) t) (take_by b k t) seen (feed k seen t))
 
   pub machine_token : (test : Test) (t : Lexeme) (rest : List Lexeme) (k : List Step) (seen : Bool)
       → passes test t ≡ true → machine (t ∷ rest) (Token test ∷ k) seen ≡ machine rest k seen
@@ -242,36 +232,6 @@ module _ (statement : Step) where
       → first_is (passes (test_of r)) l ≡ false → machine l (Ban r b ∷ k) seen ≡ machine l (b ∷ k) seen
   machine_ban_false r [] b k seen off = refl
   machine_ban_false r (t ∷ rest) b k seen off = rw off refl
-
-  pub machine_lone_false : (r : Refusal) (l : List Lexeme) (dotted b : Step) (k : List Step) (seen : Bool)
-      → first_is (passes (test_of r)) l ≡ false → machine l (Lone r dotted b ∷ k) seen ≡ machine l (b ∷ k) seen
-  machine_lone_false r [] dotted b k seen off = refl
-  machine_lone_false r (t ∷ rest) dotted b k seen off = rw off refl
-
-  pub machine_lone_dotted : (r : Refusal) (t : Lexeme) (rest : List Lexeme) (dotted b : Step) (k : List Step)
-      (seen : Bool) → passes (test_of r) t ≡ true → dots rest ≡ true
-      → machine (t ∷ rest) (Lone r dotted b ∷ k) seen ≡ machine rest (dotted ∷ k) seen
-  machine_lone_dotted r t rest dotted b k seen is dot = rw (is, dot) refl
-
-  pub machine_lone_alone : (r : Refusal) (t : Lexeme) (rest : List Lexeme) (dotted b : Step) (k : List Step)
-      (seen : Bool) → passes (test_of r) t ≡ true → dots rest ≡ false
-      → machine (t ∷ rest) (Lone r dotted b ∷ k) seen ≡ Stuck (Refused r) (t ∷ rest)
-  machine_lone_alone r t rest dotted b k seen is dot = rw (is, dot) refl
-
-  pub machine_fork_false : (word : Test) (l : List Lexeme) (alone dotted b : Step) (k : List Step) (seen : Bool)
-      → first_is (passes word) l ≡ false → machine l (Fork word alone dotted b ∷ k) seen ≡ machine l (b ∷ k) seen
-  machine_fork_false word [] alone dotted b k seen off = refl
-  machine_fork_false word (t ∷ rest) alone dotted b k seen off = rw off refl
-
-  pub machine_fork_dotted : (word : Test) (t : Lexeme) (rest : List Lexeme) (alone dotted b : Step) (k : List Step)
-      (seen : Bool) → passes word t ≡ true → dots rest ≡ true
-      → machine (t ∷ rest) (Fork word alone dotted b ∷ k) seen ≡ machine rest (dotted ∷ k) seen
-  machine_fork_dotted word t rest alone dotted b k seen is dot = rw (is, dot) refl
-
-  pub machine_fork_alone : (word : Test) (t : Lexeme) (rest : List Lexeme) (alone dotted b : Step) (k : List Step)
-      (seen : Bool) → passes word t ≡ true → dots rest ≡ false
-      → machine (t ∷ rest) (Fork word alone dotted b ∷ k) seen ≡ machine rest (alone ∷ k) seen
-  machine_fork_alone word t rest alone dotted b k seen is dot = rw (is, dot) refl
 
   pub machine_many_true : (test : Test) (t : Lexeme) (rest : List Lexeme) (a : Step) (k : List Step) (seen : Bool)
       → passes test t ≡ true
@@ -304,7 +264,7 @@ module _ (statement : Step) where
   machine_block_false [] a k seen off = ap (λ e. cond e (Whole seen) Missing) (sym (no_block (ended a) (all_ended k)))
   machine_block_false (t ∷ rest) a k seen off =
       rw off (ap (λ f. going f (λ next now. machine rest next now) (t ∷ rest))
-      (sym (block_fed (take_by a (Block a ∷ k) t (dots rest)) seen (feed k seen t (dots rest)))))
+      (sym (block_fed (take_by a (Block a ∷ k) t) seen (feed k seen t))))
 
   pub machine_closed : (l : List Lexeme) (k : List Step) (seen : Bool)
       → machine l (Closed 0 ∷ k) seen ≡ machine l k seen

@@ -1,6 +1,5 @@
 -- The grammar as steps of the machine, production by production.
-use Rattle.std.proofs.Common.{ℕ, zero, suc, Bool, true, false, Option, Some, None, List, [], ◌∷◌, codes}
-use Rattle.proto_lex.specs.declared.token.TokenKind.{TokenKind}
+use Rattle.std.proofs.Common.{ℕ, zero, suc, Bool, true, false, Option, Some, None, [], ◌∷◌, codes}
 use Rattle.proto_lex.specs.declared.token.TokenKind.TheVariants.{Identifier, Integer, StringLiteral, Semicolon, Equals}
 use Rattle.proto_lex.specs.declared.token.TokenKind.TheVariants.{OpenBrace, CloseBrace, OpenBracket, CloseBracket}
 use Rattle.proto_lex.specs.declared.token.TokenKind.TheVariants.{OpenParenthesis, CloseParenthesis, Less, Greater}
@@ -11,11 +10,12 @@ use Rattle.proto_grammar.specs.declared.dialect.Syntax.{Syntax}
 use Rattle.proto_grammar.specs.declared.dialect.Syntax.TheVariants.{Proto3, Extended, Proto2}
 use Rattle.proto_grammar.specs.Syntax.{custom_of}
 use Rattle.proto_parse.proofs.RefusedMachine.{Refusal, Step}
-use Rattle.proto_parse.proofs.RefusedMachine.Test.{OfKind, Word, Scalar, Key, Sign, Numeral, Number, GroupName}
+use Rattle.proto_parse.proofs.RefusedMachine.Test.{OfKind, Word, ScalarType, GroupWord, Key, Sign, Numeral}
+use Rattle.proto_parse.proofs.RefusedMachine.Test.{Number, GroupName}
 use Rattle.proto_parse.proofs.RefusedMachine.Refusal.{CustomOptionNext, AggregateNext, ExtendNext, MessageNext}
 use Rattle.proto_parse.proofs.RefusedMachine.Refusal.{GroupNext}
 use Rattle.proto_parse.proofs.RefusedMachine.Refusal.{LabelledGroupNext, RangesNext, ScalarNext}
-use Rattle.proto_parse.proofs.RefusedMachine.Step.{Done, Token, Plain, Plains, Never, Then, If, Ban, Lone, Fork, Many}
+use Rattle.proto_parse.proofs.RefusedMachine.Step.{Done, Token, Plain, Plains, Never, Then, If, Ban, Many}
 use Rattle.proto_parse.proofs.RefusedMachine.Step.{Block}
 use Rattle.proto_parse.proofs.RefusedMachine.Step.{Closed}
 pub mod Fitting
@@ -42,7 +42,10 @@ abbrev pub type_name_step : Step
 type_name_step = Then (If (OfKind Dot) Done Done) name_step
 
 abbrev pub named_type_step : Step
-named_type_step = Lone ScalarNext dot_names type_name_step
+named_type_step = Ban ScalarNext type_name_step
+
+abbrev pub type_step : Step
+type_step = If ScalarType Done type_name_step
 
 -- ---- options
 
@@ -93,7 +96,7 @@ numbered_step custom =
     (Then (options_step custom) (Token (OfKind Semicolon)))))
 
 abbrev pub typed_step : CustomOptions → Step
-typed_step custom = Then type_name_step (numbered_step custom)
+typed_step custom = Then type_step (numbered_step custom)
 
 -- a field behind the first word of its type
 abbrev pub typed_rest : CustomOptions → Step
@@ -117,7 +120,7 @@ group_rest =
 -- behind `map <`
 abbrev pub map_rest : CustomOptions → Step
 map_rest custom =
-    Then (Token Key) (Then (Token (OfKind Comma)) (Then type_name_step (Then (Token (OfKind Greater))
+    Then (Token Key) (Then (Token (OfKind Comma)) (Then type_step (Then (Token (OfKind Greater))
     (numbered_step custom))))
 
 -- ---- reserved statements and extension ranges
@@ -167,8 +170,8 @@ enum_rest custom = Then heading_rest (block (enum_item_step custom))
 -- ---- messages, groups, oneofs and extends; `inner` is what is behind a message's `{`, if a level is left for it
 
 abbrev pub group_or : Refusal → Option Step → Step
-group_or r None = Lone r (typed_rest Skip) (typed_step Skip)
-group_or r (Some inner) = Fork (Word (codes "group")) (Then group_rest inner) (typed_rest Skip) (typed_step Skip)
+group_or r None = Ban r (typed_step Skip)
+group_or r (Some inner) = If GroupWord (Then group_rest inner) (typed_step Skip)
 
 abbrev pub labelled_step : Refusal → Syntax → Option Step → Step
 labelled_step r (Proto3 custom) inner = typed_step custom

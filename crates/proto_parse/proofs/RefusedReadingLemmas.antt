@@ -74,12 +74,12 @@ module _ (dialect : Dialect) (end : ℕ) (k : Lexeme) (ke : is_word (codes "synt
   word_refused : (l : List Lexeme) → first_is (of_kind Equals) l ≡ false
       → IsRefused dialect (k ∷ l) end (variant.Grammar (offset_at (place_of end l)))
   word_refused [] differs =
-      cut_missing dialect (k ∷ []) (equals_sign ∷ (proto3_literal ∷ (end_sign ∷ []))) refl
+      cut_missing dialect (k ∷ []) (equals_sign ∷ (proto3_literal ∷ (end_sign ∷ [])))
       (word_finished k ke dialect) end
       (word_stops k ke)
       (only_other k ke dialect [] (λ q a b text e is literal spelled x y. let never : [] ≡ q ∷ a = e in cc))
   word_refused (t ∷ l) differs =
-      cut_wrong dialect (k ∷ []) (equals_sign ∷ (proto3_literal ∷ (end_sign ∷ []))) refl (word_finished k ke dialect)
+      cut_wrong dialect (k ∷ []) (equals_sign ∷ (proto3_literal ∷ (end_sign ∷ []))) (word_finished k ke dialect)
       t l end
       (word_stops k ke) (word_stops_at k ke t differs)
       (λ u is plain c. word_stops_at k ke u
@@ -107,11 +107,11 @@ module _ (dialect : Dialect) (end : ℕ) (k : Lexeme) (ke : is_word (codes "synt
     equals_refused : (l : List Lexeme) → first_is (of_kind StringLiteral) l ≡ false
         → IsRefused dialect (k ∷ (q ∷ l)) end (variant.Grammar (offset_at (place_of end l)))
     equals_refused [] differs =
-        cut_missing dialect (k ∷ (q ∷ [])) (proto3_literal ∷ (end_sign ∷ [])) refl
+        cut_missing dialect (k ∷ (q ∷ [])) (proto3_literal ∷ (end_sign ∷ []))
         (equals_finished k ke q qe dialect) end
         (equals_stops k ke q qe) (equals_named [] differs)
     equals_refused (t ∷ l) differs =
-        cut_wrong dialect (k ∷ (q ∷ [])) (proto3_literal ∷ (end_sign ∷ [])) refl (equals_finished k ke q qe dialect)
+        cut_wrong dialect (k ∷ (q ∷ [])) (proto3_literal ∷ (end_sign ∷ [])) (equals_finished k ke q qe dialect)
         t l end
         (equals_stops k ke q qe) (equals_stops_at k ke q qe t differs)
         (λ u is plain c. absurd (let never : true ≡ false = sym is ∙ differs in cc)) (equals_named (t ∷ l) differs)
@@ -189,7 +189,7 @@ module _ (dialect : Dialect) (end : ℕ) (k : Lexeme) (ke : is_word (codes "synt
       literals_by lits [] whole past spelled differs =
           let bare : l ≡ lits = whole ∙ append-nil lits in
           subst (λ a. IsRefused dialect (k ∷ (q ∷ a)) end (variant.Grammar end)) (sym bare)
-          (cut_missing dialect (k ∷ (q ∷ lits)) (end_sign ∷ []) refl (literals_finished lits spelled) end
+          (cut_missing dialect (k ∷ (q ∷ lits)) (end_sign ∷ []) (literals_finished lits spelled) end
           (λ other. subst (λ a. Stopped other a) (append-nil lits)
           (literals_stop lits [] [] whole past spelled refl refl other))
           (subst (λ a. NamesAVersion dialect (k ∷ (q ∷ a))) bare literals_named))
@@ -198,7 +198,7 @@ module _ (dialect : Dialect) (end : ℕ) (k : Lexeme) (ke : is_word (codes "synt
           Stopped other a = (x : SyntaxFault) × (syntax_at other (place_of 0 (k ∷ (q ∷ a))) ≡ Err x)
       literals_by lits (t ∷ b) whole past spelled differs =
           subst (λ a. IsRefused dialect (k ∷ (q ∷ a)) end (variant.Grammar t.span.start)) (sym whole)
-          (cut_wrong dialect (k ∷ (q ∷ lits)) (end_sign ∷ []) refl (literals_finished lits spelled) t b end
+          (cut_wrong dialect (k ∷ (q ∷ lits)) (end_sign ∷ []) (literals_finished lits spelled) t b end
           (λ other. subst (λ a. Stopped other a) (append-nil lits)
           (literals_stop lits (t ∷ b) [] whole past spelled refl refl other))
           (λ c. literals_stop lits (t ∷ b) (t ∷ c) whole past spelled past differs)

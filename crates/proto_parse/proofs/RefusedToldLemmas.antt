@@ -4,8 +4,7 @@ use Rattle.std.proofs.Common.{None, List, [], ◌∷◌, ◌++◌, refl, sym, �
 use Rattle.std.proofs.Common.{append_assoc}
 use Rattle.std.proofs.lemmas.List.{append-nil, append_cancel_right}
 use Rattle.std.proofs.lemmas.Bool.{and_parts}
-use Rattle.proto_lex.specs.declared.token.TokenKind.TheVariants.{Identifier, StringLiteral, Dot, OpenBrace}
-use Rattle.proto_lex.specs.declared.token.TokenKind.TheVariants.{OpenParenthesis}
+use Rattle.proto_lex.specs.declared.token.TokenKind.TheVariants.{StringLiteral}
 use Rattle.proto_grammar.specs.declared.fault.SyntaxFault.{SyntaxFault}
 use Rattle.proto_grammar.specs.declared.fault.SyntaxFault.TheVariants as variant
 use Rattle.proto_grammar.specs.declared.dialect.CustomOptions.TheVariants.{Refuse, Skip}
@@ -16,7 +15,7 @@ use Rattle.proto_grammar.specs.declared.dialect.Syntax.TheVariants as grammar
 use Rattle.proto_grammar.specs.declared.tree.File.{File}
 use Rattle.proto_grammar.specs.Lexeme.{Lexeme, place_of}
 use Rattle.proto_grammar.specs.Terminal.{of_kind, is_word, is_plain_literal, offset_at}
-use Rattle.proto_grammar.proofs.TerminalTokenLemmas.{word_kind, other_kind, kind_no_word}
+use Rattle.proto_grammar.proofs.TerminalTokenLemmas.{word_kind, kind_no_word}
 use Rattle.proto_parse.specs.Limits.{max_message_depth}
 use Rattle.proto_parse.specs.Faults.{is_of_custom_options}
 use Rattle.proto_parse.specs.Grammar.Files.{IsFile}
@@ -24,7 +23,7 @@ use Rattle.proto_parse.specs.Refused.{GoesOn, IsWrong, WouldGoOn, IsRefused, gro
 use Rattle.proto_parse.specs.Refused.WouldGoOn.{custom_option, aggregate, extend, two_packages, import_escape, too_deep}
 use Rattle.proto_parse.specs.Refused.WouldGoOn.{group_too_deep}
 use Rattle.proto_parse.specs.Refused.IsRefused.{would_go_on, wrong, missing}
-use Rattle.proto_parse.proofs.RefusedMachine.{Refusal, Why, Step, Outcome, test_of, passes, machine, feed, dots}
+use Rattle.proto_parse.proofs.RefusedMachine.{Refusal, Why, Step, Outcome, test_of, passes, machine, feed}
 use Rattle.proto_parse.proofs.RefusedMachine.{all_ended}
 use Rattle.proto_parse.proofs.RefusedMachine.Refusal.{CustomOptionNext, AggregateNext, ExtendNext, MessageNext}
 use Rattle.proto_parse.proofs.RefusedMachine.Refusal.{GroupNext}
@@ -32,10 +31,9 @@ use Rattle.proto_parse.proofs.RefusedMachine.Refusal.{LabelledGroupNext, RangesN
 use Rattle.proto_parse.proofs.RefusedMachine.Why.{Misplaced, Escaped, Refused}
 use Rattle.proto_parse.proofs.RefusedMachine.Outcome.{Whole, Missing, Stuck, Twice}
 use Rattle.proto_parse.proofs.RefusedMachine.Fed.{Halted, SecondPackage}
-use Rattle.proto_parse.proofs.RefusedMachine.Finishing.{finish, finish_undotted, machine_finish, sign_of}
+use Rattle.proto_parse.proofs.RefusedMachine.Finishing.{finish, machine_finish, sign_of}
 use Rattle.proto_parse.proofs.RefusedMachine.Reads.{Reads, StopsAt, reads_machine, reads_fits, stuck_at, twice_at}
 use Rattle.proto_parse.proofs.RefusedMachine.Reads.{ends_at}
-use Rattle.proto_parse.proofs.RefusedMachine.Reads.{halts_so}
 use Rattle.proto_parse.proofs.RefusedMachine.Wide.{opens_why, reads_wide, halts_wide, opens_wide}
 use Rattle.proto_parse.proofs.RefusedMachine.Wide.AllWide.{none as none_wide}
 use Rattle.proto_parse.proofs.RefusedMachine.Swapped.{FedSwaps, feed_swaps, halts_at, second_at}
@@ -43,12 +41,10 @@ use Rattle.proto_parse.proofs.RefusedMachine.Package.{second_ended, ended_second
 use Rattle.proto_parse.proofs.RefusedMachine.Tells.{Tells, Says}
 use Rattle.proto_parse.proofs.RefusedParts.{statement_step}
 use Rattle.proto_parse.proofs.RefusedParts.Sitting.{fit_statement}
-use Rattle.proto_parse.proofs.RefusedParts.Names.{scalar_word}
 use Rattle.proto_parse.proofs.RefusedParts.Wider.{of_options, of_levels, options_wide, levels_wide}
 use Rattle.proto_parse.proofs.RefusedFrontLemmas.{Front, Allows, allows_short, allows_all, ended_whole, swapped_same}
 use Rattle.proto_parse.proofs.RefusedFrontLemmas.{group_alone}
 use Rattle.proto_parse.proofs.RefusedFrontLemmas.{group_labelled, last_front, front_quiet, tokens_are, allowed}
-use Rattle.proto_parse.proofs.RefusedFrontLemmas.{no_dot_reads}
 use Rattle.proto_parse.proofs.RefusedFrontLemmas.{next_fits, is_wrong, goes_with, stops_with, machine_file}
 use Rattle.proto_parse.proofs.RefusedFrontLemmas.{file_machine, goes_on}
 
@@ -75,19 +71,6 @@ refuses_or_not All = inr all_differs
 
 -- ---- the reasons
 
-abbrev NotDotted : Lexeme → Type 0
-NotDotted t = of_kind Dot t ≡ false
-
-refused_no_dot : (r : Refusal) (t : Lexeme) → passes (test_of r) t ≡ true → NotDotted t
-refused_no_dot CustomOptionNext t is = other_kind OpenParenthesis Dot t refl is
-refused_no_dot AggregateNext t is = other_kind OpenBrace Dot t refl is
-refused_no_dot ExtendNext t is = other_kind Identifier Dot t refl (word_kind (codes "extend") t is)
-refused_no_dot MessageNext t is = other_kind Identifier Dot t refl (word_kind (codes "message") t is)
-refused_no_dot GroupNext t is = other_kind Identifier Dot t refl (word_kind (codes "group") t is)
-refused_no_dot LabelledGroupNext t is = other_kind Identifier Dot t refl (word_kind (codes "group") t is)
-refused_no_dot RangesNext t is = other_kind Identifier Dot t refl (word_kind (codes "extensions") t is)
-refused_no_dot ScalarNext t is = other_kind Identifier Dot t refl (scalar_word t is)
-
 -- what is in front of a stop, with a reason
 module _ (dialect : Dialect) (syntax : Syntax) (start l left : List Lexeme) (end : ℕ)
     (f : Front dialect syntax start l) (why : Why)
@@ -99,78 +82,54 @@ module _ (dialect : Dialect) (syntax : Syntax) (start l left : List Lexeme) (end
   ahead = start ++ s.front
 
   abbrev Placed : SyntaxFault → Type 0
-  Placed x = WouldGoOn dialect ahead s.token s.behind x
-
-  fits_now : Reads step [] false s.front false s.next s.now
-  fits_now = no_dot_reads dialect syntax start l left end f (Halted why) tt s
-
-  halts_undotted : feed step s.next s.now s.token false ≡ Halted why
-  halts_undotted = halts_so step s.next s.now s.token (dots s.behind) false (Halted why) tt s.halts (λ e. refl)
+  Placed x = WouldGoOn dialect ahead s.token x
 
   allowed_now : (c : List Lexeme) → Allows start (s.front ++ s.token ∷ c)
   allowed_now = allowed dialect syntax start l left end f (Halted why) tt s
 
   -- if more levels were left
-  levels_go : opens_why of_levels why ≡ true → NotDotted s.token
-      → GoesOn (suc max_message_depth) dialect (ahead ++ s.token ∷ []) s.behind
-  levels_go opens no_dot =
-      let w = reads_wide (levels_wide max_message_depth syntax) none_wide fits_now in
-      let o = opens_wide s.now s.token false why (levels_wide max_message_depth syntax) w.2 opens halts_undotted in
+  levels_go : opens_why of_levels why ≡ true → GoesOn (suc max_message_depth) dialect (ahead ++ s.token ∷ [])
+  levels_go opens =
+      let w = reads_wide (levels_wide max_message_depth syntax) none_wide s.reads in
+      let o = opens_wide s.now s.token why (levels_wide max_message_depth syntax) w.2 opens s.halts in
       goes_with dialect syntax start l left end f (Halted why) tt s (suc max_message_depth) dialect syntax f.opens
-      s.token
-      allowed_now no_dot o.0 w.0 o.1 w.1 o.2
+      s.token allowed_now o.0 w.0 o.1 w.1 o.2
 
-  levels_stop : opens_why of_levels why ≡ false
-      → GoesOn (suc max_message_depth) dialect (ahead ++ s.token ∷ []) s.behind → ⊥
+  levels_stop : opens_why of_levels why ≡ false → GoesOn (suc max_message_depth) dialect (ahead ++ s.token ∷ []) → ⊥
   levels_stop shut =
       let w = reads_wide (levels_wide max_message_depth syntax) none_wide s.reads in
       stops_with dialect syntax start l left end f (Halted why) tt s (suc max_message_depth) dialect syntax f.opens
-      s.token allowed_now refl w.0 (Halted why) tt w.1
-      (halts_wide s.now s.token (dots s.behind) why (levels_wide max_message_depth syntax) w.2 shut s.halts)
+      s.token allowed_now w.0 (Halted why) tt w.1
+      (halts_wide s.now s.token why (levels_wide max_message_depth syntax) w.2 shut s.halts)
 
   -- if custom options were read past
-  options_go : (only : dialect ≡ Proto3 Refuse) → opens_why of_options why ≡ true → NotDotted s.token
-      → GoesOn max_message_depth (Proto3 Skip) (ahead ++ s.token ∷ []) s.behind
-  options_go only opens no_dot =
-      let skips = f.skips only in
-      let reads : Reads (statement_step max_message_depth (grammar.Proto3 Refuse)) [] false s.front false s.next s.now =
-      subst (λ x. Reads (statement_step max_message_depth x) [] false s.front false s.next s.now) skips.0 fits_now in
-      let halts : feed (statement_step max_message_depth (grammar.Proto3 Refuse)) s.next s.now s.token false
-      ≡ Halted why =
-      subst (λ x. feed (statement_step max_message_depth x) s.next s.now s.token false ≡ Halted why) skips.0
-      halts_undotted in
-      let w = reads_wide (options_wide max_message_depth) none_wide reads in
-      let o = opens_wide s.now s.token false why (options_wide max_message_depth) w.2 opens halts in
+  refuse_reads : dialect ≡ Proto3 Refuse
+      → Reads (statement_step max_message_depth (grammar.Proto3 Refuse)) [] false s.front s.next s.now
+  refuse_reads only =
+      subst (λ x. Reads (statement_step max_message_depth x) [] false s.front s.next s.now) (f.skips only).0 s.reads
+
+  refuse_halts : dialect ≡ Proto3 Refuse
+      → feed (statement_step max_message_depth (grammar.Proto3 Refuse)) s.next s.now s.token ≡ Halted why
+  refuse_halts only =
+      subst (λ x. feed (statement_step max_message_depth x) s.next s.now s.token ≡ Halted why) (f.skips only).0 s.halts
+
+  options_go : (only : dialect ≡ Proto3 Refuse) → opens_why of_options why ≡ true
+      → GoesOn max_message_depth (Proto3 Skip) (ahead ++ s.token ∷ [])
+  options_go only opens =
+      let w = reads_wide (options_wide max_message_depth) none_wide (refuse_reads only) in
+      let o = opens_wide s.now s.token why (options_wide max_message_depth) w.2 opens (refuse_halts only) in
       goes_with dialect syntax start l left end f (Halted why) tt s max_message_depth (Proto3 Skip)
-      (grammar.Proto3 Skip)
-      skips.1 s.token allowed_now no_dot o.0 w.0 o.1 w.1 o.2
+      (grammar.Proto3 Skip) (f.skips only).1 s.token allowed_now o.0 w.0 o.1 w.1 o.2
 
   options_stop : (only : dialect ≡ Proto3 Refuse) → opens_why of_options why ≡ false
-      → GoesOn max_message_depth (Proto3 Skip) (ahead ++ s.token ∷ []) s.behind → ⊥
+      → GoesOn max_message_depth (Proto3 Skip) (ahead ++ s.token ∷ []) → ⊥
   options_stop only shut =
-      let skips = f.skips only in
-      let reads : Reads (statement_step max_message_depth (grammar.Proto3 Refuse)) [] false s.front
-      (of_kind Dot s.token)
-      s.next s.now =
-      subst (λ x. Reads (statement_step max_message_depth x) [] false s.front (of_kind Dot s.token) s.next s.now)
-      skips.0
-      s.reads in
-      let halts : feed (statement_step max_message_depth (grammar.Proto3 Refuse)) s.next s.now s.token (dots s.behind)
-      ≡ Halted why =
-      subst (λ x. feed (statement_step max_message_depth x) s.next s.now s.token (dots s.behind) ≡ Halted why) skips.0
-      s.halts in
-      let w = reads_wide (options_wide max_message_depth) none_wide reads in
+      let w = reads_wide (options_wide max_message_depth) none_wide (refuse_reads only) in
       stops_with dialect syntax start l left end f (Halted why) tt s max_message_depth (Proto3 Skip)
-      (grammar.Proto3 Skip) skips.1 s.token allowed_now refl w.0 (Halted why) tt w.1
-      (halts_wide s.now s.token (dots s.behind) why (options_wide max_message_depth) w.2 shut halts)
+      (grammar.Proto3 Skip) (f.skips only).1 s.token allowed_now w.0 (Halted why) tt w.1
+      (halts_wide s.now s.token why (options_wide max_message_depth) w.2 shut (refuse_halts only))
 
   -- if a literal without a `\` were there
-  literal_dot : (t u : Lexeme) → of_kind StringLiteral t ≡ true → is_plain_literal u ≡ true
-      → of_kind Dot u ≡ of_kind Dot t
-  literal_dot t u is plain =
-      other_kind StringLiteral Dot u refl (and_parts (of_kind StringLiteral u) _ plain).0
-      ∙ sym (other_kind StringLiteral Dot t refl is)
-
   literal_allowed : (u : Lexeme) → is_plain_literal u ≡ true → (c : List Lexeme) → Allows start (s.front ++ u ∷ c)
   literal_allowed u plain c = by_front start s.front allowed_now
     where
@@ -190,18 +149,18 @@ module _ (dialect : Dialect) (syntax : Syntax) (start l left : List Lexeme) (end
   whole_tokens : start ++ l ≡ ahead ++ s.token ∷ s.behind
   whole_tokens = tokens_are dialect syntax start l left end f (Halted why) tt s
 
-  wrong_here : IsWrong dialect ahead s.token s.behind
+  wrong_here : IsWrong dialect ahead s.token
   wrong_here = is_wrong dialect syntax start l left end f (Halted why) tt s
 
   at_token : offset_at (place_of end left) ≡ s.token.span.start
   at_token = ap (λ a. offset_at (place_of end a)) s.rest
 
-  would : (x : SyntaxFault) → WouldGoOn dialect ahead s.token s.behind x → IsRefused dialect (start ++ l) end x
-  would x w = would_go_on f.named whole_tokens wrong_here w
+  would : (x : SyntaxFault) → WouldGoOn dialect ahead s.token x → IsRefused dialect (start ++ l) end x
+  would x w = would_go_on s.behind f.named whole_tokens wrong_here w
 
   -- with the offset that is told
   would_at : (make : ℕ → SyntaxFault) (x : SyntaxFault) → x ≡ make (offset_at (place_of end left))
-      → WouldGoOn dialect ahead s.token s.behind (make s.token.span.start) → IsRefused dialect (start ++ l) end x
+      → WouldGoOn dialect ahead s.token (make s.token.span.start) → IsRefused dialect (start ++ l) end x
   would_at make x e w =
       subst (λ y. IsRefused dialect (start ++ l) end y) (sym (e ∙ ap make at_token)) (would (make s.token.span.start) w)
 
@@ -213,25 +172,25 @@ module _ (dialect : Dialect) (syntax : Syntax) (start l left : List Lexeme) (end
       file_machine max_message_depth dialect syntax start f.opens s.front tree
       (allows_short start s.front s.token s.behind (allowed_now s.behind)) is_file ∙ ap Whole some in
       let reached : machine step s.front [] false ≡ cond (all_ended s.next) (Whole s.now) Missing =
-      ap (λ a. machine step a [] false) (sym (append-nil s.front)) ∙ reads_machine fits_now [] refl in
+      ap (λ a. machine step a [] false) (sym (append-nil s.front)) ∙ reads_machine s.reads [] in
       let both = ended_whole (all_ended s.next) s.now (sym reached ∙ read) in
-      ended_second step s.next s.now s.token (dots s.behind) why
-      (reads_fits (fit_statement max_message_depth syntax None) fits_now tt) is both.0 both.1 s.halts
+      ended_second step s.next s.now s.token why
+      (reads_fits (fit_statement max_message_depth syntax None) s.reads tt) is both.0 both.1 s.halts
 
   -- another literal would be told, too
   literal_stop : (why ≡ Escaped → ⊥) → (u : Lexeme) → of_kind StringLiteral s.token ≡ true → is_plain_literal u ≡ true
-      → GoesOn max_message_depth dialect (ahead ++ u ∷ []) s.behind → ⊥
+      → GoesOn max_message_depth dialect (ahead ++ u ∷ []) → ⊥
   literal_stop other u is plain g =
-      let swaps : FedSwaps (Halted why) (feed step s.next s.now u (dots s.behind)) =
-      subst (λ x. FedSwaps x (feed step s.next s.now u (dots s.behind))) s.halts
-      (feed_swaps step s.next s.now s.token u (dots s.behind) is plain) in
+      let swaps : FedSwaps (Halted why) (feed step s.next s.now u) =
+      subst (λ x. FedSwaps x (feed step s.next s.now u)) s.halts
+      (feed_swaps step s.next s.now s.token u is plain) in
       stops_with dialect syntax start l left end f (Halted why) tt s max_message_depth dialect syntax f.opens u
-      (literal_allowed u plain) (literal_dot s.token u is plain) s.next (Halted why) tt s.reads
-      (swapped_same why (feed step s.next s.now u (dots s.behind)) other swaps) g
+      (literal_allowed u plain) s.next (Halted why) tt s.reads
+      (swapped_same why (feed step s.next s.now u) other swaps) g
 
   none_would : (why ≡ Escaped → ⊥) → (dialect ≡ Proto3 Refuse → opens_why of_options why ≡ false)
       → opens_why of_levels why ≡ false
-      → (x : SyntaxFault) → WouldGoOn dialect ahead s.token s.behind x → ⊥
+      → (x : SyntaxFault) → WouldGoOn dialect ahead s.token x → ⊥
   none_would other options levels x (custom_option only is g) = options_stop only (options only) g
   none_would other options levels x (aggregate only is g) = options_stop only (options only) g
   none_would other options levels x (extend only is g) = options_stop only (options only) g
@@ -245,7 +204,7 @@ module _ (dialect : Dialect) (syntax : Syntax) (start l left : List Lexeme) (end
       → (x : SyntaxFault) → x ≡ variant.Grammar (offset_at (place_of end left)) → IsRefused dialect (start ++ l) end x
   no_other other options levels x e =
       subst (λ y. IsRefused dialect (start ++ l) end y) (sym (e ∙ ap variant.Grammar at_token))
-      (wrong f.named whole_tokens wrong_here (none_would other options levels))
+      (wrong s.behind f.named whole_tokens wrong_here (none_would other options levels))
 
 -- ---- by the reason
 
@@ -261,35 +220,39 @@ module _ (dialect : Dialect) (syntax : Syntax) (start l left : List Lexeme) (end
       → IsRefused dialect (start ++ l) end x
   escape_refused s x e =
       let at : (of_kind StringLiteral s.token ≡ true) × (is_plain_literal s.token ≡ false) =
-      halts_at (statement_step max_message_depth syntax) s.next s.now s.token (dots s.behind) Escaped s.halts in
+      halts_at (statement_step max_message_depth syntax) s.next s.now s.token Escaped s.halts in
       let swaps : FedSwaps (Halted Escaped)
-      (feed (statement_step max_message_depth syntax) s.next s.now (sign_of StringLiteral) false) =
-      subst
-      (λ y. FedSwaps y (feed (statement_step max_message_depth syntax) s.next s.now (sign_of StringLiteral) false))
-      (halts_undotted dialect syntax start l left end f Escaped s)
-      (feed_swaps (statement_step max_message_depth syntax) s.next s.now s.token (sign_of StringLiteral) false at.0
-      refl)
+      (feed (statement_step max_message_depth syntax) s.next s.now (sign_of StringLiteral)) =
+      subst (λ y. FedSwaps y (feed (statement_step max_message_depth syntax) s.next s.now (sign_of StringLiteral)))
+      s.halts
+      (feed_swaps (statement_step max_message_depth syntax) s.next s.now s.token (sign_of StringLiteral) at.0 refl)
       in
       would_at dialect syntax start l left end f Escaped s variant.ImportEscape x e
       (import_escape (sign_of StringLiteral) at.0 at.1 refl
       (goes_with dialect syntax start l left end f (Halted Escaped) tt s max_message_depth dialect syntax f.opens
       (sign_of StringLiteral) (literal_allowed dialect syntax start l left end f Escaped s (sign_of StringLiteral) refl)
-      refl swaps.0 s.next swaps.1 (fits_now dialect syntax start l left end f Escaped s) swaps.2))
+      swaps.0 s.next swaps.1 s.reads swaps.2))
 
   -- the token that is refused
   refused_at : (r : Refusal) (s : At (Refused r)) → passes (test_of r) s.token ≡ true
   refused_at r s =
-      halts_at (statement_step max_message_depth syntax) s.next s.now s.token (dots s.behind) (Refused r) s.halts
+      halts_at (statement_step max_message_depth syntax) s.next s.now s.token (Refused r) s.halts
 
   options_refused : (r : Refusal) → of_options r ≡ true → (s : At (Refused r)) → dialect ≡ Proto3 Refuse
-      → GoesOn max_message_depth (Proto3 Skip) ((start ++ s.front) ++ s.token ∷ []) s.behind
+      → GoesOn max_message_depth (Proto3 Skip) ((start ++ s.front) ++ s.token ∷ [])
   options_refused r opens s only =
-      options_go dialect syntax start l left end f (Refused r) s only opens (refused_no_dot r s.token (refused_at r s))
+      options_go dialect syntax start l left end f (Refused r) s only opens
 
   levels_refused : (r : Refusal) → of_levels r ≡ true → (s : At (Refused r))
-      → GoesOn (suc max_message_depth) dialect ((start ++ s.front) ++ s.token ∷ []) s.behind
-  levels_refused r opens s =
-      levels_go dialect syntax start l left end f (Refused r) s opens (refused_no_dot r s.token (refused_at r s))
+      → GoesOn (suc max_message_depth) dialect ((start ++ s.front) ++ s.token ∷ [])
+  levels_refused r opens s = levels_go dialect syntax start l left end f (Refused r) s opens
+
+  -- the word of a group
+  group_at : (s : At (Refused GroupNext)) → is_word (codes "group") s.token ≡ true
+  group_at s = (and_parts (is_word (codes "group") s.token) _ (refused_at GroupNext s)).0
+
+  labelled_at : (s : At (Refused LabelledGroupNext)) → is_word (codes "group") s.token ≡ true
+  labelled_at s = (and_parts (is_word (codes "group") s.token) _ (refused_at LabelledGroupNext s)).0
 
   labelled_refused : (s : At (Refused LabelledGroupNext)) (front : List Lexeme) → l ≡ front ++ left
       → (x : SyntaxFault) → Says (Refused LabelledGroupNext) front left end x → IsRefused dialect (start ++ l) end x
@@ -305,7 +268,7 @@ module _ (dialect : Dialect) (syntax : Syntax) (start l left : List Lexeme) (end
       subst (λ y. IsRefused dialect (start ++ l) end y) (sym told)
       (would dialect syntax start l left end f (Refused LabelledGroupNext) s
       (variant.TooDeep (group_start (start ++ s.front) s.token))
-      (group_too_deep (refused_at LabelledGroupNext s) (levels_refused LabelledGroupNext refl s)))
+      (group_too_deep (labelled_at s) (levels_refused LabelledGroupNext refl s)))
 
   group_refused : (s : At (Refused GroupNext)) → (x : SyntaxFault)
       → x ≡ variant.TooDeep (offset_at (place_of end left)) → IsRefused dialect (start ++ l) end x
@@ -318,7 +281,7 @@ module _ (dialect : Dialect) (syntax : Syntax) (start l left : List Lexeme) (end
       subst (λ y. IsRefused dialect (start ++ l) end y) (sym told)
       (would dialect syntax start l left end f (Refused GroupNext) s
       (variant.TooDeep (group_start (start ++ s.front) s.token))
-      (group_too_deep (refused_at GroupNext s) (levels_refused GroupNext refl s)))
+      (group_too_deep (group_at s) (levels_refused GroupNext refl s)))
 
   -- a refusal isn't an escape
   not_escaped : (r : Refusal) → Refused r ≡ Escaped → ⊥
@@ -375,21 +338,20 @@ module _ (dialect : Dialect) (syntax : Syntax) (start l left : List Lexeme) (end
   twice_refused s x e =
       let st = statement_step max_message_depth syntax in
       let is : is_word (codes "package") s.token ≡ true =
-      second_at (statement_step max_message_depth syntax) s.next s.now s.token (dots s.behind) s.halts in
-      let reads = no_dot_reads dialect syntax start l left end f SecondPackage tt s in
+      second_at (statement_step max_message_depth syntax) s.next s.now s.token s.halts in
       let fits = next_fits dialect syntax start l left end f SecondPackage tt s in
-      let both = second_ended (statement_step max_message_depth syntax) s.next s.now s.token (dots s.behind) fits
+      let both = second_ended (statement_step max_message_depth syntax) s.next s.now s.token fits
       (word_kind (codes "package") s.token is) s.halts in
       let read : machine (statement_step max_message_depth syntax) s.front [] false ≡ Whole true =
       ap (λ a. machine (statement_step max_message_depth syntax) a [] false) (sym (append-nil s.front))
-      ∙ reads_machine reads [] refl
+      ∙ reads_machine s.reads []
       ∙ ap (λ b. cond b (Whole s.now) Missing) both.0 ∙ ap Whole both.1 in
       let file = machine_file max_message_depth dialect syntax start f.opens s.front true
       (allows_short start s.front s.token s.behind
       (allowed dialect syntax start l left end f SecondPackage tt s s.behind)) read in
       let at : offset_at (place_of end left) ≡ s.token.span.start = ap (λ a. offset_at (place_of end a)) s.rest in
       subst (λ y. IsRefused dialect (start ++ l) end y) (sym (e ∙ ap variant.TwoPackages at))
-      (would_go_on f.named (tokens_are dialect syntax start l left end f SecondPackage tt s)
+      (would_go_on s.behind f.named (tokens_are dialect syntax start l left end f SecondPackage tt s)
       (is_wrong dialect syntax start l left end f SecondPackage tt s)
       (two_packages {tree = file.0} is file.1 file.2))
 
@@ -400,12 +362,11 @@ module _ (dialect : Dialect) (syntax : Syntax) (start l left : List Lexeme) (end
   missing_refused e none =
       let s = ends_at (statement_step max_message_depth syntax) l [] false Missing tt e in
       let fits = reads_fits (fit_statement max_message_depth syntax None) s.reads tt in
-      let undotted = finish_undotted s.next fits in
-      let read = reads_machine s.reads (finish s.next) undotted
+      let read = reads_machine s.reads (finish s.next)
       ∙ machine_finish (statement_step max_message_depth syntax) s.next s.now fits in
       missing f.named
-      (goes_on max_message_depth dialect syntax start f.opens l [] (finish s.next) s.now
-      (allows_all (statement_step max_message_depth syntax) start l s.next s.now f.allows s.reads) undotted read)
+      (goes_on max_message_depth dialect syntax start f.opens l (finish s.next) s.now
+      (allows_all (statement_step max_message_depth syntax) start l s.next s.now f.allows s.reads) read)
       none
 
 -- by what the machine tells

@@ -1,7 +1,7 @@
 -- Syntax statements: what is behind one that is read, and the fault of one that isn't.
 use Rattle.std.proofs.Common.{◌≡◌, ℕ, suc, true, false, not, Ok, Err, Option, Some, None}
 use Rattle.std.proofs.Common.{List, [], ◌∷◌, ◌++◌, refl, sym, ◌∙◌, ap, subst, codes, append_assoc}
-use Rattle.proto_lex.specs.declared.token.TokenKind.TheVariants.{StringLiteral, Semicolon, Equals, Dot}
+use Rattle.proto_lex.specs.declared.token.TokenKind.TheVariants.{StringLiteral, Semicolon, Equals}
 use Rattle.proto_grammar.specs.declared.fault.SyntaxFault.{SyntaxFault}
 use Rattle.proto_grammar.specs.declared.fault.SyntaxFault.TheVariants as variant
 use Rattle.proto_grammar.specs.declared.dialect.CustomOptions.TheVariants.{Skip}
@@ -149,16 +149,15 @@ no_file levels dialect a tree stops (file {syntax = x} s u) =
     let never = sym e.1 ∙ read in
     cc
 
-module _ (dialect : Dialect) (front : List Lexeme) (more : List Lexeme) (undotted : not_next Dot more ≡ true)
+module _ (dialect : Dialect) (front : List Lexeme) (more : List Lexeme)
     (finished : IsFile dialect (front ++ more) empty_file) where
-  cut_goes_on : (behind : List Lexeme) → GoesOn max_message_depth dialect front behind
-  cut_goes_on behind =
-      record { more = more; tree = empty_file; is_file = finished; no_dot = λ none. undotted }
+  cut_goes_on : GoesOn max_message_depth dialect front
+  cut_goes_on = record { more = more; tree = empty_file; is_file = finished }
 
   pub cut_missing : (end : ℕ) → Stops front → NamesAVersion dialect front
       → IsRefused dialect front end (variant.Grammar end)
   cut_missing end stops named =
-      missing named (cut_goes_on []) (λ tree is. no_file max_message_depth dialect front tree stops is)
+      missing named cut_goes_on (λ tree is. no_file max_message_depth dialect front tree stops is)
 
   pub cut_wrong : (t : Lexeme) (behind : List Lexeme) (end : ℕ) → Stops front
       → ((c : List Lexeme) → Stops (front ++ t ∷ c))
@@ -167,15 +166,16 @@ module _ (dialect : Dialect) (front : List Lexeme) (more : List Lexeme) (undotte
       → NamesAVersion dialect (front ++ t ∷ behind)
       → IsRefused dialect (front ++ t ∷ behind) end (variant.Grammar t.span.start)
   cut_wrong t behind end stops here literals named =
-      wrong named refl (record { before = cut_goes_on (t ∷ behind); here = not_on max_message_depth dialect })
+      wrong {front = front} {t = t} behind named refl
+      (record { before = cut_goes_on; here = not_on max_message_depth dialect })
       none_would
     where
-      not_on : (levels : ℕ) (other : Dialect) → GoesOn levels other (front ++ t ∷ []) behind → ⊥
+      not_on : (levels : ℕ) (other : Dialect) → GoesOn levels other (front ++ t ∷ []) → ⊥
       not_on levels other g =
           no_file levels other (front ++ t ∷ g.more) g.tree (here g.more)
           (subst (λ all. IsFileWithin levels other all g.tree) (append_assoc front (t ∷ []) g.more) g.is_file)
 
-      none_would : (x : SyntaxFault) → WouldGoOn dialect front t behind x → ⊥
+      none_would : (x : SyntaxFault) → WouldGoOn dialect front t x → ⊥
       none_would x (custom_option only is g) = not_on max_message_depth (Proto3 Skip) g
       none_would x (aggregate only is g) = not_on max_message_depth (Proto3 Skip) g
       none_would x (extend only is g) = not_on max_message_depth (Proto3 Skip) g
@@ -190,14 +190,19 @@ module _ (dialect : Dialect) (front : List Lexeme) (more : List Lexeme) (undotte
 -- ---- the fault of a statement
 
 abbrev pub equals_sign : Lexeme
-equals_sign = record { kind = Equals; spelling = []; span = record { start = 0; end = 0 } }
+equals_sign = record { kind = Equals; spelling = []; span = record { start = 0; end = 0 }; dotted = false }
 
 abbrev pub proto3_literal : Lexeme
 proto3_literal =
-    record { kind = StringLiteral; spelling = codes "\"proto3\""; span = record { start = 0; end = 0 } }
+    record {
+      kind = StringLiteral;
+      spelling = codes "\"proto3\"";
+      span = record { start = 0; end = 0 };
+      dotted = false;
+    }
 
 abbrev pub end_sign : Lexeme
-end_sign = record { kind = Semicolon; spelling = []; span = record { start = 0; end = 0 } }
+end_sign = record { kind = Semicolon; spelling = []; span = record { start = 0; end = 0 }; dotted = false }
 
 -- a statement and nothing behind it is a file
 pub only_statement : {dialect : Dialect} {a : List Lexeme} {x : Syntax} → IsSyntax dialect a x []

@@ -1,9 +1,9 @@
 -- Why tokens derive no tree: which fault they have, and at which token. No reading is spoken of. As a rule the fault is
 -- at the first token with which what is in front of it can't be finished to a file any more. But another version is
--- told at the first literal, a group too deep at its label, and a word that only a `.` can follow at itself if none
--- does.
+-- told at the first literal, and a group too deep at its label. That a `.` follows is part of a token: so a word that
+-- only a `.` can follow is itself at fault if none does.
 use Rattle.std.specs.Prelude.{◌≡◌, ℕ, suc, Bool, true, false, cond, ◌||◌, is_some, List, [], ◌∷◌, ◌++◌, length, codes}
-use Rattle.proto_lex.specs.declared.token.TokenKind.TheVariants.{StringLiteral, Equals, OpenBrace, OpenParenthesis, Dot}
+use Rattle.proto_lex.specs.declared.token.TokenKind.TheVariants.{StringLiteral, Equals, OpenBrace, OpenParenthesis}
 use Rattle.proto_grammar.specs.declared.fault.SyntaxFault.{SyntaxFault}
 use Rattle.proto_grammar.specs.declared.fault.SyntaxFault.TheVariants.{NotProto3, CustomOption, Aggregate, Extend}
 use Rattle.proto_grammar.specs.declared.fault.SyntaxFault.TheVariants.{TwoPackages, ImportEscape, TooDeep, Grammar}
@@ -14,24 +14,21 @@ use Rattle.proto_grammar.specs.declared.dialect.Dialect.TheVariants.{Proto3, All
 use Rattle.proto_grammar.specs.declared.tree.File.{File}
 use Rattle.proto_lex.specs.declared.token.Token.{Token}
 use Rattle.proto_grammar.specs.Lexeme.{Lexeme, place_of, lexemes_of}
-use Rattle.proto_grammar.specs.Terminal.{first_is, of_kind, is_word, is_plain_literal, not_next, offset_at}
+use Rattle.proto_grammar.specs.Terminal.{first_is, of_kind, is_word, is_plain_literal, offset_at}
 use Rattle.proto_parse.specs.Limits.{max_message_depth}
 use Rattle.proto_parse.specs.Grammar.Files.{SpellsJoined, IsFileWithin, IsFile}
 
 -- The front can be finished: some tokens behind it make a file, in which at most `levels` messages and groups are
--- inside one another. If no `.` is next in the text, it can be finished without one next: only a `.` can come after a
--- scalar word as the type of a method, or of an extend that is kept, or after the word `group` inside so many levels.
--- So such a word is itself at fault if no `.` follows.
-pub record GoesOn (levels : ℕ) (dialect : Dialect) (front behind : List Lexeme) : Type 0 where
+-- inside one another.
+pub record GoesOn (levels : ℕ) (dialect : Dialect) (front : List Lexeme) : Type 0 where
   pub more : List Lexeme
   pub tree : File
   pub is_file : IsFileWithin levels dialect (front ++ more) tree
-  pub no_dot : not_next Dot behind ≡ true → not_next Dot more ≡ true
 
 -- A token with which what is in front of it can't be finished. There is at most one.
-pub record IsWrong (dialect : Dialect) (front : List Lexeme) (t : Lexeme) (behind : List Lexeme) : Type 0 where
-  pub before : GoesOn max_message_depth dialect front (t ∷ behind)
-  pub here : GoesOn max_message_depth dialect (front ++ t ∷ []) behind → ⊥
+pub record IsWrong (dialect : Dialect) (front : List Lexeme) (t : Lexeme) : Type 0 where
+  pub before : GoesOn max_message_depth dialect front
+  pub here : GoesOn max_message_depth dialect (front ++ t ∷ []) → ⊥
 
 -- No version is named that is accepted ("Syntax" of both specifications): the first token isn't the word `syntax`, and
 -- only proto3 is accepted; it is the word `edition`, and all sources are; or the literals behind `syntax =`, joined,
@@ -63,42 +60,42 @@ group_start (l ∷ (u ∷ rest)) t = group_start (u ∷ rest) t
 
 -- What would go on with the wrong token if more were accepted: custom options; a second package; in an import a literal
 -- with a `\`, for which one without stands; a level more. A group is told at its first token.
-pub data WouldGoOn (dialect : Dialect) (front : List Lexeme) (t : Lexeme) (behind : List Lexeme) : SyntaxFault → Type 0
-  where
-    custom_option : dialect ≡ Proto3 Refuse → of_kind OpenParenthesis t ≡ true
-        → GoesOn max_message_depth (Proto3 Skip) (front ++ t ∷ []) behind
-        → WouldGoOn dialect front t behind (CustomOption t.span.start)
-    aggregate : dialect ≡ Proto3 Refuse → of_kind OpenBrace t ≡ true
-        → GoesOn max_message_depth (Proto3 Skip) (front ++ t ∷ []) behind
-        → WouldGoOn dialect front t behind (Aggregate t.span.start)
-    extend : dialect ≡ Proto3 Refuse → is_word (codes "extend") t ≡ true
-        → GoesOn max_message_depth (Proto3 Skip) (front ++ t ∷ []) behind
-        → WouldGoOn dialect front t behind (Extend t.span.start)
-    two_packages : {tree : File} → is_word (codes "package") t ≡ true → IsFile dialect front tree
-        → is_some tree.package_name ≡ true → WouldGoOn dialect front t behind (TwoPackages t.span.start)
-    import_escape : (plain : Lexeme) → of_kind StringLiteral t ≡ true → is_plain_literal t ≡ false
-        → is_plain_literal plain ≡ true → GoesOn max_message_depth dialect (front ++ plain ∷ []) behind
-        → WouldGoOn dialect front t behind (ImportEscape t.span.start)
-    too_deep : is_word (codes "message") t ≡ true
-        → GoesOn (suc max_message_depth) dialect (front ++ t ∷ []) behind
-        → WouldGoOn dialect front t behind (TooDeep t.span.start)
-    group_too_deep : is_word (codes "group") t ≡ true
-        → GoesOn (suc max_message_depth) dialect (front ++ t ∷ []) behind
-        → WouldGoOn dialect front t behind (TooDeep (group_start front t))
+pub data WouldGoOn (dialect : Dialect) (front : List Lexeme) (t : Lexeme) : SyntaxFault → Type 0 where
+  custom_option : dialect ≡ Proto3 Refuse → of_kind OpenParenthesis t ≡ true
+      → GoesOn max_message_depth (Proto3 Skip) (front ++ t ∷ [])
+      → WouldGoOn dialect front t (CustomOption t.span.start)
+  aggregate : dialect ≡ Proto3 Refuse → of_kind OpenBrace t ≡ true
+      → GoesOn max_message_depth (Proto3 Skip) (front ++ t ∷ [])
+      → WouldGoOn dialect front t (Aggregate t.span.start)
+  extend : dialect ≡ Proto3 Refuse → is_word (codes "extend") t ≡ true
+      → GoesOn max_message_depth (Proto3 Skip) (front ++ t ∷ [])
+      → WouldGoOn dialect front t (Extend t.span.start)
+  two_packages : {tree : File} → is_word (codes "package") t ≡ true → IsFile dialect front tree
+      → is_some tree.package_name ≡ true → WouldGoOn dialect front t (TwoPackages t.span.start)
+  import_escape : (plain : Lexeme) → of_kind StringLiteral t ≡ true → is_plain_literal t ≡ false
+      → is_plain_literal plain ≡ true → GoesOn max_message_depth dialect (front ++ plain ∷ [])
+      → WouldGoOn dialect front t (ImportEscape t.span.start)
+  too_deep : is_word (codes "message") t ≡ true
+      → GoesOn (suc max_message_depth) dialect (front ++ t ∷ [])
+      → WouldGoOn dialect front t (TooDeep t.span.start)
+  group_too_deep : is_word (codes "group") t ≡ true
+      → GoesOn (suc max_message_depth) dialect (front ++ t ∷ [])
+      → WouldGoOn dialect front t (TooDeep (group_start front t))
 
 -- The tokens of a text that ends at `end` have the fault. That no version is named goes before all others.
 pub data IsRefused (dialect : Dialect) (tokens : List Lexeme) (end : ℕ) : SyntaxFault → Type 0 where
   not_proto3 : {front behind : List Lexeme} → tokens ≡ front ++ behind → NamesNoVersion dialect front behind
       → IsRefused dialect tokens end (NotProto3 (offset_at (place_of end behind)))
-  would_go_on : {front behind : List Lexeme} {t : Lexeme} {fault : SyntaxFault} → NamesAVersion dialect tokens
-      → tokens ≡ front ++ t ∷ behind → IsWrong dialect front t behind → WouldGoOn dialect front t behind fault
+  would_go_on : {front : List Lexeme} {t : Lexeme} {fault : SyntaxFault} (behind : List Lexeme)
+      → NamesAVersion dialect tokens
+      → tokens ≡ front ++ t ∷ behind → IsWrong dialect front t → WouldGoOn dialect front t fault
       → IsRefused dialect tokens end fault
-  wrong : {front behind : List Lexeme} {t : Lexeme} → NamesAVersion dialect tokens
-      → tokens ≡ front ++ t ∷ behind → IsWrong dialect front t behind
-      → ((fault : SyntaxFault) → WouldGoOn dialect front t behind fault → ⊥)
+  wrong : {front : List Lexeme} {t : Lexeme} (behind : List Lexeme) → NamesAVersion dialect tokens
+      → tokens ≡ front ++ t ∷ behind → IsWrong dialect front t
+      → ((fault : SyntaxFault) → WouldGoOn dialect front t fault → ⊥)
       → IsRefused dialect tokens end (Grammar t.span.start)
   -- more tokens are missing
-  missing : NamesAVersion dialect tokens → GoesOn max_message_depth dialect tokens []
+  missing : NamesAVersion dialect tokens → GoesOn max_message_depth dialect tokens
       → ((tree : File) → IsFile dialect tokens tree → ⊥)
       → IsRefused dialect tokens end (Grammar end)
 

@@ -14,7 +14,7 @@ use Rattle.proto_decl.specs.declared.declaration.DeclarationKind.{DeclarationKin
 use Rattle.proto_decl.specs.declared.declaration.DeclarationKind.TheVariants.{Message, Enum, Service, Field, Oneof}
 use Rattle.proto_decl.specs.declared.declaration.DeclarationKind.TheVariants.{Value, Method}
 use Rattle.proto_visibility.specs.declared.lookup.Role.{Role}
-use Rattle.proto_visibility.specs.declared.lookup.Role.TheVariants.{AsType, AsAggregate}
+use Rattle.proto_visibility.specs.declared.lookup.Role.TheVariants.{AsType, AsMessage, AsAggregate}
 use Rattle.proto_visibility.specs.declared.names.DeclaredAt.{DeclaredAt}
 use Rattle.proto_visibility.specs.declared.names.Names.{Names}
 use Rattle.proto_visibility.specs.Files.{File}
@@ -117,6 +117,13 @@ role_aggregate AsType Field e = absurd (false≢true e)
 role_aggregate AsType Oneof e = absurd (false≢true e)
 role_aggregate AsType Value e = absurd (false≢true e)
 role_aggregate AsType Method e = absurd (false≢true e)
+role_aggregate AsMessage Message e = refl
+role_aggregate AsMessage Enum e = absurd (false≢true e)
+role_aggregate AsMessage Service e = absurd (false≢true e)
+role_aggregate AsMessage Field e = absurd (false≢true e)
+role_aggregate AsMessage Oneof e = absurd (false≢true e)
+role_aggregate AsMessage Value e = absurd (false≢true e)
+role_aggregate AsMessage Method e = absurd (false≢true e)
 
 module _ (files : List File) (names : Names) (are : AreNames files names) (role : Role) (name : List ℕ)
     (number : ℕ) where

@@ -12,7 +12,7 @@ use Rattle.proto_decl.specs.declared.uses.Component.{Component}
 use Rattle.proto_visibility.specs.Files.{File, HasFacts}
 use Rattle.proto_visibility.specs.Sees.{Sees}
 use Rattle.proto_visibility.specs.declared.lookup.Role.{Role}
-use Rattle.proto_visibility.specs.declared.lookup.Role.TheVariants.{AsType, AsAggregate}
+use Rattle.proto_visibility.specs.declared.lookup.Role.TheVariants.{AsType, AsMessage, AsAggregate}
 use Rattle.proto_visibility.specs.declared.lookup.Entity.{Entity}
 use Rattle.proto_visibility.specs.declared.lookup.Entity.TheVariants.{Package, Declared}
 
@@ -41,6 +41,17 @@ is_type (OfDeclaration Oneof) = false
 is_type (OfDeclaration Value) = false
 is_type (OfDeclaration Method) = false
 
+-- An `extend` extends a message (proto2 specification, "Extend").
+abbrev pub is_message : NameKind → Bool
+is_message OfPackage = false
+is_message (OfDeclaration Message) = true
+is_message (OfDeclaration Enum) = false
+is_message (OfDeclaration Service) = false
+is_message (OfDeclaration Field) = false
+is_message (OfDeclaration Oneof) = false
+is_message (OfDeclaration Value) = false
+is_message (OfDeclaration Method) = false
+
 -- Aggregates are packages, messages, enums and services.
 abbrev pub is_aggregate : NameKind → Bool
 is_aggregate OfPackage = true
@@ -62,6 +73,7 @@ pub record KnowsAs (files : List File) (file : ℕ) (admits : NameKind → Bool)
 
 abbrev pub admits : Role → NameKind → Bool
 admits AsType kind = is_type kind
+admits AsMessage kind = is_message kind
 admits AsAggregate kind = is_aggregate kind
 
 -- some first components make the name

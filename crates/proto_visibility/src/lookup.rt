@@ -2,6 +2,7 @@
 
 ghost use Rattle.std.specs.Prelude.{◌≡◌, ℕ, List, ◌↔◌, IsTrue, MatchOption, Contains, position, bytes_eq};
 ghost use Rattle.std.specs.List.Sorted.{IsNonDecreasing};
+ghost use Rattle.proto_decl.specs.declared.declaration.DeclarationKind.TheVariants.{Enum};
 ghost use Rattle.proto_decl.specs.Laws.{IsEntity};
 ghost use Rattle.proto_visibility.specs.Knows.NameKind.{OfPackage, OfDeclaration};
 ghost use Rattle.proto_visibility.specs.Knows.{admits, IsEntityOf};
@@ -12,11 +13,13 @@ use crate::names::{DeclaredAt, Names};
 use crate::rows::SeenRow;
 use proto_decl::{Declaration, DeclarationKind, FileFacts};
 
-/// As a type, or as what may hold names.
+/// As a type, as what an `extend` extends, or as what may hold names.
 #[derive(Clone, Copy, Debug, PartialEq, Eq)]
 pub enum Role {
     /// As a message or an enum.
     AsType,
+    /// As a message.
+    AsMessage,
     /// As a package, a message, an enum or a service.
     AsAggregate,
 }
@@ -27,7 +30,8 @@ impl Role {
         ensures { result ≡ admits self (OfDeclaration kind) }
     {
         match kind {
-            DeclarationKind::Message | DeclarationKind::Enum => true,
+            DeclarationKind::Message => true,
+            DeclarationKind::Enum => self.admits_enums(),
             DeclarationKind::Service => self.admits_packages(),
             DeclarationKind::Field
             | DeclarationKind::Oneof
@@ -36,12 +40,22 @@ impl Role {
         }
     }
 
+    /// Whether enums have it.
+    fn admits_enums(self) -> bool
+        ensures { result ≡ admits self (OfDeclaration Enum) }
+    {
+        match self {
+            Role::AsMessage => false,
+            Role::AsType | Role::AsAggregate => true,
+        }
+    }
+
     /// Whether packages have it.
     pub(crate) fn admits_packages(self) -> bool
         ensures { result ≡ admits self OfPackage }
     {
         match self {
-            Role::AsType => false,
+            Role::AsType | Role::AsMessage => false,
             Role::AsAggregate => true,
         }
     }

@@ -8,6 +8,7 @@ use Rattle.proto_lex.specs.declared.fault.LexFault.{LexFault}
 use Rattle.proto_lex.specs.declared.fault.LexFault.TheVariants as lexing
 use Rattle.proto_lex.specs.Text.{IsText, IsNoText, max_text_length}
 use Rattle.proto_lex.specs.Faults.{IsFirstFault}
+use Rattle.comment_texts.specs.declared.form.CommentForm.TheVariants.{Raw}
 use Rattle.proto_parse.specs.dialect.Dialect.{Dialect}
 use Rattle.proto_decl.specs.Values.{Seen}
 use Rattle.index_hooks.specs.declared.choice.Choice.{Choice}
@@ -44,7 +45,7 @@ use Rattle.protoscip.specs.declared.fault.Fault.TheVariants as fault
 use Rattle.protoscip.proofs.HeadlineFileLemmas.{files_of_build}
 
 refused_of_build : (allows : Seen → Choice → Type 0) (settings : Settings) (tree : List TreeFile) (workers : ℕ)
-    (e : BuildFault) → IsBuildFault allows settings.faulty settings.dialect tree workers e
+    (e : BuildFault) → IsBuildFault allows settings.faulty settings.dialect settings.comments tree workers e
     → IsRefused allows settings tree workers (fault_of_build e)
 refused_of_build allows settings tree workers build.Spawn is = is
 refused_of_build allows settings tree workers build.Memory is = is
@@ -58,7 +59,7 @@ module _ (dialect : Dialect) (bytes : List ℕ) (settings : Settings) (tree : Li
     (set : settings ≡ dump_settings dialect) (alone : tree ≡ dump_tree bytes) where
   -- why its tree isn't built is why a source has no listing
   pub refusal_of_build : (workers : ℕ) (e : BuildFault) → workers ≡ 1
-      → IsBuildFault default_choices settings.faulty settings.dialect tree workers e
+      → IsBuildFault default_choices settings.faulty settings.dialect settings.comments tree workers e
       → IsRefusal dialect bytes (fault_of_build e)
   refusal_of_build workers e one is =
       let of : IsRefused default_choices settings tree workers (fault_of_build e) =
@@ -107,12 +108,12 @@ module _ (dialect : Dialect) (bytes : List ℕ) where
   alone = record { path = source_path; bytes = bytes; is_included = false }
 
   short_contents : (contents : Result FileContents FileFault)
-      → HasContents Refuse dialect default_choices zero alone contents → length bytes ≤ max_text_length
+      → HasContents Refuse dialect Raw default_choices zero alone contents → length bytes ≤ max_text_length
   short_contents (Ok contents) has = has.1.facts_in.lexing.text.short
   short_contents (Err e) has = absurd (let same : false ≡ true = has.0 in cc)
 
   pub short_source : (parsed : List ReadFile)
-      → AreParsedFiles Refuse dialect default_choices (dump_tree bytes) parsed → length bytes ≤ max_text_length
+      → AreParsedFiles Refuse dialect Raw default_choices (dump_tree bytes) parsed → length bytes ≤ max_text_length
   short_source [] are = absurd (let none = are.one_each in omega (arith, none))
   short_source (parsed_file ∷ others) are = short_contents parsed_file.contents
       (are.each zero alone parsed_file refl refl).contents
@@ -149,17 +150,17 @@ module _ (dialect : Dialect) (bytes : List ℕ) where
 
   of_parsed : (P : List TreeFile → List ReadFile → Type 0)
       → (parsed : List ReadFile)
-      × AreParsedFiles Refuse dialect default_choices (dump_tree (kept_bytes bytes)) parsed
+      × AreParsedFiles Refuse dialect Raw default_choices (dump_tree (kept_bytes bytes)) parsed
       × P (dump_tree (kept_bytes bytes)) parsed
-      → (parsed : List ReadFile) × AreParsedFiles Refuse dialect default_choices (dump_tree bytes) parsed
+      → (parsed : List ReadFile) × AreParsedFiles Refuse dialect Raw default_choices (dump_tree bytes) parsed
       × P (dump_tree bytes) parsed
   of_parsed P of =
-      whole (λ b. (parsed : List ReadFile) × AreParsedFiles Refuse dialect default_choices (dump_tree b) parsed
+      whole (λ b. (parsed : List ReadFile) × AreParsedFiles Refuse dialect Raw default_choices (dump_tree b) parsed
       × P (dump_tree b) parsed) bytes (short_source dialect (kept_bytes bytes) of.0 of.1) of
 
   fault_of_all : (number : ℕ) (e : FileFault)
-      → IsBuildFault default_choices Refuse dialect (dump_tree (kept_bytes bytes)) 1 (build.File number e)
-      → IsBuildFault default_choices Refuse dialect (dump_tree bytes) 1 (build.File number e)
+      → IsBuildFault default_choices Refuse dialect Raw (dump_tree (kept_bytes bytes)) 1 (build.File number e)
+      → IsBuildFault default_choices Refuse dialect Raw (dump_tree bytes) 1 (build.File number e)
   fault_of_all number e (refuse, inl first) = (refuse, inl (faulty_of_all number e first))
   fault_of_all number e (refuse, inr of) =
       (refuse, inr (of_parsed (λ _ parsed. MayRefuseParsed parsed (build.File number e)) of))
@@ -227,15 +228,15 @@ module _ (dialect : Dialect) (bytes : List ℕ) where
   dump_files fault.Spawn is = tt
   dump_files fault.Memory is = tt
   dump_files (fault.Lex number e) is =
-      files_of_build default_choices Refuse dialect (dump_tree bytes) 1 (build.File number (file.Lex e)) is
+      files_of_build default_choices Refuse dialect Raw (dump_tree bytes) 1 (build.File number (file.Lex e)) is
   dump_files (fault.Syntax number e) is =
-      files_of_build default_choices Refuse dialect (dump_tree bytes) 1 (build.File number (file.Syntax e)) is
+      files_of_build default_choices Refuse dialect Raw (dump_tree bytes) 1 (build.File number (file.Syntax e)) is
   dump_files (fault.Duplicate first second) is =
-      files_of_build default_choices Refuse dialect (dump_tree bytes) 1 (build.Duplicate first second) is
+      files_of_build default_choices Refuse dialect Raw (dump_tree bytes) 1 (build.Duplicate first second) is
   dump_files (fault.MissingImport place) is =
-      files_of_build default_choices Refuse dialect (dump_tree bytes) 1 (build.MissingImport place) is
+      files_of_build default_choices Refuse dialect Raw (dump_tree bytes) 1 (build.MissingImport place) is
   dump_files (fault.Unresolved place) is =
-      files_of_build default_choices Refuse dialect (dump_tree bytes) 1 (build.Unresolved place) is
+      files_of_build default_choices Refuse dialect Raw (dump_tree bytes) 1 (build.Unresolved place) is
   dump_files fault.TooLarge is = tt
   dump_files (fault.Write count) is = tt
   dump_files fault.Read is = tt

@@ -5,6 +5,7 @@ use Rattle.std.proofs.lemmas.List.Elements.{All-contains_itself, All-weaker}
 use Rattle.std.proofs.lemmas.Option.{slice_get_within}
 use Rattle.std.proofs.lemmas.List.{length-map}
 use Rattle.proto_visibility.proofs.KeptLemmas.{file_of as of_item}
+use Rattle.comment_texts.specs.declared.form.CommentForm.{CommentForm}
 use Rattle.proto_parse.specs.dialect.Dialect.{Dialect}
 use Rattle.proto_decl.specs.Values.{Seen}
 use Rattle.proto_visibility.specs.declared.files.FilePlace.{FilePlace}
@@ -45,14 +46,16 @@ of_import files number import (of_source source has listed) = slice_get_within f
 of_import files number import (of_included counts has listed public) =
     slice_get_within files number has.file has.numbered
 
-module _ (allows : Seen → Choice → Type 0) (faulty : Faulty) (dialect : Dialect) (tree : List TreeFile) where
+module _ (allows : Seen → Choice → Type 0) (faulty : Faulty) (dialect : Dialect) (form : CommentForm)
+    (tree : List TreeFile) where
   pub in_tree : (mode : Faulty) (parsed : List ReadFile) (number : ℕ)
-      → AreParsedFiles mode dialect allows tree parsed → number < length (linked_files parsed) → HasFile tree number
+      → AreParsedFiles mode dialect form allows tree parsed → number < length (linked_files parsed)
+      → HasFile tree number
   in_tree mode parsed number are within =
       let count : length (linked_files parsed) ≡ length tree = length-map parsed linked_file ∙ are.one_each in
       subst (λ (n : ℕ). number < n) count within
 
-  pub files_of_build : (workers : ℕ) (e : BuildFault) → IsBuildFault allows faulty dialect tree workers e
+  pub files_of_build : (workers : ℕ) (e : BuildFault) → IsBuildFault allows faulty dialect form tree workers e
       → HasFilesOf tree (fault_of_build e)
   files_of_build workers build.Spawn is = tt
   files_of_build workers build.Memory is = tt
@@ -83,11 +86,12 @@ module _ (allows : Seen → Choice → Type 0) (faulty : Faulty) (dialect : Dial
 
 -- ---- the files of what is told
 
-module _ (allows : Seen → Choice → Type 0) (faulty : Faulty) (dialect : Dialect) (tree : List TreeFile)
-    (all : List ReadFile) (read : AreParsedFiles faulty dialect allows tree all) (omissions : Omissions)
+module _ (allows : Seen → Choice → Type 0) (faulty : Faulty) (dialect : Dialect) (form : CommentForm)
+    (tree : List TreeFile) (all : List ReadFile) (read : AreParsedFiles faulty dialect form allows tree all)
+    (omissions : Omissions)
     (are : AreOmissions (linked_files all) omissions) where
   within : (number : ℕ) → number < length (linked_files all) → HasFile tree number
-  within number = in_tree allows faulty dialect tree faulty all number read
+  within number = in_tree allows faulty dialect form tree faulty all number read
 
   abbrev kept : List File
   kept = linked_files (kept_of omissions all)
@@ -145,5 +149,5 @@ pub files_of_built : (allows : Seen → Choice → Type 0) (settings : Settings)
     → IsBuilt allows settings tree built → HaveFilesOf tree built.told
 files_of_built allows settings tree built is =
     let kept = is.of_files.kept in
-    files_of_told allows settings.faulty settings.dialect tree is.all is.read kept.omissions kept.left_out
-    built.told (λ fault there. (kept.told_is.exact fault).0 there)
+    files_of_told allows settings.faulty settings.dialect settings.comments tree is.all is.read kept.omissions
+    kept.left_out built.told (λ fault there. (kept.told_is.exact fault).0 there)

@@ -314,8 +314,9 @@ headline allows laws settings tree is_tree are_packages recorded bytes indexed =
     let kept = built.of_files.kept in
     let Origins : List ReadFile → Type 0 = λ rs. HaveOrigins (linked_files rs) in
     let Good : List ReadFile → Type 0 = λ rs. HaveGoodPaths (linked_files rs) in
-    let of_all = have_origins settings.faulty settings.dialect allows tree built.all built.read in
-    let good_all = good_paths settings.faulty settings.dialect allows tree built.all built.read is_tree.good in
+    let of_all = have_origins settings.faulty settings.dialect settings.comments allows tree built.all built.read in
+    let good_all = good_paths settings.faulty settings.dialect settings.comments allows tree built.all built.read
+    is_tree.good in
     let origins = subst Origins (sym kept.kept) (kept_origins kept.omissions built.all of_all) in
     let good = subst Good (sym kept.kept) (kept_paths kept.omissions built.all good_all) in
     record {

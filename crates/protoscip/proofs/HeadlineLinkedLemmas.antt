@@ -7,6 +7,7 @@ use Rattle.std.specs.List.{slice_get}
 use Rattle.std.proofs.lemmas.Option.{same_Some, none-some, slice_get_within}
 use Rattle.std.proofs.lemmas.List.Elements.{All-contains}
 use Rattle.basics.proofs.ListLemmas.{item_at}
+use Rattle.comment_texts.specs.declared.form.CommentForm.{CommentForm}
 use Rattle.proto_parse.specs.dialect.Dialect.{Dialect}
 use Rattle.proto_decl.specs.Facts.{Facts, AreFactsOf, AreOfSomeFile}
 use Rattle.proto_decl.specs.Values.{Seen}
@@ -42,16 +43,16 @@ at_all_linked omissions all number file at =
     at_all omissions (linked_files all) number file
     (subst (λ fs. slice_get fs number ≡ Some file) (linked_kept omissions all) at)
 
-module _ (faulty : Faulty) (dialect : Dialect) (allows : Seen → Choice → Type 0) (tree : List TreeFile)
-    (parsed : List ReadFile)
-    (are : AreParsedFiles faulty dialect allows tree parsed) where
+module _ (faulty : Faulty) (dialect : Dialect) (form : CommentForm) (allows : Seen → Choice → Type 0)
+    (tree : List TreeFile) (parsed : List ReadFile)
+    (are : AreParsedFiles faulty dialect form allows tree parsed) where
   -- a linked file, as it was read and as it is in the tree
   record IsLinkedAt (number : ℕ) (file : File) : Type 0 where
     parsed_file : ReadFile
     of : TreeFile
     linked : file ≡ linked_file parsed_file
     numbered : slice_get tree number ≡ Some of
-    is : IsParsedFile faulty dialect allows number of parsed_file
+    is : IsParsedFile faulty dialect form allows number of parsed_file
 
   linked_at : (number : ℕ) (file : File) → slice_get (linked_files parsed) number ≡ Some file → IsLinkedAt number file
   linked_at number file at =
@@ -66,11 +67,12 @@ module _ (faulty : Faulty) (dialect : Dialect) (allows : Seen → Choice → Typ
         is = are.each number there.0 read.0 there.1 read.1;
       }
 
-  of_some_file : (number : ℕ) (bytes : List ℕ) (facts : Facts) → AreFactsIn dialect number bytes facts
+  of_some_file : (number : ℕ) (bytes : List ℕ) (facts : Facts) → AreFactsIn dialect form number bytes facts
       → AreOfSomeFile facts
   of_some_file number bytes facts has =
-      let Of : ℕ → Type 0 = λ n. AreFactsOf n has.lexed has.tree facts in
+      let Of : ℕ → Type 0 = λ n. AreFactsOf form n has.lexed has.tree facts in
       record {
+        form = form;
         lexed = has.lexed;
         file = has.tree;
         is_lexed = has.lexing.is_lexed;
@@ -79,7 +81,7 @@ module _ (faulty : Faulty) (dialect : Dialect) (allows : Seen → Choice → Typ
       }
 
   origin_in : (number : ℕ) (file : TreeFile) (contents : Result FileContents FileFault)
-      → HasContents faulty dialect allows number file contents → (facts : Facts) → facts_in contents ≡ Some facts
+      → HasContents faulty dialect form allows number file contents → (facts : Facts) → facts_in contents ≡ Some facts
       → AreOfSomeFile facts
   origin_in number file (Ok contents) has facts known =
       subst AreOfSomeFile (same_Some contents.facts facts known)

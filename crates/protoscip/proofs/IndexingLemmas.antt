@@ -111,7 +111,7 @@ module _ (index : Index) (parts : Parts (List ℕ)) (are : ArePartsOf IsRecordOf
 module _ {W : Type 0} (allows : Seen → Choice → Type 0) (settings : Settings) (tree : List TreeFile) (workers : ℕ) where
   -- a tree isn't built
   pub unbuilt : (sink : SinkOf W) (out : W) (e : BuildFault)
-      → IsBuildFault allows settings.faulty settings.dialect tree workers e
+      → IsBuildFault allows settings.faulty settings.dialect settings.comments tree workers e
       → Indexes allows settings tree workers (writing sink out out) (Err (fault_of_build e))
   unbuilt sink out build.Spawn is = (is, refl)
   unbuilt sink out build.Memory is = (is, refl)

@@ -41,7 +41,7 @@ IsLarge allows settings tree =
 record IsOfBuild (allows : Seen → Choice → Type 0) (settings : Settings) (tree : List TreeFile) (workers : ℕ)
     (of : Fault) : Type 0 where
   because : BuildFault
-  is : IsBuildFault allows settings.faulty settings.dialect tree workers because
+  is : IsBuildFault allows settings.faulty settings.dialect settings.comments tree workers because
   named : cause_of because ≢ link.Memory
   same : of ≡ fault_of because
 
@@ -67,7 +67,7 @@ split allows settings tree workers fault.Read is named = absurd is
 split allows settings tree workers (fault.Answer count) is named = absurd is
 
 set_itself : (settings : Settings) → SetTheSame settings settings
-set_itself settings = record { project_root = refl; id = refl; encoding = refl; dialect = refl }
+set_itself settings = record { project_root = refl; id = refl; encoding = refl; dialect = refl; comments = refl }
 
 module _ (allows others : Seen → Choice → Type 0) where
   pub one_fault : OneBuildFault allows others → BuiltHasNoFault allows others → BuiltHasNoFault others allows
@@ -82,8 +82,8 @@ module _ (allows others : Seen → Choice → Type 0) where
         | inr built ↦ elim (split others settings tree more other is_other named_other) [
           | inl larger ↦ absurd (also settings tree workers larger.1.0 built.because larger.1.1 built.is built.named)
           | inr again ↦ built.same
-              ∙ (ap fault_of (one settings.faulty settings.dialect tree workers more built.because again.because
-              built.is again.is built.named again.named) ∙ sym again.same)
+              ∙ (ap fault_of (one settings.faulty settings.dialect settings.comments tree workers more built.because
+              again.because built.is again.is built.named again.named) ∙ sym again.same)
         ]
       ]
 

@@ -1,6 +1,7 @@
 -- What a dump answers of a source: its listing, or why there is none.
 use Rattle.std.specs.Prelude.{◌≡◌, ℕ, false, List, [], ◌∷◌, Some, Result, Ok, Err, codes}
 use Rattle.proto_lex.specs.declared.position.Encoding.TheVariants.{Utf8}
+use Rattle.comment_texts.specs.declared.form.CommentForm.TheVariants.{Raw}
 use Rattle.proto_parse.specs.dialect.CustomOptions.TheVariants as custom
 use Rattle.proto_parse.specs.dialect.Dialect.{Dialect}
 use Rattle.proto_parse.specs.dialect.Dialect.TheVariants.{Proto3}
@@ -33,13 +34,14 @@ dump_tree bytes = record { path = source_path; bytes = bytes; is_included = fals
 abbrev pub plain_dialect : Dialect
 plain_dialect = Proto3 custom.Refuse
 
--- its settings: the package without manager, name and version; columns in UTF-8
+-- its settings: the package without manager, name and version; columns in UTF-8; comments as they are written
 abbrev pub dump_settings : Dialect → Settings
 dump_settings dialect = record {
   project_root = codes "file:///";
   «package» = record { run = record { manager = []; name = []; version = [] }; roots = [] };
   encoding = Utf8;
   dialect = dialect;
+  comments = Raw;
   faulty = Refuse;
 }
 

@@ -24,6 +24,7 @@ use crate::listing::dump_text;
 use crate::output::write_text;
 use crate::reading_back::read_back;
 use basics::OwnedText;
+use comment_texts::CommentForm;
 use index_hooks::{Choice, Chooses, DocChoice, Turns};
 use index_pool::{NoGate, Workers};
 use proto_decl::DeclView;
@@ -84,6 +85,7 @@ pub(crate) fn dump_settings(alloc: Global, dialect: Dialect) -> Result<Settings,
         package: FilePackages::of_run(alloc, PackageId::new(parts).unwrap()),
         encoding: Encoding::Utf8,
         dialect,
+        comments: CommentForm::Raw,
         faulty: Faulty::Refuse,
     })
 }

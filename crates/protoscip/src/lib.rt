@@ -67,6 +67,7 @@ pub use told_trees::told_of_tree;
 // What is made below, for whoever embeds the indexer. (To read an index, `scip_wire` and `scip_query` are needed, too.)
 // Sources and settings,
 pub use basics::{OwnedText, Sequence};
+pub use comment_texts::CommentForm;
 pub use proto_lex::Encoding;
 pub use proto_parse::{CustomOptions, Dialect};
 pub use scip_build::{Built, Faulty, Run, Settings, build};

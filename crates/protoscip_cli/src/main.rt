@@ -1,27 +1,70 @@
 //! The program `protoscip`: a parallel indexer of proto3 trees that writes SCIP.
 #![tactic(auto)]
 
-use command_line::request_of_process;
-use programs::{Host, Places, explain_failure, links_followed, out_path, report_path, run};
-use source_files::{OutFile, SystemFiles, SystemStream};
+use command_line::{Request, request_of_process};
+use programs::{
+    Host, Places, explain_failure, links_followed, out_path, report_path, run, variable,
+    with_well_known,
+};
+use source_files::{OutFile, SystemFiles, SystemStream, WithWellKnown};
+use std::alloc::AllocError;
+use std::env;
 use std::io::IsTerminal;
 use std::process::ExitCode;
-use streams::Std;
+use streams::{Sink, Std};
+
+/// What the command line asks for, with the folder of the well-known files among the included ones, if that is asked
+/// for, too; and this folder. Or memory ran out.
+fn asked_of_process<M: Sink>(
+    rt: &HostRuntime,
+    messages: &mut M,
+) -> Result<(Request, Option<String>), AllocError> {
+    let words = env::args(rt).and_then(|words| Ok(words.collect(rt.alloc())?));
+    let asked = request_of_process(rt.alloc(), words)?;
+    let path = variable(env::var(rt, "PATH"))?;
+    with_well_known(rt.alloc(), &SystemFiles::new(rt), &path, asked, messages)
+}
+
+/// The system's files, as they are asked for and with links followed, and the root that has the well-known files alone.
+#[derive(Drop)]
+struct Systems<'a> {
+    files: SystemFiles<'a, HostRuntime>,
+    linked: SystemFiles<'a, HostRuntime>,
+    known: Option<String>,
+}
+
+impl<'a> Systems<'a> {
+    /// The files that a run reads.
+    fn with_well_known(&self) -> WithWellKnown<'_, SystemFiles<'a, HostRuntime>> {
+        WithWellKnown {
+            files: &self.files,
+            linked: &self.linked,
+            known: self.known.as_deref(),
+        }
+    }
+}
 
 /// Does what the command line asks for, over the process's streams and the system's files, explains why the system
 /// refused what was asked of it, and ends with the status.
 fn main(rt: HostRuntime) -> ExitCode {
-    let words = std::env::args(&rt).and_then(|words| Ok(words.collect(rt.alloc())?));
-    let asked = request_of_process(rt.alloc(), words);
+    let mut messages = Std::new(rt.stderr());
+    let (asked, known) = match asked_of_process(&rt, &mut messages) {
+        Ok((asked, known)) => (Ok(asked), known),
+        Err(refused) => (Err(refused), None),
+    };
     let follows = links_followed(&asked);
-    let files = SystemFiles::following(&rt, follows);
+    let systems = Systems {
+        files: SystemFiles::following(&rt, follows),
+        linked: SystemFiles::following(&rt, true),
+        known,
+    };
+    let files = systems.with_well_known();
     let mut places = Places {
         file: OutFile::following(&rt, out_path(&asked), follows),
         report: OutFile::following(&rt, report_path(&asked), follows),
     };
     let mut input = Std::new(rt.stdin());
     let mut out = SystemStream::new(rt.stdout());
-    let mut messages = Std::new(rt.stderr());
     let host = Host {
         rt: &rt,
         alloc: rt.alloc(),

@@ -2,6 +2,7 @@
 
 use crate::faulty_streams::{AT_ONCE, Failing, PACES, Pace};
 use basics::OwnedText;
+use comment_texts::CommentForm;
 use index_hooks::Registry;
 use index_pool::{NoGate, Workers};
 use proto_lex::Encoding;
@@ -48,6 +49,7 @@ fn settings_of(
         package: FilePackages::of_run(alloc, id),
         encoding,
         dialect: Dialect::Proto3(CustomOptions::Refuse),
+        comments: CommentForm::Raw,
         faulty,
     })
 }

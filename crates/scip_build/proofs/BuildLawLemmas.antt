@@ -7,6 +7,7 @@ use Rattle.std.proofs.lemmas.Option.{same_Some, slice_get_within}
 use Rattle.std.proofs.lemmas.List.Elements.{All-head, All-tail, Contains-push, Contains-append_left}
 use Rattle.std.proofs.lemmas.List.Elements.{Contains-append_right}
 use Rattle.basics.proofs.ListLemmas.{item_at}
+use Rattle.comment_texts.specs.declared.form.CommentForm.{CommentForm}
 use Rattle.proto_parse.specs.dialect.Dialect.{Dialect}
 use Rattle.proto_lex.specs.declared.span.Span.{Span}
 use Rattle.proto_decl.specs.Facts.{Facts}
@@ -136,65 +137,68 @@ module _ (files : List File) where
   none_refuses can all fault (inr later) not = all_resolve all later.1 later.3
 
 -- a fault's reason: the first source that can't be read, or one of files that were read
-abbrev Reason : Dialect → (allows : Seen → Choice → Type 0) → List TreeFile → LinkFault → Type 0
-Reason dialect allows tree cause =
+abbrev Reason : Dialect → CommentForm → (allows : Seen → Choice → Type 0) → List TreeFile → LinkFault → Type 0
+Reason dialect form allows tree cause =
     ((number : ℕ) × (fault : FileFault) × (cause ≡ link.Broken number) × IsFirstFaulty dialect tree number fault)
-    ⊎ OfParsed dialect allows tree (λ parsed. Refuses (linked_files parsed) cause)
+    ⊎ OfParsed dialect form allows tree (λ parsed. Refuses (linked_files parsed) cause)
 
-reason : (faulty : Faulty) (dialect : Dialect) (allows : Seen → Choice → Type 0) (tree : List TreeFile)
-    (workers : ℕ) (fault : BuildFault) → IsBuildFault allows faulty dialect tree workers fault
-    → cause_of fault ≢ link.Memory → (faulty ≡ Refuse) × Reason dialect allows tree (cause_of fault)
-reason faulty dialect allows tree workers build.Spawn is not = absurd (not refl)
-reason faulty dialect allows tree workers build.Memory is not = absurd (not refl)
-reason faulty dialect allows tree workers (build.File number fault) (refuse, inl first) not =
+reason : (faulty : Faulty) (dialect : Dialect) (form : CommentForm) (allows : Seen → Choice → Type 0)
+    (tree : List TreeFile) (workers : ℕ) (fault : BuildFault)
+    → IsBuildFault allows faulty dialect form tree workers fault
+    → cause_of fault ≢ link.Memory → (faulty ≡ Refuse) × Reason dialect form allows tree (cause_of fault)
+reason faulty dialect form allows tree workers build.Spawn is not = absurd (not refl)
+reason faulty dialect form allows tree workers build.Memory is not = absurd (not refl)
+reason faulty dialect form allows tree workers (build.File number fault) (refuse, inl first) not =
     (refuse, inl (number, fault, refl, first))
-reason faulty dialect allows tree workers (build.File number fault) (refuse, inr (parsed, are, is_unread broken has))
-    not = (refuse, inr (parsed, are, inl (broken_file broken)))
-reason faulty dialect allows tree workers (build.Duplicate first second) (refuse, (parsed, are, is_duplicate is))
+reason faulty dialect form allows tree workers (build.File number fault)
+    (refuse, inr (parsed, are, is_unread broken has)) not = (refuse, inr (parsed, are, inl (broken_file broken)))
+reason faulty dialect form allows tree workers (build.Duplicate first second) (refuse, (parsed, are, is_duplicate is))
     not = (refuse, inr (parsed, are, inl is))
-reason faulty dialect allows tree workers (build.MissingImport place) (refuse, (parsed, are, is_missing is)) not =
+reason faulty dialect form allows tree workers (build.MissingImport place) (refuse, (parsed, are, is_missing is)) not =
     (refuse, inr (parsed, are, inl is))
-reason faulty dialect allows tree workers (build.Unresolved place) (refuse, is) not =
+reason faulty dialect form allows tree workers (build.Unresolved place) (refuse, is) not =
     (refuse, inr (is.0, is.1, inr (is.2.0, place, refl, is.2.1)))
 
 -- two faults of a build have one cause
 abbrev OneCause : (allows others : Seen → Choice → Type 0) → Type 0
 OneCause allows others =
-    (faulty : Faulty) (dialect : Dialect) (tree : List TreeFile) (workers more : ℕ) (fault other : BuildFault)
-    → IsBuildFault allows faulty dialect tree workers fault → IsBuildFault others faulty dialect tree more other
+    (faulty : Faulty) (dialect : Dialect) (form : CommentForm) (tree : List TreeFile) (workers more : ℕ)
+    (fault other : BuildFault)
+    → IsBuildFault allows faulty dialect form tree workers fault
+    → IsBuildFault others faulty dialect form tree more other
     → cause_of fault ≢ link.Memory → cause_of other ≢ link.Memory → cause_of fault ≡ cause_of other
 
 module _ (allows others : Seen → Choice → Type 0) (one_linking : OneLinking allows others)
     (none : NoParsedFilesWhereFaulty allows) (none_others : NoParsedFilesWhereFaulty others) where
   pub built_has_no_fault : BuiltHasNoFault allows others
   built_has_no_fault settings tree workers built fault is wrong not =
-      let why = reason settings.faulty settings.dialect others tree workers fault wrong not in
-      let Read : Faulty → Type 0 = λ f. AreParsedFiles f settings.dialect allows tree is.all in
+      let why = reason settings.faulty settings.dialect settings.comments others tree workers fault wrong not in
+      let Read : Faulty → Type 0 = λ f. AreParsedFiles f settings.dialect settings.comments allows tree is.all in
       let read : Read Refuse = subst Read why.0 is.read in
       let good = is.of_files.refused why.0 in
       elim why.1 [
-        | inl first ↦ none settings.dialect tree is.all first.0 first.1 read first.3
+        | inl first ↦ none settings.dialect settings.comments tree is.all first.0 first.1 read first.3
         | inr later ↦ (
             let Here : List File → Type 0 = λ files. Refuses files (cause_of fault) in
             let here = subst Here (sym
-            (one_linking Refuse Refuse settings.dialect tree is.all later.0 read later.1)) later.2 in
+            (one_linking Refuse Refuse settings.dialect settings.comments tree is.all later.0 read later.1)) later.2 in
             none_refuses (linked_files is.all) good.linked good.resolved (cause_of fault) here not)
       ]
 
   cause_is_one : OneFirstFaulty → OneRefusal → OneCause allows others
-  cause_is_one one_first one_refusal faulty dialect tree workers more fault other is also not nor =
-      both (reason faulty dialect allows tree workers fault is not).1
-      (reason faulty dialect others tree more other also nor).1
+  cause_is_one one_first one_refusal faulty dialect form tree workers more fault other is also not nor =
+      both (reason faulty dialect form allows tree workers fault is not).1
+      (reason faulty dialect form others tree more other also nor).1
     where
-      both : Reason dialect allows tree (cause_of fault) → Reason dialect others tree (cause_of other)
+      both : Reason dialect form allows tree (cause_of fault) → Reason dialect form others tree (cause_of other)
           → cause_of fault ≡ cause_of other
       both (inl a) (inl b) = a.2 ∙ (ap link.Broken (one_first dialect tree a.0 b.0 a.1 b.1 a.3 b.3) ∙ sym b.2)
-      both (inl a) (inr b) = absurd (none_others dialect tree b.0 a.0 a.1 b.1 a.3)
-      both (inr a) (inl b) = absurd (none dialect tree a.0 b.0 b.1 a.1 b.3)
+      both (inl a) (inr b) = absurd (none_others dialect form tree b.0 a.0 a.1 b.1 a.3)
+      both (inr a) (inl b) = absurd (none dialect form tree a.0 b.0 b.1 a.1 b.3)
       both (inr a) (inr b) =
           let Here : List File → Type 0 = λ files. Refuses files (cause_of other) in
-          let here = subst Here (sym (one_linking Refuse Refuse dialect tree a.0 b.0 a.1 b.1)) b.2 in
-          let origins = have_origins a.0 (whole_at Refuse dialect allows tree a.0 a.1) in
+          let here = subst Here (sym (one_linking Refuse Refuse dialect form tree a.0 b.0 a.1 b.1)) b.2 in
+          let origins = have_origins a.0 (whole_at Refuse dialect form allows tree a.0 a.1) in
           one_cause (linked_files a.0) one_refusal origins (cause_of fault) (cause_of other) a.2 here not nor
 
 -- the file that is named can't be read, for the fault that is told
@@ -203,27 +207,27 @@ record IsNamed (dialect : Dialect) (tree : List TreeFile) (number : ℕ) (fault 
   numbered : slice_get tree number ≡ Some file
   unreadable : IsUnreadable dialect file.bytes fault
 
-named : (faulty : Faulty) (dialect : Dialect) (allows : Seen → Choice → Type 0) (tree : List TreeFile)
-    (workers number : ℕ) (fault : FileFault)
-    → IsBuildFault allows faulty dialect tree workers (build.File number fault) → IsNamed dialect tree number fault
-named faulty dialect allows tree workers number fault (refuse, inl first) =
+named : (faulty : Faulty) (dialect : Dialect) (form : CommentForm) (allows : Seen → Choice → Type 0)
+    (tree : List TreeFile) (workers number : ℕ) (fault : FileFault)
+    → IsBuildFault allows faulty dialect form tree workers (build.File number fault) → IsNamed dialect tree number fault
+named faulty dialect form allows tree workers number fault (refuse, inl first) =
     record { file = first.file; numbered = first.numbered; unreadable = first.faulty.unreadable }
-named faulty dialect allows tree workers number fault (refuse, inr (parsed, are, is_unread broken has)) =
+named faulty dialect form allows tree workers number fault (refuse, inr (parsed, are, is_unread broken has)) =
     let within : number < length tree =
     rw (sym are.one_each) (slice_get_within parsed number has.parsed_file has.numbered) in
     let there = item_at tree number within in
-    let Contents : Result FileContents FileFault → Type 0 = HasContents Refuse dialect allows number there.0 in
+    let Contents : Result FileContents FileFault → Type 0 = HasContents Refuse dialect form allows number there.0 in
     let contents = subst Contents has.unread (are.each number there.0 has.parsed_file there.1 has.numbered).contents in
     record { file = there.0; numbered = there.1; unreadable = contents.1 }
 
 -- two faults of the file that is named are one
 file_fault_is_one : OneFileFault → (allows others : Seen → Choice → Type 0) (faulty : Faulty) (dialect : Dialect)
-    (tree : List TreeFile) (workers more number : ℕ) (fault other : FileFault)
-    → IsBuildFault allows faulty dialect tree workers (build.File number fault)
-    → IsBuildFault others faulty dialect tree more (build.File number other) → fault ≡ other
-file_fault_is_one one allows others faulty dialect tree workers more number fault other is also =
-    let first = named faulty dialect allows tree workers number fault is in
-    let second = named faulty dialect others tree more number other also in
+    (form : CommentForm) (tree : List TreeFile) (workers more number : ℕ) (fault other : FileFault)
+    → IsBuildFault allows faulty dialect form tree workers (build.File number fault)
+    → IsBuildFault others faulty dialect form tree more (build.File number other) → fault ≡ other
+file_fault_is_one one allows others faulty dialect form tree workers more number fault other is also =
+    let first = named faulty dialect form allows tree workers number fault is in
+    let second = named faulty dialect form others tree more number other also in
     let same : first.file ≡ second.file = same_Some first.file second.file (sym first.numbered ∙ second.numbered) in
     let Of : TreeFile → Type 0 = λ file. IsUnreadable dialect file.bytes other in
     one dialect first.file.bytes fault other first.unreadable (subst Of (sym same) second.unreadable)
@@ -260,19 +264,19 @@ same_file_fault : {n m : ℕ} {f g : FileFault} → n ≡ m → f ≡ g → buil
 same_file_fault e h = cc
 
 module _ (one : OneFileFault) (allows others : Seen → Choice → Type 0) (faulty : Faulty) (dialect : Dialect)
-    (tree : List TreeFile) (workers more : ℕ) where
+    (form : CommentForm) (tree : List TreeFile) (workers more : ℕ) where
   -- two faults of files with one cause are one
   of_files : (number again : ℕ) (fault other : FileFault)
-      → IsBuildFault allows faulty dialect tree workers (build.File number fault)
-      → IsBuildFault others faulty dialect tree more (build.File again other)
+      → IsBuildFault allows faulty dialect form tree workers (build.File number fault)
+      → IsBuildFault others faulty dialect form tree more (build.File again other)
       → number ≡ again → build.File number fault ≡ build.File again other
   of_files number again fault other is also same =
-      let here = subst (λ (n : ℕ). IsBuildFault allows faulty dialect tree workers (build.File n fault)) same is in
+      let here = subst (λ (n : ℕ). IsBuildFault allows faulty dialect form tree workers (build.File n fault)) same is in
       same_file_fault same
-      (file_fault_is_one one allows others faulty dialect tree workers more again fault other here also)
+      (file_fault_is_one one allows others faulty dialect form tree workers more again fault other here also)
 
-  of_one_cause : (fault other : BuildFault) → IsBuildFault allows faulty dialect tree workers fault
-      → IsBuildFault others faulty dialect tree more other
+  of_one_cause : (fault other : BuildFault) → IsBuildFault allows faulty dialect form tree workers fault
+      → IsBuildFault others faulty dialect form tree more other
       → cause_of fault ≢ link.Memory → cause_of other ≢ link.Memory → cause_of fault ≡ cause_of other
       → fault ≡ other
   of_one_cause fault other is also not nor same = elim (by_cause fault not) [
@@ -283,8 +287,8 @@ module _ (one : OneFileFault) (allows others : Seen → Choice → Type 0) (faul
     | inr of ↦ elim (by_cause other nor) [
       | inl says ↦ absurd (of_no_file other fault of.0 of.1 nor says of.2 (sym same))
       | inr more_of ↦ of.2 ∙ (of_files of.0 more_of.0 of.1 more_of.1
-          (subst (IsBuildFault allows faulty dialect tree workers) of.2 is)
-          (subst (IsBuildFault others faulty dialect tree more) more_of.2 also)
+          (subst (IsBuildFault allows faulty dialect form tree workers) of.2 is)
+          (subst (IsBuildFault others faulty dialect form tree more) more_of.2 also)
           (same_number (sym (ap cause_of of.2) ∙ (same ∙ ap cause_of more_of.2))) ∙ sym more_of.2)
     ]
   ]
@@ -292,7 +296,7 @@ module _ (one : OneFileFault) (allows others : Seen → Choice → Type 0) (faul
 module _ (allows others : Seen → Choice → Type 0) (one_linking : OneLinking allows others)
     (none : NoParsedFilesWhereFaulty allows) (none_others : NoParsedFilesWhereFaulty others) where
   pub one_build_fault : OneFirstFaulty → OneRefusal → OneFileFault → OneBuildFault allows others
-  one_build_fault one_first one_refusal one faulty dialect tree workers more fault other is also not nor =
-      of_one_cause one allows others faulty dialect tree workers more fault other is also not nor
-      (cause_is_one allows others one_linking none none_others one_first one_refusal faulty dialect tree workers more
-      fault other is also not nor)
+  one_build_fault one_first one_refusal one faulty dialect form tree workers more fault other is also not nor =
+      of_one_cause one allows others faulty dialect form tree workers more fault other is also not nor
+      (cause_is_one allows others one_linking none none_others one_first one_refusal faulty dialect form tree workers
+      more fault other is also not nor)

@@ -11,6 +11,7 @@ use Rattle.std.specs.Option.{option_map}
 use Rattle.std.proofs.lemmas.List.{length-map, map-id}
 use Rattle.std.proofs.lemmas.Option.{same_Some, slice_get-map, slice_get_within}
 use Rattle.basics.proofs.ListLemmas.{contains_map, item_at}
+use Rattle.comment_texts.specs.declared.form.CommentForm.{CommentForm}
 use Rattle.proto_parse.specs.dialect.Dialect.{Dialect}
 use Rattle.proto_decl.specs.Facts.{Facts}
 use Rattle.proto_decl.specs.Values.{Seen}
@@ -54,15 +55,16 @@ use Rattle.scip_build.proofs.KeptToldLemmas.{key_total, of_same, one_told}
 use Rattle.scip_build.proofs.BuildLawGoodTreeLemmas.{fault_of}
 
 -- a file with a fault can't be read
-unreadable : (faulty : Faulty) (dialect : Dialect) (allows : Seen → Choice → Type 0) (tree : List TreeFile)
-    (parsed : List ReadFile) → AreParsedFiles faulty dialect allows tree parsed → (number : ℕ) (fault : FileFault)
+unreadable : (faulty : Faulty) (dialect : Dialect) (form : CommentForm) (allows : Seen → Choice → Type 0)
+    (tree : List TreeFile) (parsed : List ReadFile) → AreParsedFiles faulty dialect form allows tree parsed
+    → (number : ℕ) (fault : FileFault)
     → HasFault parsed number fault
     → (file : TreeFile) × (slice_get tree number ≡ Some file) × IsUnreadable dialect file.bytes fault
-unreadable faulty dialect allows tree parsed are number fault has =
+unreadable faulty dialect form allows tree parsed are number fault has =
     let within : number < length tree =
     rw (sym are.one_each) (slice_get_within parsed number has.parsed_file has.numbered) in
     let there = item_at tree number within in
-    let Contents : Result FileContents FileFault → Type 0 = HasContents faulty dialect allows number there.0 in
+    let Contents : Result FileContents FileFault → Type 0 = HasContents faulty dialect form allows number there.0 in
     let contents = subst Contents has.unread (are.each number there.0 has.parsed_file there.1 has.numbered).contents in
     (there.0, there.1, contents.1)
 
@@ -81,37 +83,39 @@ same_choices allows others agree (d ∷ ds) (x ∷ xs) (y ∷ ys) chosen also =
     λ i. here i ∷ more i
 
 module _ (apart : NoFactsWhereUnreadable) (allows others : Seen → Choice → Type 0) (faulty another : Faulty)
-    (dialect : Dialect) where
+    (dialect : Dialect) (form : CommentForm) where
   -- what is the same of contents, and of any two faults, is of one file read twice
   same_in : {Y : Type 0} (f : Result FileContents FileFault → Y) (number : ℕ) (file : TreeFile)
-      → ((a b : FileContents) → AreContentsOf dialect allows number file.bytes a
-      → AreContentsOf dialect others number file.bytes b → f (Ok a) ≡ f (Ok b))
+      → ((a b : FileContents) → AreContentsOf dialect form allows number file.bytes a
+      → AreContentsOf dialect form others number file.bytes b → f (Ok a) ≡ f (Ok b))
       → ((fault other : FileFault) → f (Err fault) ≡ f (Err other))
       → (a b : Result FileContents FileFault)
-      → HasContents faulty dialect allows number file a → HasContents another dialect others number file b → f a ≡ f b
+      → HasContents faulty dialect form allows number file a → HasContents another dialect form others number file b
+      → f a ≡ f b
   same_in f number file read unread (Ok a) (Ok b) has also = read a b has also
   same_in f number file read unread (Ok a) (Err fault) has also =
-      absurd (apart dialect number file.bytes a.facts fault has.1.facts_in also.1)
+      absurd (apart dialect form number file.bytes a.facts fault has.1.facts_in also.1)
   same_in f number file read unread (Err fault) (Ok b) has also =
-      absurd (apart dialect number file.bytes b.facts fault also.1.facts_in has.1)
+      absurd (apart dialect form number file.bytes b.facts fault also.1.facts_in has.1)
   same_in f number file read unread (Err fault) (Err other) has also = unread fault other
 
   chosen_alike : OneListOfFacts → AllowOne allows others → (number : ℕ) (file : TreeFile) (a b : FileContents)
-      → AreContentsOf dialect allows number file.bytes a → AreContentsOf dialect others number file.bytes b
+      → AreContentsOf dialect form allows number file.bytes a → AreContentsOf dialect form others number file.bytes b
       → a.choices ≡ b.choices
   chosen_alike one agree number file a b has also =
-      let facts : a.facts ≡ b.facts = one dialect number file.bytes a.facts b.facts has.1.facts_in also.1.facts_in in
+      let facts : a.facts ≡ b.facts = one dialect form number file.bytes a.facts b.facts has.1.facts_in also.1.facts_in
+      in
       let Of : Facts → Type 0 = λ f. AreChosen others f.declarations b.choices in
       same_choices allows others agree a.facts.declarations a.choices b.choices has.1.chosen
       (subst Of (sym facts) also.1.chosen)
 
   module _ (tree : List TreeFile) (parsed again : List ReadFile)
-      (are : AreParsedFiles faulty dialect allows tree parsed)
-      (also : AreParsedFiles another dialect others tree again) where
+      (are : AreParsedFiles faulty dialect form allows tree parsed)
+      (also : AreParsedFiles another dialect form others tree again) where
     -- both read the same file there
     contents_at : (k : ℕ) (a b : ReadFile) → slice_get parsed k ≡ Some a → slice_get again k ≡ Some b
-        → (file : TreeFile) × HasContents faulty dialect allows k file a.contents
-        × HasContents another dialect others k file b.contents
+        → (file : TreeFile) × HasContents faulty dialect form allows k file a.contents
+        × HasContents another dialect form others k file b.contents
     contents_at k a b at and =
         let within : k < length tree = rw (sym are.one_each) (slice_get_within parsed k a at) in
         let there = item_at tree k within in
@@ -153,21 +157,22 @@ module _ (one : OneListOfFacts) (apart : NoFactsWhereUnreadable) (one_fault : On
   abbrev b : Omissions
   b = also.of_files.kept.omissions
 
-  read_again : AreParsedFiles another.faulty settings.dialect others tree again
+  read_again : AreParsedFiles another.faulty settings.dialect settings.comments others tree again
   read_again =
-      let Read : Dialect → Type 0 = λ c. AreParsedFiles another.faulty c others tree again in
-      subst Read (sym same.dialect) also.read
+      let Read : Dialect → Type 0 = λ d. AreParsedFiles another.faulty d another.comments others tree again in
+      let In : CommentForm → Type 0 = λ form. AreParsedFiles another.faulty settings.dialect form others tree again in
+      subst In (sym same.comments) (subst Read (sym same.dialect) also.read)
 
   all_linked : linked_files all ≡ linked_files again
   all_linked =
-      one_linking one apart settings.faulty another.faulty settings.dialect allows others tree all again is.read
-      read_again
+      one_linking one apart settings.faulty another.faulty settings.dialect settings.comments allows others tree all
+      again is.read read_again
 
   same_omissions : a ≡ b
   same_omissions =
       let Are : List File → Type 0 = λ files. AreOmissions files b in
       one_list (linked_files all)
-      (have_origins all (whole_at settings.faulty settings.dialect allows tree all is.read)) a b
+      (have_origins all (whole_at settings.faulty settings.dialect settings.comments allows tree all is.read)) a b
       is.of_files.kept.left_out (subst Are (sym all_linked) also.of_files.kept.left_out)
 
   kept_alike : {Y : Type 0} (f : ReadFile → Y) → map f all ≡ map f again
@@ -180,12 +185,12 @@ module _ (one : OneListOfFacts) (apart : NoFactsWhereUnreadable) (one_fault : On
 
   choices_are : AllowOne allows others → built.choices ≡ other.choices
   choices_are agree = is.of_files.choices ∙ (kept_alike choices_of
-      (same_lists apart allows others settings.faulty another.faulty settings.dialect tree all again
+      (same_lists apart allows others settings.faulty another.faulty settings.dialect settings.comments tree all again
       is.read read_again one agree) ∙ sym also.of_files.choices)
 
   texts_are : texts_of is.of_files.parsed ≡ texts_of also.of_files.parsed
   texts_are = kept_alike text_of
-      (same_texts apart allows others settings.faulty another.faulty settings.dialect tree all again
+      (same_texts apart allows others settings.faulty another.faulty settings.dialect settings.comments tree all again
       is.read read_again)
 
   index_is : built.choices ≡ other.choices → built.index ≡ other.index
@@ -214,8 +219,8 @@ module _ (one : OneListOfFacts) (apart : NoFactsWhereUnreadable) (one_fault : On
   same_unread : (number : ℕ) (fault more : FileFault) → HasFault all number fault → HasFault again number more
       → fault ≡ more
   same_unread number fault more has too =
-      let x = unreadable settings.faulty settings.dialect allows tree all is.read number fault has in
-      let y = unreadable another.faulty another.dialect others tree again also.read number more too in
+      let x = unreadable settings.faulty settings.dialect settings.comments allows tree all is.read number fault has in
+      let y = unreadable another.faulty another.dialect another.comments others tree again also.read number more too in
       let file : x.0 ≡ y.0 = same_Some x.0 y.0 (sym x.1 ∙ y.1) in
       let bytes = subst (λ (f : TreeFile). IsUnreadable another.dialect f.bytes more) (sym file) y.2 in
       one_fault settings.dialect x.0.bytes fault more x.2
@@ -274,6 +279,7 @@ set_the_same settings another same = record {
   id = sym same.id;
   encoding = sym same.encoding;
   dialect = sym same.dialect;
+  comments = sym same.comments;
 }
 
 module _ (one : OneListOfFacts) (apart : NoFactsWhereUnreadable) (one_fault : OneFileFault) (one_list : OneOmissionList)

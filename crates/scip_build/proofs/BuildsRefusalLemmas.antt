@@ -1,6 +1,7 @@
 -- A refusal of a stage is one of the whole.
 use Rattle.std.proofs.Common.{◌≡◌, ℕ, List, Result, Ok, Err, sym, ◌∙◌, inl, inr}
 use Rattle.std.specs.Prelude.{MatchResult}
+use Rattle.comment_texts.specs.declared.form.CommentForm.{CommentForm}
 use Rattle.proto_parse.specs.dialect.Dialect.{Dialect}
 use Rattle.proto_decl.specs.Values.{Seen}
 use Rattle.index_hooks.specs.declared.choice.Choice.{Choice}
@@ -66,19 +67,19 @@ linked_of Is parsed settings workers linked (Ok made) is = record { linked = lin
 linked_of Is parsed settings workers linked (Err fault) is =
     of_documents settings.faulty parsed workers fault linked is
 
-module _ (allows : Seen → Choice → Type 0) (faulty : Faulty) (dialect : Dialect) (tree : List TreeFile)
-    (workers : ℕ) where
+module _ (allows : Seen → Choice → Type 0) (faulty : Faulty) (dialect : Dialect) (form : CommentForm)
+    (tree : List TreeFile) (workers : ℕ) where
   -- why files aren't read
   pub of_parsed_file : (fault : BuildFault) → MayRefuseFiles faulty dialect tree workers fault
-      → IsBuildFault allows faulty dialect tree workers fault
+      → IsBuildFault allows faulty dialect form tree workers fault
   of_parsed_file _ (files_lack_thread more) = more
   of_parsed_file _ files_lack_memory = tt
   of_parsed_file _ (first_is_faulty refuse first) = (refuse, inl first)
 
   -- why files that were read make no index
-  pub of_making : faulty ≡ Refuse → (parsed : List ReadFile) → AreParsedFiles Refuse dialect allows tree parsed
+  pub of_making : faulty ≡ Refuse → (parsed : List ReadFile) → AreParsedFiles Refuse dialect form allows tree parsed
       → (fault : BuildFault) → MayRefuseMaking parsed workers fault
-      → IsBuildFault allows faulty dialect tree workers fault
+      → IsBuildFault allows faulty dialect form tree workers fault
   of_making refuse parsed are build.Spawn is = is
   of_making refuse parsed are build.Memory is = tt
   of_making refuse parsed are (build.File number fault) is = (refuse, inr (parsed, are, is))
@@ -88,6 +89,6 @@ module _ (allows : Seen → Choice → Type 0) (faulty : Faulty) (dialect : Dial
 
   -- why what is kept of them makes none
   pub of_kept : (fault : BuildFault) → MayRefuseSkipping workers fault
-      → IsBuildFault allows faulty dialect tree workers fault
+      → IsBuildFault allows faulty dialect form tree workers fault
   of_kept _ (skipping_lacks_thread more) = more
   of_kept _ skipping_lacks_memory = tt

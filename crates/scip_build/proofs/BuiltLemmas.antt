@@ -141,7 +141,7 @@ kept_built Is all parsed settings made numbers left once missing skip kept of mi
 
 pub tree_built : {Out : Type 0} (Is : Document → Out → Type 0) (allows : Seen → Choice → Type 0) (settings : Settings)
     (tree : List TreeFile) (all : List ReadFile) (choices : Chosen) (told : List Omission) (parts : Parts Out)
-    → AreParsedFiles settings.faulty settings.dialect allows tree all
+    → AreParsedFiles settings.faulty settings.dialect settings.comments allows tree all
     → IsBuiltOfInForm Is all settings choices told parts → IsBuiltInForm Is allows settings tree choices told parts
 tree_built Is allows settings tree all choices told parts read of = record {
   index = of.index;

@@ -11,14 +11,14 @@ use Rattle.proto_visibility.specs.Files.{File, HasFacts, Imports}
 use Rattle.proto_visibility.specs.Sees.{LeadsTo, Sees}
 use Rattle.proto_visibility.specs.Sees.LeadsTo.{at_once, through}
 use Rattle.proto_visibility.specs.Sees.SeesBy.{itself, import}
-use Rattle.proto_visibility.specs.Knows.{NameKind, Knows, KnowsAs, is_type, is_aggregate}
+use Rattle.proto_visibility.specs.Knows.{NameKind, Knows, KnowsAs, is_type, is_message, is_aggregate}
 use Rattle.proto_visibility.specs.Knows.Knows.{declared, packaged}
 use Rattle.proto_visibility.specs.Kept.{Omissions, kept_of, number_among_all}
 use Rattle.proto_visibility.proofs.KeptLemmas.{at_all}
 use Rattle.proto_link.specs.declared.target.Target.{Target}
-use Rattle.proto_link.specs.Resolves.{Innermost, ResolvesIn}
+use Rattle.proto_link.specs.Resolves.{Innermost, ResolvesIn, wanted}
 use Rattle.proto_link.specs.Resolves.Innermost.{here, farther}
-use Rattle.proto_link.specs.Resolves.ResolvesIn.{absolute, single, compound}
+use Rattle.proto_link.specs.Resolves.ResolvesIn.{absolute, single, extended, compound}
 use Rattle.proto_link.specs.Targets.{IsNamed, IsTarget}
 use Rattle.scip_build.specs.Linking.{linked_file, linked_files}
 use Rattle.scip_build.specs.KeptUses.{entity_among_all, IsFoundBy, NamesNothingLeftOut, NamesTheSame}
@@ -92,18 +92,23 @@ module _ (files : List File) (omissions : Omissions) where
         })) is
         (innermost admits word inner back)
 
-    resolves : {dot : Bool} {words : List (List ℕ)} {from name : List ℕ}
-        → ResolvesIn files (among number) dot words from name
+    resolves : {is_extended has_dot : Bool} {words : List (List ℕ)} {from name : List ℕ}
+        → ResolvesIn files (among number) is_extended has_dot words from name
         → ((text : List ℕ) → IsFoundBy words name text → KnowsBack text)
-        → ResolvesIn kept number dot words from name
-    resolves (absolute {words = words} known) back =
-        absolute (knows_as is_type (dotted words) (back (dotted words) whole_name) known)
+        → ResolvesIn kept number is_extended has_dot words from name
+    resolves (absolute {is_extended = is_extended} {words = words} known) back =
+        absolute (knows_as (wanted is_extended) (dotted words) (back (dotted words) whole_name) known)
     resolves (single {word = word} {scope = scope} inner) back =
         single (innermost is_type word inner (back (qualified scope word) whole_name))
-    resolves (compound {first = word} {second = second} {scope = scope} {others = others} inner known) back =
+    resolves (extended {word = word} {scope = scope} inner known) back =
+        let whole : List ℕ = qualified scope word in
+        extended (innermost is_aggregate word inner (back whole whole_name))
+        (knows_as is_message whole (back whole whole_name) known)
+    resolves (compound {is_extended = is_extended} {first = word} {second = second} {scope = scope} {others = others}
+        inner known) back =
         let whole : List ℕ = qualified scope (dotted (word ∷ (second ∷ others))) in
         compound (innermost is_aggregate word inner (back (qualified scope word) (first_word scope)))
-        (knows_as is_type whole (back whole whole_name) known)
+        (knows_as (wanted is_extended) whole (back whole whole_name) known)
 
 -- ---- and its components name the same
 

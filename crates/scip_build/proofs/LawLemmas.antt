@@ -11,6 +11,7 @@ use Rattle.proto_lex.specs.declared.fault.LexFault.{LexFault}
 use Rattle.proto_lex.specs.declared.fault.LexFault.TheVariants.{TooLong, NotUtf8, BadByte, OpenString, OpenComment}
 use Rattle.proto_lex.specs.declared.fault.LexFault.TheVariants.{BadEscape, BadNumber, Memory}
 use Rattle.proto_lex.specs.declared.token.Token.{Token}
+use Rattle.comment_texts.specs.declared.form.CommentForm.{CommentForm}
 use Rattle.proto_parse.specs.dialect.Dialect.{Dialect}
 use Rattle.proto_parse.specs.tree.File.{File}
 use Rattle.proto_parse.specs.fault.SyntaxFault.{SyntaxFault}
@@ -104,14 +105,14 @@ module _ (one_tokens : OneTokens) (one_comments : OneComments) where
       λ i. record { text = same_text i; tokens = tokens i; comments = comments i }
 
   pub one_list_of_facts : OneTree → OneFacts → OneListOfFacts
-  one_list_of_facts one_tree one_facts dialect number bytes facts other a b =
+  one_list_of_facts one_tree one_facts dialect form number bytes facts other a b =
       let Here : Lexed → Type 0 =
-      λ lexed. Derives dialect lexed.text lexed.tokens b.tree × AreFactsOf number lexed b.tree other in
+      λ lexed. Derives dialect lexed.text lexed.tokens b.tree × AreFactsOf form number lexed b.tree other in
       let moved : Here a.lexed =
       subst Here (sym (same_lexing bytes a.lexed b.lexed a.lexing b.lexing)) (b.derives, b.of_tree) in
       let trees : a.tree ≡ b.tree = one_tree dialect a.lexed.text a.lexed.tokens a.tree b.tree a.derives moved.0 in
-      let Of : File → Type 0 = λ tree. AreFactsOf number a.lexed tree other in
-      one_facts number a.lexed a.tree facts other a.lexing.is_lexed a.of_tree (subst Of (sym trees) moved.1)
+      let Of : File → Type 0 = λ tree. AreFactsOf form number a.lexed tree other in
+      one_facts form number a.lexed a.tree facts other a.lexing.is_lexed a.of_tree (subst Of (sym trees) moved.1)
 
   -- so two faults of one file are one
   pub one_file_fault : OneFirstFault → OneSyntaxFault → LexedWhereUnparsed → OneFileFault
@@ -129,9 +130,10 @@ module _ (one_tokens : OneTokens) (one_comments : OneComments) where
 
   module _ (no_fault : NoFaultWhereItLexes) (no_syntax_fault : NoFaultWhereItDerives) where
     -- tokens of a file that derive a tree have no fault
-    parsed_is_parsed : (dialect : Dialect) (number : ℕ) (bytes : List ℕ) (facts : Facts) (fault : SyntaxFault)
-        → AreFactsIn dialect number bytes facts → IsUnparsed dialect bytes fault → ⊥
-    parsed_is_parsed dialect number bytes facts fault has un =
+    parsed_is_parsed : (dialect : Dialect) (form : CommentForm) (number : ℕ) (bytes : List ℕ) (facts : Facts)
+        (fault : SyntaxFault)
+        → AreFactsIn dialect form number bytes facts → IsUnparsed dialect bytes fault → ⊥
+    parsed_is_parsed dialect form number bytes facts fault has un =
         let Here : Lexed → Type 0 = λ lexed. HasFault dialect lexed.text lexed.tokens fault in
         let same = same_lexing bytes has.lexed un.lexed has.lexing un.lexing in
         no_syntax_fault dialect has.lexed.text has.lexed.tokens has.tree fault has.derives
@@ -146,10 +148,10 @@ module _ (one_tokens : OneTokens) (one_comments : OneComments) where
         no_fault bytes lexed.tokens lexed.comments fault (subst Of has.of_bytes has.is_lexed.lexes) first.1
 
     pub no_facts_where_unreadable : NoFactsWhereUnreadable
-    no_facts_where_unreadable dialect number bytes facts (Lex fault) has un =
+    no_facts_where_unreadable dialect form number bytes facts (Lex fault) has un =
         lexed_is_lexed bytes has.lexed fault has.lexing un
-    no_facts_where_unreadable dialect number bytes facts (Syntax fault) has un =
-        parsed_is_parsed dialect number bytes facts fault has un
+    no_facts_where_unreadable dialect form number bytes facts (Syntax fault) has un =
+        parsed_is_parsed dialect form number bytes facts fault has un
 
     pub lexed_where_unparsed : LexedWhereUnparsed
     lexed_where_unparsed dialect bytes lexing parsing un = lexed_is_lexed bytes un.lexed lexing un.lexing
@@ -160,7 +162,7 @@ module _ (no_facts : NoFactsWhereUnreadable) where
       → IsFirstFaulty dialect files number fault → IsFirstFaulty dialect files other another → number < other → ⊥
   not_before dialect files number other fault another first second less =
       let has = second.before number first.file less first.numbered first.faulty.source in
-      no_facts dialect number first.file.bytes has.0 fault has.1 first.faulty.unreadable
+      no_facts dialect has.0 number first.file.bytes has.1 fault has.2 first.faulty.unreadable
 
   pub one_first_faulty : OneFirstFaulty
   one_first_faulty dialect files number other fault another first second = elim (cases_order number other) [

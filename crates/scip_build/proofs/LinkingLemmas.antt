@@ -6,6 +6,7 @@ use Rattle.std.proofs.lemmas.Option.{slice_get_within, none-some, same_Some}
 use Rattle.basics.proofs.ListLemmas.{item_at}
 use Rattle.proto_visibility.specs.Files.{File}
 use Rattle.proto_visibility.specs.Files as link
+use Rattle.comment_texts.specs.declared.form.CommentForm.{CommentForm}
 use Rattle.proto_parse.specs.dialect.Dialect.{Dialect}
 use Rattle.proto_decl.specs.Values.{Seen}
 use Rattle.index_hooks.specs.declared.choice.Choice.{Choice}
@@ -25,8 +26,9 @@ mapped_at f [] k y at = absurd (none-some y at)
 mapped_at f (x ∷ xs) zero y at = (x, refl, sym (same_Some (f x) y at))
 mapped_at f (x ∷ xs) (suc k) y at = mapped_at f xs k y at
 
-module _ (faulty : Faulty) (dialect : Dialect) (allows : Seen → Choice → Type 0) (files : List TreeFile)
-    (parsed : List ReadFile) (are : AreParsedFiles faulty dialect allows files parsed) where
+module _ (faulty : Faulty) (dialect : Dialect) (form : CommentForm) (allows : Seen → Choice → Type 0)
+    (files : List TreeFile) (parsed : List ReadFile)
+    (are : AreParsedFiles faulty dialect form allows files parsed) where
   -- the file of the tree that a linked file is
   pub in_tree : (number : ℕ) (file : File) → slice_get (linked_files parsed) number ≡ Some file
       → (of : TreeFile) × (slice_get files number ≡ Some of) × (file.path ≡ of.path)
@@ -53,22 +55,22 @@ same_mapped f (x ∷ xs) (y ∷ ys) few each =
     let others = same_mapped f xs ys (omega (arith, few)) (λ k a b. each (suc k) a b) in
     λ i. here i ∷ others i
 
-module _ (one : OneListOfFacts) (apart : NoFactsWhereUnreadable) (faulty other : Faulty) (dialect : Dialect)
-    (allows others : Seen → Choice → Type 0) where
+module _ (one : OneListOfFacts) (apart : NoFactsWhereUnreadable) (faulty other : Faulty)
+    (dialect : Dialect) (form : CommentForm) (allows others : Seen → Choice → Type 0) where
   -- two parsed files of one file have the same facts, or both none
   pub same_facts : (number : ℕ) (file : TreeFile) (a b : Result FileContents FileFault)
-      → HasContents faulty dialect allows number file a → HasContents other dialect others number file b
+      → HasContents faulty dialect form allows number file a → HasContents other dialect form others number file b
       → facts_in a ≡ facts_in b
   same_facts number file (Ok a) (Ok b) has also =
-      ap Some (one dialect number file.bytes a.facts b.facts has.1.facts_in also.1.facts_in)
+      ap Some (one dialect form number file.bytes a.facts b.facts has.1.facts_in also.1.facts_in)
   same_facts number file (Ok a) (Err f) has also =
-      absurd (apart dialect number file.bytes a.facts f has.1.facts_in also.1)
+      absurd (apart dialect form number file.bytes a.facts f has.1.facts_in also.1)
   same_facts number file (Err f) (Ok b) has also =
-      absurd (apart dialect number file.bytes b.facts f also.1.facts_in has.1)
+      absurd (apart dialect form number file.bytes b.facts f also.1.facts_in has.1)
   same_facts number file (Err f) (Err g) has also = refl
 
-  same_linked : (number : ℕ) (file : TreeFile) (a b : ReadFile) → IsParsedFile faulty dialect allows number file a
-      → IsParsedFile other dialect others number file b → linked_file a ≡ linked_file b
+  same_linked : (number : ℕ) (file : TreeFile) (a b : ReadFile) → IsParsedFile faulty dialect form allows number file a
+      → IsParsedFile other dialect form others number file b → linked_file a ≡ linked_file b
   same_linked number file a b reads again =
       let path = reads.path ∙ sym again.path in
       let facts = same_facts number file a.contents b.contents reads.contents again.contents in
@@ -76,7 +78,7 @@ module _ (one : OneListOfFacts) (apart : NoFactsWhereUnreadable) (faulty other :
       λ i. record { path = path i; facts = facts i; is_included = is_included i }
 
   pub one_linking : (files : List TreeFile) (parsed again : List ReadFile)
-      → AreParsedFiles faulty dialect allows files parsed → AreParsedFiles other dialect others files again
+      → AreParsedFiles faulty dialect form allows files parsed → AreParsedFiles other dialect form others files again
       → linked_files parsed ≡ linked_files again
   one_linking files parsed again are also =
       same_mapped linked_file parsed again (are.one_each ∙ sym also.one_each) (λ k a b at and.

@@ -5,6 +5,7 @@ use Rattle.std.specs.List.{slice_get}
 use Rattle.std.specs.Option.{IfSome}
 use Rattle.std.proofs.lemmas.Option.{slice_get_within}
 use Rattle.basics.proofs.ListLemmas.{item_at}
+use Rattle.comment_texts.specs.declared.form.CommentForm.{CommentForm}
 use Rattle.proto_parse.specs.dialect.Dialect.{Dialect}
 use Rattle.proto_decl.specs.Values.{Seen}
 use Rattle.index_hooks.specs.declared.choice.Choice.{Choice}
@@ -29,28 +30,30 @@ holds_at {X} P xs k x at holds = let Q : Option X → Type 0 = λ o. IfSome o P 
 
 -- a source that was read has facts, where it is refused else
 pub source_has_facts : (faulty : Faulty) → faulty ≡ Refuse
-    → (dialect : Dialect) (allows : Seen → Choice → Type 0) (number : ℕ) (file : TreeFile)
+    → (dialect : Dialect) (form : CommentForm) (allows : Seen → Choice → Type 0) (number : ℕ) (file : TreeFile)
     (contents : Result FileContents FileFault)
-    → HasContents faulty dialect allows number file contents → IsReadIfSource dialect number file
-source_has_facts faulty refused dialect allows number file (Ok contents) has source = (contents.facts, has.1.facts_in)
-source_has_facts faulty refused dialect allows number file (Err fault) has source =
+    → HasContents faulty dialect form allows number file contents → IsReadIfSource dialect number file
+source_has_facts faulty refused dialect form allows number file (Ok contents) has source =
+    (form, contents.facts, has.1.facts_in)
+source_has_facts faulty refused dialect form allows number file (Err fault) has source =
     let May : Faulty → Type 0 = λ f. may_be_unread f file.is_included ≡ true in
     absurd (true≢false (sym (subst May refused has.0) ∙ source))
 
-module _ (faulty : Faulty) (dialect : Dialect) (allows : Seen → Choice → Type 0) (files : List TreeFile) where
+module _ (faulty : Faulty) (dialect : Dialect) (form : CommentForm) (allows : Seen → Choice → Type 0)
+    (files : List TreeFile) where
   pub parsed_of : (parsed : List ReadFile)
-      → AnswersEach (GivesParsedFile faulty dialect allows files) (length files) parsed
-      → AreParsedFiles faulty dialect allows files parsed
+      → AnswersEach (GivesParsedFile faulty dialect form allows files) (length files) parsed
+      → AreParsedFiles faulty dialect form allows files parsed
   parsed_of parsed answers = record {
     one_each = answers.0;
     each = λ number file parsed_file at is. holds_at
-        (λ f. IsParsedFile faulty dialect allows number f parsed_file) files number file at
+        (λ f. IsParsedFile faulty dialect form allows number f parsed_file) files number file at
         (answers.1 number parsed_file is);
   }
 
   -- why a file stops the run, the first of those that do, is why the files aren't read
   pub refused_of : (workers number : ℕ) (fault : NoContents)
-      → IsLeastFault (GivesParsedFile faulty dialect allows files) (length files) number fault
+      → IsLeastFault (GivesParsedFile faulty dialect form allows files) (length files) number fault
       → MayRefuseFiles faulty dialect files workers (fault_of_file number fault)
   refused_of workers number fault least =
       let there = item_at files number least.0 in
@@ -68,19 +71,20 @@ module _ (faulty : Faulty) (dialect : Dialect) (allows : Seen → Choice → Typ
             faulty = may.1;
             before = λ lesser before less there.
                 let read = least.2 lesser less in
-                source_has_facts faulty may.0 dialect allows lesser before read.0.contents
-                (holds_at (λ f. IsParsedFile faulty dialect allows lesser f read.0) files lesser before there
+                source_has_facts faulty may.0 dialect form allows lesser before read.0.contents
+                (holds_at (λ f. IsParsedFile faulty dialect form allows lesser f read.0) files lesser before there
                 read.1).contents;
           })
 
   -- parsed files have no faulty source, where it is refused
   pub no_parsed_files_where_faulty : faulty ≡ Refuse → NoFactsWhereUnreadable
-      → (parsed : List ReadFile) (number : ℕ) (fault : FileFault) → AreParsedFiles faulty dialect allows files parsed
+      → (parsed : List ReadFile) (number : ℕ) (fault : FileFault)
+      → AreParsedFiles faulty dialect form allows files parsed
       → IsFirstFaulty dialect files number fault → ⊥
   no_parsed_files_where_faulty refused no_facts parsed number fault are first =
       let within : number < length parsed =
       rw are.one_each (slice_get_within files number first.file first.numbered) in
       let there = item_at parsed number within in
-      let has = source_has_facts faulty refused dialect allows number first.file there.0.contents
+      let has = source_has_facts faulty refused dialect form allows number first.file there.0.contents
       (are.each number first.file there.0 first.numbered there.1).contents first.faulty.source in
-      no_facts dialect number first.file.bytes has.0 fault has.1 first.faulty.unreadable
+      no_facts dialect has.0 number first.file.bytes has.1 fault has.2 first.faulty.unreadable

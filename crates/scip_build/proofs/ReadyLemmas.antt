@@ -11,6 +11,7 @@ use Rattle.std.proofs.lemmas.List.{length-map}
 use Rattle.std.proofs.lemmas.Option.{same_Some, none-some, slice_get-map, slice_get_within, get_or_from_slice_get}
 use Rattle.std.proofs.lemmas.Bool.{not-true}
 use Rattle.basics.proofs.ListLemmas.{item_at}
+use Rattle.comment_texts.specs.declared.form.CommentForm.{CommentForm}
 use Rattle.proto_parse.specs.dialect.Dialect.{Dialect}
 use Rattle.proto_decl.specs.Facts.{Facts, AreFactsOf, AreOfSomeFile}
 use Rattle.proto_decl.specs.Values.{Seen}
@@ -44,12 +45,13 @@ mapped f xs k x at = slice_get-map f xs k ∙ ap (option_map f) at
 -- ---- of a tree
 
 -- facts of a file's bytes are facts of that text
-of_text : (dialect : Dialect) (number : ℕ) (bytes : List ℕ) (facts : Facts) → AreFactsIn dialect number bytes facts
-    → AreOfText bytes facts
-of_text dialect number bytes facts has =
-    let Of : ℕ → Type 0 = λ n. AreFactsOf n has.lexed has.tree facts in
+of_text : (dialect : Dialect) (form : CommentForm) (number : ℕ) (bytes : List ℕ) (facts : Facts)
+    → AreFactsIn dialect form number bytes facts → AreOfText bytes facts
+of_text dialect form number bytes facts has =
+    let Of : ℕ → Type 0 = λ n. AreFactsOf form n has.lexed has.tree facts in
     record {
       origin = record {
+        form = form;
         lexed = has.lexed;
         file = has.tree;
         is_lexed = has.lexing.is_lexed;
@@ -59,26 +61,26 @@ of_text dialect number bytes facts has =
       text_is = has.lexing.of_bytes;
     }
 
-whole : (faulty : Faulty) (dialect : Dialect) (allows : Seen → Choice → Type 0) (number : ℕ) (file : TreeFile)
-    (contents : Result FileContents FileFault)
-    → HasContents faulty dialect allows number file contents → AreWholeIfRead contents
-whole faulty dialect allows number file (Ok contents) has =
+whole : (faulty : Faulty) (dialect : Dialect) (form : CommentForm) (allows : Seen → Choice → Type 0) (number : ℕ)
+    (file : TreeFile) (contents : Result FileContents FileFault)
+    → HasContents faulty dialect form allows number file contents → AreWholeIfRead contents
+whole faulty dialect form allows number file (Ok contents) has =
     let Of : List ℕ → Type 0 = λ bytes. AreOfText bytes contents.facts in
     let may_come : Declaration → Choice → Type 0 = λ declaration choice. allows (seen_of declaration) choice in
     record {
-      of_text = subst Of (sym has.0) (of_text dialect number file.bytes contents.facts has.1.facts_in);
+      of_text = subst Of (sym has.0) (of_text dialect form number file.bytes contents.facts has.1.facts_in);
       chosen = λ index declared at.
           beside may_come contents.facts.declarations contents.choices index declared has.1.chosen at;
     }
-whole faulty dialect allows number file (Err fault) has = tt
+whole faulty dialect form allows number file (Err fault) has = tt
 
-module _ (faulty : Faulty) (dialect : Dialect) (allows : Seen → Choice → Type 0) (tree : List TreeFile)
-    (parsed : List ReadFile) (are : AreParsedFiles faulty dialect allows tree parsed) where
+module _ (faulty : Faulty) (dialect : Dialect) (form : CommentForm) (allows : Seen → Choice → Type 0)
+    (tree : List TreeFile) (parsed : List ReadFile) (are : AreParsedFiles faulty dialect form allows tree parsed) where
   -- the file that a reading is one of
   record IsReadAt (number : ℕ) (parsed_file : ReadFile) : Type 0 where
     file : TreeFile
     numbered : slice_get tree number ≡ Some file
-    is : IsParsedFile faulty dialect allows number file parsed_file
+    is : IsParsedFile faulty dialect form allows number file parsed_file
 
   read_at : (number : ℕ) (parsed_file : ReadFile) → slice_get parsed number ≡ Some parsed_file
       → IsReadAt number parsed_file
@@ -91,7 +93,7 @@ module _ (faulty : Faulty) (dialect : Dialect) (allows : Seen → Choice → Typ
       → AreWholeIfRead parsed_file.contents
   whole_at number parsed_file at =
       let read = read_at number parsed_file at in
-      whole faulty dialect allows number read.file parsed_file.contents read.is.contents
+      whole faulty dialect form allows number read.file parsed_file.contents read.is.contents
 
   module _ (is_tree : IsTree tree) where
     good_at : (number : ℕ) (parsed_file : ReadFile) → slice_get parsed number ≡ Some parsed_file
@@ -125,7 +127,7 @@ module _ (faulty : Faulty) (dialect : Dialect) (allows : Seen → Choice → Typ
       few = rw are.one_each is_tree.few;
       each = λ number parsed_file at.
           record { good = good_at number parsed_file at; contents = whole_at number parsed_file at };
-      own = own_paths faulty dialect allows tree parsed are is_tree.own;
+      own = own_paths faulty dialect form allows tree parsed are is_tree.own;
       rising = rises;
     }
 

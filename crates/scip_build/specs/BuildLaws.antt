@@ -1,5 +1,6 @@
 -- What the definitions say about builds, whatever the code does.
 use Rattle.std.specs.Prelude.{◌≡◌, ◌≢◌, ℕ, List, []}
+use Rattle.comment_texts.specs.declared.form.CommentForm.{CommentForm}
 use Rattle.proto_parse.specs.dialect.Dialect.{Dialect}
 use Rattle.proto_decl.specs.Values.{Seen}
 use Rattle.proto_visibility.specs.declared.fault.LinkFault.{LinkFault}
@@ -29,13 +30,16 @@ abbrev pub BuiltHasNoFault : (allows others : Seen → Choice → Type 0) → Ty
 BuiltHasNoFault allows others =
     (settings : Settings) (tree : List TreeFile) (workers : ℕ) (built : Built) (fault : BuildFault)
     → IsBuilt allows settings tree built
-    → IsBuildFault others settings.faulty settings.dialect tree workers fault → cause_of fault ≢ link.Memory → ⊥
+    → IsBuildFault others settings.faulty settings.dialect settings.comments tree workers fault
+    → cause_of fault ≢ link.Memory → ⊥
 
 -- and those of any tree one at most
 abbrev pub OneBuildFault : (allows others : Seen → Choice → Type 0) → Type 0
 OneBuildFault allows others =
-    (faulty : Faulty) (dialect : Dialect) (tree : List TreeFile) (workers more : ℕ) (fault other : BuildFault)
-    → IsBuildFault allows faulty dialect tree workers fault → IsBuildFault others faulty dialect tree more other
+    (faulty : Faulty) (dialect : Dialect) (form : CommentForm) (tree : List TreeFile) (workers more : ℕ)
+    (fault other : BuildFault)
+    → IsBuildFault allows faulty dialect form tree workers fault
+    → IsBuildFault others faulty dialect form tree more other
     → cause_of fault ≢ link.Memory → cause_of other ≢ link.Memory → fault ≡ other
 
 -- they set the same, but for what is done with faults
@@ -44,6 +48,7 @@ pub record SetTheSame (settings other : Settings) : Type 0 where
   pub id : settings.package ≡ other.package
   pub encoding : settings.encoding ≡ other.encoding
   pub dialect : settings.dialect ≡ other.dialect
+  pub comments : settings.comments ≡ other.comments
 
 -- Once the choices are recorded, what is built depends only on the tree, these choices and the settings, whatever else
 -- may be chosen. If faults are refused and there is none, the same is built as if they were skipped.

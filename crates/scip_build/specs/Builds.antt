@@ -1,5 +1,6 @@
 -- What is built from a tree, and why nothing is.
 use Rattle.std.specs.Prelude.{◌≡◌, ◌⊎◌, ◌<◌, ℕ, ⊤, List, map}
+use Rattle.comment_texts.specs.declared.form.CommentForm.{CommentForm}
 use Rattle.proto_parse.specs.dialect.Dialect.{Dialect}
 use Rattle.proto_decl.specs.Values.{Seen}
 use Rattle.index_hooks.specs.declared.choice.Choice.{Choice}
@@ -35,29 +36,29 @@ pub record IsBuiltOf (all : List ReadFile) (settings : Settings) (built : Built)
 pub record IsBuilt (allows : Seen → Choice → Type 0) (settings : Settings) (tree : List TreeFile)
     (built : Built) : Type 0 where
   pub all : List ReadFile
-  pub read : AreParsedFiles settings.faulty settings.dialect allows tree all
+  pub read : AreParsedFiles settings.faulty settings.dialect settings.comments allows tree all
   pub of_files : IsBuiltOf all settings built
 
 -- this holds of some parsed files of the tree: so each source could be read
-abbrev pub OfParsed : (dialect : Dialect) → (allows : Seen → Choice → Type 0) → List TreeFile
+abbrev pub OfParsed : (dialect : Dialect) → CommentForm → (allows : Seen → Choice → Type 0) → List TreeFile
     → (List ReadFile → Type 0) → Type 0
-OfParsed dialect allows tree Holds =
-    (parsed : List ReadFile) × AreParsedFiles Refuse dialect allows tree parsed × Holds parsed
+OfParsed dialect form allows tree Holds =
+    (parsed : List ReadFile) × AreParsedFiles Refuse dialect form allows tree parsed × Holds parsed
 
 -- Why a tree has no index: the first source that can't be read; else what the linking of its files refuses; else the
 -- first use that names no type; all this only if faults are refused. A thread is refused only if one is to be
 -- started; nothing is said about memory.
-abbrev pub IsBuildFault : (allows : Seen → Choice → Type 0) → Faulty → (dialect : Dialect) → List TreeFile
-    → (workers : ℕ) → BuildFault → Type 0
-IsBuildFault allows faulty dialect tree workers Spawn = 1 < workers
-IsBuildFault allows faulty dialect tree workers Memory = ⊤
-IsBuildFault allows faulty dialect tree workers (File number fault) =
+abbrev pub IsBuildFault : (allows : Seen → Choice → Type 0) → Faulty → (dialect : Dialect) → CommentForm
+    → List TreeFile → (workers : ℕ) → BuildFault → Type 0
+IsBuildFault allows faulty dialect form tree workers Spawn = 1 < workers
+IsBuildFault allows faulty dialect form tree workers Memory = ⊤
+IsBuildFault allows faulty dialect form tree workers (File number fault) =
     (faulty ≡ Refuse) × (IsFirstFaulty dialect tree number fault
-    ⊎ OfParsed dialect allows tree (λ parsed. MayRefuseParsed parsed (File number fault)))
-IsBuildFault allows faulty dialect tree workers (Duplicate first second) =
-    (faulty ≡ Refuse) × OfParsed dialect allows tree (λ parsed. MayRefuseParsed parsed (Duplicate first second))
-IsBuildFault allows faulty dialect tree workers (MissingImport place) =
-    (faulty ≡ Refuse) × OfParsed dialect allows tree (λ parsed. MayRefuseParsed parsed (MissingImport place))
-IsBuildFault allows faulty dialect tree workers (Unresolved place) =
-    (faulty ≡ Refuse) × OfParsed dialect allows tree
+    ⊎ OfParsed dialect form allows tree (λ parsed. MayRefuseParsed parsed (File number fault)))
+IsBuildFault allows faulty dialect form tree workers (Duplicate first second) =
+    (faulty ≡ Refuse) × OfParsed dialect form allows tree (λ parsed. MayRefuseParsed parsed (Duplicate first second))
+IsBuildFault allows faulty dialect form tree workers (MissingImport place) =
+    (faulty ≡ Refuse) × OfParsed dialect form allows tree (λ parsed. MayRefuseParsed parsed (MissingImport place))
+IsBuildFault allows faulty dialect form tree workers (Unresolved place) =
+    (faulty ≡ Refuse) × OfParsed dialect form allows tree
     (λ parsed. CanBeLinked (linked_files parsed) × IsLeastUnresolved (linked_files parsed) place)

@@ -2,6 +2,7 @@
 use Rattle.std.specs.Prelude.{◌≡◌, ◌<◌, ℕ, ⊤, Bool, true, false, Result, Ok, Err, Some, List, length, MatchResult}
 use Rattle.std.specs.Prelude.{IfSome}
 use Rattle.std.specs.List.{AllZip, slice_get}
+use Rattle.comment_texts.specs.declared.form.CommentForm.{CommentForm}
 use Rattle.proto_parse.specs.dialect.Dialect.{Dialect}
 use Rattle.proto_decl.specs.Facts.{Facts}
 use Rattle.proto_decl.specs.Values.{Seen}
@@ -35,16 +36,16 @@ AreChosen allows declarations choices =
     AllZip (λ declaration choice. allows (seen_of declaration) choice) declarations choices
 
 -- what the file with this number and these bytes is read as
-pub record IsReadAs (dialect : Dialect) (allows : Seen → Choice → Type 0) (number : ℕ) (bytes : List ℕ)
-    (facts : Facts) (choices : List Choice) : Type 0 where
-  pub facts_in : AreFactsIn dialect number bytes facts
+pub record IsReadAs (dialect : Dialect) (form : CommentForm) (allows : Seen → Choice → Type 0) (number : ℕ)
+    (bytes : List ℕ) (facts : Facts) (choices : List Choice) : Type 0 where
+  pub facts_in : AreFactsIn dialect form number bytes facts
   pub chosen : AreChosen allows facts.declarations choices
 
 -- the contents of the file with this number and these bytes
-abbrev pub AreContentsOf : Dialect → (allows : Seen → Choice → Type 0) → (number : ℕ) → (bytes : List ℕ)
+abbrev pub AreContentsOf : Dialect → CommentForm → (allows : Seen → Choice → Type 0) → (number : ℕ) → (bytes : List ℕ)
     → FileContents → Type 0
-AreContentsOf dialect allows number bytes contents =
-    (contents.text ≡ bytes) × IsReadAs dialect allows number bytes contents.facts contents.choices
+AreContentsOf dialect form allows number bytes contents =
+    (contents.text ≡ bytes) × IsReadAs dialect form allows number bytes contents.facts contents.choices
 
 -- a file may be without contents if it is included, and any may if it isn't refused for it
 abbrev pub may_be_unread : Faulty → (is_included : Bool) → Bool
@@ -52,36 +53,37 @@ may_be_unread Refuse is_included = is_included
 may_be_unread Skip is_included = true
 
 -- the contents of a file, or, if it may be without, why it has none
-abbrev pub HasContents : Faulty → Dialect → (allows : Seen → Choice → Type 0) → (number : ℕ) → TreeFile
+abbrev pub HasContents : Faulty → Dialect → CommentForm → (allows : Seen → Choice → Type 0) → (number : ℕ) → TreeFile
     → Result FileContents FileFault → Type 0
-HasContents faulty dialect allows number file (Ok contents) = AreContentsOf dialect allows number file.bytes contents
-HasContents faulty dialect allows number file (Err fault) =
+HasContents faulty dialect form allows number file (Ok contents) =
+    AreContentsOf dialect form allows number file.bytes contents
+HasContents faulty dialect form allows number file (Err fault) =
     (may_be_unread faulty file.is_included ≡ true) × IsUnreadable dialect file.bytes fault
 
 -- a file after it was read
-pub record IsParsedFile (faulty : Faulty) (dialect : Dialect) (allows : Seen → Choice → Type 0) (number : ℕ)
-    (file : TreeFile) (parsed_file : ReadFile) : Type 0 where
+pub record IsParsedFile (faulty : Faulty) (dialect : Dialect) (form : CommentForm) (allows : Seen → Choice → Type 0)
+    (number : ℕ) (file : TreeFile) (parsed_file : ReadFile) : Type 0 where
   pub path : parsed_file.path ≡ file.path
   pub is_included : parsed_file.is_included ≡ file.is_included
-  pub contents : HasContents faulty dialect allows number file parsed_file.contents
+  pub contents : HasContents faulty dialect form allows number file parsed_file.contents
 
 -- the files after they were read, each under its number
-pub record AreParsedFiles (faulty : Faulty) (dialect : Dialect) (allows : Seen → Choice → Type 0)
+pub record AreParsedFiles (faulty : Faulty) (dialect : Dialect) (form : CommentForm) (allows : Seen → Choice → Type 0)
     (files : List TreeFile) (parsed : List ReadFile) : Type 0 where
   pub one_each : length parsed ≡ length files
   pub each : (number : ℕ) (file : TreeFile) (parsed_file : ReadFile) → slice_get files number ≡ Some file
       → slice_get parsed number ≡ Some parsed_file
-      → IsParsedFile faulty dialect allows number file parsed_file
+      → IsParsedFile faulty dialect form allows number file parsed_file
 
 -- a source, which can't be read
 pub record IsFaultySource (dialect : Dialect) (file : TreeFile) (fault : FileFault) : Type 0 where
   pub source : file.is_included ≡ false
   pub unreadable : IsUnreadable dialect file.bytes fault
 
--- the file has facts, if it is a source
+-- the file has facts, if it is a source, with the texts of comments in some form
 abbrev pub IsReadIfSource : Dialect → ℕ → TreeFile → Type 0
 IsReadIfSource dialect number file = file.is_included ≡ false
-    → (facts : Facts) × AreFactsIn dialect number file.bytes facts
+    → (form : CommentForm) × (facts : Facts) × AreFactsIn dialect form number file.bytes facts
 
 -- the file with this number is the first source that can't be read
 pub record IsFirstFaulty (dialect : Dialect) (files : List TreeFile) (number : ℕ)
@@ -107,9 +109,9 @@ MayRefuseParsing faulty dialect file lacking.Memory = ⊤
 MayRefuseParsing faulty dialect file (lacking.Unreadable fault) = (faulty ≡ Refuse) × IsFaultySource dialect file fault
 
 -- what the parsed file of the file with this number gives
-abbrev pub GivesParsedFile : Faulty → Dialect → (allows : Seen → Choice → Type 0) → List TreeFile → ℕ
+abbrev pub GivesParsedFile : Faulty → Dialect → CommentForm → (allows : Seen → Choice → Type 0) → List TreeFile → ℕ
     → Result ReadFile NoContents → Type 0
-GivesParsedFile faulty dialect allows files number result =
+GivesParsedFile faulty dialect form allows files number result =
     IfSome (slice_get files number)
-    (λ file. MatchResult result (IsParsedFile faulty dialect allows number file)
+    (λ file. MatchResult result (IsParsedFile faulty dialect form allows number file)
     (MayRefuseParsing faulty dialect file))

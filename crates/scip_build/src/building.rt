@@ -234,11 +234,18 @@ pub fn build_in_form<'a, R: Threads + Wait, C: Chooses + Sync, G: Gate, F: Docum
     ensures built { IfOk result (λ built. IsBuiltInForm F.is_kept (C.allows chooser.now) settings.now tree.now
         built.choices built.told built.parts) }
     ensures refused { IfErr result (IsBuildFault (C.allows chooser.now) settings.now.faulty settings.now.dialect
-        tree.now run.now.workers) }
+        settings.now.comments tree.now run.now.workers) }
 {
     // From here on it is known that the files are those of a tree.
     tree.file_count();
-    let all = parse_files(run, tree, chooser, settings.dialect, settings.faulty)?;
+    let all = parse_files(
+        run,
+        tree,
+        chooser,
+        settings.dialect,
+        settings.comments,
+        settings.faulty,
+    )?;
     match settings.faulty {
         Faulty::Refuse => build_whole(run, all, settings, form),
         Faulty::Skip => build_kept(run, all, settings, form),
@@ -274,7 +281,7 @@ pub fn build<R: Threads + Wait, C: Chooses + Sync, G: Gate>(
 ) -> Result<Built, BuildFault>
     ensures built { IfOk result (IsBuilt (C.allows chooser.now) settings.now tree.now) }
     ensures refused { IfErr result (IsBuildFault (C.allows chooser.now) settings.now.faulty settings.now.dialect
-        tree.now run.now.workers) }
+        settings.now.comments tree.now run.now.workers) }
 {
     let built = build_in_form(run, tree, chooser, settings, &AsRecords)?;
     let index = index_of(built.parts);

@@ -10,20 +10,22 @@ use crate::choosing::choose_each;
 use crate::fault::FileFault;
 use crate::faulty::Faulty;
 use crate::parsed_file::{Contents, ParsedFile};
+use comment_texts::CommentForm;
 use index_hooks::Chooses;
-use proto_decl::{FileFacts, declare};
+use proto_decl::{FileFacts, declare_in};
 use proto_lex::{LexFault, Text, lex};
 use proto_parse::{Dialect, SyntaxFault, parse_with};
 use source_tree::Tree;
 use std::alloc::{AllocError, Global};
 
-/// By what files are read: what chooses for their declarations, which are accepted, and what is done with those that
-/// can't be read.
+/// By what files are read: what chooses for their declarations, which are accepted, how the texts of comments are
+/// given, and what is done with those that can't be read.
 #[derive(Drop)]
 pub(crate) struct Reader<'c, C> {
     pub(crate) alloc: Global,
     pub(crate) chooser: &'c C,
     pub(crate) dialect: Dialect,
+    pub(crate) comments: CommentForm,
     pub(crate) faulty: Faulty,
 }
 
@@ -72,9 +74,10 @@ fn facts_of<'a>(
     number: usize,
     text: &Text<'a>,
     dialect: Dialect,
+    comments: CommentForm,
 ) -> Result<FileFacts<'a>, NoContents>
     requires { IsText text.now }
-    ensures { MatchResult result (AreFactsIn dialect number text.now) (MayRefuseFile dialect text.now) }
+    ensures { MatchResult result (AreFactsIn dialect comments number text.now) (MayRefuseFile dialect text.now) }
 {
     let lexed = match lex(alloc, text) {
         Ok(lexed) => lexed,
@@ -84,7 +87,7 @@ fn facts_of<'a>(
         Ok(tree) => tree,
         Err(fault) => return Err(unparsed(fault)),
     };
-    Ok(declare(alloc, number, &lexed, &tree)?)
+    Ok(declare_in(alloc, comments, number, &lexed, &tree)?)
 }
 
 /// The contents of the file with this number and these bytes.
@@ -94,14 +97,14 @@ fn contents_of<'a, C: Chooses>(
     bytes: &'a [u8],
 ) -> Result<Contents<'a>, NoContents>
     ensures { MatchResult result
-        (AreContentsOf reader.now.dialect (C.allows reader.now.chooser.now) number bytes.now)
+        (AreContentsOf reader.now.dialect reader.now.comments (C.allows reader.now.chooser.now) number bytes.now)
         (MayRefuseFile reader.now.dialect bytes.now) }
 {
     let text = match Text::new(reader.alloc, bytes) {
         Ok(text) => text,
         Err(fault) => return Err(unlexed(fault)),
     };
-    let facts = facts_of(reader.alloc, number, &text, reader.dialect)?;
+    let facts = facts_of(reader.alloc, number, &text, reader.dialect, reader.comments)?;
     let choices = choose_each(reader.alloc, reader.chooser, facts.declarations())?;
     Ok(Contents {
         text,
@@ -120,7 +123,7 @@ fn read_parts<'a, C: Chooses>(
     is_included: bool,
 ) -> Result<ParsedFile<'a>, NoContents>
     ensures { MatchResult result
-        (IsParsedFile reader.now.faulty reader.now.dialect (C.allows reader.now.chooser.now) number
+        (IsParsedFile reader.now.faulty reader.now.dialect reader.now.comments (C.allows reader.now.chooser.now) number
         (record { path = path.now; bytes = bytes.now; is_included = is_included }))
         (MayRefuseParsing reader.now.faulty reader.now.dialect
         (record { path = path.now; bytes = bytes.now; is_included = is_included })) }
@@ -153,8 +156,8 @@ pub(crate) fn read_file<'a, C: Chooses>(
     tree: &'a Tree,
 ) -> Result<ParsedFile<'a>, NoContents>
     requires { number < length tree.now }
-    ensures { GivesParsedFile reader.now.faulty reader.now.dialect (C.allows reader.now.chooser.now) tree.now number
-        result }
+    ensures { GivesParsedFile reader.now.faulty reader.now.dialect reader.now.comments
+        (C.allows reader.now.chooser.now) tree.now number result }
 {
     read_parts(
         reader,

@@ -9,6 +9,7 @@ use crate::faulty::Faulty;
 use crate::file_parsing::{NoContents, Reader, read_file};
 use crate::parsed_file::ParsedFile;
 use crate::run::Run;
+use comment_texts::CommentForm;
 use index_hooks::Chooses;
 use index_pool::{Gate, Job, PoolFault, Ticket, run_phase};
 use proto_parse::Dialect;
@@ -33,8 +34,8 @@ impl<'a, 'c, C: Chooses + Sync> Job for PhaseOne<'a, 'c, C> {
 
     ghost inputs = { λ s. length s.tree.now };
 
-    ghost gives = { λ s number result. GivesParsedFile s.reader.faulty s.reader.dialect (C.allows s.reader.chooser.now)
-        s.tree.now number result };
+    ghost gives = { λ s number result. GivesParsedFile s.reader.faulty s.reader.dialect s.reader.comments
+        (C.allows s.reader.chooser.now) s.tree.now number result };
 
     fn run(&self, ticket: Ticket) -> Result<ParsedFile<'a>, NoContents> {
         read_file(&self.reader, ticket.number(), self.tree)
@@ -51,8 +52,8 @@ fn refusal(number: usize, fault: NoContents) -> BuildFault
     }
 }
 
-/// Reads the files of a tree, all in one dialect, and chooses for each declaration, on this many workers, with the
-/// gate's calls round each file.
+/// Reads the files of a tree, all in one dialect and with the texts of comments in one form, and chooses for each
+/// declaration, on this many workers, with the gate's calls round each file.
 ///
 /// A source that isn't text, or has no lexing or no tree, is refused, unless faulty files are skipped: `File` names
 /// the first of them, and memory sufficed for every file before it. An included file like that isn't refused, and no
@@ -68,16 +69,18 @@ pub fn parse_files<'a, R: Threads + Wait, C: Chooses + Sync, G: Gate>(
     tree: &'a Tree,
     chooser: &C,
     dialect: Dialect,
+    comments: CommentForm,
     faulty: Faulty,
 ) -> Result<Vec<ParsedFile<'a>>, BuildFault>
     ensures { MatchResult result
-        (λ parsed. AreParsedFiles faulty dialect (C.allows chooser.now) tree.now parsed.items)
+        (λ parsed. AreParsedFiles faulty dialect comments (C.allows chooser.now) tree.now parsed.items)
         (MayRefuseFiles faulty dialect tree.now run.now.workers) }
 {
     let reader = Reader {
         alloc: run.alloc,
         chooser,
         dialect,
+        comments,
         faulty,
     };
     let job = PhaseOne { reader, tree };

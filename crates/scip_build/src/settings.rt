@@ -2,6 +2,7 @@
 
 use crate::faulty::Faulty;
 use basics::OwnedText;
+use comment_texts::CommentForm;
 use proto_lex::Encoding;
 use proto_parse::Dialect;
 use scip_model::FilePackages;
@@ -17,6 +18,8 @@ pub struct Settings {
     pub encoding: Encoding,
     /// Which sources and included files are accepted.
     pub dialect: Dialect,
+    /// How the texts of comments are given.
+    pub comments: CommentForm,
     /// Whether a tree with faults is refused, or what has one is left out and reported.
     pub faulty: Faulty,
 }

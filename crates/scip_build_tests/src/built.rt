@@ -2,6 +2,7 @@
 
 use crate::asking::Asking;
 use basics::OwnedText;
+use comment_texts::CommentForm;
 use index_hooks::Registry;
 use index_pool::{Gate, Workers};
 use proto_lex::Encoding;
@@ -89,6 +90,7 @@ fn settings_of(rt: &impl Abort, alloc: Global, faulty: Faulty) -> Result<Setting
         package: FilePackages::of_run(alloc, id),
         encoding: Encoding::Utf8,
         dialect: Dialect::Proto3(CustomOptions::Refuse),
+        comments: CommentForm::Raw,
         faulty,
     })
 }

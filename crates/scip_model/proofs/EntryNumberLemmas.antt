@@ -16,6 +16,7 @@ use Rattle.index_hooks.specs.declared.choice.Choice.{Choice}
 use Rattle.proto_decl.specs.Names.{package_of}
 use Rattle.proto_decl.specs.Facts.{Facts}
 use Rattle.proto_decl.specs.declared.declaration.Declaration.{Declaration}
+use Rattle.scip_records.specs.Details.{no_details}
 use Rattle.scip_records.specs.declared.records.SymbolInformation.{SymbolInformation}
 use Rattle.scip_symbol.specs.Package.{Package}
 use Rattle.scip_model.specs.Named.{text_of, package_at, declaration_at}
@@ -115,7 +116,8 @@ module _ (id run : Package) (path : List ℕ) (facts : Facts) (choices : List Ch
 
   file_is : file_entry id path ≡ one 0
   file_is =
-      ap (λ (text : List ℕ). record { symbol = text; documentation = []; display_name = path })
+      ap (λ (text : List ℕ).
+      record { symbol = text; documentation = []; display_name = path; details = no_details })
       (sym (file_number id run path facts texts grown))
       ∙ sym (front_is texts path names facts choices 0 (omega arith))
 
@@ -126,9 +128,14 @@ module _ (id run : Package) (path : List ℕ) (facts : Facts) (choices : List Ch
       let name : text_at names index ≡ name_of index =
       get_or-map-range_with_len name_of 0 (length facts.package_name) index index [] within (omega arith) in
       sym (front_is texts path names facts choices (suc index) (omega (arith, within, names_count))
-      ∙ (ap (λ (text : List ℕ). record { symbol = text; documentation = []; display_name = text_at names index }) symbol
-      ∙ ap (λ (text : List ℕ).
-      record { symbol = text_of run (package_at facts (index + 1)); documentation = []; display_name = text }) name))
+      ∙ (ap (λ (text : List ℕ).
+      record { symbol = text; documentation = []; display_name = text_at names index; details = no_details }) symbol
+      ∙ ap (λ (text : List ℕ). record {
+        symbol = text_of run (package_at facts (index + 1));
+        documentation = [];
+        display_name = text;
+        details = no_details;
+      }) name))
 
   first_each : (number : ℕ) → number < 1 + length facts.package_name
       → get_or (file_entry id path ∷ package_entries run facts) number (file_entry id path) ≡ one number

@@ -1,6 +1,6 @@
 -- Of what occurs in a document no two tie: over one range there is one role.
 use Rattle.std.proofs.Common.{◌≡◌, ◌∙◌, sym, ap, refl, subst, ◌⊎◌, inl, inr, ℕ, ◌<◌, List, [], ◌∷◌, map, arith, ⊎_elim}
-use Rattle.std.specs.Prelude.{◌≢◌}
+use Rattle.std.specs.Prelude.{◌≢◌, None}
 use Rattle.std.specs.List.{Contains, slice_get, flat_map}
 use Rattle.std.proofs.lemmas.Bool.{cases_order}
 use Rattle.std.proofs.lemmas.List.Elements.{All-contains, Contains-append_left, Contains-append_right}
@@ -193,6 +193,13 @@ module _ (files : List File) (chosen : Chosen) (ids : Packages) (encoding : Enco
   own_or_known _ (of_declaration {facts = facts} index has kept) = inr (facts, has.has_facts)
   own_or_known _ (of_component names shown) = inr (names.facts, names.has_facts)
 
+  none_around : (o : Occurrence) → Occurs files chosen ids encoding source text o → o.enclosing_range ≡ None
+  none_around _ (of_file there) = refl
+  none_around _ (of_import has listed there) = refl
+  none_around _ (of_package index has e) = refl
+  none_around _ (of_declaration index has kept) = refl
+  none_around _ (of_component names shown) = refl
+
   pub no_ties : (rise : CharactersRise)
       → ((facts : Facts) → HasFacts files source facts → StandInText text facts × StandApart facts)
       → (o p : Occurrence) → Occurs files chosen ids encoding source text o
@@ -204,4 +211,5 @@ module _ (files : List File) (chosen : Chosen) (ids : Packages) (encoding : Enco
       let roles : o.symbol_roles ≡ p.symbol_roles =
       ⊎_elim (λ own. ⊎_elim (λ other. own ∙ sym other) by_facts (own_or_known p second)) by_facts
       (own_or_known o first) in
-      λ i. record { range = ranges i; symbol = symbols i; symbol_roles = roles i }
+      let around = none_around o first ∙ sym (none_around p second) in
+      λ i. record { range = ranges i; symbol = symbols i; symbol_roles = roles i; enclosing_range = around i }

@@ -148,11 +148,12 @@ numbered_in texts id entity text number is numbered = (text, is, numbered)
 -- one more
 pub one_added : (texts : List (List ℕ)) (old new : List PlannedOccurrence) (planned : PlannedOccurrence)
     (text : List ℕ) (occurrence : Occurrence) → new ≡ old ++ planned ∷ [] → IsNumberOf texts text planned.symbol
-    → record { range = planned.range; symbol = text; symbol_roles = planned.symbol_roles } ≡ occurrence
+    → record { range = planned.range; symbol = text; symbol_roles = planned.symbol_roles; enclosing_range = None }
+    ≡ occurrence
     → AreAdded texts old new (occurrence ∷ [])
 one_added texts old new planned text occurrence added numbered is = λ later grown.
     let with_text : List ℕ → Occurrence = λ its.
-    record { range = planned.range; symbol = its; symbol_roles = planned.symbol_roles } in
+    record { range = planned.range; symbol = its; symbol_roles = planned.symbol_roles; enclosing_range = None } in
     ap (map (occurrence_of later)) added
     ∙ (map-append (occurrence_of later) old (planned ∷ [])
     ∙ ap (λ (o : Occurrence). map (occurrence_of later) old ++ o ∷ []) (ap with_text (numbered later grown) ∙ is))
@@ -170,7 +171,8 @@ pub planned_added : (encoding : Encoding) (bytes : List ℕ) (span : Span) (role
 planned_added encoding bytes span roles texts old new planned text number added is numbered =
     one_added texts old new planned text (occurrence_with encoding bytes span text roles) added
     (subst (λ (p : PlannedOccurrence). IsNumberOf texts text p.symbol) (sym is) numbered)
-    (ap (λ (p : PlannedOccurrence). record { range = p.range; symbol = text; symbol_roles = p.symbol_roles }) is)
+    (ap (λ (p : PlannedOccurrence).
+    record { range = p.range; symbol = text; symbol_roles = p.symbol_roles; enclosing_range = None }) is)
 
 -- an entity over a span, whose number is known
 pub entity_added : (encoding : Encoding) (bytes : List ℕ) (id : Package) (span : Span) (entity : Option symbols.Entity)

@@ -2,6 +2,7 @@
 -- symbols have one, the texts that document them, and the names that they are shown by, is the profile's).
 use Rattle.std.specs.Prelude.{ℕ, List, [], ◌++◌, ◌≡◌, ◌+◌, true, Some}
 use Rattle.std.specs.List.{slice_get}
+use Rattle.scip_records.specs.Details.{no_details}
 use Rattle.proto_decl.specs.declared.declaration.Declaration.{Declaration}
 use Rattle.proto_decl.specs.Declares.{simple_name}
 use Rattle.proto_decl.specs.Names.{package_of}
@@ -33,7 +34,8 @@ documentation_of Both declaration = unless_empty declaration.leading ++ unless_e
 
 -- of a file, shown by its path
 abbrev pub file_entry : Package → (path : List ℕ) → SymbolInformation
-file_entry id path = record { symbol = text_of id (OfFile path); documentation = []; display_name = path }
+file_entry id path =
+    record { symbol = text_of id (OfFile path); documentation = []; display_name = path; details = no_details }
 
 -- of the package of the first components of a file's package name, shown by its full name
 abbrev pub package_entry : Package → Facts → (count : ℕ) → SymbolInformation
@@ -41,6 +43,7 @@ package_entry id facts count = record {
   symbol = text_of id (package_at facts count);
   documentation = [];
   display_name = package_of facts.package_name count;
+  details = no_details;
 }
 
 -- of a declaration, with the texts chosen for it, shown by its simple name
@@ -49,6 +52,7 @@ declaration_entry id facts declared choice = record {
   symbol = text_of id (declaration_at facts declared);
   documentation = documentation_of choice.doc declared;
   display_name = simple_name declared.path;
+  details = no_details;
 }
 
 -- the entry of a declaration that is kept, by its file's number and its own

@@ -1,5 +1,7 @@
 -- the records of an index
 pub use Rattle.scip_records.specs.Range
+pub use Rattle.scip_records.specs.Details
+pub use Rattle.scip_records.specs.declared.details
 pub use Rattle.scip_records.specs.declared.records
 pub use Rattle.scip_records.specs.declared.range
 -- what bytes are written to and read from

@@ -1,6 +1,6 @@
 -- What occurs in the document of a source: exactly this, whatever its order (`scip.proto`, Occurrence and SymbolRole;
 -- which symbols occur, and the file's own range, is the profile's).
-use Rattle.std.specs.Prelude.{◌≡◌, ℕ, ◌+◌, ℤ, pos, Some, List, Contains}
+use Rattle.std.specs.Prelude.{◌≡◌, ℕ, ◌+◌, ℤ, pos, Some, None, List, Contains}
 use Rattle.std.specs.List.{slice_get}
 use Rattle.proto_lex.specs.declared.span.Span.{Span}
 use Rattle.proto_lex.specs.declared.position.Encoding.{Encoding}
@@ -51,7 +51,12 @@ IsShown chosen (link.Declared file declaration) = IsKeptDeclaration chosen file 
 -- an entity's symbol over a span
 abbrev pub occurrence_over : Encoding → (text : List ℕ) → Package → Span → symbols.Entity → ℤ → Occurrence
 occurrence_over encoding text id span entity roles =
-    record { range = range_over encoding text span; symbol = text_of id entity; symbol_roles = roles }
+    record {
+      range = range_over encoding text span;
+      symbol = text_of id entity;
+      symbol_roles = roles;
+      enclosing_range = None;
+    }
 
 -- What occurs in the document of a source, which has this text.
 pub data Occurs (files : List File) (chosen : Chosen) (ids : Packages) (encoding : Encoding) (source : ℕ)
@@ -63,6 +68,7 @@ pub data Occurs (files : List File) (chosen : Chosen) (ids : Packages) (encoding
         range = start_of_text;
         symbol = text_of (package_of_file files ids source) (OfFile file.path);
         symbol_roles = definition_role;
+        enclosing_range = None;
       })
   -- each file that it imports, over the literals, if it is there
   of_import : {facts : Facts} {imported : Imported} → HasFacts files source facts → Contains facts.imports imported

@@ -4,6 +4,7 @@ ghost use Rattle.std.specs.Prelude.{◌≡◌, ◌∷◌, []};
 ghost use Rattle.std.specs.List.{slice_get};
 ghost use Rattle.scip_model.specs.Indexes.{encoding_number};
 ghost use Rattle.scip_model.specs.Tables.Plans.{text_at, shown_as, entry_of};
+ghost use Rattle.scip_records.specs.Details.{no_details};
 
 use crate::entries::ref_entry;
 use crate::symbol_table::SymbolTable;
@@ -11,7 +12,9 @@ use basics::{OwnedText, Sequence};
 use index_hooks::Choice;
 use proto_decl::FileFacts;
 use proto_lex::{Encoding, Span};
-use scip_records::{DocumentParts, InformationRef, OccurrenceRef, Range, SymbolRef, TextsRef};
+use scip_records::{
+    DetailsRef, DocumentParts, InformationRef, OccurrenceRef, Range, SymbolRef, TextsRef,
+};
 use std::alloc::Global;
 use std::marker::Model;
 
@@ -109,12 +112,18 @@ fn name_at<'a>(path: &'a str, names: &'a [OwnedText], number: usize) -> &'a str
 
 /// An entry without documentation.
 fn undocumented<'a>(symbol: SymbolRef<'a>, display_name: &'a str) -> InformationRef<'a>
-    ensures { result ≡ record { symbol = symbol.entry; documentation = []; display_name = display_name.now } }
+    ensures { result ≡ record {
+      symbol = symbol.entry;
+      documentation = [];
+      display_name = display_name.now;
+      details = no_details;
+    } }
 {
     InformationRef {
         symbol,
         documentation: TextsRef::of_list(&[]),
         display_name,
+        details: DetailsRef::none(),
     }
 }
 
@@ -185,6 +194,7 @@ impl<'a, 't> DocumentParts for DocumentPlan<'a, 't> {
             range: planned.range,
             symbol: self.texts.at(planned.symbol),
             symbol_roles: planned.symbol_roles,
+            enclosing_range: None,
         }
     }
 

@@ -23,7 +23,7 @@ use crate::symbol_texts::declaration_text;
 use basics::OwnedText;
 use index_hooks::{Choice, DocChoice};
 use proto_decl::{Component, Declaration, FileFacts};
-use scip_records::{InformationRef, SymbolInformation, SymbolRef, TextsRef};
+use scip_records::{DetailsRef, InformationRef, SymbolInformation, SymbolRef, TextsRef};
 use scip_symbol::PackageId;
 use std::alloc::{AllocError, Global};
 use std::cmp::Ordering;
@@ -94,6 +94,7 @@ pub(crate) fn ref_entry<'a>(
         symbol,
         documentation: documentation_of(choice.doc, declaration),
         display_name: declaration.simple_name(),
+        details: DetailsRef::none(),
     }
 }
 

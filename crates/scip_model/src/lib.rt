@@ -43,7 +43,10 @@ pub use laws::{
 pub use one_package::{document, externals};
 pub use packages::{FilePackages, RootPackage};
 pub use pieces::{MergeFault, Unmerged, merge};
-pub use scip_records::{Document, Index, Metadata, Occurrence, Range, SymbolInformation, ToolInfo};
+pub use scip_records::{
+    BoxedDetails, Details, Document, Index, Metadata, Occurrence, Range, Signature,
+    SymbolInformation, ToolInfo,
+};
 pub use source_document::{SourceDocument, document_and_unresolved, make_document, plan_document};
 pub use streams::{Failed, Feed, Sink, Std};
 /// What is known of a symbol.

@@ -131,7 +131,8 @@ fn entry_places(alloc: Global, index: &Index) -> Result<Vec<EntryPlace>, AllocEr
     let documents = index.documents.as_slice();
     let mut places = Vec::new(alloc);
     for (list, document) in documents.iter().enumerate() {
-        push_entry_places(&mut places, list, document.symbols.as_slice())?;
+        let entries = document.symbols.as_slice();
+        push_entry_places(&mut places, list, entries)?;
     }
     push_entry_places(
         &mut places,

@@ -1,11 +1,13 @@
 //! Records that are made of what is lent.
 
-ghost use Rattle.std.specs.Prelude.{◌≡◌, ◌<◌, ◌++◌, IfOk, OnOk};
+ghost use Rattle.std.specs.Prelude.{◌≡◌, ◌<◌, ◌++◌, [], true, false, IfOk, OnOk};
 ghost use Rattle.scip_records.specs.Texts.{unless_empty};
+ghost use Rattle.scip_records.specs.Details.{no_details};
 
+use crate::details::{BoxedDetails, Details, Signature};
 use crate::document_parts::DocumentParts;
 use crate::records::{Document, Occurrence, SymbolInformation};
-use crate::refs::{InformationRef, OccurrenceRef, SymbolRef, TextsRef};
+use crate::refs::{DetailsRef, InformationRef, OccurrenceRef, SymbolRef, TextsRef};
 use basics::{OwnedText, Sequence};
 use std::alloc::{AllocError, Global};
 
@@ -62,6 +64,16 @@ fn texts_of(alloc: Global, borrowed: &TextsRef<'_>) -> Result<Sequence<OwnedText
 }
 
 impl<'a> SymbolRef<'a> {
+    /// Whether it has no text.
+    fn is_empty(&self) -> bool
+        ensures { result ≡ true → self.now ≡ [] }
+    {
+        if !self.front.is_empty() {
+            return false;
+        }
+        self.rest.is_empty()
+    }
+
     /// A copy of the text.
     fn to_text(&self, alloc: Global) -> Result<OwnedText, AllocError>
         ensures { IfOk result (λ made. made ≡ self.now) }
@@ -84,7 +96,43 @@ impl<'a> OccurrenceRef<'a> {
             range: self.range,
             symbol,
             symbol_roles: self.symbol_roles,
+            enclosing_range: self.enclosing_range,
         })
+    }
+}
+
+impl<'a> DetailsRef<'a> {
+    /// Whether there is any detail.
+    fn are_there(&self) -> bool
+        ensures { result ≡ false → self.now ≡ no_details }
+    {
+        if self.kind != 0 {
+            return true;
+        }
+        if !self.signature.language.is_empty() || !self.signature.text.is_empty() {
+            return true;
+        }
+        !self.enclosing_symbol.is_empty()
+    }
+
+    /// Details with copies of the texts, in a box if there are any. An error means that memory was refused.
+    fn to_boxed(&self, alloc: Global) -> Result<BoxedDetails, AllocError>
+        ensures { IfOk result (λ made. made ≡ self.now) }
+    {
+        if !self.are_there() {
+            return Ok(BoxedDetails::none());
+        }
+        let language = OwnedText::copy_of(alloc, self.signature.language)?;
+        let text = OwnedText::copy_of(alloc, self.signature.text)?;
+        let enclosing_symbol = self.enclosing_symbol.to_text(alloc)?;
+        BoxedDetails::boxed(
+            alloc,
+            Details {
+                kind: self.kind,
+                signature: Signature { language, text },
+                enclosing_symbol,
+            },
+        )
     }
 }
 
@@ -96,10 +144,12 @@ impl<'a> InformationRef<'a> {
         let symbol = self.symbol.to_text(alloc)?;
         let documentation = texts_of(alloc, &self.documentation)?;
         let display_name = OwnedText::copy_of(alloc, self.display_name)?;
+        let details = self.details.to_boxed(alloc)?;
         Ok(SymbolInformation {
             symbol,
             documentation,
             display_name,
+            details,
         })
     }
 }

@@ -1,5 +1,6 @@
 //! The records of an index: the fields of `scip.proto` that this project keeps.
 
+use crate::details::BoxedDetails;
 use crate::range::Range;
 use basics::{OwnedText, Sequence};
 
@@ -66,6 +67,8 @@ pub struct Occurrence {
     pub symbol: OwnedText,
     /// Bits: 1 is a definition, 2 an import.
     pub symbol_roles: i32,
+    /// Of a definition, where its declaration is, its comments included, if that is known.
+    pub enclosing_range: Option<Range>,
 }
 
 /// What is known of a symbol (`scip.proto`, `SymbolInformation`).
@@ -79,4 +82,6 @@ pub struct SymbolInformation {
     /// How it is shown: in the index of a tree a file by its path, a package by its full name, and a declaration by its
     /// simple name.
     pub display_name: OwnedText,
+    /// What else is known of it.
+    pub details: BoxedDetails,
 }

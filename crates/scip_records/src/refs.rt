@@ -2,7 +2,9 @@
 
 ghost use Rattle.std.specs.Prelude.{◌≡◌, ◌++◌};
 ghost use Rattle.scip_records.specs.Texts.{unless_empty};
+ghost use Rattle.scip_records.specs.Details.{no_details};
 
+use crate::details::Details;
 use crate::range::Range;
 use crate::records::{Occurrence, SymbolInformation};
 use basics::OwnedText;
@@ -50,6 +52,8 @@ pub struct OccurrenceRef<'a> {
     pub symbol: SymbolRef<'a>,
     /// The bits of `Occurrence`.
     pub symbol_roles: i32,
+    /// Where its declaration is, if that is known.
+    pub enclosing_range: Option<Range>,
 }
 
 impl<'a> Model for OccurrenceRef<'a> {
@@ -57,7 +61,12 @@ impl<'a> Model for OccurrenceRef<'a> {
 
     ghost Value = { Occurrence };
 
-    ghost view = { λ o. record { range = o.range; symbol = o.symbol; symbol_roles = o.symbol_roles } };
+    ghost view = { λ o. record {
+      range = o.range;
+      symbol = o.symbol;
+      symbol_roles = o.symbol_roles;
+      enclosing_range = o.enclosing_range;
+    } };
 }
 
 impl<'a> OccurrenceRef<'a> {
@@ -69,6 +78,7 @@ impl<'a> OccurrenceRef<'a> {
             range: occurrence.range,
             symbol: SymbolRef::whole(occurrence.symbol.as_str()),
             symbol_roles: occurrence.symbol_roles,
+            enclosing_range: occurrence.enclosing_range,
         }
     }
 }
@@ -123,6 +133,76 @@ impl<'a> TextsRef<'a> {
     }
 }
 
+/// A signature, lent.
+///
+/// Contracts see the signature.
+#[derive(Debug, Drop)]
+pub struct SignatureRef<'a> {
+    /// The name of the language.
+    pub language: &'a str,
+    /// The declaration's text.
+    pub text: &'a str,
+}
+
+impl<'a> Model for SignatureRef<'a> {
+    ghost use Rattle.scip_records.specs.declared.details.Signature.{Signature};
+
+    ghost Value = { Signature };
+
+    ghost view = { λ s. record { language = s.language.now; text = s.text.now } };
+}
+
+/// What is known of a symbol besides its documentation, lent.
+///
+/// Contracts see the details.
+#[derive(Debug, Drop)]
+pub struct DetailsRef<'a> {
+    /// What it is, an enum.
+    pub kind: i32,
+    /// How it is declared.
+    pub signature: SignatureRef<'a>,
+    /// The symbol of what it is declared in.
+    pub enclosing_symbol: SymbolRef<'a>,
+}
+
+impl<'a> Model for DetailsRef<'a> {
+    ghost use Rattle.scip_records.specs.declared.details.Details.{Details};
+
+    ghost Value = { Details };
+
+    ghost view = { λ d. record { kind = d.kind; signature = d.signature; enclosing_symbol = d.enclosing_symbol } };
+}
+
+impl<'a> DetailsRef<'a> {
+    /// No details.
+    pub fn none() -> DetailsRef<'a>
+        ensures { result ≡ no_details }
+    {
+        DetailsRef {
+            kind: 0,
+            signature: SignatureRef {
+                language: "",
+                text: "",
+            },
+            enclosing_symbol: SymbolRef::whole(""),
+        }
+    }
+
+    /// Details, lent.
+    pub fn of(details: &'a Details) -> DetailsRef<'a>
+        ensures { result ≡ details.now }
+    {
+        DetailsRef {
+            kind: details.kind,
+            signature: SignatureRef {
+                language: details.signature.language.as_str(),
+                text: details.signature.text.as_str(),
+            },
+            enclosing_symbol: SymbolRef::whole(details.enclosing_symbol.as_str()),
+        }
+    }
+}
+
 /// What is known of a symbol, lent.
 ///
 /// Contracts see the entry.
@@ -134,6 +214,8 @@ pub struct InformationRef<'a> {
     pub documentation: TextsRef<'a>,
     /// How it is shown.
     pub display_name: &'a str,
+    /// What else is known of it.
+    pub details: DetailsRef<'a>,
 }
 
 impl<'a> Model for InformationRef<'a> {
@@ -145,6 +227,7 @@ impl<'a> Model for InformationRef<'a> {
       symbol = i.symbol;
       documentation = i.documentation;
       display_name = i.display_name.now;
+      details = i.details;
     } };
 }
 
@@ -157,6 +240,7 @@ impl<'a> InformationRef<'a> {
             symbol: SymbolRef::whole(entry.symbol.as_str()),
             documentation: TextsRef::of_list(entry.documentation.as_slice()),
             display_name: entry.display_name.as_str(),
+            details: entry.details.lent(),
         }
     }
 }

@@ -10,10 +10,10 @@ use Rattle.std.proofs.lemmas.List.{append-nil, append_assoc}
 use Rattle.scip_wire.specs.Fields.{Payload, Varint, Fixed64, Delimited, Fixed32, Field}
 use Rattle.scip_wire.specs.Decodes.{payloads, Joined, none, next, last_or, IsOnly, absent, only, GivesText, text}
 use Rattle.scip_wire.specs.Decodes.{GivesNumber, signed, GivesMessage, message, Text, Texts, Number, OneMessage}
-use Rattle.scip_wire.specs.Decodes.{Messages}
+use Rattle.scip_wire.specs.Decodes.{Messages, LastMessage}
 use Rattle.scip_wire.specs.Reading.{◌>>=◌, changed, column, add_more, add_last, add_only, text_at, number_at}
 use Rattle.scip_wire.specs.Reading.{message_in, number_in, text_column, texts_column, number_column, only_column}
-use Rattle.scip_wire.specs.Reading.{messages_column}
+use Rattle.scip_wire.specs.Reading.{messages_column, last_column}
 use Rattle.scip_wire.proofs.ReadingOptionLemmas.{bind_some, bind_at, chosen, guard_some, split}
 
 -- ---- any column
@@ -238,6 +238,20 @@ module _ {A : Type 0} (read : List ℕ → Option A) (IsMessage : List ℕ → A
   messages_exact xs h =
       repeated_exact (message_in read) (GivesMessage IsMessage) (message_in_found read IsMessage found)
       (message_in_exact read IsMessage back) number fields xs h
+
+  pub last_message_found : (first x : A) → changed (last_column read number) fields first ≡ Some x
+      → LastMessage IsMessage first number fields x
+  last_message_found first x e =
+      let c = column_found add_last (message_in read) (GivesMessage IsMessage) last_nothing last_joins
+      (message_in_found read IsMessage found) (message_in_exact read IsMessage back) number fields first x e in
+      record { values = c.0; are_values = c.1; is_last = sym (same_Some (last_or first c.0) x c.2) }
+
+  pub last_message_exact : (first x : A) → LastMessage IsMessage first number fields x
+      → changed (last_column read number) fields first ≡ Some x
+  last_message_exact first x h =
+      column_exact add_last (message_in read) (GivesMessage IsMessage) last_nothing last_joins
+      (message_in_found read IsMessage found)
+      (message_in_exact read IsMessage back) number fields h.values first x h.are_values (ap Some (sym h.is_last))
 
   pub one_message_found : (o : Option A) → changed (only_column read number) fields None ≡ Some o
       → OneMessage IsMessage number fields o

@@ -12,15 +12,19 @@ use Rattle.scip_records.specs.declared.records.ToolInfo.{ToolInfo}
 use Rattle.scip_records.specs.declared.records.Document.{Document}
 use Rattle.scip_records.specs.declared.records.Occurrence.{Occurrence}
 use Rattle.scip_records.specs.declared.records.SymbolInformation.{SymbolInformation}
+use Rattle.scip_records.specs.declared.details.Signature.{Signature}
+use Rattle.scip_records.specs.Details.{no_signature}
 use Rattle.scip_wire.specs.declared.wire_fault.WireFault.{WireFault}
 use Rattle.scip_wire.specs.declared.wire_fault.WireFault.TheVariants.{Memory}
 use Rattle.scip_wire.specs.declared.read.occurrence.OccurrenceParts.{OccurrenceParts}
 use Rattle.scip_wire.specs.Fields.{Payload, Varint, Fixed64, Delimited, Fixed32, max_varint_len}
 use Rattle.scip_wire.specs.Decodes.{low_32_bits, ArePacked, GivesNumbers, one, packed, AreRangeNumbers, on_one_line}
-use Rattle.scip_wire.specs.Decodes.{over_lines, HoldsOccurrence, GivesOccurrence, occurrence, without_range, IsInfo}
+use Rattle.scip_wire.specs.Decodes.{over_lines, AreEnclosing, absent, enclosing, HoldsOccurrence, GivesOccurrence}
+use Rattle.scip_wire.specs.Decodes.{occurrence, without_range, IsSignature, IsInfo}
 use Rattle.scip_wire.specs.Decodes.{IsToolInfo, IsMetadata, IsDocument, Decodes}
 use Rattle.scip_wire.specs.Gives.{Gives}
-use Rattle.scip_wire.specs.Reading.{◌>>=◌, fold_in, fold_at, varint_at, add_more, info_step, no_info, info_at}
+use Rattle.scip_wire.specs.Reading.{◌>>=◌, fold_in, fold_at, field_at, varint_at, add_more, signature_step, signature_at}
+use Rattle.scip_wire.specs.Reading.{info_step, no_info, info_at, enclosing_at}
 use Rattle.scip_wire.specs.Reading.{tool_info_step, no_tool_info, tool_info_at, metadata_step, no_metadata, metadata_at}
 use Rattle.scip_wire.specs.Reading.{packed_step, packed_at, numbers_in, fits, checked_range, range_at, occurrence_step}
 use Rattle.scip_wire.specs.Reading.{no_parts, parts_at, occurrence_of, occurrence_at, occurrence_in, document_step}
@@ -34,7 +38,36 @@ use Rattle.scip_wire.proofs.ReadingFoldLemmas.{parted_found, parted_exact}
 use Rattle.scip_wire.proofs.DecodesColumnLemmas.{text_found, text_exact, texts_found, texts_exact, number_found}
 use Rattle.scip_wire.proofs.DecodesColumnLemmas.{number_exact}
 use Rattle.scip_wire.proofs.DecodesColumnLemmas.{repeated_found, repeated_exact, messages_found, messages_exact}
-use Rattle.scip_wire.proofs.DecodesColumnLemmas.{one_message_found, one_message_exact}
+use Rattle.scip_wire.proofs.DecodesColumnLemmas.{one_message_found, one_message_exact, last_message_found}
+use Rattle.scip_wire.proofs.DecodesColumnLemmas.{last_message_exact}
+
+-- ---- signatures
+
+pub signature_found : (bytes : List ℕ) (s : Signature) → signature_at bytes ≡ Some s → IsSignature bytes s
+unfolding signature_at signature_step
+signature_found bytes s e =
+    let f = fields_found signature_step bytes no_signature s e in
+    let a = both_found _ _ f.0 _ _ (parted_found _ _ _ (λ t. refl) f.0 no_signature s f.2) in
+    record {
+      fields = f.0;
+      has_fields = f.1;
+      language = text_found 4 f.0 s.language a.0;
+      text = text_found 5 f.0 s.text a.1;
+    }
+
+pub signature_exact : (bytes : List ℕ) (s : Signature) → IsSignature bytes s → signature_at bytes ≡ Some s
+unfolding signature_at signature_step
+signature_exact bytes s d =
+    fields_exact signature_step d.has_fields no_signature s
+    (parted_exact _ _ _ (λ t. refl) (λ s. refl) d.fields no_signature s
+    (both_exact _ _ d.fields _ _ _ _ (text_exact 4 d.fields s.language d.language)
+    (text_exact 5 d.fields s.text d.text)))
+
+-- a document without bytes is no signature
+pub none_of_nothing : (s : Signature) → IsSignature [] s → s ≡ no_signature
+unfolding signature_at
+none_of_nothing s is =
+    same_Some s no_signature (sym (signature_exact [] s is) ∙ fold_done field_at signature_step no_signature)
 
 -- ---- symbol information
 
@@ -44,12 +77,19 @@ info_found bytes i e =
     let f = fields_found info_step bytes no_info i e in
     let a = both_found _ _ f.0 _ _ (parted_found _ _ _ (λ t. refl) f.0 no_info i f.2) in
     let b = both_found _ _ f.0 _ _ a.1 in
+    let c = both_found _ _ f.0 _ _ b.1 in
+    let g = both_found _ _ f.0 _ _ c.1 in
+    let h = both_found _ _ f.0 _ _ g.1 in
     record {
       fields = f.0;
       has_fields = f.1;
       symbol = text_found 1 f.0 i.symbol a.0;
       documentation = texts_found 3 f.0 i.documentation b.0;
-      display_name = text_found 6 f.0 i.display_name b.1;
+      kind = number_found 5 f.0 i.details.kind c.0;
+      display_name = text_found 6 f.0 i.display_name g.0;
+      signature = last_message_found signature_at IsSignature signature_found signature_exact 7 f.0 no_signature
+          i.details.signature h.0;
+      enclosing_symbol = text_found 8 f.0 i.details.enclosing_symbol h.1;
     }
 
 pub info_exact : (bytes : List ℕ) (i : SymbolInformation) → IsInfo bytes i → info_at bytes ≡ Some i
@@ -58,7 +98,12 @@ info_exact bytes i d =
     fields_exact info_step d.has_fields no_info i (parted_exact _ _ _ (λ t. refl) (λ s. refl) d.fields no_info i
     (both_exact _ _ d.fields _ _ _ _ (text_exact 1 d.fields i.symbol d.symbol)
     (both_exact _ _ d.fields _ _ _ _ (texts_exact 3 d.fields i.documentation d.documentation)
-    (text_exact 6 d.fields i.display_name d.display_name))))
+    (both_exact _ _ d.fields _ _ _ _ (number_exact 5 d.fields i.details.kind d.kind)
+    (both_exact _ _ d.fields _ _ _ _ (text_exact 6 d.fields i.display_name d.display_name)
+    (both_exact _ _ d.fields _ _ _ _
+    (last_message_exact signature_at IsSignature signature_found signature_exact 7 d.fields no_signature
+    i.details.signature d.signature)
+    (text_exact 8 d.fields i.details.enclosing_symbol d.enclosing_symbol)))))))
 
 -- ---- tool information
 
@@ -217,50 +262,72 @@ range_exact on_one_line h = checked_exact _ h
 range_exact over_lines h = checked_exact _ h
 
 pub parts_found : (bytes : List ℕ) (o : OccurrenceParts) → parts_at bytes ≡ Some o
-    → HoldsOccurrence bytes o.numbers o.symbol o.symbol_roles
+    → HoldsOccurrence bytes o.numbers o.symbol o.symbol_roles o.around
 unfolding parts_at occurrence_step
 parts_found bytes o e =
     let f = fields_found occurrence_step bytes no_parts o e in
     let a = both_found _ _ f.0 _ _ (parted_found _ _ _ (λ t. refl) f.0 no_parts o f.2) in
     let b = both_found _ _ f.0 _ _ a.1 in
+    let c = both_found _ _ f.0 _ _ b.1 in
     record {
       fields = f.0;
       has_fields = f.1;
       range = repeated_found numbers_in GivesNumbers numbers_in_found numbers_in_exact 1 f.0 o.numbers a.0;
       symbol_text = text_found 2 f.0 o.symbol b.0;
-      symbol_roles = number_found 3 f.0 o.symbol_roles b.1;
+      symbol_roles = number_found 3 f.0 o.symbol_roles c.0;
+      enclosing_range = repeated_found numbers_in GivesNumbers numbers_in_found numbers_in_exact 7 f.0 o.around c.1;
     }
 
-pub parts_exact : (bytes ns symbol : List ℕ) (roles : ℤ) → HoldsOccurrence bytes ns symbol roles
-    → parts_at bytes ≡ Some (record { numbers = ns; symbol = symbol; symbol_roles = roles })
+pub parts_exact : (bytes ns symbol : List ℕ) (roles : ℤ) (around : List ℕ)
+    → HoldsOccurrence bytes ns symbol roles around
+    → parts_at bytes ≡ Some (record { numbers = ns; symbol = symbol; symbol_roles = roles; around = around })
 unfolding parts_at occurrence_step
-parts_exact bytes ns symbol roles d =
-    let o : OccurrenceParts = record { numbers = ns; symbol = symbol; symbol_roles = roles } in
+parts_exact bytes ns symbol roles around d =
+    let o : OccurrenceParts =
+    record { numbers = ns; symbol = symbol; symbol_roles = roles; around = around } in
     fields_exact occurrence_step d.has_fields no_parts o (parted_exact _ _ _ (λ t. refl) (λ s. refl) d.fields no_parts o
     (both_exact _ _ d.fields _ _ _ _
     (repeated_exact numbers_in GivesNumbers numbers_in_found numbers_in_exact 1 d.fields ns d.range)
     (both_exact _ _ d.fields _ _ _ _ (text_exact 2 d.fields symbol d.symbol_text)
-    (number_exact 3 d.fields roles d.symbol_roles))))
+    (both_exact _ _ d.fields _ _ _ _ (number_exact 3 d.fields roles d.symbol_roles)
+    (repeated_exact numbers_in GivesNumbers numbers_in_found numbers_in_exact 7 d.fields around d.enclosing_range)))))
 
-occurrence_found_of : (bytes ns symbol : List ℕ) (roles : ℤ) (os : List Occurrence)
-    → HoldsOccurrence bytes ns symbol roles
-    → occurrence_of (record { numbers = ns; symbol = symbol; symbol_roles = roles }) ≡ Some os
+pub enclosing_found : (ns : List ℕ) (o : Option RangeNumbers) → enclosing_at ns ≡ Some o → AreEnclosing ns o
+unfolding enclosing_at
+enclosing_found [] o e = subst (AreEnclosing []) (same_Some None o e) absent
+enclosing_found (n ∷ ns) o e =
+    let r = bind_some (range_at (n ∷ ns)) _ o e in
+    let k = range_found (n ∷ ns) r.0 r.1 in
+    subst (AreEnclosing (n ∷ ns)) (same_Some (Some r.0) o r.2) (enclosing k.0 k.1)
+
+pub enclosing_exact : {ns : List ℕ} {o : Option RangeNumbers} → AreEnclosing ns o → enclosing_at ns ≡ Some o
+unfolding enclosing_at
+enclosing_exact absent = refl
+enclosing_exact (enclosing on_one_line h) = bind_at _ _ _ (range_exact on_one_line h)
+enclosing_exact (enclosing over_lines h) = bind_at _ _ _ (range_exact over_lines h)
+
+occurrence_found_of : (bytes ns symbol : List ℕ) (roles : ℤ) (around : List ℕ) (os : List Occurrence)
+    → HoldsOccurrence bytes ns symbol roles around
+    → occurrence_of (record { numbers = ns; symbol = symbol; symbol_roles = roles; around = around }) ≡ Some os
     → GivesOccurrence (Delimited bytes) os
 unfolding occurrence_of
-occurrence_found_of bytes [] symbol roles os h e =
+occurrence_found_of bytes [] symbol roles around os h e =
     subst (GivesOccurrence (Delimited bytes)) (same_Some [] os e) (without_range h)
-occurrence_found_of bytes (n ∷ ns) symbol roles os h e =
+occurrence_found_of bytes (n ∷ ns) symbol roles around os h e =
     let r = bind_some (range_at (n ∷ ns)) _ os e in
+    let a = bind_some (enclosing_at around) _ os r.2 in
     let k = range_found (n ∷ ns) r.0 r.1 in
-    subst (GivesOccurrence (Delimited bytes)) (same_Some _ os r.2)
-    (occurrence {occurrence = record { range = r.0; symbol = symbol; symbol_roles = roles }} h k.0 k.1)
+    subst (GivesOccurrence (Delimited bytes)) (same_Some _ os a.2)
+    (occurrence
+    {occurrence = record { range = r.0; symbol = symbol; symbol_roles = roles; enclosing_range = a.0 }} h k.0 k.1
+    (enclosing_found around a.0 a.1))
 
 occurrence_in_found : (payload : Payload) (os : List Occurrence) → occurrence_in payload ≡ Some os
     → GivesOccurrence payload os
 unfolding occurrence_at
 occurrence_in_found (Delimited bytes) os e =
     let p = bind_some (parts_at bytes) occurrence_of os e in
-    occurrence_found_of bytes p.0.numbers p.0.symbol p.0.symbol_roles os (parts_found bytes p.0 p.1) p.2
+    occurrence_found_of bytes p.0.numbers p.0.symbol p.0.symbol_roles p.0.around os (parts_found bytes p.0 p.1) p.2
 occurrence_in_found (Varint value) os e =
     subst (GivesOccurrence (Varint value)) (same_Some [] os e) (GivesOccurrence.other_type refl)
 occurrence_in_found (Fixed64 bytes) os e =
@@ -268,22 +335,24 @@ occurrence_in_found (Fixed64 bytes) os e =
 occurrence_in_found (Fixed32 bytes) os e =
     subst (GivesOccurrence (Fixed32 bytes)) (same_Some [] os e) (GivesOccurrence.other_type refl)
 
-occurrence_exact_of : {ns : List ℕ} {range : RangeNumbers} (symbol : List ℕ) (roles : ℤ) → AreRangeNumbers ns range
-    → IsRange range
-    → occurrence_of (record { numbers = ns; symbol = symbol; symbol_roles = roles })
-    ≡ Some (record { range = range; symbol = symbol; symbol_roles = roles } ∷ [])
+occurrence_exact_of : {ns around : List ℕ} {range : RangeNumbers} {o : Option RangeNumbers} (symbol : List ℕ)
+    (roles : ℤ) → AreRangeNumbers ns range → IsRange range → AreEnclosing around o
+    → occurrence_of (record { numbers = ns; symbol = symbol; symbol_roles = roles; around = around })
+    ≡ Some (record { range = range; symbol = symbol; symbol_roles = roles; enclosing_range = o } ∷ [])
 unfolding occurrence_of
-occurrence_exact_of symbol roles on_one_line h = bind_at _ _ _ (range_exact on_one_line h)
-occurrence_exact_of symbol roles over_lines h = bind_at _ _ _ (range_exact over_lines h)
+occurrence_exact_of symbol roles on_one_line h a =
+    bind_at _ _ _ (range_exact on_one_line h) ∙ bind_at _ _ _ (enclosing_exact a)
+occurrence_exact_of symbol roles over_lines h a =
+    bind_at _ _ _ (range_exact over_lines h) ∙ bind_at _ _ _ (enclosing_exact a)
 
 occurrence_in_exact : (payload : Payload) (os : List Occurrence) → GivesOccurrence payload os
     → occurrence_in payload ≡ Some os
 unfolding occurrence_at occurrence_of
-occurrence_in_exact (Delimited bytes) os (occurrence {numbers = ns} {occurrence = o} h k r) =
-    bind_at (parts_at bytes) occurrence_of _ (parts_exact bytes ns o.symbol o.symbol_roles h)
-    ∙ occurrence_exact_of o.symbol o.symbol_roles k r
-occurrence_in_exact (Delimited bytes) os (without_range {symbol = symbol} {roles = roles} h) =
-    bind_at (parts_at bytes) occurrence_of _ (parts_exact bytes [] symbol roles h)
+occurrence_in_exact (Delimited bytes) os (occurrence {numbers = ns} {around = around} {occurrence = o} h k r a) =
+    bind_at (parts_at bytes) occurrence_of _ (parts_exact bytes ns o.symbol o.symbol_roles around h)
+    ∙ occurrence_exact_of o.symbol o.symbol_roles k r a
+occurrence_in_exact (Delimited bytes) os (without_range {symbol = symbol} {around = around} {roles = roles} h) =
+    bind_at (parts_at bytes) occurrence_of _ (parts_exact bytes [] symbol roles around h)
 occurrence_in_exact (Delimited bytes) os (GivesOccurrence.other_type h) = absurd (cc)
 occurrence_in_exact (Varint value) os (GivesOccurrence.other_type h) = refl
 occurrence_in_exact (Fixed64 bytes) os (GivesOccurrence.other_type h) = refl

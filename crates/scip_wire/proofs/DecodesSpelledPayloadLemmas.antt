@@ -5,10 +5,11 @@ use Rattle.std.specs.Int.{w32, cast_signed}
 use Rattle.std.proofs.Common.{to_z, of_z}
 use Rattle.std.proofs.lemmas.Int.{to_z-of_z}
 use Rattle.std.proofs.lemmas.List.Elements.{All-head, All-tail}
+use Rattle.scip_records.specs.Range.{RangeNumbers}
 use Rattle.scip_wire.specs.Fields.{Payload, Varint, Delimited, Field}
 use Rattle.scip_wire.specs.Decodes.{payloads, Joined, none, next, IsLast, GivesText, text, GivesNumber, signed}
 use Rattle.scip_wire.specs.Spelling.{bytes_of, text_fields, int_fields, number_fields, in_64_bits, repeated_text_fields}
-use Rattle.scip_wire.specs.Spelling.{repeated_message_fields, optional_message_fields}
+use Rattle.scip_wire.specs.Spelling.{repeated_message_fields, optional_message_fields, optional_range_fields}
 
 -- ---- the payloads of spelled fields
 
@@ -44,6 +45,10 @@ pub other_message : {A : Type 0} (fields : A → List Field) (n k : ℕ) (o : Op
     → payloads n (optional_message_fields k fields o) ≡ []
 other_message fields n k None e = refl
 other_message fields n k (Some x) e = rw e refl
+
+pub other_range : (n k : ℕ) (o : Option RangeNumbers) → nat_eq k n ≡ false → payloads n (optional_range_fields k o) ≡ []
+other_range n k None e = refl
+other_range n k (Some r) e = rw e refl
 
 -- those of this number
 abbrev pub number_payloads : ℕ → List Payload

@@ -41,6 +41,8 @@ pub mod RefusedVarintLemmas
 pub mod SaturatedLemmas
 -- Bytes in which a prefix is left out at some places (`Shortened`): what is put behind them
 pub mod ShortenedLemmas
+-- The fields of a message part by part: those of one number, then those of the next
+pub mod SpelledPartLemmas
 -- `Encode`: a message is as long as its fields, one after another
 pub mod SpellingEncodeLemmas
 -- A document's record, of which the front and the back are put by themselves

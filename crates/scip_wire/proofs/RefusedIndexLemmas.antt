@@ -3,23 +3,23 @@ use Rattle.std.proofs.Common.{◌≡◌, ◌⊎◌, inl, inr, refl, sym, ◌∙�
 use Rattle.std.proofs.Common.{◌∷◌, length, None, Result, Ok, Err, arith}
 use Rattle.std.specs.Prelude.{IfErr}
 use Rattle.std.proofs.lemmas.Option.{none-some}
-use Rattle.scip_records.specs.Range.{RangeNumbers, IsRange}
 use Rattle.scip_records.specs.declared.records.Index.{Index}
 use Rattle.scip_records.specs.declared.records.Document.{Document}
 use Rattle.scip_wire.specs.declared.read.occurrence.OccurrenceParts.{OccurrenceParts}
 use Rattle.scip_wire.specs.declared.wire_fault.WireFault.{WireFault}
 use Rattle.scip_wire.specs.declared.wire_fault.WireFault.TheVariants.{Memory}
 use Rattle.scip_wire.specs.Fields.{Payload, Varint, Fixed64, Delimited, Fixed32, Field}
-use Rattle.scip_wire.specs.Decodes.{AreRangeNumbers, IsDocument}
+use Rattle.scip_wire.specs.Decodes.{IsDocument}
 use Rattle.scip_wire.specs.Decodes.{Decodes}
 use Rattle.scip_wire.specs.Gives.{Gives, Blames}
 use Rattle.scip_wire.specs.Reading.{add_more, add_last, add_only, message_in, text_at, number_in}
 use Rattle.scip_wire.specs.Reading.{info_at}
 use Rattle.scip_wire.specs.Reading.{metadata_at, numbers_in, range_at, occurrence_step}
-use Rattle.scip_wire.specs.Reading.{no_parts, parts_at, occurrence_of, occurrence_at, occurrence_in, document_step}
+use Rattle.scip_wire.specs.Reading.{no_parts, parts_at, enclosing_at, occurrence_of, occurrence_at, occurrence_in}
+use Rattle.scip_wire.specs.Reading.{document_step}
 use Rattle.scip_wire.specs.Reading.{no_document, document_at, index_step, no_index, index_at}
 use Rattle.scip_wire.specs.Refused.{NoMessage, NoInfo}
-use Rattle.scip_wire.specs.Refused.{NoMetadata, OccurrenceRecords, HoldsRecords}
+use Rattle.scip_wire.specs.Refused.{NoMetadata, OccurrenceRecords, HoldsRecords, AreNoRange}
 use Rattle.scip_wire.specs.Refused.{NoOccurrenceField, NoOccurrence, NoDocumentField, NoDocument, NoIndexField, NoIndex}
 use Rattle.scip_wire.specs.Blamed.{inner_fault, info_fault}
 use Rattle.scip_wire.specs.Blamed.{metadata_fault, occurrence_step_fault, parts_fault}
@@ -38,7 +38,7 @@ use Rattle.scip_wire.proofs.RefusedLemmas.{at_number, info_refused, info_blamed,
 -- ---- occurrences
 
 abbrev parts_view : OccurrenceParts → OccurrenceRecords
-parts_view o = (o.numbers, (o.symbol, o.symbol_roles))
+parts_view o = (o.numbers, (o.symbol, (o.symbol_roles, o.around)))
 
 parts_step_refused : (s : OccurrenceParts) (start end : ℕ) (f : Field) → occurrence_step s f ≡ None
     → NoOccurrenceField (parts_view s) start end f (occurrence_step_fault s start end f)
@@ -53,7 +53,12 @@ parts_step_refused s start end f e =
         | inl symbol ↦
             let h = values_none add_last (message_in text_at) 2 last_total _ f symbol in
             at_number P f 2 h.0 (NoOccurrenceField.symbol (text_refused start f.payload h.1))
-        | inr roles ↦ absurd (number_never f.payload (values_none add_last number_in 3 last_total _ f roles).1)
+        | inr last ↦ elim (both_none _ _ _ f last) [
+          | inl roles ↦ absurd (number_never f.payload (values_none add_last number_in 3 last_total _ f roles).1)
+          | inr around ↦
+              let h = values_none add_more numbers_in 7 more_total _ f around in
+              at_number P f 7 h.0 (NoOccurrenceField.enclosing_range (numbers_refused start end s.around f.payload h.1))
+        ]
       ]
     ]
 
@@ -72,6 +77,12 @@ parts_step_blamed s start end f fault (NoOccurrenceField.symbol n) =
           (none_in_column add_last (message_in text_at) 2 _ f refl (bind_none _ _ t.0)))),
       t.1,
     )
+parts_step_blamed s start end f fault (NoOccurrenceField.enclosing_range n) =
+    let t = numbers_blamed start end s.around n in (
+      none_parted _ _ _ s f (right_none _ _ _ f (right_none _ _ _ f (right_none _ _ _ f
+          (none_in_column add_more numbers_in 7 _ f refl (bind_none _ _ t.0))))),
+      t.1,
+    )
 
 parts_refused : (end : ℕ) (bytes : List ℕ) → parts_at bytes ≡ None
     → NoMessage HoldsRecords NoOccurrenceField end bytes (parts_fault end bytes)
@@ -86,31 +97,63 @@ unfolding parts_at parts_fault
 parts_blamed =
     message_blamed occurrence_step occurrence_step_fault no_parts parts_view HoldsRecords NoOccurrenceField
     (λ bytes records is. (
-      record { numbers = records.0; symbol = records.1.0; symbol_roles = records.1.1 },
-      parts_exact bytes records.0 records.1.0 records.1.1 is,
+      record { numbers = records.0; symbol = records.1.0; symbol_roles = records.1.1.0; around = records.1.1.1 },
+      parts_exact bytes records.0 records.1.0 records.1.1.0 records.1.1.1 is,
       refl,
     ))
     parts_step_blamed
 
--- no occurrence is made of numbers that aren't those of a range
-no_range : (numbers symbol : List ℕ) (roles : ℤ)
-    → occurrence_of (record { numbers = numbers; symbol = symbol; symbol_roles = roles }) ≡ None
-    → (0 < length numbers) × ((range : RangeNumbers) → AreRangeNumbers numbers range → ¬ (IsRange range))
-unfolding occurrence_of
-no_range [] symbol roles e = absurd (cc)
-no_range (n ∷ numbers) symbol roles e =
-    (omega arith, λ range are is. none-some _ (sym (rw (range_exact are is) at e)))
+-- no range is made of numbers that aren't those of one
+range_refused : (numbers : List ℕ) → 0 < length numbers → range_at numbers ≡ None → AreNoRange numbers
+range_refused numbers there e = (there, λ range are is. none-some range (sym e ∙ range_exact are is))
 
-of_no_range : (numbers symbol : List ℕ) (roles : ℤ) → 0 < length numbers
-    → ((range : RangeNumbers) → AreRangeNumbers numbers range → ¬ (IsRange range))
-    → occurrence_of (record { numbers = numbers; symbol = symbol; symbol_roles = roles }) ≡ None
-unfolding occurrence_of
-of_no_range [] symbol roles there not_range = absurd (omega (arith, there))
-of_no_range (n ∷ numbers) symbol roles there not_range =
-    bind_none (range_at (n ∷ numbers)) _ (on_option (range_at (n ∷ numbers)) (λ none. none)
+range_blamed : (numbers : List ℕ) → AreNoRange numbers → range_at numbers ≡ None
+range_blamed numbers not_one =
+    on_option (range_at numbers) (λ none. none)
     (λ range some.
-    let is = range_found (n ∷ numbers) range some in
-    absurd (not_range range is.0 is.1)))
+    let is = range_found numbers range some in
+    absurd (not_one.1 range is.0 is.1))
+
+enclosing_refused : (around : List ℕ) → enclosing_at around ≡ None → AreNoRange around
+unfolding enclosing_at
+enclosing_refused [] e = absurd (cc)
+enclosing_refused (n ∷ around) e =
+    range_refused (n ∷ around) (omega arith) (on_option (range_at (n ∷ around)) (λ none. none)
+    (λ range some. absurd (none-some _ (sym (rw some at e)))))
+
+enclosing_blamed : (around : List ℕ) → AreNoRange around → enclosing_at around ≡ None
+unfolding enclosing_at
+enclosing_blamed [] not_one = absurd (omega (arith, not_one.0))
+enclosing_blamed (n ∷ around) not_one = bind_none (range_at (n ∷ around)) _ (range_blamed (n ∷ around) not_one)
+
+-- no occurrence is made of such numbers
+no_range : (numbers symbol : List ℕ) (roles : ℤ) (around : List ℕ)
+    → occurrence_of (record { numbers = numbers; symbol = symbol; symbol_roles = roles; around = around }) ≡ None
+    → (AreNoRange numbers) ⊎ ((0 < length numbers) × (AreNoRange around))
+unfolding occurrence_of
+no_range [] symbol roles around e = absurd (cc)
+no_range (n ∷ numbers) symbol roles around e =
+    let P : Type 0 = (AreNoRange (n ∷ numbers)) ⊎ ((0 < length (n ∷ numbers)) × (AreNoRange around)) in
+    on_option (range_at (n ∷ numbers))
+    (λ none. let p : P = inl (range_refused (n ∷ numbers) (omega arith) none) in p)
+    (λ range some. on_option (enclosing_at around)
+    (λ none. let p : P = inr (omega arith, enclosing_refused around none) in p)
+    (λ o other. absurd (none-some _ (sym (rw (some, other) at e)))))
+
+of_no_range : (numbers symbol : List ℕ) (roles : ℤ) (around : List ℕ) → AreNoRange numbers
+    → occurrence_of (record { numbers = numbers; symbol = symbol; symbol_roles = roles; around = around }) ≡ None
+unfolding occurrence_of
+of_no_range [] symbol roles around not_one = absurd (omega (arith, not_one.0))
+of_no_range (n ∷ numbers) symbol roles around not_one =
+    bind_none (range_at (n ∷ numbers)) _ (range_blamed (n ∷ numbers) not_one)
+
+of_no_enclosing : (numbers symbol : List ℕ) (roles : ℤ) (around : List ℕ) → 0 < length numbers → AreNoRange around
+    → occurrence_of (record { numbers = numbers; symbol = symbol; symbol_roles = roles; around = around }) ≡ None
+unfolding occurrence_of
+of_no_enclosing [] symbol roles around there not_one = absurd (omega (arith, there))
+of_no_enclosing (n ∷ numbers) symbol roles around there not_one =
+    on_option (range_at (n ∷ numbers)) (λ none. bind_none (range_at (n ∷ numbers)) _ none)
+    (λ range some. rw (some, enclosing_blamed around not_one) refl)
 
 occurrence_refused : (start end : ℕ) (payload : Payload) → occurrence_in payload ≡ None
     → NoOccurrence start end payload (inner_fault (occurrence_fault start) end payload)
@@ -119,8 +162,10 @@ occurrence_refused start end (Delimited bytes) e =
     on_option (parts_at bytes)
     (λ none. rw none (NoOccurrence.inside (parts_refused end bytes none)))
     (λ o some.
-    let h = no_range o.numbers o.symbol o.symbol_roles (rw some at e) in
-    rw some (NoOccurrence.bad_range (parts_found bytes o some) h.0 h.1))
+    elim (no_range o.numbers o.symbol o.symbol_roles o.around (rw some at e)) [
+      | inl not_one ↦ rw some (NoOccurrence.bad_range (parts_found bytes o some) not_one)
+      | inr not_one ↦ rw some (NoOccurrence.bad_enclosing_range (parts_found bytes o some) not_one.0 not_one.1)
+    ])
 occurrence_refused start end (Varint value) e = absurd (cc)
 occurrence_refused start end (Fixed64 bytes) e = absurd (cc)
 occurrence_refused start end (Fixed32 bytes) e = absurd (cc)
@@ -131,10 +176,14 @@ unfolding occurrence_at occurrence_fault
 occurrence_blamed {end = end} (NoOccurrence.inside {bytes = bytes} {fault = fault} n) =
     let h = parts_blamed end bytes fault n in
     (rw h.0 refl, rw h.0 h.1)
-occurrence_blamed (NoOccurrence.bad_range {bytes = bytes} {numbers = ns} {symbol = symbol} {roles = roles} h there
-    not_range) =
-    let parts = parts_exact bytes ns symbol roles h in
-    (rw parts (of_no_range ns symbol roles there not_range), rw parts refl)
+occurrence_blamed (NoOccurrence.bad_range {bytes = bytes} {numbers = ns} {symbol = symbol} {around = around}
+    {roles = roles} h not_one) =
+    let parts = parts_exact bytes ns symbol roles around h in
+    (rw parts (of_no_range ns symbol roles around not_one), rw parts refl)
+occurrence_blamed (NoOccurrence.bad_enclosing_range {bytes = bytes} {numbers = ns} {symbol = symbol} {around = around}
+    {roles = roles} h there not_one) =
+    let parts = parts_exact bytes ns symbol roles around h in
+    (rw parts (of_no_enclosing ns symbol roles around there not_one), rw parts refl)
 
 -- ---- documents
 

@@ -1,13 +1,13 @@
 -- A spelled message is what its bytes decode to.
-use Rattle.std.proofs.Common.{◌≡◌, ℕ, ℤ, zero, suc, ◌+◌, ◌^◌, ◌<◌, ◌≤◌, Bool, true, false, cond, nat_eq, List, [], ◌∷◌}
-use Rattle.std.proofs.Common.{◌++◌, map, length, Option, Some, None, refl, sym, ap, ◌∙◌, subst, arith, append-nil}
-use Rattle.std.proofs.Common.{append_assoc, length-append, FitsSigned, All, IfSome, w32}
+use Rattle.std.proofs.Common.{◌≡◌, ℕ, ◌^◌, ◌<◌, ◌≤◌, Bool, true, false, cond, nat_eq, List, [], ◌∷◌}
+use Rattle.std.proofs.Common.{◌++◌, map, length, Option, Some, None, refl, sym, ◌∙◌, subst, arith, append-nil}
+use Rattle.std.proofs.Common.{All, IfSome}
 use Rattle.std.specs.List.{flat_map}
-use Rattle.std.proofs.lemmas.Grind.{flat_map-append}
-use Rattle.std.proofs.lemmas.Bool.{cond-true, cond-false}
-use Rattle.std.proofs.lemmas.Bool.Decides.{nat_tests}
 use Rattle.std.proofs.lemmas.List.Elements.{All-head, All-tail}
-use Rattle.scip_wire.proofs.SpellingRefLemmas.{fields_len_append as fields_len-append}
+use Rattle.scip_wire.proofs.SpellingRefLemmas.{info_signature}
+use Rattle.scip_wire.proofs.SpelledPartLemmas.{Rises, same_number_of, payloads_in, known_behind, front_le, behind_le}
+use Rattle.scip_wire.proofs.SpelledPartLemmas.{text_part, texts_part, int_part, message_part, messages_part}
+use Rattle.scip_wire.proofs.SpelledPartLemmas.{range_part, bytes_part}
 use Rattle.scip_records.specs.Range.{RangeNumbers, IsRange, max_range_number}
 use Rattle.scip_records.specs.declared.records.Index.{Index}
 use Rattle.scip_records.specs.declared.records.Metadata.{Metadata}
@@ -15,194 +15,31 @@ use Rattle.scip_records.specs.declared.records.ToolInfo.{ToolInfo}
 use Rattle.scip_records.specs.declared.records.Document.{Document}
 use Rattle.scip_records.specs.declared.records.Occurrence.{Occurrence}
 use Rattle.scip_records.specs.declared.records.SymbolInformation.{SymbolInformation}
-use Rattle.scip_wire.specs.Fields.{Payload, Delimited, Field, max_field_number}
+use Rattle.scip_records.specs.declared.details.Signature.{Signature}
+use Rattle.scip_records.specs.Details.{no_signature}
+use Rattle.scip_wire.specs.Fields.{Payload, Delimited, Field}
 use Rattle.scip_wire.specs.Decodes.{payloads, Joined, none, next, absent, only, GivesMessage, message, OneMessage}
-use Rattle.scip_wire.specs.Decodes.{IsInfo, IsToolInfo, IsMetadata, IsDocument, Decodes, low_32_bits, ArePacked}
+use Rattle.scip_wire.specs.Decodes.{IsLast, IsSignature, IsInfo, IsToolInfo, IsMetadata, IsDocument, Decodes}
+use Rattle.scip_wire.specs.Decodes.{low_32_bits, ArePacked}
 use Rattle.scip_wire.specs.Decodes.{none as no_number, next as next_number, GivesNumbers, packed, AreRangeNumbers}
-use Rattle.scip_wire.specs.Decodes.{on_one_line, over_lines, HoldsOccurrence, GivesOccurrence, occurrence}
-use Rattle.scip_wire.specs.Spelling.{varint, field_bytes, bytes_of, bytes_field, text_fields, int_fields, number_fields}
-use Rattle.scip_wire.specs.Spelling.{in_64_bits, repeated_text_fields, repeated_message_fields, optional_message_fields}
-use Rattle.scip_wire.specs.Spelling.{range_numbers, occurrence_fields, info_fields, document_fields, tool_info_fields}
+use Rattle.scip_wire.specs.Decodes.{on_one_line, over_lines, AreEnclosing, absent as no_range, enclosing}
+use Rattle.scip_wire.specs.Decodes.{HoldsOccurrence, GivesOccurrence, occurrence}
+use Rattle.scip_wire.specs.Spelling.{varint, bytes_of, bytes_field}
+use Rattle.scip_wire.specs.Spelling.{in_64_bits, repeated_message_fields, optional_message_fields}
+use Rattle.scip_wire.specs.Spelling.{range_numbers, optional_range_fields, occurrence_fields}
+use Rattle.scip_wire.specs.Spelling.{signature_fields, info_fields, document_fields, tool_info_fields}
 use Rattle.scip_wire.specs.Spelling.{metadata_fields, index_fields, spelling_of, max_index_len}
 use Rattle.scip_wire.specs.Saturated.{fields_len}
-use Rattle.scip_wire.specs.WellFormed.{IsFitOccurrence, IsFitInfo, IsFitDocument, IsFitToolInfo, IsFitMetadata}
+use Rattle.scip_wire.specs.WellFormed.{IsFitOccurrence, IsFitSignature, IsFitInfo, IsFitDocument, IsFitToolInfo}
+use Rattle.scip_wire.specs.WellFormed.{IsFitMetadata}
 use Rattle.scip_wire.specs.WellFormed.{IsWellFormed}
-use Rattle.scip_wire.proofs.ReadingOptionLemmas.{split}
+use Rattle.scip_wire.proofs.DecodesLemmas.{none_of_nothing}
 use Rattle.scip_wire.proofs.SaturatedLemmas.{fields_len_more, message_le}
-use Rattle.scip_wire.proofs.FieldSpelledLemmas.{varint_is, AreKnown, AreKnown-append, fields_are}
-use Rattle.scip_wire.proofs.DecodesSpelledPayloadLemmas.{payloads-append, other_text, other_texts, other_int}
-use Rattle.scip_wire.proofs.DecodesSpelledPayloadLemmas.{other_messages}
-use Rattle.scip_wire.proofs.DecodesSpelledPayloadLemmas.{other_message, same_text, same_texts, same_int, same_messages}
-use Rattle.scip_wire.proofs.DecodesSpelledPayloadLemmas.{text_given, texts_given, int_given, in_64_bits-lt}
+use Rattle.scip_wire.proofs.FieldSpelledLemmas.{varint_is, fields_are}
+use Rattle.scip_wire.proofs.DecodesSpelledPayloadLemmas.{same_text, same_texts, same_int, same_messages}
+use Rattle.scip_wire.proofs.DecodesSpelledPayloadLemmas.{text_given, texts_given, int_given}
 use Rattle.scip_wire.proofs.DecodesSpelledPayloadLemmas.{text_payloads}
 use Rattle.scip_wire.proofs.DecodesSpelledPayloadLemmas.{number_payloads}
-
--- ---- the fields of a message are known
-
-text_known : (k : ℕ) (t : List ℕ) → 0 < k → k ≤ max_field_number → AreKnown (text_fields k t)
-text_known k [] above below = tt
-text_known k (b ∷ bs) above below = (record { above = above; below = below; payload = tt }, tt)
-
-texts_known : (k : ℕ) (ts : List (List ℕ)) → 0 < k → k ≤ max_field_number → AreKnown (repeated_text_fields k ts)
-texts_known k [] above below = tt
-texts_known k (t ∷ ts) above below =
-    (record { above = above; below = below; payload = tt }, texts_known k ts above below)
-
-number_known : (k v : ℕ) → v < 2 ^ 64 → 0 < k → k ≤ max_field_number → AreKnown (number_fields k v)
-number_known k zero fits above below = tt
-number_known k (suc v) fits above below = (record { above = above; below = below; payload = fits }, tt)
-
-int_known : (k : ℕ) (z : ℤ) → FitsSigned w32 z → 0 < k → k ≤ max_field_number → AreKnown (int_fields k z)
-int_known k z fits above below = number_known k (in_64_bits z) (in_64_bits-lt z fits) above below
-
-messages_known : {A : Type 0} (fields : A → List Field) (k : ℕ) (xs : List A) → 0 < k → k ≤ max_field_number
-    → AreKnown (repeated_message_fields k fields xs)
-messages_known fields k [] above below = tt
-messages_known fields k (x ∷ xs) above below =
-    (record { above = above; below = below; payload = tt }, messages_known fields k xs above below)
-
-message_known : {A : Type 0} (fields : A → List Field) (k : ℕ) (o : Option A) → 0 < k → k ≤ max_field_number
-    → AreKnown (optional_message_fields k fields o)
-message_known fields k None above below = tt
-message_known fields k (Some x) above below = (record { above = above; below = below; payload = tt }, tt)
-
--- ---- a message part by part: the fields of one number, then those of the next
-
-pub record Part : Type 0 where
-  pub number : ℕ
-  pub fields : List Field
-  pub of_no_other : (n : ℕ) → nat_eq number n ≡ false → payloads n fields ≡ []
-  pub known : AreKnown fields
-
--- the parts' fields, behind those in front
-abbrev pub fields_behind : List Field → List Part → List Field
-fields_behind front [] = front
-fields_behind front (p ∷ ps) = fields_behind (front ++ p.fields) ps
-
--- the fields of a number
-abbrev pub fields_of : ℕ → List Part → List Field
-fields_of n [] = []
-fields_of n (p ∷ ps) = cond (nat_eq p.number n) p.fields (fields_of n ps)
-
--- the numbers rise, from above `least`
-abbrev pub Rises : ℕ → List Part → Type 0
-Rises least [] = Unit {0}
-Rises least (p ∷ ps) = (least < p.number) × Rises p.number ps
-
-same_number_of : (a b : ℕ) → nat_eq a b ≡ true → a ≡ b
-same_number_of a b e = grind (arith, nat_tests)
-
-other_number_of : (a b : ℕ) → b < a → nat_eq a b ≡ false
-other_number_of a b e = grind (arith, nat_tests)
-
-fields_of-above : (n least : ℕ) (ps : List Part) → n ≤ least → Rises least ps → fields_of n ps ≡ []
-fields_of-above n least [] h r = refl
-fields_of-above n least (p ∷ ps) h r =
-    cond-false (nat_eq p.number n) p.fields (fields_of n ps) (other_number_of p.number n (omega (arith, h, r.0)))
-    ∙ fields_of-above n p.number ps (omega (arith, h, r.0)) r.1
-
-payloads-first : (n : ℕ) (p : Part) (ps : List Part) → Rises p.number ps
-    → payloads n p.fields ++ payloads n (fields_of n ps) ≡ payloads n (fields_of n (p ∷ ps))
-payloads-first n p ps r =
-    split (nat_eq p.number n)
-    (λ is.
-    let number : p.number ≡ n = same_number_of p.number n is in
-    ap (λ l. payloads n p.fields ++ payloads n l) (fields_of-above n p.number ps (omega (arith, number)) r)
-    ∙ append-nil (payloads n p.fields)
-    ∙ ap (payloads n) (sym (cond-true (nat_eq p.number n) p.fields (fields_of n ps) is)))
-    (λ is_not.
-    ap (λ l. l ++ payloads n (fields_of n ps)) (p.of_no_other n is_not)
-    ∙ ap (payloads n) (sym (cond-false (nat_eq p.number n) p.fields (fields_of n ps) is_not)))
-
-payloads-behind : (n least : ℕ) (front : List Field) (ps : List Part) → Rises least ps
-    → payloads n (fields_behind front ps) ≡ payloads n front ++ payloads n (fields_of n ps)
-payloads-behind n least front [] r = sym (append-nil (payloads n front))
-payloads-behind n least front (p ∷ ps) r =
-    payloads-behind n p.number (front ++ p.fields) ps r.1
-    ∙ ap (λ l. l ++ payloads n (fields_of n ps)) (payloads-append n front p.fields)
-    ∙ append_assoc (payloads n front) (payloads n p.fields) (payloads n (fields_of n ps))
-    ∙ ap (λ l. payloads n front ++ l) (payloads-first n p ps r.1)
-
--- the payloads of a number are those of its part
-payloads_in : (n : ℕ) (p : Part) (ps : List Part) → Rises p.number ps
-    → payloads n (fields_behind p.fields ps) ≡ payloads n (fields_of n (p ∷ ps))
-payloads_in n p ps r = payloads-behind n p.number p.fields ps r ∙ payloads-first n p ps r
-
-known_behind : (front : List Field) (ps : List Part) → AreKnown front → AreKnown (fields_behind front ps)
-known_behind front [] known = known
-known_behind front (p ∷ ps) known = known_behind (front ++ p.fields) ps (AreKnown-append front p.fields known p.known)
-
-front_le : (front : List Field) (ps : List Part) → fields_len front ≤ fields_len (fields_behind front ps)
-front_le front [] = omega arith
-front_le front (p ∷ ps) = omega (arith, fields_len-append front p.fields, front_le (front ++ p.fields) ps)
-
-behind_le : (n : ℕ) (front : List Field) (ps : List Part)
-    → fields_len (fields_of n ps) ≤ fields_len (fields_behind front ps)
-behind_le n front [] = omega arith
-behind_le n front (p ∷ ps) =
-    let here = front_le (front ++ p.fields) ps in
-    let there = behind_le n (front ++ p.fields) ps in
-    elim (nat_eq p.number n) as
-    (λ b. fields_len (cond b p.fields (fields_of n ps)) ≤ fields_len (fields_behind (front ++ p.fields) ps)) [
-      | true ↦ omega (arith, fields_len-append front p.fields, here)
-      | false ↦ there
-    ]
-
--- the parts, by kind
-
-abbrev text_part : (k : ℕ) → 0 < k → k ≤ max_field_number → List ℕ → Part
-text_part k above below t =
-    record {
-      number = k;
-      fields = text_fields k t;
-      of_no_other = λ n e. other_text n k t e;
-      known = text_known k t above below;
-    }
-
-abbrev texts_part : (k : ℕ) → 0 < k → k ≤ max_field_number → List (List ℕ) → Part
-texts_part k above below ts =
-    record {
-      number = k;
-      fields = repeated_text_fields k ts;
-      of_no_other = λ n e. other_texts n k ts e;
-      known = texts_known k ts above below;
-    }
-
-abbrev int_part : (k : ℕ) → 0 < k → k ≤ max_field_number → (z : ℤ) → FitsSigned w32 z → Part
-int_part k above below z fits =
-    record {
-      number = k;
-      fields = int_fields k z;
-      of_no_other = λ n e. other_int n k z e;
-      known = int_known k z fits above below;
-    }
-
-abbrev message_part : {A : Type 0} (fields : A → List Field) (k : ℕ) → 0 < k → k ≤ max_field_number → Option A → Part
-message_part fields k above below o =
-    record {
-      number = k;
-      fields = optional_message_fields k fields o;
-      of_no_other = λ n e. other_message fields n k o e;
-      known = message_known fields k o above below;
-    }
-
-abbrev messages_part : {A : Type 0} (fields : A → List Field) (k : ℕ) → 0 < k → k ≤ max_field_number → List A → Part
-messages_part fields k above below xs =
-    record {
-      number = k;
-      fields = repeated_message_fields k fields xs;
-      of_no_other = λ n e. other_messages fields n k xs e;
-      known = messages_known fields k xs above below;
-    }
-
-abbrev bytes_part : (k : ℕ) → 0 < k → k ≤ max_field_number → List ℕ → Part
-bytes_part k above below bytes =
-    record {
-      number = k;
-      fields = bytes_field k bytes ∷ [];
-      of_no_other = λ n e. rw e refl;
-      known = (record { above = above; below = below; payload = tt }, tt);
-    }
 
 -- ---- messages inside messages
 
@@ -227,25 +64,63 @@ message_given Is Fit fields n k given same (Some x) fit short =
 
 -- ---- the messages of `scip.proto`
 
+signature_is : (s : Signature) → IsFitSignature s → fields_len (signature_fields s) < 2 ^ 64
+    → IsSignature (bytes_of (signature_fields s)) s
+signature_is s fit short =
+    let first = text_part 4 (omega arith) (omega arith) s.language in
+    let others = text_part 5 (omega arith) (omega arith) s.text ∷ [] in
+    let rising : Rises 4 others = (omega arith, tt) in
+    let in_language : payloads 4 (signature_fields s) ≡ text_payloads s.language =
+    payloads_in 4 first others rising ∙ same_text 4 s.language refl in
+    let in_text : payloads 5 (signature_fields s) ≡ text_payloads s.text =
+    payloads_in 5 first others rising ∙ same_text 5 s.text refl in
+    record {
+      fields = signature_fields s;
+      has_fields = fields_are (signature_fields s) (known_behind first.fields others first.known) short;
+      language = rw in_language (text_given s.language fit.language);
+      text = rw in_text (text_given s.text fit.text);
+    }
+
+-- one without bytes is the one that isn't there
+signature_given : (s : Signature) (bytes : List ℕ) → IsSignature bytes s
+    → IsLast no_signature (Joined (GivesMessage IsSignature) (text_payloads bytes)) s
+signature_given s [] is = record { values = []; are_values = none; is_last = none_of_nothing s is }
+signature_given s (b ∷ bs) is = record { values = s ∷ []; are_values = next (message is) none; is_last = refl }
+
 pub info_is : (i : SymbolInformation) → IsFitInfo i → fields_len (info_fields i) < 2 ^ 64
     → IsInfo (bytes_of (info_fields i)) i
 info_is i fit short =
+    let signature = i.details.signature in
+    let inside = bytes_of (signature_fields signature) in
     let first = text_part 1 (omega arith) (omega arith) i.symbol in
     let others = texts_part 3 (omega arith) (omega arith) i.documentation
-    ∷ text_part 6 (omega arith) (omega arith) i.display_name ∷ [] in
-    let rising : Rises 1 others = (omega arith, (omega arith, tt)) in
+    ∷ int_part 5 (omega arith) (omega arith) i.details.kind fit.details.kind
+    ∷ text_part 6 (omega arith) (omega arith) i.display_name
+    ∷ text_part 7 (omega arith) (omega arith) inside
+    ∷ text_part 8 (omega arith) (omega arith) i.details.enclosing_symbol ∷ [] in
+    let rising : Rises 1 others = (omega arith, (omega arith, (omega arith, (omega arith, (omega arith, tt))))) in
     let in_symbol : payloads 1 (info_fields i) ≡ text_payloads i.symbol =
     payloads_in 1 first others rising ∙ same_text 1 i.symbol refl in
     let in_documentation : payloads 3 (info_fields i) ≡ map Delimited i.documentation =
     payloads_in 3 first others rising ∙ same_texts 3 i.documentation refl in
+    let in_kind : payloads 5 (info_fields i) ≡ number_payloads (in_64_bits i.details.kind) =
+    payloads_in 5 first others rising ∙ same_int 5 i.details.kind refl in
     let in_display_name : payloads 6 (info_fields i) ≡ text_payloads i.display_name =
     payloads_in 6 first others rising ∙ same_text 6 i.display_name refl in
+    let in_signature : payloads 7 (info_fields i) ≡ text_payloads inside =
+    payloads_in 7 first others rising ∙ same_text 7 inside refl in
+    let in_enclosing : payloads 8 (info_fields i) ≡ text_payloads i.details.enclosing_symbol =
+    payloads_in 8 first others rising ∙ same_text 8 i.details.enclosing_symbol refl in
     record {
       fields = info_fields i;
       has_fields = fields_are (info_fields i) (known_behind first.fields others first.known) short;
       symbol = rw in_symbol (text_given i.symbol fit.symbol);
       documentation = rw in_documentation (texts_given i.documentation fit.documentation);
+      kind = rw in_kind (int_given i.details.kind fit.details.kind);
       display_name = rw in_display_name (text_given i.display_name fit.display_name);
+      signature = rw in_signature
+          (signature_given signature inside (signature_is signature fit.details.signature (info_signature i short)));
+      enclosing_symbol = rw in_enclosing (text_given i.details.enclosing_symbol fit.details.enclosing_symbol);
     }
 
 tool_info_is : (t : ToolInfo) → IsFitToolInfo t → fields_len (tool_info_fields t) < 2 ^ 64
@@ -331,33 +206,56 @@ range_of r true e =
     (same_number_of r.start_line r.end_line e) on_one_line
 range_of r false e = over_lines
 
+are_range : (r : RangeNumbers) → AreRangeNumbers (range_numbers r) r
+are_range r = range_of r (nat_eq r.start_line r.end_line) refl
+
+-- the numbers of a range in its record
+range_given : (r : RangeNumbers) → IsRange r
+    → Joined GivesNumbers (Delimited (flat_map varint (range_numbers r)) ∷ []) (range_numbers r)
+range_given r fits =
+    subst (Joined GivesNumbers (Delimited (flat_map varint (range_numbers r)) ∷ [])) (append-nil (range_numbers r))
+    (next (packed (range_packed r fits)) none)
+
+-- of one that may be absent
+abbrev numbers_around : Option RangeNumbers → List ℕ
+numbers_around None = []
+numbers_around (Some r) = range_numbers r
+
+around_given : (o : Option RangeNumbers) → IfSome o IsRange
+    → (Joined GivesNumbers (payloads 7 (optional_range_fields 7 o)) (numbers_around o))
+    × (AreEnclosing (numbers_around o) o)
+around_given None fits = (none, no_range)
+around_given (Some r) fits = (range_given r fits, enclosing (are_range r) fits)
+
 occurrence_is : (o : Occurrence) → IsFitOccurrence o → fields_len (occurrence_fields o) < 2 ^ 64
     → GivesOccurrence (Delimited (bytes_of (occurrence_fields o))) (o ∷ [])
 occurrence_is o fit short =
     let numbers = range_numbers o.range in
+    let around = around_given o.enclosing_range fit.enclosing_range in
     let first = bytes_part 1 (omega arith) (omega arith) (flat_map varint numbers) in
     let others = text_part 2 (omega arith) (omega arith) o.symbol
-    ∷ int_part 3 (omega arith) (omega arith) o.symbol_roles fit.symbol_roles ∷ [] in
-    let rising : Rises 1 others = (omega arith, (omega arith, tt)) in
+    ∷ int_part 3 (omega arith) (omega arith) o.symbol_roles fit.symbol_roles
+    ∷ range_part 7 (omega arith) (omega arith) o.enclosing_range ∷ [] in
+    let rising : Rises 1 others = (omega arith, (omega arith, (omega arith, tt))) in
     let in_range : payloads 1 (occurrence_fields o) ≡ Delimited (flat_map varint numbers) ∷ [] =
     payloads_in 1 first others rising in
     let in_symbol : payloads 2 (occurrence_fields o) ≡ text_payloads o.symbol =
     payloads_in 2 first others rising ∙ same_text 2 o.symbol refl in
     let in_roles : payloads 3 (occurrence_fields o) ≡ number_payloads (in_64_bits o.symbol_roles) =
     payloads_in 3 first others rising ∙ same_int 3 o.symbol_roles refl in
-    let joined : Joined GivesNumbers (Delimited (flat_map varint numbers) ∷ []) (numbers ++ []) =
-    next (packed (range_packed o.range fit.range)) none in
-    let given : Joined GivesNumbers (payloads 1 (occurrence_fields o)) numbers =
-    subst (λ ps. Joined GivesNumbers ps numbers) (sym in_range)
-    (subst (Joined GivesNumbers (Delimited (flat_map varint numbers) ∷ [])) (append-nil numbers) joined) in
-    let holds : HoldsOccurrence (bytes_of (occurrence_fields o)) numbers o.symbol o.symbol_roles = record {
+    let in_around : payloads 7 (occurrence_fields o) ≡ payloads 7 (optional_range_fields 7 o.enclosing_range) =
+    payloads_in 7 first others rising in
+    let holds : HoldsOccurrence (bytes_of (occurrence_fields o)) numbers o.symbol o.symbol_roles
+    (numbers_around o.enclosing_range) = record {
       fields = occurrence_fields o;
       has_fields = fields_are (occurrence_fields o) (known_behind first.fields others first.known) short;
-      range = given;
+      range = subst (λ ps. Joined GivesNumbers ps numbers) (sym in_range) (range_given o.range fit.range);
       symbol_text = rw in_symbol (text_given o.symbol fit.symbol);
       symbol_roles = rw in_roles (int_given o.symbol_roles fit.symbol_roles);
+      enclosing_range = subst (λ ps. Joined GivesNumbers ps (numbers_around o.enclosing_range)) (sym in_around)
+          around.0;
     } in
-    occurrence holds (range_of o.range (nat_eq o.range.start_line o.range.end_line) refl) fit.range
+    occurrence holds (are_range o.range) fit.range around.1
 
 -- ---- documents
 

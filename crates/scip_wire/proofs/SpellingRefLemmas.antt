@@ -1,7 +1,6 @@
 -- Lent texts: their records are those of a list of texts. Lent symbols: their records are those of one text.
 use Rattle.std.proofs.Common.{◌≡◌, ◌∙◌, ℕ, ◌+◌, ◌*◌, ◌^◌, ◌<◌, ◌≤◌, List, [], ◌∷◌, ◌++◌, length, All, IsUtf8}
 use Rattle.std.proofs.Common.{refl, sym, ap, arith, append-nil, length-append}
-use Rattle.std.specs.List.{flat_map}
 use Rattle.std.proofs.lemmas.Grind.{flat_map-append}
 use Rattle.std.proofs.lemmas.List.{map-append}
 use Rattle.std.proofs.lemmas.List.Elements.{All-nil, All-cons, All-append}
@@ -10,7 +9,8 @@ use Rattle.scip_records.specs.declared.records.Occurrence.{Occurrence}
 use Rattle.scip_records.specs.declared.records.SymbolInformation.{SymbolInformation}
 use Rattle.scip_wire.specs.Fields.{Field}
 use Rattle.scip_wire.specs.Spelling.{bytes_of, field_bytes, bytes_field, text_fields, int_fields, repeated_text_fields}
-use Rattle.scip_wire.specs.Spelling.{varint, range_numbers, occurrence_fields, info_fields}
+use Rattle.scip_wire.specs.Spelling.{range_field, optional_range_fields, occurrence_fields, signature_fields}
+use Rattle.scip_wire.specs.Spelling.{varint, info_fields}
 use Rattle.scip_wire.specs.Saturated.{saturated, fields_len}
 use Rattle.scip_wire.proofs.SaturatedLemmas.{message_le}
 
@@ -69,7 +69,7 @@ symbol_record k n front rest text some len short is =
     ∙ sym (ap bytes_of (text_there k text there))
 
 -- it is no longer than the message that has it
-text_le : (k : ℕ) (text : List ℕ) → length text ≤ fields_len (text_fields k text)
+pub text_le : (k : ℕ) (text : List ℕ) → length text ≤ fields_len (text_fields k text)
 text_le k [] = omega arith
 text_le k (byte ∷ others) = message_le k (byte ∷ others)
 
@@ -79,24 +79,50 @@ fields_len_append fs gs =
 
 pub occurrence_symbol : (o : Occurrence) → fields_len (occurrence_fields o) < 2 ^ 64 → length o.symbol < 2 ^ 64
 occurrence_symbol o short =
-    let range = bytes_field 1 (flat_map varint (range_numbers o.range)) ∷ [] in
+    let range = range_field 1 o.range ∷ [] in
     let symbol = text_fields 2 o.symbol in
+    let roles = int_fields 3 o.symbol_roles in
     omega (
       arith,
       short,
-      fields_len_append (range ++ symbol) (int_fields 3 o.symbol_roles),
+      fields_len_append ((range ++ symbol) ++ roles) (optional_range_fields 7 o.enclosing_range),
+      fields_len_append (range ++ symbol) roles,
       fields_len_append range symbol,
       text_le 2 o.symbol,
     )
 
-pub info_symbol : (i : SymbolInformation) → fields_len (info_fields i) < 2 ^ 64 → length i.symbol < 2 ^ 64
-info_symbol i short =
+-- the longest of an entry's texts and its signature are shorter than all
+record AreShort (i : SymbolInformation) : Type 0 where
+  symbol : length i.symbol < 2 ^ 64
+  signature : fields_len (signature_fields i.details.signature) < 2 ^ 64
+  enclosing_symbol : length i.details.enclosing_symbol < 2 ^ 64
+
+are_short : (i : SymbolInformation) → fields_len (info_fields i) < 2 ^ 64 → AreShort i
+are_short i short =
     let symbol = text_fields 1 i.symbol in
     let texts = repeated_text_fields 3 i.documentation in
-    omega (
-      arith,
-      short,
-      fields_len_append (symbol ++ texts) (text_fields 6 i.display_name),
-      fields_len_append symbol texts,
-      text_le 1 i.symbol,
-    )
+    let kind = int_fields 5 i.details.kind in
+    let name = text_fields 6 i.display_name in
+    let signature = text_fields 7 (bytes_of (signature_fields i.details.signature)) in
+    let enclosing = text_fields 8 i.details.enclosing_symbol in
+    let last = fields_len_append ((((symbol ++ texts) ++ kind) ++ name) ++ signature) enclosing in
+    let before = fields_len_append (((symbol ++ texts) ++ kind) ++ name) signature in
+    let front = fields_len_append ((symbol ++ texts) ++ kind) name in
+    let kinds = fields_len_append (symbol ++ texts) kind in
+    let first = fields_len_append symbol texts in
+    record {
+      symbol = omega (arith, short, last, before, front, kinds, first, text_le 1 i.symbol);
+      signature = omega (arith, short, last, before, text_le 7 (bytes_of (signature_fields i.details.signature)));
+      enclosing_symbol = omega (arith, short, last, text_le 8 i.details.enclosing_symbol);
+    }
+
+pub info_symbol : (i : SymbolInformation) → fields_len (info_fields i) < 2 ^ 64 → length i.symbol < 2 ^ 64
+info_symbol i short = (are_short i short).symbol
+
+pub info_signature : (i : SymbolInformation) → fields_len (info_fields i) < 2 ^ 64
+    → fields_len (signature_fields i.details.signature) < 2 ^ 64
+info_signature i short = (are_short i short).signature
+
+pub info_enclosing : (i : SymbolInformation) → fields_len (info_fields i) < 2 ^ 64
+    → length i.details.enclosing_symbol < 2 ^ 64
+info_enclosing i short = (are_short i short).enclosing_symbol

@@ -7,6 +7,8 @@ use Rattle.std.specs.Prelude.{Some, None}
 use Rattle.std.specs.Int.{w32, cast_signed}
 use Rattle.std.specs.Str.{IsUtf8}
 use Rattle.scip_records.specs.Range.{RangeNumbers, IsRange}
+use Rattle.scip_records.specs.Details.{no_signature}
+use Rattle.scip_records.specs.declared.details.Signature.{Signature}
 use Rattle.scip_records.specs.declared.records.Index.{Index}
 use Rattle.scip_records.specs.declared.records.Metadata.{Metadata}
 use Rattle.scip_records.specs.declared.records.ToolInfo.{ToolInfo}
@@ -86,14 +88,29 @@ OneMessage IsMessage number fields = IsOnly (Joined (GivesMessage IsMessage) (pa
 abbrev pub Messages : {A : Type 0} → (List ℕ → A → Type 0) → ℕ → List Field → List A → Type 0
 Messages IsMessage number fields = Joined (GivesMessage IsMessage) (payloads number fields)
 
+-- the last of the messages with this number, of which each is one, also one that a later one replaces
+abbrev pub LastMessage : {A : Type 0} → (List ℕ → A → Type 0) → A → ℕ → List Field → A → Type 0
+LastMessage IsMessage missing number fields =
+    IsLast missing (Joined (GivesMessage IsMessage) (payloads number fields))
+
 -- ---- the messages of `scip.proto`
+
+-- a document, of which the language and the text are the signature
+pub record IsSignature (bytes : List ℕ) (signature : Signature) : Type 0 where
+  pub fields : List Field
+  pub has_fields : HasFields bytes fields
+  pub language : Text 4 fields signature.language
+  pub text : Text 5 fields signature.text
 
 pub record IsInfo (bytes : List ℕ) (info : SymbolInformation) : Type 0 where
   pub fields : List Field
   pub has_fields : HasFields bytes fields
   pub symbol : Text 1 fields info.symbol
   pub documentation : Texts 3 fields info.documentation
+  pub kind : Number 5 fields info.details.kind
   pub display_name : Text 6 fields info.display_name
+  pub signature : LastMessage IsSignature no_signature 7 fields info.details.signature
+  pub enclosing_symbol : Text 8 fields info.details.enclosing_symbol
 
 pub record IsToolInfo (bytes : List ℕ) (tool_info : ToolInfo) : Type 0 where
   pub fields : List Field
@@ -136,22 +153,31 @@ pub data AreRangeNumbers : List ℕ → RangeNumbers → Type 0 where
       → AreRangeNumbers (line ∷ column ∷ end_line ∷ end_column ∷ [])
       (record { start_line = line; start_column = column; end_line = end_line; end_column = end_column })
 
--- what an occurrence's bytes hold: the numbers of its range, its symbol and its roles
-pub record HoldsOccurrence (bytes numbers symbol : List ℕ) (roles : ℤ) : Type 0 where
+-- `Occurrence.enclosing_range`: no numbers, or those of a range, none of them negative as an int32
+pub data AreEnclosing : List ℕ → Option RangeNumbers → Type 0 where
+  absent : AreEnclosing [] None
+  enclosing : {numbers : List ℕ} {range : RangeNumbers} → AreRangeNumbers numbers range → IsRange range
+      → AreEnclosing numbers (Some range)
+
+-- what an occurrence's bytes hold: the numbers of its range, its symbol, its roles and the numbers of its enclosing
+-- range
+pub record HoldsOccurrence (bytes numbers symbol : List ℕ) (roles : ℤ) (around : List ℕ) : Type 0 where
   pub fields : List Field
   pub has_fields : HasFields bytes fields
   pub range : Joined GivesNumbers (payloads 1 fields) numbers
   pub symbol_text : Text 2 fields symbol
   pub symbol_roles : Number 3 fields roles
+  pub enclosing_range : Joined GivesNumbers (payloads 7 fields) around
 
--- An occurrence has three or four numbers, none of them negative as an int32. One without range
--- numbers is left out.
+-- An occurrence has three or four numbers, none of them negative as an int32; and as many of its enclosing range, or
+-- none. One without range numbers is left out, whatever its enclosing range is.
 pub data GivesOccurrence : Payload → List Occurrence → Type 0 where
-  occurrence : {bytes numbers : List ℕ} {occurrence : Occurrence}
-      → HoldsOccurrence bytes numbers occurrence.symbol occurrence.symbol_roles
+  occurrence : {bytes numbers around : List ℕ} {occurrence : Occurrence}
+      → HoldsOccurrence bytes numbers occurrence.symbol occurrence.symbol_roles around
       → AreRangeNumbers numbers occurrence.range → IsRange occurrence.range
+      → AreEnclosing around occurrence.enclosing_range
       → GivesOccurrence (Delimited bytes) (occurrence ∷ [])
-  without_range : {bytes symbol : List ℕ} {roles : ℤ} → HoldsOccurrence bytes [] symbol roles
+  without_range : {bytes symbol around : List ℕ} {roles : ℤ} → HoldsOccurrence bytes [] symbol roles around
       → GivesOccurrence (Delimited bytes) []
   other_type : {payload : Payload} → is_delimited payload ≡ false → GivesOccurrence payload []
 

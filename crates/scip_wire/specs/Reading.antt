@@ -4,6 +4,9 @@ use Rattle.std.specs.Prelude.{◌&&◌, List, [], ◌∷◌, ◌++◌, length, t
 use Rattle.std.specs.Int.{w32, cast_signed}
 use Rattle.std.specs.Str.{is_utf8}
 use Rattle.scip_records.specs.Range.{RangeNumbers, max_range_number}
+use Rattle.scip_records.specs.Details.{no_signature, no_details, with_signature, with_enclosing_symbol}
+use Rattle.scip_records.specs.declared.details.Signature.{Signature}
+use Rattle.scip_records.specs.declared.details.Details.{Details}
 use Rattle.scip_records.specs.declared.records.Index.{Index}
 use Rattle.scip_records.specs.declared.records.Metadata.{Metadata}
 use Rattle.scip_records.specs.declared.records.ToolInfo.{ToolInfo}
@@ -137,15 +140,55 @@ text_after = more_after text_at
 abbrev pub messages_column : {A : Type 0} → (List ℕ → Option A) → ℕ → List A → Field → Option (List A)
 messages_column read = column add_more (message_in read)
 
+-- a message of which the last one counts
+abbrev pub last_column : {A : Type 0} → (List ℕ → Option A) → ℕ → A → Field → Option A
+last_column read = column add_last (message_in read)
+
 -- ---- the messages
 
+unfoldable pub signature_step : Signature → Field → Option Signature
+signature_step = parted (λ s. (s.language, s.text)) (λ t. record { language = t.0; text = t.1 })
+    (both (text_column 4) (text_column 5))
+
+unfoldable pub signature_at : List ℕ → Option Signature
+signature_at bytes = fold_at field_at signature_step bytes no_signature
+
 unfoldable pub info_step : SymbolInformation → Field → Option SymbolInformation
-info_step = parted (λ i. (i.symbol, (i.documentation, i.display_name)))
-    (λ t. record { symbol = t.0; documentation = t.1.0; display_name = t.1.1 })
-    (both (text_column 1) (both (texts_column 3) (text_column 6)))
+info_step =
+    parted (λ i. (
+      i.symbol,
+      (
+        i.documentation,
+        (
+          i.details.kind,
+          (
+            i.display_name,
+            (
+              i.details.signature,
+              i.details.enclosing_symbol,
+            ),
+          ),
+        ),
+      ),
+    ))
+    (λ t. record {
+      symbol = t.0;
+      documentation = t.1.0;
+      display_name = t.1.1.1.0;
+      details = record { kind = t.1.1.0; signature = t.1.1.1.1.0; enclosing_symbol = t.1.1.1.1.1 };
+    })
+    (both (text_column 1) (both (texts_column 3) (both (number_column 5)
+    (both (text_column 6) (both (last_column signature_at 7) (text_column 8))))))
+
+-- details with a part in the place of an earlier one
+abbrev pub signature_after : Details → List ℕ → Option Details
+signature_after d bytes = signature_at bytes >>= λ s. Some (with_signature s d)
+
+abbrev pub enclosing_symbol_after : Details → List ℕ → Option Details
+enclosing_symbol_after d bytes = text_at bytes >>= λ t. Some (with_enclosing_symbol t d)
 
 abbrev pub no_info : SymbolInformation
-no_info = record { symbol = []; documentation = []; display_name = [] }
+no_info = record { symbol = []; documentation = []; display_name = []; details = no_details }
 
 unfoldable pub info_at : List ℕ → Option SymbolInformation
 info_at bytes = fold_at field_at info_step bytes no_info
@@ -202,23 +245,30 @@ range_at _ = None
 -- an occurrence's parts, before its range is made of its numbers
 
 unfoldable pub occurrence_step : OccurrenceParts → Field → Option OccurrenceParts
-occurrence_step = parted (λ o. (o.numbers, (o.symbol, o.symbol_roles)))
-    (λ t. record { numbers = t.0; symbol = t.1.0; symbol_roles = t.1.1 })
-    (both (column add_more numbers_in 1) (both (text_column 2) (number_column 3)))
+occurrence_step = parted (λ o. (o.numbers, (o.symbol, (o.symbol_roles, o.around))))
+    (λ t. record { numbers = t.0; symbol = t.1.0; symbol_roles = t.1.1.0; around = t.1.1.1 })
+    (both (column add_more numbers_in 1)
+    (both (text_column 2) (both (number_column 3) (column add_more numbers_in 7))))
 
 abbrev pub no_parts : OccurrenceParts
-no_parts = record { numbers = []; symbol = []; symbol_roles = pos 0 }
+no_parts = record { numbers = []; symbol = []; symbol_roles = pos 0; around = [] }
 
 unfoldable pub parts_at : List ℕ → Option OccurrenceParts
 parts_at bytes = fold_at field_at occurrence_step bytes no_parts
 
+-- the enclosing range of these numbers; none if there are none
+unfoldable pub enclosing_at : List ℕ → Option (Option RangeNumbers)
+enclosing_at [] = Some None
+enclosing_at (n ∷ ns) = range_at (n ∷ ns) >>= λ range. Some (Some range)
+
 -- none if it has no range numbers
 unfoldable pub occurrence_of : OccurrenceParts → Option (List Occurrence)
-occurrence_of parts = made parts.numbers parts.symbol parts.symbol_roles where
-  made : List ℕ → List ℕ → ℤ → Option (List Occurrence)
-  made [] symbol roles = Some []
-  made (n ∷ ns) symbol roles =
-      range_at (n ∷ ns) >>= λ range. Some (record { range = range; symbol = symbol; symbol_roles = roles } ∷ [])
+occurrence_of parts = made parts.numbers parts.symbol parts.symbol_roles parts.around where
+  made : List ℕ → List ℕ → ℤ → List ℕ → Option (List Occurrence)
+  made [] symbol roles around = Some []
+  made (n ∷ ns) symbol roles around =
+      range_at (n ∷ ns) >>= λ range. enclosing_at around >>= λ enclosing.
+      Some (record { range = range; symbol = symbol; symbol_roles = roles; enclosing_range = enclosing } ∷ [])
 
 unfoldable pub occurrence_at : List ℕ → Option (List Occurrence)
 occurrence_at bytes = parts_at bytes >>= occurrence_of

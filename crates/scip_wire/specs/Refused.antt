@@ -9,9 +9,10 @@ use Rattle.scip_records.specs.declared.records.Metadata.{Metadata}
 use Rattle.scip_records.specs.declared.records.ToolInfo.{ToolInfo}
 use Rattle.scip_records.specs.declared.records.Document.{Document}
 use Rattle.scip_records.specs.declared.records.SymbolInformation.{SymbolInformation}
+use Rattle.scip_records.specs.declared.details.Signature.{Signature}
 use Rattle.scip_wire.specs.Fields.{Payload, Delimited, Field, IsVarint, IsField, max_varint_len, max_field_number}
 use Rattle.scip_wire.specs.Decodes.{ArePacked, AreRangeNumbers, HoldsOccurrence}
-use Rattle.scip_wire.specs.Decodes.{IsInfo, IsToolInfo, IsMetadata, IsDocument, Decodes}
+use Rattle.scip_wire.specs.Decodes.{IsSignature, IsInfo, IsToolInfo, IsMetadata, IsDocument, Decodes}
 use Rattle.scip_wire.specs.declared.wire_fault.WireFault.{WireFault}
 use Rattle.scip_wire.specs.declared.wire_fault.WireFault.TheVariants.{Truncated, Varint, FieldZero, Group, WireType}
 use Rattle.scip_wire.specs.declared.wire_fault.WireFault.TheVariants.{Repeated, Utf8, BadRange}
@@ -93,10 +94,19 @@ pub data NoOnly {A : Type 0} (Refused : (end : ℕ) → List ℕ → WireFault �
 
 -- ---- the messages of `scip.proto`, by the numbers of their fields
 
+pub data NoSignatureField (earlier : Signature) (start end : ℕ) : Field → WireFault → Type 0 where
+  text : {number : ℕ} {payload : Payload} {fault : WireFault} → (number ≡ 4) ⊎ (number ≡ 5) → NoText start payload fault
+      → NoSignatureField earlier start end (record { number = number; payload = payload }) fault
+
+abbrev pub NoSignature : (end : ℕ) → List ℕ → WireFault → Type 0
+NoSignature = NoMessage IsSignature NoSignatureField
+
 pub data NoInfoField (earlier : SymbolInformation) (start end : ℕ) : Field → WireFault → Type 0 where
   text : {number : ℕ} {payload : Payload} {fault : WireFault}
-      → (number ≡ 1) ⊎ ((number ≡ 3) ⊎ (number ≡ 6)) → NoText start payload fault
+      → (number ≡ 1) ⊎ ((number ≡ 3) ⊎ ((number ≡ 6) ⊎ (number ≡ 8))) → NoText start payload fault
       → NoInfoField earlier start end (record { number = number; payload = payload }) fault
+  signature : {payload : Payload} {fault : WireFault} → NoInner NoSignature end payload fault
+      → NoInfoField earlier start end (record { number = 7; payload = payload }) fault
 
 abbrev pub NoInfo : (end : ℕ) → List ℕ → WireFault → Type 0
 NoInfo = NoMessage IsInfo NoInfoField
@@ -118,26 +128,36 @@ pub data NoMetadataField (earlier : Metadata) (start end : ℕ) : Field → Wire
 abbrev pub NoMetadata : (end : ℕ) → List ℕ → WireFault → Type 0
 NoMetadata = NoMessage IsMetadata NoMetadataField
 
--- an occurrence's records: the numbers of its range, its symbol and its roles
+-- an occurrence's records: the numbers of its range, its symbol, its roles and the numbers of its enclosing range
 abbrev pub OccurrenceRecords : Type 0
-OccurrenceRecords = List ℕ × (List ℕ × ℤ)
+OccurrenceRecords = List ℕ × (List ℕ × (ℤ × List ℕ))
 
 abbrev pub HoldsRecords : List ℕ → OccurrenceRecords → Type 0
-HoldsRecords bytes records = HoldsOccurrence bytes records.0 records.1.0 records.1.1
+HoldsRecords bytes records = HoldsOccurrence bytes records.0 records.1.0 records.1.1.0 records.1.1.1
 
 pub data NoOccurrenceField (earlier : OccurrenceRecords) (start end : ℕ) : Field → WireFault → Type 0 where
   range : {payload : Payload} {fault : WireFault} → NoNumbers start payload fault
       → NoOccurrenceField earlier start end (record { number = 1; payload = payload }) fault
   symbol : {payload : Payload} {fault : WireFault} → NoText start payload fault
       → NoOccurrenceField earlier start end (record { number = 2; payload = payload }) fault
+  enclosing_range : {payload : Payload} {fault : WireFault} → NoNumbers start payload fault
+      → NoOccurrenceField earlier start end (record { number = 7; payload = payload }) fault
 
--- Its records are looked at first. If all are read, the numbers, if there are any, aren't those of a range.
+-- numbers, of which there are some, that aren't those of a range
+abbrev pub AreNoRange : List ℕ → Type 0
+AreNoRange numbers =
+    (0 < length numbers) × ((range : RangeNumbers) → AreRangeNumbers numbers range → ¬ (IsRange range))
+
+-- Its records are looked at first. If all are read, the numbers of its range, if there are any, aren't those of a
+-- range; or there are some, and those of its enclosing range aren't.
 pub data NoOccurrence (start end : ℕ) : Payload → WireFault → Type 0 where
   inside : {bytes : List ℕ} {fault : WireFault} → NoMessage HoldsRecords NoOccurrenceField end bytes fault
       → NoOccurrence start end (Delimited bytes) fault
-  bad_range : {bytes numbers symbol : List ℕ} {roles : ℤ} → HoldsOccurrence bytes numbers symbol roles
-      → 0 < length numbers → ((range : RangeNumbers) → AreRangeNumbers numbers range → ¬ (IsRange range))
-      → NoOccurrence start end (Delimited bytes) (BadRange start)
+  bad_range : {bytes numbers symbol around : List ℕ} {roles : ℤ} → HoldsOccurrence bytes numbers symbol roles around
+      → AreNoRange numbers → NoOccurrence start end (Delimited bytes) (BadRange start)
+  bad_enclosing_range : {bytes numbers symbol around : List ℕ} {roles : ℤ}
+      → HoldsOccurrence bytes numbers symbol roles around
+      → 0 < length numbers → AreNoRange around → NoOccurrence start end (Delimited bytes) (BadRange start)
 
 pub data NoDocumentField (earlier : Document) (start end : ℕ) : Field → WireFault → Type 0 where
   text : {number : ℕ} {payload : Payload} {fault : WireFault} → (number ≡ 1) ⊎ (number ≡ 4) → NoText start payload fault

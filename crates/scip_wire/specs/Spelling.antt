@@ -10,6 +10,7 @@ use Rattle.scip_records.specs.declared.records.ToolInfo.{ToolInfo}
 use Rattle.scip_records.specs.declared.records.Document.{Document}
 use Rattle.scip_records.specs.declared.records.Occurrence.{Occurrence}
 use Rattle.scip_records.specs.declared.records.SymbolInformation.{SymbolInformation}
+use Rattle.scip_records.specs.declared.details.Signature.{Signature}
 use Rattle.scip_wire.specs.Fields.{Payload, Varint, Fixed64, Delimited, Fixed32, Field}
 
 -- The shortest varint of a number of at most `further + 1` groups (Encoding, Base 128 Varints):
@@ -82,17 +83,35 @@ range_numbers r =
     then r.start_line ∷ r.start_column ∷ r.end_column ∷ []
     else (r.start_line ∷ r.start_column ∷ r.end_line ∷ r.end_column ∷ [])
 
+-- its numbers, packed
+abbrev pub range_field : ℕ → RangeNumbers → Field
+range_field k r = bytes_field k (flat_map varint (range_numbers r))
+
+-- a range that may be absent
+abbrev pub optional_range_fields : ℕ → Option RangeNumbers → List Field
+optional_range_fields k None = []
+optional_range_fields k (Some r) = range_field k r ∷ []
+
 abbrev pub occurrence_fields : Occurrence → List Field
 occurrence_fields o =
-    bytes_field 1 (flat_map varint (range_numbers o.range)) ∷ []
+    range_field 1 o.range ∷ []
     ++ text_fields 2 o.symbol
     ++ int_fields 3 o.symbol_roles
+    ++ optional_range_fields 7 o.enclosing_range
 
+-- a signature is a document with a language and a text
+abbrev pub signature_fields : Signature → List Field
+signature_fields s = text_fields 4 s.language ++ text_fields 5 s.text
+
+-- its bytes are absent where they are empty
 abbrev pub info_fields : SymbolInformation → List Field
 info_fields i =
     text_fields 1 i.symbol
     ++ repeated_text_fields 3 i.documentation
+    ++ int_fields 5 i.details.kind
     ++ text_fields 6 i.display_name
+    ++ text_fields 7 (bytes_of (signature_fields i.details.signature))
+    ++ text_fields 8 i.details.enclosing_symbol
 
 abbrev pub document_fields : Document → List Field
 document_fields d =

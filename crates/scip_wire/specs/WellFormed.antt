@@ -10,16 +10,29 @@ use Rattle.scip_records.specs.declared.records.ToolInfo.{ToolInfo}
 use Rattle.scip_records.specs.declared.records.Document.{Document}
 use Rattle.scip_records.specs.declared.records.Occurrence.{Occurrence}
 use Rattle.scip_records.specs.declared.records.SymbolInformation.{SymbolInformation}
+use Rattle.scip_records.specs.declared.details.Signature.{Signature}
+use Rattle.scip_records.specs.declared.details.Details.{Details}
 
 pub record IsFitOccurrence (o : Occurrence) : Type 0 where
   pub range : IsRange o.range
   pub symbol : IsUtf8 o.symbol
   pub symbol_roles : FitsSigned w32 o.symbol_roles
+  pub enclosing_range : IfSome o.enclosing_range IsRange
+
+pub record IsFitSignature (s : Signature) : Type 0 where
+  pub language : IsUtf8 s.language
+  pub text : IsUtf8 s.text
+
+pub record IsFitDetails (d : Details) : Type 0 where
+  pub kind : FitsSigned w32 d.kind
+  pub signature : IsFitSignature d.signature
+  pub enclosing_symbol : IsUtf8 d.enclosing_symbol
 
 pub record IsFitInfo (i : SymbolInformation) : Type 0 where
   pub symbol : IsUtf8 i.symbol
   pub documentation : All IsUtf8 i.documentation
   pub display_name : IsUtf8 i.display_name
+  pub details : IsFitDetails i.details
 
 pub record IsFitDocument (d : Document) : Type 0 where
   pub relative_path : IsUtf8 d.relative_path

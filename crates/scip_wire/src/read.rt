@@ -15,6 +15,7 @@ mod message;
 mod metadata;
 mod occurrence;
 mod range;
+mod signature;
 mod symbol_information;
 mod text;
 mod tool_info;

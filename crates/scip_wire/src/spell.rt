@@ -1,6 +1,7 @@
 //! The spelling of an index.
 
 mod buffer;
+mod details;
 mod document;
 mod document_record;
 mod fields;

@@ -61,7 +61,7 @@ fn flip(bytes: &mut [u8], at: usize, change: u8) {
 }
 
 /// How many of the changes of one byte at a place are read.
-fn read_changes(rt: &impl Abort, alloc: Global, bytes: &mut [u8], at: usize) -> u32 {
+pub fn read_changes(rt: &impl Abort, alloc: Global, bytes: &mut [u8], at: usize) -> u32 {
     let mut read = 0u32;
     for change in 1..=255u8 {
         flip(bytes, at, change);

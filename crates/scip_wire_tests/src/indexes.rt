@@ -35,6 +35,12 @@ pub const PREFIXED: &[u8; 114] = b"\x12\x70\x0A\x01a\
 \x1A\x11\x0A\x0Cs . . . p/A#\x32\x01A\
 \x1A\x13\x0A\x0Es . . . p/A#b.\x32\x01b";
 
+/// A document in which `x` is defined at `[1, 8, 9]` inside `[0, 0, 2, 1]`, with an entry of `s` that has each detail:
+/// its kind is 15, its signature `a b` in the language `P`, and `e` is around it.
+pub const DETAILED: &[u8; 43] = b"\x12\x29\
+\x12\x10\x0A\x03\x01\x08\x09\x12\x01x\x18\x01\x3A\x04\x00\x00\x02\x01\
+\x1A\x15\x0A\x01s\x28\x0F\x32\x01S\x3A\x08\x22\x01P\x2A\x03a b\x42\x01e";
+
 /// Document `a` with one occurrence `[1, 8, 9]` of `x`, role 1: the range one number a record, the
 /// last number in two bytes, and an unknown field, 99, with a 0 in two bytes.
 pub const UNPACKED: &[u8; 23] =

@@ -6,6 +6,8 @@ mod calls;
 #[cfg(test)]
 mod changes;
 #[cfg(test)]
+mod details;
+#[cfg(test)]
 mod fronts;
 #[cfg(test)]
 mod indexes;

@@ -8,7 +8,7 @@ use std::alloc::Global;
 use std::test::Fail;
 
 /// Bytes, and the fault that they are refused with.
-type Refusal<'a> = (&'a [u8], WireFault);
+pub type Refusal<'a> = (&'a [u8], WireFault);
 
 /// Whether a fault is printed as a sentence that ends with its offset, where there is memory for the texts.
 fn is_printed(alloc: Global, fault: WireFault) -> bool {
@@ -28,7 +28,7 @@ fn is_refused(alloc: Global, bytes: &[u8], want: WireFault) -> bool {
 }
 
 /// The first row that isn't refused with its fault.
-fn first_other(alloc: Global, refusals: &[Refusal<'_>]) -> Option<usize> {
+pub fn first_other(alloc: Global, refusals: &[Refusal<'_>]) -> Option<usize> {
     for (row, (bytes, want)) in refusals.iter().enumerate() {
         if !is_refused(alloc, bytes, *want) {
             return Some(row);

@@ -42,7 +42,7 @@ fn see_index(rt: &impl Abort, alloc: Global, index: &Index, want: &[u8]) {
 }
 
 /// Sees that bytes are read, and what they decode to is written as these.
-fn see_row(rt: &impl Abort, alloc: Global, read: &[u8], spelled: &[u8]) {
+pub fn see_row(rt: &impl Abort, alloc: Global, read: &[u8], spelled: &[u8]) {
     match decoded(alloc, read) {
         Ok(index) => see_index(rt, alloc, &index, spelled),
         Err(_) => see(rt, false, "read"),

@@ -29,3 +29,5 @@ pub mod WalkOnceLemmas
 pub mod WalkOneListingLemmas
 -- What a phase answers of folders, folder by folder, and the parts in which folders are listed
 pub mod WalkStepPartLemmas
+-- What is beside each `protoc`, folder by folder, and the first folder that has the well-known files
+pub mod WellKnownLemmas

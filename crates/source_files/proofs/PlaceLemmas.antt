@@ -1,11 +1,11 @@
 -- Files that are asked about: whether each is the one at a place.
-use Rattle.std.proofs.Common.{◌≡◌, ◌∙◌, ◌++◌, ◌+◌, [], ◌∷◌, refl, sym, ap, subst, ℕ, Bool, false, List, Option}
-use Rattle.std.proofs.Common.{None, Some, take}
+use Rattle.std.proofs.Common.{◌≡◌, ◌∙◌, ◌++◌, ◌+◌, [], ◌∷◌, sym, ap, subst, ℕ, Bool, false, List}
+use Rattle.std.proofs.Common.{Some, take}
 use Rattle.std.specs.Prelude.{All, slice_get}
 use Rattle.std.specs.Option.{option_map}
 use Rattle.std.proofs.lemmas.List.{take_more}
 use Rattle.std.proofs.lemmas.List.Elements.{All-push}
-use Rattle.std.proofs.lemmas.Option.{same_Some, slice_get_within, get_or_from_slice_get}
+use Rattle.std.proofs.lemmas.Option.{slice_get_within, get_or_from_slice_get}
 use Rattle.basics.proofs.ListLemmas.{map_some as mapped}
 use Rattle.source_tree.specs.Files.{TreeFile}
 use Rattle.source_files.specs.Roots.{path_below}

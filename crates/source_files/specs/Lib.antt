@@ -5,6 +5,7 @@ pub mod SystemFiles
 pub mod Entries
 pub mod Listings
 pub mod Exclusions
+pub mod WellKnown
 pub mod Walks
 pub mod PlainWalks
 pub mod WalkLaws

@@ -54,7 +54,7 @@ fn is_folder(entry: &FolderEntry) -> bool
 }
 
 /// The path of an entry of a folder.
-fn path_in(alloc: Global, folder: &str, name: &str) -> Result<String, AllocError>
+pub(crate) fn path_in(alloc: Global, folder: &str, name: &str) -> Result<String, AllocError>
     ensures { IfOk result (λ path. string_bytes path ≡ folder.now ++ name.now) }
 {
     let mut path = String::from_str(alloc, folder)?;

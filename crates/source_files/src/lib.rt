@@ -18,6 +18,11 @@ mod listing;
 mod system_folders;
 mod walk;
 
+// Where the well-known files are, and these alone.
+mod find_files;
+mod well_known;
+mod with_well_known;
+
 // What they hold.
 mod phases;
 mod read_files;
@@ -51,13 +56,14 @@ pub use cause::{Blamed, Cause, Caused};
 pub use empty_folders::EmptyFolders;
 pub use entry::FolderEntry;
 pub use excluding::Excluding;
+pub use find_files::FindFiles;
 pub use folder_place::FolderPlace;
 pub use laws::{
     listed_paths_stay_below, roots_have_one_listing, unknown_folders_are_listed_plainly,
     whole_roots_are_alike,
 };
 pub use listing::{FolderIdentity, FolderListing};
-pub use load::{Loaded, LoadedTree, load_tree, load_tree_with_paths};
+pub use load::{Loaded, LoadedTree, load_tree, load_tree_with_paths, once};
 pub use load_fault::LoadFault;
 pub use look_again::{LookAgain, PassedOver};
 pub use make_files::MakeFiles;
@@ -72,3 +78,5 @@ pub use root::read_root;
 pub use root_files::RootFiles;
 pub use system_files::SystemFiles;
 pub use system_stream::SystemStream;
+pub use well_known::well_known_folder;
+pub use with_well_known::WithWellKnown;

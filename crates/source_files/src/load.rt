@@ -136,7 +136,7 @@ fn add_each(
 }
 
 /// Paths by their bytes, each once.
-fn once(paths: Vec<String>) -> Result<Vec<String>, AllocError>
+pub fn once(paths: Vec<String>) -> Result<Vec<String>, AllocError>
     ensures { IfOk result (λ once. AreOnce (map string_bytes paths.items) (map string_bytes once.items)) }
 {
     let mut paths = paths;

@@ -3,13 +3,13 @@
 ghost use Rattle.std.specs.Prelude.{◌≡◌, IfOk};
 
 use crate::cause::Cause;
+use crate::found::path_in;
 use crate::make_files::MakeFiles;
 use crate::out_file::{are_one, make_whole};
-use crate::out_way::{DIGITS, NUMBERS, front_of};
+use crate::out_way::{DIGITS, NUMBERS, front_of, put_number};
 use crate::system_files::given;
 use crate::system_stream::cause_in;
 use std::alloc::{AllocError, Global};
-use std::fmt::Write;
 use std::fs::{Metadata, Permissions};
 use std::io::{Error, ErrorKind};
 use std::os::unix::fs::{MetadataExt, PermissionsExt};
@@ -99,6 +99,19 @@ fn first_missing<'p, S: Files>(system: &S, path: &'p str, room: usize) -> &'p st
     }
 }
 
+/// Makes a folder whose path has the first number behind a front with which nothing is there. False if the system
+/// refuses that.
+fn make_numbered<S: Files>(system: &S, front: &str, path: &mut String) -> Result<bool, AllocError> {
+    for number in 0..NUMBERS {
+        put_number(path, front, number)?;
+        match fs::create_dir(system, path.as_str()) {
+            Err(error) if error.kind() == ErrorKind::AlreadyExists => {}
+            made => return Ok(given(made)?.is_some()),
+        }
+    }
+    Ok(false)
+}
+
 /// Makes a folder beside a path, with the first number with which nothing is there. None if the system refuses that.
 fn make_beside<S: Files>(
     system: &S,
@@ -107,18 +120,11 @@ fn make_beside<S: Files>(
 ) -> Result<Option<String>, AllocError> {
     let front = front_of(alloc, place, last_name(place))?;
     let mut path = String::with_capacity(alloc, front.len().saturating_add(DIGITS))?;
-    for number in 0..NUMBERS {
-        path.clear();
-        path.push_str(front.as_str())?;
-        if write!(path, "{number}").is_err() {
-            return Err(AllocError);
-        }
-        match fs::create_dir(system, path.as_str()) {
-            Err(error) if error.kind() == ErrorKind::AlreadyExists => {}
-            made => return Ok(given(made)?.map(|_| path)),
-        }
+    if make_numbered(system, front.as_str(), &mut path)? {
+        Ok(Some(path))
+    } else {
+        Ok(None)
     }
-    Ok(None)
 }
 
 /// Gives a folder the owner, the group and the mode of one that is there.
@@ -159,7 +165,24 @@ fn is_open<S: Files>(system: &S, there: &Metadata) -> bool {
     there.is_dir() && there.mode() & OPEN == OPEN && !runs_here
 }
 
-/// Makes a folder that is to take the place of an empty one. None if it can't: that is tried with an empty folder.
+/// Whether a folder can take the place of an empty one: that is tried with an empty folder.
+fn is_replaced<S: Files>(
+    system: &S,
+    alloc: Global,
+    place: &str,
+    there: &Metadata,
+) -> Result<bool, AllocError> {
+    let Some(tried) = make_like(system, alloc, place, there)? else {
+        return Ok(false);
+    };
+    if system.rename(tried.as_str(), place).is_err() {
+        let _ = system.remove_dir(tried.as_str());
+        return Ok(false);
+    }
+    Ok(true)
+}
+
+/// Makes a folder that is to take the place of an empty one. None if it can't.
 fn beside_folder<S: Files>(
     system: &S,
     alloc: Global,
@@ -169,11 +192,7 @@ fn beside_folder<S: Files>(
     if !is_entry(last_name(place)) || !is_open(system, there) {
         return Ok(None);
     }
-    let Some(tried) = make_like(system, alloc, place, there)? else {
-        return Ok(None);
-    };
-    if system.rename(tried.as_str(), place).is_err() {
-        let _ = system.remove_dir(tried.as_str());
+    if !is_replaced(system, alloc, place, there)? {
         return Ok(None);
     }
     let at = String::from_str(alloc, place)?;
@@ -252,6 +271,14 @@ fn way_to<S: Files>(system: &S, alloc: Global, path: &str) -> Result<Way, AllocE
     }))
 }
 
+/// Moves a folder to a place, on the way to which folders are made if they aren't there.
+fn move_to<S: Files>(system: &S, made: &str, place: &str) -> io::Result<()> {
+    if let Some((above, _)) = place.rsplit_once('/') {
+        fs::create_dir_all(system, above)?;
+    }
+    system.rename(made, place)
+}
+
 impl Beside {
     /// Moves it to its place. Where another one made folders on the way meanwhile, what is behind them is moved.
     fn finish<S: Files>(&self, system: &S, alloc: Global) -> io::Result<()> {
@@ -264,14 +291,9 @@ impl Beside {
 
     /// Moves what is behind the folders on the way, which are made if they aren't there, and removes the other ones.
     fn finish_behind<S: Files>(&self, system: &S, alloc: Global) -> io::Result<()> {
-        let mut made = String::from_str(alloc, self.path.as_str())?;
-        made.push_str(self.behind.as_str())?;
-        let mut place = String::from_str(alloc, self.place.as_str())?;
-        place.push_str(self.behind.as_str())?;
-        if let Some((above, _)) = place.rsplit_once('/') {
-            fs::create_dir_all(system, above)?;
-        }
-        system.rename(made.as_str(), place.as_str())?;
+        let made = path_in(alloc, self.path.as_str(), self.behind.as_str())?;
+        let place = path_in(alloc, self.place.as_str(), self.behind.as_str())?;
+        move_to(system, made.as_str(), place.as_str())?;
         let _ = system.remove_dir_all(alloc, self.path.as_str());
         Ok(())
     }

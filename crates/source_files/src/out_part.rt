@@ -94,16 +94,24 @@ impl<'a, S: Files> Sink for OutPart<'a, S> {
     ghost failures = { λ s. s.failures };
 
     fn write(&mut self, bytes: &[u8]) -> Result<usize, Failed> {
+        let failures = self.failures;
         let result = self.write_to_file(bytes);
         self.cause = cause_in(&result);
-        let failed = match &result {
-            Ok(count) => *count == 0 && !bytes.is_empty(),
-            Err(_) => true,
-        };
-        if failed {
-            self.failures = self.failures.saturating_add(1);
+        match result {
+            Ok(count) => {
+                let failed = count == 0 && !bytes.is_empty();
+                self.failures = if failed {
+                    failures.saturating_add(1)
+                } else {
+                    failures
+                };
+                Ok(count)
+            }
+            Err(_) => {
+                self.failures = failures.saturating_add(1);
+                Err(Failed)
+            }
         }
-        result.map_err(|_| Failed)
     }
 }
 

@@ -75,6 +75,16 @@ pub(crate) fn front_of(alloc: Global, path: &str, name: &str) -> Result<String, 
     Ok(front)
 }
 
+/// A path is the one with a front and a number.
+pub(crate) fn put_number(path: &mut String, front: &str, number: u32) -> Result<(), AllocError> {
+    path.clear();
+    path.push_str(front)?;
+    if write!(path, "{number}").is_err() {
+        return Err(AllocError);
+    }
+    Ok(())
+}
+
 /// The way to a file that isn't there, or is a regular one.
 fn way_beside(alloc: Global, path: &str, there: Option<Metadata>) -> Result<Way, AllocError> {
     let name = match path.rsplit_once('/') {
@@ -167,20 +177,13 @@ impl Beside {
     /// Makes a file with the first number with which there is none.
     fn make_free<S: Files>(&mut self, system: &S) -> io::Result<S::File> {
         for number in 0..NUMBERS {
-            self.take_number(number)?;
+            put_number(&mut self.path, self.front.as_str(), number)?;
             match self.make_new(system) {
                 Err(error) if error.kind() == ErrorKind::AlreadyExists => {}
                 made => return made,
             }
         }
         Err(Error::from(ErrorKind::AlreadyExists))
-    }
-
-    /// Its path is the one with this number.
-    fn take_number(&mut self, number: u32) -> io::Result<()> {
-        self.path.clear();
-        self.path.push_str(self.front.as_str())?;
-        write!(self.path, "{number}").map_err(|_| Error::from(ErrorKind::OutOfMemory))
     }
 
     /// Makes it where nothing is. Nobody may do more with it than with what is there.

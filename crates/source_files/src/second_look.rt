@@ -2,14 +2,15 @@
 
 use crate::cause::Cause;
 use crate::entry::ENDING;
+use crate::found::path_in;
 use crate::listing::FolderIdentity;
 use crate::look_again::PassedOver;
-use crate::system_folders::{followed, identity_of};
+use crate::system_folders::{front_of, identity_of, seen, shown_name};
 use crate::walk::meet;
 use globs::is_excluded;
 use std::alloc::{AllocError, Global};
 use std::fmt::Write;
-use std::fs::{File, FileType, Metadata};
+use std::fs::{File, FileType};
 use std::io;
 use std::io::Read;
 use std::rt::Files;
@@ -35,15 +36,6 @@ pub(crate) struct SecondLook<'a, S: Files> {
     pub(crate) passed: PassedOver,
     /// The first of what can't be read, and why.
     pub(crate) blamed: Option<String>,
-}
-
-/// A path, with a `/` at its end, that of a folder where it is empty.
-fn front_of(alloc: Global, path: &str) -> Result<String, AllocError> {
-    let mut front = String::from_str(alloc, path)?;
-    if !path.is_empty() && !path.ends_with('/') {
-        front.push('/')?;
-    }
-    Ok(front)
 }
 
 /// Appends bytes in the form `\xe9`.
@@ -109,11 +101,12 @@ impl<'a, S: Files> SecondLook<'a, S> {
         root: &str,
         excluded: &'a [String],
     ) -> Result<SecondLook<'a, S>, AllocError> {
+        let front = front_of(alloc, root, "")?;
         let mut look = SecondLook {
             system,
             alloc,
             follows,
-            root: front_of(alloc, root)?,
+            root: front,
             excluded,
             met: Vec::new(alloc),
             left: Vec::new(alloc),
@@ -123,17 +116,29 @@ impl<'a, S: Files> SecondLook<'a, S> {
             },
             blamed: None,
         };
-        look.left.push(front_of(alloc, root)?)?;
+        look.leave(root)?;
+        look.see_all()?;
+        Ok(look)
+    }
+
+    /// Looks through the folders that are left, and all below them.
+    fn see_all(&mut self) -> Result<(), AllocError> {
         // A bound for the proof: there aren't so many folders.
         for _ in 0..usize::MAX {
-            let Some(front) = look.left.pop() else {
+            let Some(front) = self.left.pop() else {
                 break;
             };
-            if look.is_new(front.as_str())? {
-                look.see_folder(front.as_str())?;
-            }
+            self.see_once(front.as_str())?;
         }
-        Ok(look)
+        Ok(())
+    }
+
+    /// Sees the folder whose path has a `/` at its end, if it is new.
+    fn see_once(&mut self, front: &str) -> Result<(), AllocError> {
+        if self.is_new(front)? {
+            self.see_folder(front)?;
+        }
+        Ok(())
     }
 
     /// Whether the folder whose path has a `/` at its end is to be seen: if links are followed, only the first time.
@@ -201,54 +206,53 @@ impl<'a, S: Files> SecondLook<'a, S> {
         is_excluded(self.alloc, self.excluded, folder, name)
     }
 
-    /// Sees an entry, which isn't the folder itself nor the one that it is in, if it isn't excluded.
+    /// Sees an entry, which isn't the folder itself nor the one that it is in.
     fn see_name(&mut self, front: &str, name: &[u8]) -> Result<(), AllocError> {
         if matches!(name, b"" | b"." | b"..") {
             return Ok(());
         }
-        let mut shown = String::new(self.alloc);
-        push_name(&mut shown, name)?;
-        if self.is_passed(front, shown.as_str())? {
-            return Ok(());
-        }
-        let mut path = String::from_str(self.alloc, front)?;
-        path.push_str(shown.as_str())?;
-        if str::from_utf8(name).is_err() {
-            return self.blame(path.as_str(), "the name isn't UTF-8");
-        }
-        self.see_entry(path)
+        let shown = shown_name(self.alloc, name)?;
+        self.see_shown(front, shown.as_str(), str::from_utf8(name).is_ok())
     }
 
-    /// What is at a path, or, if links are followed, what the link there leads to. None if it leads nowhere.
-    fn there(&self, path: &str) -> io::Result<Option<Metadata>> {
-        if self.follows {
-            followed(self.system, self.alloc, path)
+    /// Sees an entry whose name is shown so, and is UTF-8 or not, if it isn't excluded.
+    fn see_shown(&mut self, front: &str, shown: &str, is_utf8: bool) -> Result<(), AllocError> {
+        if self.is_passed(front, shown)? {
+            return Ok(());
+        }
+        let path = path_in(self.alloc, front, shown)?;
+        if is_utf8 {
+            self.see_entry(path.as_str())
         } else {
-            Ok(Some(self.system.symlink_metadata(path)?))
+            self.blame(path.as_str(), "the name isn't UTF-8")
         }
     }
 
     /// Sees the entry with a path.
-    fn see_entry(&mut self, path: String) -> Result<(), AllocError> {
-        let there = match self.there(path.as_str()) {
-            Ok(there) => there,
-            Err(error) => return self.blame(path.as_str(), Cause::of(&error).words()),
-        };
-        match there {
-            Some(there) => self.see_kind(path, there.file_type()),
-            None => {
+    fn see_entry(&mut self, path: &str) -> Result<(), AllocError> {
+        match seen(self.system, self.alloc, self.follows, path) {
+            Ok(Some(there)) => self.see_kind(path, there.file_type()),
+            Ok(None) => {
                 self.passed.links = self.passed.links.saturating_add(1);
                 Ok(())
             }
+            Err(error) => self.blame(path, Cause::of(&error).words()),
         }
     }
 
+    /// A folder is left to be seen.
+    fn leave(&mut self, path: &str) -> Result<(), AllocError> {
+        let front = front_of(self.alloc, path, "")?;
+        self.left.push(front)?;
+        Ok(())
+    }
+
     /// Sees what is of this kind at a path.
-    fn see_kind(&mut self, path: String, kind: FileType) -> Result<(), AllocError> {
+    fn see_kind(&mut self, path: &str, kind: FileType) -> Result<(), AllocError> {
         if kind.is_symlink() {
             self.passed.links = self.passed.links.saturating_add(1);
         } else if kind.is_dir() {
-            self.left.push(front_of(self.alloc, path.as_str())?)?;
+            return self.leave(path);
         } else if kind.is_file() && !path.ends_with(ENDING) {
             self.passed.others = self.passed.others.saturating_add(1);
         }
@@ -284,8 +288,7 @@ fn why_no_file_below<S: Files>(
     path: &str,
 ) -> Result<Option<String>, AllocError> {
     for folder in folders {
-        let mut whole = front_of(alloc, folder.as_str())?;
-        whole.push_str(path)?;
+        let whole = front_of(alloc, folder.as_str(), path)?;
         if system.symlink_metadata(whole.as_str()).is_ok() {
             return why_no_file(system, alloc, whole.as_str());
         }

@@ -3,6 +3,7 @@
 ghost use Rattle.source_files.specs.SystemFiles.{IsGiven};
 
 use crate::empty_folders::EmptyFolders;
+use crate::find_files::FindFiles;
 use crate::listing::FolderListing;
 use crate::look_again::{LookAgain, PassedOver};
 use crate::read_files::ReadFiles;
@@ -101,6 +102,19 @@ impl<'a, S: Files + AllocGlobal + Clone + Drop> EmptyFolders for SystemFiles<'a,
         match has_no_entries(self.system, folder) {
             Err(error) if error.kind() == ErrorKind::NotFound => Ok(true),
             answer => Ok(given(answer)? == Some(true)),
+        }
+    }
+}
+
+impl<'a, S: Files + AllocGlobal + Clone + Drop> FindFiles for SystemFiles<'a, S> {
+    ghost use Rattle.std.specs.Prelude.{⊤};
+
+    ghost finds = { λ _ _ _. ⊤ };
+
+    fn is_there(&self, path: &str) -> Result<bool, AllocError> {
+        match given(fs::metadata(self.system, path))? {
+            Some(there) => Ok(there.is_file()),
+            None => Ok(false),
         }
     }
 }

@@ -1,10 +1,12 @@
 //! The entries of the system's folders.
 
 use crate::entry::{ENDING, FolderEntry};
+use crate::found::path_in;
 use crate::listing::{FolderIdentity, FolderListing};
+use crate::reading::path_below;
 use crate::second_look::push_name;
 use std::alloc::{AllocError, Global};
-use std::fs::Metadata;
+use std::fs::{FileType, Metadata};
 use std::io::{Error, ErrorKind, Read};
 use std::os::unix::fs::MetadataExt;
 use std::rt::Files;
@@ -23,7 +25,7 @@ struct Listing {
 }
 
 /// What comes before the names of the entries of a folder below a root: for the system a path, with a `/` at its end.
-fn front_of(alloc: Global, root: &str, folder: &str) -> Result<String, AllocError> {
+pub(crate) fn front_of(alloc: Global, root: &str, folder: &str) -> Result<String, AllocError> {
     let mut front = String::from_str(alloc, root)?;
     if !root.is_empty() && !root.ends_with('/') {
         front.push('/')?;
@@ -40,8 +42,8 @@ fn is_of_no_folder(error: &Error) -> bool {
     )
 }
 
-/// A name that isn't UTF-8, with each byte that isn't in the form `\xe9`.
-fn unnamed(alloc: Global, name: &[u8]) -> Result<String, AllocError> {
+/// A name, with each byte that isn't UTF-8 in the form `\xe9`.
+pub(crate) fn shown_name(alloc: Global, name: &[u8]) -> Result<String, AllocError> {
     let mut text = String::new(alloc);
     push_name(&mut text, name)?;
     Ok(text)
@@ -70,10 +72,31 @@ fn leads_back<S: Files>(system: &S, alloc: Global, path: &str) -> io::Result<boo
         None => return Ok(true),
     };
     let folder = system.canonicalize(alloc, folder)?;
-    let mut alone = String::from_str(alloc, folder.as_path().as_str())?;
-    alone.push('/')?;
-    alone.push_str(name)?;
+    let alone = path_below(alloc, folder.as_path().as_str(), name)?;
     Ok(fs::metadata(system, alone.as_str()).is_err())
+}
+
+/// What is at a path, or, if links are followed, what the link there leads to. None if it leads nowhere.
+pub(crate) fn seen<S: Files>(
+    system: &S,
+    alloc: Global,
+    follows: bool,
+    path: &str,
+) -> io::Result<Option<Metadata>> {
+    if follows {
+        followed(system, alloc, path)
+    } else {
+        Ok(Some(system.symlink_metadata(path)?))
+    }
+}
+
+/// Whether what has a name is a file, and no folder. None if it is left out.
+fn kind_by(kind: FileType, name: &str) -> Option<bool> {
+    if kind.is_dir() {
+        return Some(false);
+    }
+    let is_source = kind.is_file() && name.ends_with(ENDING);
+    if is_source { Some(true) } else { None }
 }
 
 impl Listing {
@@ -109,7 +132,7 @@ impl Listing {
             Ok("" | "." | "..") => Ok(()),
             Ok(name) => self.add_entry(system, name),
             Err(_) => {
-                self.listed.unnamed.push(unnamed(system.alloc(), name)?)?;
+                self.listed.unnamed.push(shown_name(system.alloc(), name)?)?;
                 Ok(())
             }
         }
@@ -130,21 +153,11 @@ impl Listing {
             // Whether it is a folder is seen when it is listed.
             return Ok(Some(false));
         }
-        let mut path = String::from_str(system.alloc(), self.front.as_str())?;
-        path.push_str(name)?;
-        let kind = if self.follows {
-            match followed(system, system.alloc(), path.as_str())? {
-                Some(there) => there.file_type(),
-                None => return Ok(None),
-            }
-        } else {
-            fs::symlink_metadata(system, path.as_str())?.file_type()
-        };
-        if kind.is_dir() {
-            return Ok(Some(false));
+        let path = path_in(system.alloc(), self.front.as_str(), name)?;
+        match seen(system, system.alloc(), self.follows, path.as_str())? {
+            Some(there) => Ok(kind_by(there.file_type(), name)),
+            None => Ok(None),
         }
-        let is_source = kind.is_file() && name.ends_with(ENDING);
-        Ok(if is_source { Some(true) } else { None })
     }
 }
 

@@ -24,4 +24,6 @@ mod second_looks;
 #[cfg(test)]
 mod short_reads;
 #[cfg(test)]
+mod well_known;
+#[cfg(test)]
 mod wide_folders;

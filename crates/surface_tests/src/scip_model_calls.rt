@@ -10,8 +10,8 @@ use crate::shared::see;
 use basics::{OwnedText, Sequence};
 use index_hooks::{Choice, DocChoice};
 use scip_model::{
-    Choices, Document, Failed, Feed, Index, Info, MergeFault, Metadata, Occurrence, Range, Sink,
-    Std, ToolInfo, Unmerged, merge,
+    BoxedDetails, Choices, Document, Failed, Feed, Index, Info, MergeFault, Metadata, Occurrence,
+    Range, Sink, Std, ToolInfo, Unmerged, merge,
 };
 use scip_wire::write_index;
 use std::alloc::{AllocError, Global};
@@ -74,6 +74,7 @@ fn add_occurrence(
         range,
         symbol,
         symbol_roles: 1,
+        enclosing_range: None,
     })?;
     Ok(())
 }
@@ -86,6 +87,7 @@ fn add_entry(alloc: Global, symbols: &mut Sequence<Info>) -> Result<(), AllocErr
         symbol,
         documentation: Sequence::new(alloc),
         display_name,
+        details: BoxedDetails::none(),
     })?;
     Ok(())
 }

@@ -6,7 +6,7 @@ use Rattle.proto_parse.specs.dialect.CustomOptions.{CustomOptions}
 use Rattle.proto_parse.specs.dialect.Dialect.{Dialect}
 use Rattle.proto_parse.specs.dialect.Dialect.TheVariants.{All, Proto3}
 use Rattle.command_line.specs.Arguments.{WordList, option_rule, or_default, taking_words}
-use Rattle.command_line.specs.Values.{text_of}
+use Rattle.command_line.specs.Options.Real.{text_by_real}
 use Rattle.command_line.specs.Options.CustomOptions.{custom_options_of}
 
 abbrev pub accept_words : List Text
@@ -20,4 +20,4 @@ abbrev pub dialect_in : Text → CustomOptions → Dialect
 dialect_in text custom_options = if bytes_eq text (codes "all") then All else Proto3 custom_options
 
 abbrev pub dialect_of : List Row → Dialect
-dialect_of rows = dialect_in (text_of (codes "accept") rows) (custom_options_of rows)
+dialect_of rows = dialect_in (text_by_real (codes "accept") (codes "all") rows) (custom_options_of rows)

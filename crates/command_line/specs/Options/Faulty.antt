@@ -5,7 +5,7 @@ use Rattle.clap.specs.Words.{Row, Rule, Text}
 use Rattle.scip_build.specs.declared.faulty.Faulty.{Faulty}
 use Rattle.scip_build.specs.declared.faulty.Faulty.TheVariants.{Refuse, Skip}
 use Rattle.command_line.specs.Arguments.{WordList, option_rule, or_default, taking_words}
-use Rattle.command_line.specs.Values.{text_of}
+use Rattle.command_line.specs.Options.Real.{text_by_real}
 
 abbrev pub faulty_words : List Text
 faulty_words = codes "refuse" ∷ codes "skip" ∷ []
@@ -18,4 +18,4 @@ abbrev pub faulty_in : Text → Faulty
 faulty_in text = if bytes_eq text (codes "skip") then Skip else Refuse
 
 abbrev pub faulty_of : List Row → Faulty
-faulty_of rows = faulty_in (text_of (codes "faulty") rows)
+faulty_of rows = faulty_in (text_by_real (codes "faulty") (codes "skip") rows)

@@ -6,7 +6,7 @@ ghost use Rattle.command_line.specs.Options.Accept.{accept_rule, dialect_in, dia
 
 use crate::arguments::{option, or_default, taking_words};
 use crate::options::custom_options::custom_options_of;
-use crate::values::given_text;
+use crate::options::real::text_by_real;
 use clap::{Arg, ArgMatches};
 use proto_parse::{CustomOptions, Dialect};
 use std::alloc::{AllocError, Global};
@@ -37,11 +37,11 @@ fn dialect_in(text: &str, custom_options: CustomOptions) -> Dialect
     }
 }
 
-/// What is said, or the default.
+/// What is said, or what `--real` says, or the default.
 pub(crate) fn dialect_of(given: &ArgMatches<'_>) -> Dialect
     ensures { result ≡ dialect_of (rows_of (found_of given.now)) }
 {
-    dialect_in(given_text(given, NAME), custom_options_of(given))
+    dialect_in(text_by_real(given, NAME, "all"), custom_options_of(given))
 }
 
 /// To a text that refuses a word of `--accept`, adds what `all` means, since `clap` proposes a word by its spelling.

@@ -5,7 +5,7 @@ ghost use Rattle.clap.specs.Words.{found_of, rows_of, rule_of};
 ghost use Rattle.command_line.specs.Options.Doc.{doc_in, doc_of, doc_rule};
 
 use crate::arguments::{option, taking_words};
-use crate::values::first_of;
+use crate::options::real::first_by_real;
 use clap::{Arg, ArgMatches};
 use index_hooks::DocChoice;
 use std::alloc::Global;
@@ -35,11 +35,11 @@ fn doc_in(text: &str) -> DocChoice
     }
 }
 
-/// What is said, if it is given.
+/// What is said, or what `--real` says, if one of them is given.
 pub(crate) fn doc_of(given: &ArgMatches<'_>) -> Option<DocChoice>
     ensures { result ≡ doc_of (rows_of (found_of given.now)) }
 {
-    match first_of(given, NAME) {
+    match first_by_real(given, NAME, "both") {
         Some(text) => Some(doc_in(text)),
         None => None,
     }

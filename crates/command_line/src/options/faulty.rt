@@ -5,7 +5,7 @@ ghost use Rattle.clap.specs.Words.{found_of, rows_of, rule_of};
 ghost use Rattle.command_line.specs.Options.Faulty.{faulty_in, faulty_of, faulty_rule};
 
 use crate::arguments::{option, or_default, taking_words};
-use crate::values::given_text;
+use crate::options::real::text_by_real;
 use clap::{Arg, ArgMatches};
 use scip_build::Faulty;
 use std::alloc::Global;
@@ -34,9 +34,9 @@ fn faulty_in(text: &str) -> Faulty
     }
 }
 
-/// What is said, or the default.
+/// What is said, or what `--real` says, or the default.
 pub(crate) fn faulty_of(given: &ArgMatches<'_>) -> Faulty
     ensures { result ≡ faulty_of (rows_of (found_of given.now)) }
 {
-    faulty_in(given_text(given, NAME))
+    faulty_in(text_by_real(given, NAME, "skip"))
 }

@@ -1,14 +1,12 @@
 -- What is in the grammar is read: names and types.
-use Rattle.std.proofs.Common.{◌≡◌, true, false, Option, None, List, [], ◌∷◌, refl}
+use Rattle.std.proofs.Common.{◌≡◌, true, false, Option, List, [], ◌∷◌, refl}
 use Rattle.proto_lex.specs.declared.span.Span.{Span}
 use Rattle.proto_lex.specs.declared.token.TokenKind.TheVariants.{Identifier, Dot}
 use Rattle.proto_grammar.specs.declared.tree.TypeName.{TypeName}
 use Rattle.proto_grammar.specs.declared.tree.FieldType.{FieldType}
 use Rattle.proto_grammar.specs.Lexeme.{Lexeme}
-use Rattle.proto_grammar.specs.Terminal.{is_kind, first_is, of_kind, is_scalar, not_next, begins_scalar}
-use Rattle.proto_grammar.specs.Grammar.Repetition.{One, Adds}
-use Rattle.proto_grammar.specs.Grammar.Repetition.One.{one}
-use Rattle.proto_grammar.specs.Grammar.Repetition.Until.{done}
+use Rattle.proto_grammar.specs.Terminal.{first_is, of_kind, not_next, begins_scalar}
+use Rattle.proto_grammar.specs.Grammar.Repetition.{Adds}
 use Rattle.proto_grammar.specs.Grammar.Names.{IsDotName, IsName, IsTypeName, IsType}
 use Rattle.proto_grammar.specs.Grammar.Names.IsDotName.{dot_name}
 use Rattle.proto_grammar.specs.Grammar.Names.IsName.{name}
@@ -17,12 +15,11 @@ use Rattle.proto_grammar.specs.Grammar.Names.IsType.{scalar, named}
 use Rattle.proto_grammar.specs.Reading.Repetition.{adding}
 use Rattle.proto_grammar.specs.Reading.Names.{dot_name_at, dot_names_at, name_at, pass_dot_name_at, pass_dot_names_at}
 use Rattle.proto_grammar.specs.Reading.Names.{pass_name_at, leading_dot_at, type_name_at, pass_type_name_at}
-use Rattle.proto_grammar.specs.Reading.Names.{named_type_at, type_at}
+use Rattle.proto_grammar.specs.Reading.Names.{named_type_at, type_at, pass_type_at}
 use Rattle.proto_grammar.proofs.TerminalTokenLemmas.{token_exact, one_next, next_other_kind}
 use Rattle.proto_grammar.proofs.RepetitionUntilLemmas.{until_at-exact, adding-exact, passed-exact}
 use Rattle.proto_grammar.proofs.RepetitionFallLemmas.{dot_names_fall, pass_dot_names_fall}
 use Rattle.std.proofs.Common.{Ok, ℕ}
-use Rattle.std.proofs.lemmas.Bool.{and_parts}
 use Rattle.proto_grammar.specs.Lexeme.{place_of}
 
 module _ (end : ℕ) where
@@ -71,14 +68,8 @@ module _ (end : ℕ) where
   type_exact (scalar is w) = rw (is, token_exact end w) refl
   type_exact (named not n) = rw (not, type_name_exact n) refl
 
-  -- a scalar type is read as a name too
-  scalar_name : {a b : List Lexeme} {word : Span} → begins_scalar a ≡ true → One is_scalar a word b
-      → IsTypeName a (record { leading_dot = None; components = word ∷ [] }) b
-  scalar_name is (one {t} {rest} s) =
-      let both = and_parts (first_is is_scalar (t ∷ rest)) (not_next Dot rest) is in
-      plain (name (one (and_parts (is_kind Identifier t.kind) _ s).0) (done both.1))
-
   pub pass_type_exact : {a b : List Lexeme} {x : FieldType} → IsType a x b
-      → pass_type_name_at (place_of end a) ≡ Ok (tt, place_of end b)
-  pass_type_exact (scalar is w) = pass_type_name_exact (scalar_name is w)
-  pass_type_exact (named not n) = pass_type_name_exact n
+      → pass_type_at (place_of end a) ≡ Ok (tt, place_of end b)
+  unfolding pass_type_at
+  pass_type_exact (scalar is w) = rw (is, token_exact end w) refl
+  pass_type_exact (named not n) = rw (not, pass_type_name_exact n) refl

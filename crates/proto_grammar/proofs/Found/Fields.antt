@@ -2,29 +2,20 @@
 use Rattle.std.proofs.Common.{◌≡◌, Bool, true, false, cond, Option, None, List, [], ◌∷◌, refl, subst, codes}
 use Rattle.proto_lex.specs.declared.span.Span.{Span}
 use Rattle.proto_lex.specs.declared.token.TokenKind.TheVariants.{Identifier, Integer, StringLiteral, Semicolon, Equals}
-use Rattle.proto_lex.specs.declared.token.TokenKind.TheVariants.{OpenBrace, Less, Greater, Comma, Dot, Minus}
+use Rattle.proto_lex.specs.declared.token.TokenKind.TheVariants.{OpenBrace, Less, Greater, Comma, Minus}
 use Rattle.proto_grammar.specs.declared.dialect.CustomOptions.{CustomOptions}
 use Rattle.proto_grammar.specs.declared.dialect.Syntax.{Syntax}
 use Rattle.proto_grammar.specs.declared.dialect.Syntax.TheVariants.{Proto3, Extended, Proto2}
 use Rattle.proto_grammar.specs.declared.tree.Heading.{Heading}
 use Rattle.proto_grammar.specs.declared.tree.Label.{Label}
-use Rattle.proto_grammar.specs.declared.tree.FieldType.{FieldType}
-use Rattle.proto_grammar.specs.declared.tree.FieldType.TheVariants.{Scalar, Named}
-use Rattle.proto_grammar.specs.declared.tree.TypeName.{TypeName}
 use Rattle.proto_grammar.specs.declared.tree.Field.{Field}
 use Rattle.proto_grammar.specs.declared.tree.Group.{Group}
 use Rattle.proto_grammar.specs.declared.tree.MapField.{MapField}
 use Rattle.proto_grammar.specs.Lexeme.{Lexeme}
-use Rattle.proto_grammar.specs.Terminal.{is_kind, first_is, of_kind, is_word, is_group_name, is_key, is_scalar}
-use Rattle.proto_grammar.specs.Terminal.{not_next, begins_scalar}
+use Rattle.proto_grammar.specs.Terminal.{first_is, of_kind, is_word, is_group_name, is_key}
+use Rattle.proto_grammar.specs.Terminal.{not_next}
 use Rattle.proto_grammar.specs.Syntax.{is_proto2}
 use Rattle.proto_grammar.specs.Grammar.Repetition.{One, Passes}
-use Rattle.proto_grammar.specs.Grammar.Repetition.One.{one}
-use Rattle.proto_grammar.specs.Grammar.Names.{IsType, IsTypeName}
-use Rattle.proto_grammar.specs.Grammar.Names.IsType.{scalar, named}
-use Rattle.proto_grammar.specs.Grammar.Names.IsTypeName.{rooted, plain as a_plain}
-use Rattle.proto_grammar.specs.Grammar.Names.IsName.{name}
-use Rattle.proto_grammar.specs.Grammar.Repetition.Until.{done, more}
 use Rattle.proto_grammar.specs.Grammar.Fields.{IsNumbered, IsTyped, IsLabel, IsField, IsGroupHead, IsMapField}
 use Rattle.proto_grammar.specs.Grammar.Fields.IsNumbered.{numbered}
 use Rattle.proto_grammar.specs.Grammar.Fields.IsTyped.{typed}
@@ -42,7 +33,7 @@ use Rattle.proto_grammar.specs.Grammar.Reserved.IsCommaItem.{comma_item}
 use Rattle.proto_grammar.specs.Grammar.Reserved.IsReserved.{reserved}
 use Rattle.proto_grammar.specs.Grammar.Reserved.IsExtensions.{extensions}
 use Rattle.proto_grammar.specs.Reading.Repetition.{token_that, span_at, passing, until_at}
-use Rattle.proto_grammar.specs.Reading.Names.{type_at, pass_type_name_at}
+use Rattle.proto_grammar.specs.Reading.Names.{type_at, pass_type_at}
 use Rattle.proto_grammar.specs.Reading.Options.{options_at}
 use Rattle.proto_grammar.specs.Reading.Fields.{numbered_at, typed_at, required_at, label_at, pass_field_at}
 use Rattle.proto_grammar.specs.Reading.Fields.{group_head_at, map_field_at}
@@ -50,12 +41,11 @@ use Rattle.proto_grammar.specs.Reading.Reserved.{plain_integer_at, integer_at, r
 use Rattle.proto_grammar.specs.Reading.Reserved.{comma_item_at, comma_items_at, reserved_at, extensions_at}
 use Rattle.proto_grammar.proofs.RepetitionStepLemmas.{same_ok, bind_ok}
 use Rattle.proto_lex.proofs.ReadingTestLemmas.{chosen}
-use Rattle.proto_grammar.proofs.TerminalTokenLemmas.{token_found, next_found, other_kind}
+use Rattle.proto_grammar.proofs.TerminalTokenLemmas.{token_found, next_found}
 use Rattle.proto_grammar.proofs.RepetitionUntilLemmas.{until_at-found, passing-found}
-use Rattle.proto_grammar.proofs.Found.Names.{type_found, pass_type_name_found}
+use Rattle.proto_grammar.proofs.Found.Names.{type_found, pass_type_found}
 use Rattle.proto_grammar.proofs.Found.Options.{left_of, options_found, strings_found}
 use Rattle.std.proofs.Common.{Ok, ℕ}
-use Rattle.std.proofs.lemmas.Bool.{and_parts}
 use Rattle.proto_grammar.specs.Lexeme.{Place, place_of}
 
 pub numbered_found : (custom : CustomOptions) (first : Span) (tokens : Place) (x : Heading × Place)
@@ -128,32 +118,15 @@ group_head_found custom first label tokens x e =
     (group_head (token_found _ _ w.1) (token_found _ _ n.1) (token_found _ _ q.1) (token_found _ _ i.1)
     (options_found custom _ _ o.1) (token_found _ _ c.1))
 
--- a type that is read as a name: a scalar word too
-type_of_name : (tokens after : List Lexeme) (type : TypeName) → IsTypeName tokens type after → (b : Bool)
-    → begins_scalar tokens ≡ b → (any : FieldType) × IsType tokens any after
-type_of_name tokens after type found false not = (Named type, named not found)
-type_of_name [] after type found true is = absurd (let none : false ≡ true = is in cc)
-type_of_name (t ∷ rest) after type (rooted (one is_dot) behind) true is =
-    let word = and_parts (first_is is_scalar (t ∷ rest)) (not_next Dot rest) is in
-    let identifier : of_kind Identifier t ≡ true = (and_parts (is_kind Identifier t.kind) _ word.0).0 in
-    let no_dot : of_kind Dot t ≡ false = other_kind Identifier Dot t refl identifier in
-    cc
-type_of_name (t ∷ rest) after type (a_plain (name (one i) (done at_end))) true is =
-    (Scalar t.span, scalar is (one (and_parts (first_is is_scalar (t ∷ rest)) (not_next Dot rest) is).0))
-type_of_name (t ∷ rest) after type (a_plain (name (one i) (more further first behind))) true is =
-    let past = (and_parts (first_is is_scalar (t ∷ rest)) (not_next Dot rest) is).1 in
-    cc
-
 pass_field_by_found : (custom : CustomOptions) (left : List Lexeme) (end : ℕ) (x : Unit {0} × Place)
     → pass_field_at custom (place_of end left) ≡ Ok x → (f : Field) × IsField custom left f x.1.left
 unfolding pass_field_at span_at
 pass_field_by_found custom [] end x e = cc
 pass_field_by_found custom (t ∷ rest) end x e =
     let l = bind_ok (label_at (Proto3 custom) (place_of end (t ∷ rest))) _ x e in
-    let n = bind_ok (pass_type_name_at l.0.1) _ x l.2 in
+    let n = bind_ok (pass_type_at l.0.1) _ x l.2 in
     let h = bind_ok (numbered_at custom t.span n.0.1) _ x n.2 in
-    let name = pass_type_name_found _ _ n.1 in
-    let type = type_of_name l.0.1.left n.0.1.left name.0 name.1 (begins_scalar l.0.1.left) refl in (
+    let type = pass_type_found _ _ n.1 in (
       record { heading = h.0.0; label = l.0.0; field_type = type.0 },
       subst (λ (y : Place). IsField custom (t ∷ rest)
           (record { heading = h.0.0; label = l.0.0; field_type = type.0 }) y.left) (left_of x h.2)

@@ -4,6 +4,7 @@ use Rattle.proto_lex.specs.declared.span.Span.{Span}
 use Rattle.proto_lex.specs.declared.token.TokenKind.TheVariants.{Identifier, Dot}
 use Rattle.proto_grammar.specs.declared.tree.TypeName.{TypeName}
 use Rattle.proto_grammar.specs.declared.tree.FieldType.{FieldType}
+use Rattle.proto_grammar.specs.declared.tree.FieldType.TheVariants.{Scalar, Named}
 use Rattle.proto_grammar.specs.Lexeme.{Lexeme, Place}
 use Rattle.proto_grammar.specs.Terminal.{first_is, of_kind, is_scalar, not_next, begins_scalar}
 use Rattle.proto_grammar.specs.Grammar.Repetition.{Adds}
@@ -15,7 +16,7 @@ use Rattle.proto_grammar.specs.Grammar.Names.IsType.{scalar, named}
 use Rattle.proto_grammar.specs.Reading.Repetition.{token_that, adding}
 use Rattle.proto_grammar.specs.Reading.Names.{dot_name_at, dot_names_at, name_at, pass_dot_name_at, pass_dot_names_at}
 use Rattle.proto_grammar.specs.Reading.Names.{pass_name_at, leading_dot_at, type_name_at, pass_type_name_at}
-use Rattle.proto_grammar.specs.Reading.Names.{named_type_at, type_at}
+use Rattle.proto_grammar.specs.Reading.Names.{named_type_at, type_at, pass_type_at}
 use Rattle.proto_grammar.proofs.RepetitionStepLemmas.{same_ok, bind_ok, kept_ok}
 use Rattle.proto_lex.proofs.ReadingTestLemmas.{chosen}
 use Rattle.proto_grammar.proofs.TerminalTokenLemmas.{token_found}
@@ -102,3 +103,16 @@ type_found tokens x e =
     let n = bind_ok (type_name_at tokens) _ x read in
     subst (λ (y : FieldType × Place). IsType tokens.left y.0 y.1.left) (same_ok _ x n.2)
     (named not (type_name_found _ _ n.1)))
+
+pub pass_type_found : (tokens : Place) (x : Unit {0} × Place) → pass_type_at tokens ≡ Ok x
+    → (type : FieldType) × IsType tokens.left type x.1.left
+unfolding pass_type_at
+pass_type_found tokens x e =
+    chosen (begins_scalar tokens.left) {z = Ok x} e
+    (λ is read.
+    let w = bind_ok (token_that is_scalar tokens) _ x read in (
+      Scalar w.0.0,
+      subst (λ (y : Unit {0} × Place). IsType tokens.left (Scalar w.0.0) y.1.left) (same_ok _ x w.2)
+          (scalar is (token_found _ _ w.1)),
+    ))
+    (λ not read. let n = pass_type_name_found tokens x read in (Named n.0, named not n.1))

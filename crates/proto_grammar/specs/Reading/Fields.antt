@@ -15,7 +15,7 @@ use Rattle.proto_grammar.specs.declared.tree.MapField.{MapField}
 use Rattle.proto_grammar.specs.Terminal.{behind, first_is, of_kind, is_word, is_group_name, is_key}
 use Rattle.proto_grammar.specs.Syntax.{is_proto2}
 use Rattle.proto_grammar.specs.Reading.Repetition.{◌>>=◌, Read, token_that, span_at}
-use Rattle.proto_grammar.specs.Reading.Names.{type_at, pass_type_name_at}
+use Rattle.proto_grammar.specs.Reading.Names.{type_at, pass_type_at}
 use Rattle.proto_grammar.specs.Reading.Options.{options_at}
 
 unfoldable pub numbered_at : CustomOptions → Span → Read Heading
@@ -46,7 +46,7 @@ unfoldable pub pass_field_at : CustomOptions → Read (Unit {0})
 pass_field_at custom tokens = do
   first ← span_at tokens
   label ← label_at (Proto3 custom) first.1
-  type ← pass_type_name_at label.1
+  type ← pass_type_at label.1
   heading ← numbered_at custom first.0 type.1
   Ok (tt, heading.1)
 

@@ -43,6 +43,13 @@ type_name_at tokens = do
 unfoldable pub pass_type_name_at : Read (Unit {0})
 pass_type_name_at tokens = leading_dot_at tokens >>= λ dot. pass_name_at dot.1
 
+-- a type that isn't kept
+unfoldable pub pass_type_at : Read (Unit {0})
+pass_type_at tokens =
+    cond (begins_scalar tokens.left)
+    (token_that is_scalar tokens >>= λ word. Ok (tt, word.1))
+    (pass_type_name_at tokens)
+
 unfoldable pub named_type_at : Read TypeName
 named_type_at tokens = cond (begins_scalar tokens.left) (misplaced tokens) (type_name_at tokens)
 

@@ -1,9 +1,9 @@
 -- What a lookup finds.
-use Rattle.std.specs.Prelude.{◌≡◌, ℕ, List}
+use Rattle.std.specs.Prelude.{◌≡◌, ℕ, Bool, List}
 use Rattle.proto_decl.specs.Names.{qualified}
 use Rattle.proto_visibility.specs.Files.{File}
 use Rattle.proto_visibility.specs.Knows.{is_type, is_aggregate, KnowsAs}
-use Rattle.proto_link.specs.Resolves.{Innermost}
+use Rattle.proto_link.specs.Resolves.{Innermost, wanted}
 
 -- the full name of the word in the innermost scope in which it is a type
 pub record IsSingle (files : List File) (file : ℕ) (word from name : List ℕ) : Type 0 where
@@ -11,9 +11,10 @@ pub record IsSingle (files : List File) (file : ℕ) (word from name : List ℕ)
   pub innermost : Innermost files file is_type word from start
   pub name_is : name ≡ qualified start word
 
--- the full name of the words in the innermost scope in which the first is an aggregate, if it is that of a type
-pub record IsCompound (files : List File) (file : ℕ) (first words from name : List ℕ) : Type 0 where
+-- the full name of the words in the innermost scope in which the first is an aggregate, if it is that of what is wanted
+pub record IsCompound (files : List File) (file : ℕ) (is_extended : Bool) (first words from name : List ℕ)
+    : Type 0 where
   pub start : List ℕ
   pub innermost : Innermost files file is_aggregate first from start
   pub name_is : name ≡ qualified start words
-  pub known : KnowsAs files file is_type name
+  pub known : KnowsAs files file (wanted is_extended) name

@@ -9,18 +9,19 @@ use Rattle.proto_lex.specs.contracts.token.TokenKind.{the_type}
 use Rattle.proto_lex.specs.declared.span.Span.{Span}
 use Rattle.proto_lex.specs.declared.token.TokenKind.{TokenKind}
 use Rattle.proto_lex.specs.declared.token.TokenKind.TheVariants.{Identifier, Integer, StringLiteral, CloseBrace}
-use Rattle.proto_lex.specs.declared.token.TokenKind.TheVariants.{Dot, Minus}
+use Rattle.proto_lex.specs.declared.token.TokenKind.TheVariants.{Minus}
 use Rattle.proto_grammar.specs.Lexeme.{Lexeme}
 use Rattle.proto_grammar.specs.Terminal.{first, first_is, of_kind, is_plain_literal}
 use Rattle.proto_grammar.specs.Reading.Options.{depth_behind}
 use Rattle.proto_parse.proofs.RefusedMachine.{Test, test_of, passes, sees, Why, Step, Taken, or_next, take_by, ended}
-use Rattle.proto_parse.proofs.RefusedMachine.{Fed, begun, fed_by, feed, is_package, dots, machine, machine_done}
+use Rattle.proto_parse.proofs.RefusedMachine.{Fed, begun, fed_by, feed, is_package, machine, machine_done}
 use Rattle.proto_parse.proofs.RefusedMachine.{machine_then, machine_token, machine_if_false, machine_ban_false}
-use Rattle.proto_parse.proofs.RefusedMachine.{machine_lone_false, machine_fork_false, machine_many_false}
+use Rattle.proto_parse.proofs.RefusedMachine.{machine_many_false}
 use Rattle.proto_parse.proofs.RefusedMachine.{machine_block_true}
 use Rattle.proto_parse.proofs.RefusedMachine.{machine_closed}
-use Rattle.proto_parse.proofs.RefusedMachine.Test.{OfKind, Word, Scalar, Key, Sign, Numeral, Number, GroupName}
-use Rattle.proto_parse.proofs.RefusedMachine.Step.{Done, Token, Plain, Plains, Never, Then, If, Ban, Lone, Fork, Many}
+use Rattle.proto_parse.proofs.RefusedMachine.Test.{OfKind, Word, Scalar, ScalarType, GroupWord, Key, Sign}
+use Rattle.proto_parse.proofs.RefusedMachine.Test.{Numeral, Number, GroupName}
+use Rattle.proto_parse.proofs.RefusedMachine.Step.{Done, Token, Plain, Plains, Never, Then, If, Ban, Many}
 use Rattle.proto_parse.proofs.RefusedMachine.Step.{Block}
 use Rattle.proto_parse.proofs.RefusedMachine.Step.{Closed}
 use Rattle.proto_parse.proofs.RefusedMachine.Why.{Misplaced}
@@ -34,15 +35,17 @@ abbrev pub nowhere : Span
 nowhere = record { start = 0; end = 0 }
 
 abbrev pub sign_of : TokenKind → Lexeme
-sign_of kind = record { kind = kind; spelling = []; span = nowhere }
+sign_of kind = record { kind = kind; spelling = []; span = nowhere; dotted = false }
 
 abbrev pub word_of : List ℕ → Lexeme
-word_of word = record { kind = Identifier; spelling = word; span = nowhere }
+word_of word = record { kind = Identifier; spelling = word; span = nowhere; dotted = false }
 
 abbrev pub sample : Test → Lexeme
 sample (OfKind kind) = sign_of kind
 sample (Word word) = word_of word
 sample Scalar = word_of (codes "int32")
+sample ScalarType = word_of (codes "int32")
+sample GroupWord = word_of (codes "group")
 sample Key = word_of (codes "int32")
 sample Sign = sign_of Minus
 sample Numeral = sign_of Integer
@@ -53,6 +56,8 @@ sample_passes : (test : Test) → passes test (sample test) ≡ true
 sample_passes (OfKind kind) = true_same the_type kind kind refl
 sample_passes (Word word) = (bytes_eq-Decides word word).1 refl
 sample_passes Scalar = refl
+sample_passes ScalarType = refl
+sample_passes GroupWord = refl
 sample_passes Key = refl
 sample_passes Sign = refl
 sample_passes Numeral = refl
@@ -74,8 +79,6 @@ example Never = []
 example (Then a b) = example a ++ example b
 example (If test a b) = example b
 example (Ban r b) = example b
-example (Lone r dotted b) = example b
-example (Fork word alone dotted b) = example b
 example (Many test a) = []
 example (Block a) = []
 example (Closed depth) = braces depth
@@ -99,19 +102,9 @@ Has Never n = ⊥
 Has (Then a b) n = Has a (head (example b) n) × Has b n
 Has (If test a b) n = (sees test (head (example b) n) ≡ false) × Has b n
 Has (Ban r b) n = (sees (test_of r) (head (example b) n) ≡ false) × Has b n
-Has (Lone r dotted b) n = (sees (test_of r) (head (example b) n) ≡ false) × Has b n
-Has (Fork word alone dotted b) n = (sees word (head (example b) n) ≡ false) × Has b n
 Has (Many test a) n = sees test n ≡ false
 Has (Block a) n = sees (OfKind CloseBrace) n ≡ true
 Has (Closed depth) n = Unit {0}
-
--- a `.` is taken
-abbrev pub TakesDot : Step → Type 0
-TakesDot s = (k : List Step) (t : Lexeme) (d : Bool) → of_kind Dot t ≡ true
-    → (next : List Step) × (take_by s k t d ≡ Took next)
-
-abbrev pub Undotted : Step → Type 0
-Undotted s = dots (example s) ≡ false
 
 -- what it has begun can be finished before that token
 abbrev pub Fit : Step → Option Lexeme → Type 0
@@ -120,15 +113,10 @@ Fit (Token test) n = Unit {0}
 Fit Plain n = Unit {0}
 Fit Plains n = sees (OfKind StringLiteral) n ≡ false
 Fit Never n = Unit {0}
-Fit (Then a b) n = Fit a (head (example b) n) × Undotted b × Has b n × Fit b n
-Fit (If test a b) n = (Undotted a × Has a n × Fit a n) × Fit b n
+Fit (Then a b) n = Fit a (head (example b) n) × Has b n × Fit b n
+Fit (If test a b) n = (Has a n × Fit a n) × Fit b n
 Fit (Ban r b) n = (ended b ≡ false) × Fit b n
-Fit (Lone r dotted b) n =
-    (ended b ≡ false) × TakesDot dotted × (Undotted dotted × Has dotted n × Fit dotted n) × Fit b n
-Fit (Fork word alone dotted b) n =
-    TakesDot dotted × (Undotted alone × Has alone n × Fit alone n)
-    × (Undotted dotted × Has dotted n × Fit dotted n) × Fit b n
-Fit (Many test a) n = (sees test n ≡ false) × Undotted a × Has a n × Fit a n
+Fit (Many test a) n = (sees test n ≡ false) × Has a n × Fit a n
 Fit (Block a) n = (sees (OfKind CloseBrace) n ≡ true) × (ended a ≡ false) × Fit a n
 Fit (Closed depth) n = Unit {0}
 
@@ -139,7 +127,7 @@ finish (s ∷ k) = example s ++ finish k
 
 abbrev pub Fits : List Step → Type 0
 Fits [] = Unit {0}
-Fits (s ∷ k) = (Undotted s × Has s (first (finish k)) × Fit s (first (finish k))) × Fits k
+Fits (s ∷ k) = (Has s (first (finish k)) × Fit s (first (finish k))) × Fits k
 
 -- ---- steps that fit are finished
 
@@ -178,14 +166,6 @@ machine_example statement (Ban r b) l k seen has =
     machine_ban_false statement r (example b ++ l) b k seen
     (subst (λ n. sees (test_of r) n ≡ false) (sym (head_is (example b) l)) has.0)
     ∙ machine_example statement b l k seen has.1
-machine_example statement (Lone r dotted b) l k seen has =
-    machine_lone_false statement r (example b ++ l) dotted b k seen
-    (subst (λ n. sees (test_of r) n ≡ false) (sym (head_is (example b) l)) has.0)
-    ∙ machine_example statement b l k seen has.1
-machine_example statement (Fork word alone dotted b) l k seen has =
-    machine_fork_false statement word (example b ++ l) alone dotted b k seen
-    (subst (λ n. sees word n ≡ false) (sym (head_is (example b) l)) has.0)
-    ∙ machine_example statement b l k seen has.1
 machine_example statement (Many test a) l k seen has = machine_many_false statement test l a k seen has
 machine_example statement (Block a) l k seen has = machine_block_true statement l a k seen has
 machine_example statement (Closed depth) l k seen has = machine_braces statement depth l k seen
@@ -194,16 +174,7 @@ pub machine_finish : (statement : Step) (k : List Step) (seen : Bool) → Fits k
     → machine statement (finish k) k seen ≡ Whole seen
 machine_finish statement [] seen fits = refl
 machine_finish statement (s ∷ k) seen fits =
-    machine_example statement s (finish k) k seen fits.0.1 ∙ machine_finish statement k seen fits.1
-
--- what finishes them begins with no `.`
-undotted_then : (e l : List Lexeme) → dots e ≡ false → dots l ≡ false → dots (e ++ l) ≡ false
-undotted_then [] l off none = none
-undotted_then (t ∷ e) l off none = off
-
-pub finish_undotted : (k : List Step) → Fits k → dots (finish k) ≡ false
-finish_undotted [] fits = refl
-finish_undotted (s ∷ k) fits = undotted_then (example s) (finish k) fits.0.0 (finish_undotted k fits.1)
+    machine_example statement s (finish k) k seen fits.0.0 ∙ machine_finish statement k seen fits.1
 
 -- ---- they still fit behind a token
 
@@ -231,55 +202,41 @@ fits_as : (a b : List Step) → Took a ≡ Took b → Fits a → Fits b
 fits_as a b e fits = subst Fits (same_took e) fits
 
 -- with the next token that finishes the steps behind
-pub take_fits : (s : Step) (k next : List Step) (t : Lexeme) (d : Bool) → Fit s (first (finish k)) → Fits k
-    → take_by s k t d ≡ Took next → Fits next
-take_fits Done k next t d fit fits e = no_pass e
-take_fits (Token test) k next t d fit fits e =
+pub take_fits : (s : Step) (k next : List Step) (t : Lexeme) → Fit s (first (finish k)) → Fits k
+    → take_by s k t ≡ Took next → Fits next
+take_fits Done k next t fit fits e = no_pass e
+take_fits (Token test) k next t fit fits e =
     took_true (passes test t) _ _ next (Fits next) e (λ is f. fits_as k next f fits) (λ off f. no_stop f)
-take_fits Plain k next t d fit fits e =
+take_fits Plain k next t fit fits e =
     took_true (is_plain_literal t) _ _ next (Fits next) e (λ is f. fits_as k next f fits)
     (λ off f. took_true (of_kind StringLiteral t) _ _ next (Fits next) f (λ is g. no_stop g) (λ off g. no_stop g))
-take_fits Plains k next t d fit fits e =
+take_fits Plains k next t fit fits e =
     took_true (is_plain_literal t) _ _ next (Fits next) e
-    (λ is f. fits_as (Plains ∷ k) next f ((refl, fit, fit), fits))
+    (λ is f. fits_as (Plains ∷ k) next f ((fit, fit), fits))
     (λ off f. took_true (of_kind StringLiteral t) _ _ next (Fits next) f (λ is g. no_stop g) (λ off g. no_pass g))
-take_fits Never k next t d fit fits e = no_stop e
-take_fits (Then a b) k next t d fit fits e =
-    then_took (take_by a (b ∷ k) t d) (take_by b k t d) next (Fits next) e
-    (λ f. take_fits a (b ∷ k) next t d (subst (λ n. Fit a n) (sym (head_is (example b) (finish k))) fit.0)
-    ((fit.1, fit.2, fit.3), fits) f)
-    (λ f. take_fits b k next t d fit.3 fits f)
-take_fits (If test a b) k next t d fit fits e =
+take_fits Never k next t fit fits e = no_stop e
+take_fits (Then a b) k next t fit fits e =
+    then_took (take_by a (b ∷ k) t) (take_by b k t) next (Fits next) e
+    (λ f. take_fits a (b ∷ k) next t (subst (λ n. Fit a n) (sym (head_is (example b) (finish k))) fit.0)
+    ((fit.1, fit.2), fits) f)
+    (λ f. take_fits b k next t fit.2 fits f)
+take_fits (If test a b) k next t fit fits e =
     took_true (passes test t) _ _ next (Fits next) e
-    (λ is f. fits_as (a ∷ k) next f (fit.0, fits)) (λ off f. take_fits b k next t d fit.1 fits f)
-take_fits (Ban r b) k next t d fit fits e =
+    (λ is f. fits_as (a ∷ k) next f (fit.0, fits)) (λ off f. take_fits b k next t fit.1 fits f)
+take_fits (Ban r b) k next t fit fits e =
     took_true (passes (test_of r) t) _ _ next (Fits next) e (λ is f. no_stop f)
-    (λ off f. take_fits b k next t d fit.1 fits f)
-take_fits (Lone r dotted b) k next t d fit fits e =
-    took_true (passes (test_of r) t) _ _ next (Fits next) e
-    (λ is f. took_true d _ _ next (Fits next) f (λ dot g. fits_as (dotted ∷ k) next g (fit.2, fits))
-    (λ none g. no_stop g))
-    (λ off f. take_fits b k next t d fit.3 fits f)
-take_fits (Fork word alone dotted b) k next t d fit fits e =
-    took_true (passes word t) _ _ next (Fits next) e
-    (λ is f. took_true d _ _ next (Fits next) f (λ dot g. fits_as (dotted ∷ k) next g (fit.2, fits))
-    (λ none g. fits_as (alone ∷ k) next g (fit.1, fits)))
-    (λ off f. take_fits b k next t d fit.3 fits f)
-take_fits (Many test a) k next t d fit fits e =
+    (λ off f. take_fits b k next t fit.1 fits f)
+take_fits (Many test a) k next t fit fits e =
     took_true (passes test t) _ _ next (Fits next) e
-    (λ is f. fits_as (a ∷ (Many test a ∷ k)) next f ((fit.1, fit.2, fit.3), ((refl, fit.0, fit), fits)))
+    (λ is f. fits_as (a ∷ (Many test a ∷ k)) next f ((fit.1, fit.2), ((fit.0, fit), fits)))
     (λ off f. no_pass f)
-take_fits (Block a) k next t d fit fits e =
+take_fits (Block a) k next t fit fits e =
     took_true (of_kind CloseBrace t) _ _ next (Fits next) e (λ is f. no_pass f)
-    (λ off f. take_fits a (Block a ∷ k) next t d fit.2 ((refl, fit.0, fit), fits) f)
-take_fits (Closed depth) k next t d fit fits e =
+    (λ off f. take_fits a (Block a ∷ k) next t fit.2 ((fit.0, fit), fits) f)
+take_fits (Closed depth) k next t fit fits e =
     took_true (depth == 0) _ _ next (Fits next) e (λ is f. no_pass f)
     (λ off f. fits_as (Closed (depth_behind t depth) ∷ k) next f
-    ((undotted_braces (depth_behind t depth), tt, tt), fits))
-  where
-    undotted_braces : (depth : ℕ) → dots (braces depth) ≡ false
-    undotted_braces zero = refl
-    undotted_braces (suc n) = refl
+    ((tt, tt), fits))
 
 -- a step in a file
 went_took : {a b : List Step} {seen now : Bool} → Went a seen ≡ Went b now → Took a ≡ Took b
@@ -304,10 +261,10 @@ base_went statement true o seen next now P e took = absurd (let off : SecondPack
 base_went statement false o seen next now P e took = begun_went statement o seen next now P e took
 
 pub feed_fits : (statement : Step) → Fit statement None → (k next : List Step) (seen now : Bool) (t : Lexeme)
-    (d : Bool) → Fits k → feed statement k seen t d ≡ Went next now → Fits next
-feed_fits statement base [] next seen now t d fits e =
-    base_went statement (seen && is_package t) (take_by statement [] t d) (seen || is_package t) next now (Fits next) e
-    (λ f. take_fits statement [] next t d base tt f)
-feed_fits statement base (s ∷ k) next seen now t d fits e =
-    fed_went statement (take_by s k t d) seen (feed statement k seen t d) next now (Fits next) e
-    (λ f. take_fits s k next t d fits.0.2 fits.1 f) (λ f. feed_fits statement base k next seen now t d fits.1 f)
+    → Fits k → feed statement k seen t ≡ Went next now → Fits next
+feed_fits statement base [] next seen now t fits e =
+    base_went statement (seen && is_package t) (take_by statement [] t) (seen || is_package t) next now (Fits next) e
+    (λ f. take_fits statement [] next t base tt f)
+feed_fits statement base (s ∷ k) next seen now t fits e =
+    fed_went statement (take_by s k t) seen (feed statement k seen t) next now (Fits next) e
+    (λ f. take_fits s k next t fits.0.1 fits.1 f) (λ f. feed_fits statement base k next seen now t fits.1 f)

@@ -1,25 +1,22 @@
 -- What is read follows steps: it leaves off where they do, and has the fault at which they stop.
 use Rattle.std.proofs.Common.{◌≡◌, ℕ, zero, suc, ◌≤◌, ◌==◌, Bool, true, false, cond, ◌&&◌, not, Result, Ok, Err}
 use Rattle.std.proofs.Common.{List, [], ◌∷◌, length, refl, sym, ◌∙◌, subst, arith}
-use Rattle.proto_lex.specs.declared.token.TokenKind.TheVariants.{StringLiteral, Dot}
+use Rattle.proto_lex.specs.declared.token.TokenKind.TheVariants.{StringLiteral}
 use Rattle.proto_grammar.specs.declared.fault.SyntaxFault.{SyntaxFault}
 use Rattle.proto_grammar.specs.declared.fault.SyntaxFault.TheVariants as variant
 use Rattle.proto_grammar.specs.Lexeme.{Lexeme, Place, place_of}
 use Rattle.proto_grammar.specs.Terminal.{first_is, of_kind, is_plain_literal, not_next, closes}
-use Rattle.proto_grammar.specs.Terminal.{behind, others}
+use Rattle.proto_grammar.specs.Terminal.{behind}
 use Rattle.proto_grammar.specs.Reading.Repetition.{and_then, Read, token_that, plain_literal_at, until_at}
 use Rattle.proto_grammar.specs.Reading.Options.{depth_behind, closed_by, closed_at}
 use Rattle.proto_grammar.proofs.TerminalPlaceLemmas.{Behind, behind_here, behind_one}
 use Rattle.proto_grammar.proofs.RepetitionUntilLemmas.{Falls, until_at-step}
-use Rattle.proto_parse.proofs.RefusedMachine.{Test, test_of, passes, Refusal, Step, Outcome, machine, dots}
+use Rattle.proto_parse.proofs.RefusedMachine.{Test, test_of, passes, Refusal, Step, Outcome, machine}
 use Rattle.proto_parse.proofs.RefusedMachine.{machine_done, machine_then, machine_token, machine_no_token}
 use Rattle.proto_parse.proofs.RefusedMachine.{machine_if_true}
 use Rattle.proto_parse.proofs.RefusedMachine.{machine_if_false, machine_ban_true, machine_ban_false, machine_many_true}
 use Rattle.proto_parse.proofs.RefusedMachine.{machine_many_false, machine_block_true, machine_block_false}
-use Rattle.proto_parse.proofs.RefusedMachine.{machine_lone_false}
-use Rattle.proto_parse.proofs.RefusedMachine.{machine_lone_dotted, machine_lone_alone, machine_fork_false}
-use Rattle.proto_parse.proofs.RefusedMachine.{machine_fork_dotted, machine_fork_alone}
-use Rattle.proto_parse.proofs.RefusedMachine.Step.{Done, Token, Plain, Plains, Then, If, Ban, Lone, Fork, Many, Block}
+use Rattle.proto_parse.proofs.RefusedMachine.Step.{Done, Token, Plain, Plains, Then, If, Ban, Many, Block}
 use Rattle.proto_parse.proofs.RefusedMachine.Step.{Closed}
 use Rattle.proto_parse.proofs.RefusedMachine.Why.{Misplaced, Escaped, Refused}
 use Rattle.proto_parse.proofs.RefusedMachine.Outcome.{Missing, Stuck}
@@ -349,61 +346,38 @@ module _ (statement : Step) where
       by_result (Ok x) agrees = (agrees.0, agrees.1 ∙ machine_done statement x.1.left k seen)
       by_result (Err fault) agrees = agrees
 
-  -- seen from a place further in front: a word that no `.` follows is refused, or what is behind it is read
-  pub fol_lone : {A : Type 0} (r : Refusal) (dotted b : Step) (p : Place) (left : List Lexeme) (end : ℕ)
+  -- seen from a place further in front: what is refused, or what is behind it
+  pub fol_ban_front : {A : Type 0} (r : Refusal) (b : Step) (p : Place) (left : List Lexeme) (end : ℕ)
       (fault : SyntaxFault) (y : Result (A × Place) SyntaxFault) → Behind p (place_of end left)
-      → Tells p (Stuck (Refused r) left) fault → Fol b (place_of end left) y
-      → ((t : Lexeme) (rest : List Lexeme) (k : List Step) (seen : Bool) → passes (test_of r) t ≡ true
-      → machine statement (t ∷ rest) (b ∷ k) seen ≡ machine statement rest (dotted ∷ k) seen)
-      → (k : List Step) (seen : Bool) → Agrees p k seen (machine statement left (Lone r dotted b ∷ k) seen)
-      (cond (first_is (passes (test_of r)) left && not_next Dot (others left)) (Err fault) y)
-  fol_lone r dotted b p [] end fault y front tells fol same k seen =
-      subst (λ o. Agrees p k seen o y) (sym (machine_lone_false statement r [] dotted b k seen refl))
-      (agrees_behind p (place_of end []) k seen (machine statement [] (b ∷ k) seen) y front (fol k seen))
-  fol_lone {A} r dotted b p (t ∷ rest) end fault y front tells fol same k seen =
-      by_tests (passes (test_of r) t) (dots rest) refl refl
+      → Tells p (Stuck (Refused r) left) fault → Fol b (place_of end left) y → (k : List Step) (seen : Bool)
+      → Agrees p k seen (machine statement left (Ban r b ∷ k) seen)
+      (cond (first_is (passes (test_of r)) left) (Err fault) y)
+  fol_ban_front {A} r b p left end fault y front tells fol k seen =
+      by_test (first_is (passes (test_of r)) left) refl
     where
-      other : Agrees p k seen (machine statement (t ∷ rest) (b ∷ k) seen) y
-      other = agrees_behind p (place_of end (t ∷ rest)) k seen (machine statement (t ∷ rest) (b ∷ k) seen) y front
-          (fol k seen)
+      by_test : (c : Bool) → first_is (passes (test_of r)) left ≡ c
+          → Agrees p k seen (machine statement left (Ban r b ∷ k) seen) (cond c (Err fault) y)
+      by_test true is = subst (λ o. Tells p o fault) (sym (ban_stuck r b left k seen is)) tells
+      by_test false is =
+          subst (λ o. Agrees p k seen o y) (sym (machine_ban_false statement r left b k seen is))
+          (agrees_behind p (place_of end left) k seen (machine statement left (b ∷ k) seen) y front (fol k seen))
 
-      by_tests : (c d : Bool) → passes (test_of r) t ≡ c → dots rest ≡ d
-          → Agrees p k seen (machine statement (t ∷ rest) (Lone r dotted b ∷ k) seen) (cond (c && not d) (Err fault) y)
-      by_tests true true is dot =
-          subst (λ o. Agrees p k seen o y)
-          (same t rest k seen is ∙ sym (machine_lone_dotted statement r t rest dotted b k seen is dot)) other
-      by_tests true false is dot =
-          subst (λ o. Tells p o fault) (sym (machine_lone_alone statement r t rest dotted b k seen is dot)) tells
-      by_tests false d is dot =
-          subst (λ o. Agrees p k seen o y) (sym (machine_lone_false statement r (t ∷ rest) dotted b k seen is)) other
+  -- a token that is read by a wider test
+  wider_token : (test wider : Test) (a : Step) (l : List Lexeme) (k : List Step) (seen : Bool)
+      → ((t : Lexeme) → passes test t ≡ true → passes wider t ≡ true) → first_is (passes test) l ≡ true
+      → machine statement l (Then (Token test) a ∷ k) seen ≡ machine statement l (Then (Token wider) a ∷ k) seen
+  wider_token test wider a [] k seen wide is = absurd cc
+  wider_token test wider a (t ∷ rest) k seen wide is =
+      token_then test a t rest k seen is ∙ sym (token_then wider a t rest k seen (wide t is))
 
-  pub fol_fork : {A : Type 0} (word : Test) (a dotted b : Step) (left : List Lexeme) (end : ℕ)
-      (x y : Result (A × Place) SyntaxFault)
-      → (first_is (passes word) left ≡ true → Fol (Then (Token word) a) (place_of end left) x)
-      → Fol b (place_of end left) y
-      → ((t : Lexeme) (rest : List Lexeme) (k : List Step) (seen : Bool) → passes word t ≡ true
-      → machine statement (t ∷ rest) (b ∷ k) seen ≡ machine statement rest (dotted ∷ k) seen)
-      → Fol (Fork word a dotted b) (place_of end left)
-      (cond (first_is (passes word) left && not_next Dot (others left)) x y)
-  fol_fork word a dotted b [] end x y first fol same =
-      fol_as (Fork word a dotted b) b (place_of end []) y
-      (λ k seen. machine_fork_false statement word [] a dotted b k seen refl) fol
-  fol_fork {A} word a dotted b (t ∷ rest) end x y first fol same =
-      by_tests (passes word t) (dots rest) refl refl
-    where
-      by_tests : (c d : Bool) → passes word t ≡ c → dots rest ≡ d
-          → Fol (Fork word a dotted b) (place_of end (t ∷ rest)) (cond (c && not d) x y)
-      by_tests true true is dot =
-          fol_as (Fork word a dotted b) b (place_of end (t ∷ rest)) y
-          (λ k seen. machine_fork_dotted statement word t rest a dotted b k seen is dot ∙ sym (same t rest k seen is))
-          fol
-      by_tests true false is dot =
-          fol_as (Fork word a dotted b) (Then (Token word) a) (place_of end (t ∷ rest)) x
-          (λ k seen. machine_fork_alone statement word t rest a dotted b k seen is dot
-          ∙ sym (token_then word a t rest k seen is)) (first is)
-      by_tests false d is dot =
-          fol_as (Fork word a dotted b) b (place_of end (t ∷ rest)) y
-          (λ k seen. machine_fork_false statement word (t ∷ rest) a dotted b k seen is) fol
+  pub fol_if_wider : {A : Type 0} (test wider : Test) (a b : Step) (p : Place) (x y : Result (A × Place) SyntaxFault)
+      → ((t : Lexeme) → passes test t ≡ true → passes wider t ≡ true) → Fol (Then (Token wider) a) p x
+      → Fol b p y → Fol (If test a b) p (cond (first_is (passes test) p.left) x y)
+  fol_if_wider test wider a b p x y wide on off =
+      fol_if test a b p x y
+      (λ is. fol_as (Then (Token test) a) (Then (Token wider) a) p x
+      (λ k seen. wider_token test wider a p.left k seen wide is) on)
+      (λ none. off)
 
   -- what is chosen
   pub fol_choose : {A X : Type 0} (read : X → Result (A × Place) SyntaxFault) (test : Test) (a b : Step) (p : Place)

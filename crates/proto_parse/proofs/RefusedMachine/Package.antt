@@ -8,7 +8,7 @@ use Rattle.proto_grammar.specs.Terminal.{first, of_kind, is_plain_literal}
 use Rattle.proto_grammar.proofs.TerminalTokenLemmas.{other_kind, word_kind}
 use Rattle.proto_parse.proofs.RefusedMachine.{test_of, passes, Why, Step, Taken, or_next, take_by, ended, all_ended}
 use Rattle.proto_parse.proofs.RefusedMachine.{Fed, begun, fed_by, feed, is_package}
-use Rattle.proto_parse.proofs.RefusedMachine.Step.{Done, Token, Plain, Plains, Never, Then, If, Ban, Lone, Fork, Many}
+use Rattle.proto_parse.proofs.RefusedMachine.Step.{Done, Token, Plain, Plains, Never, Then, If, Ban, Many}
 use Rattle.proto_parse.proofs.RefusedMachine.Step.{Block}
 use Rattle.proto_parse.proofs.RefusedMachine.Step.{Closed}
 use Rattle.proto_parse.proofs.RefusedMachine.Why.{Misplaced}
@@ -38,38 +38,30 @@ not_taken e = absurd cc
 pub not_stopped : {why : Why} {P : Type 0} → Stopped why ≡ Passed → P
 not_stopped e = absurd cc
 
-passed_ended : (s : Step) (k : List Step) (t : Lexeme) (d : Bool) (n : Option Lexeme) → Fit s n
-    → of_kind Identifier t ≡ true → take_by s k t d ≡ Passed → ended s ≡ true
-passed_ended Done k t d n fit word e = refl
-passed_ended (Token test) k t d n fit word e =
+passed_ended : (s : Step) (k : List Step) (t : Lexeme) (n : Option Lexeme) → Fit s n
+    → of_kind Identifier t ≡ true → take_by s k t ≡ Passed → ended s ≡ true
+passed_ended Done k t n fit word e = refl
+passed_ended (Token test) k t n fit word e =
     passed_cond (passes test t) _ _ _ e (λ is f. not_taken f) (λ off f. not_stopped f)
-passed_ended Plain k t d n fit word e =
+passed_ended Plain k t n fit word e =
     passed_cond (is_plain_literal t) _ _ _ e (λ is f. not_taken f)
     (λ off f. passed_cond (of_kind StringLiteral t) _ _ _ f (λ is g. not_stopped g) (λ other g. not_stopped g))
-passed_ended Plains k t d n fit word e = refl
-passed_ended Never k t d n fit word e = not_stopped e
-passed_ended (Then a b) k t d n fit word e =
-    let both = passed_then (take_by a (b ∷ k) t d) (take_by b k t d) e in
-    rw (passed_ended a (b ∷ k) t d (head (example b) n) fit.0 word both.0)
-    (passed_ended b k t d n fit.3 word both.1)
-passed_ended (If test a b) k t d n fit word e =
-    passed_cond (passes test t) _ _ _ e (λ is f. not_taken f) (λ off f. passed_ended b k t d n fit.1 word f)
-passed_ended (Ban r b) k t d n fit word e =
-    passed_cond (passes (test_of r) t) _ _ _ e (λ is f. not_stopped f) (λ off f. passed_ended b k t d n fit.1 word f)
-passed_ended (Lone r dotted b) k t d n fit word e =
-    passed_cond (passes (test_of r) t) _ _ _ e
-    (λ is f. passed_cond d _ _ _ f (λ dot g. not_taken g) (λ none g. not_stopped g))
-    (λ off f. passed_ended b k t d n fit.3 word f)
-passed_ended (Fork test a dotted b) k t d n fit word e =
-    passed_cond (passes test t) _ _ _ e
-    (λ is f. passed_cond d _ _ _ f (λ dot g. not_taken g) (λ none g. not_taken g))
-    (λ off f. passed_ended b k t d n fit.3 word f)
-passed_ended (Many test a) k t d n fit word e = refl
-passed_ended (Block a) k t d n fit word e =
+passed_ended Plains k t n fit word e = refl
+passed_ended Never k t n fit word e = not_stopped e
+passed_ended (Then a b) k t n fit word e =
+    let both = passed_then (take_by a (b ∷ k) t) (take_by b k t) e in
+    rw (passed_ended a (b ∷ k) t (head (example b) n) fit.0 word both.0)
+    (passed_ended b k t n fit.2 word both.1)
+passed_ended (If test a b) k t n fit word e =
+    passed_cond (passes test t) _ _ _ e (λ is f. not_taken f) (λ off f. passed_ended b k t n fit.1 word f)
+passed_ended (Ban r b) k t n fit word e =
+    passed_cond (passes (test_of r) t) _ _ _ e (λ is f. not_stopped f) (λ off f. passed_ended b k t n fit.1 word f)
+passed_ended (Many test a) k t n fit word e = refl
+passed_ended (Block a) k t n fit word e =
     passed_cond (of_kind CloseBrace t) _ _ _ e
     (λ is f. absurd (let off : true ≡ false = sym is ∙ other_kind Identifier CloseBrace t refl word in cc))
-    (λ off f. absurd (let off : true ≡ false = sym (passed_ended a (Block a ∷ k) t d n fit.2 word f) ∙ fit.1 in cc))
-passed_ended (Closed depth) k t d n fit word e =
+    (λ off f. absurd (let off : true ≡ false = sym (passed_ended a (Block a ∷ k) t n fit.2 word f) ∙ fit.1 in cc))
+passed_ended (Closed depth) k t n fit word e =
     passed_cond (depth == 0) _ _ _ e (λ is f. is) (λ off f. not_taken f)
 
 -- ---- a step that may end doesn't stop at a word
@@ -94,33 +86,28 @@ no_passed e = cc
 not_ended : {P : Type 0} (b : Bool) → b ≡ false → b ≡ true → P
 not_ended b off is = absurd (let never : true ≡ false = sym is ∙ off in cc)
 
-ended_goes : (s : Step) (k : List Step) (t : Lexeme) (d : Bool) (n : Option Lexeme) (why : Why) → Fit s n
-    → of_kind Identifier t ≡ true → ended s ≡ true → take_by s k t d ≡ Stopped why → ⊥
-ended_goes Done k t d n why fit word is e = no_passed e
-ended_goes (Token test) k t d n why fit word is e = cc
-ended_goes Plain k t d n why fit word is e = cc
-ended_goes Plains k t d n why fit word is e =
+ended_goes : (s : Step) (k : List Step) (t : Lexeme) (n : Option Lexeme) (why : Why) → Fit s n
+    → of_kind Identifier t ≡ true → ended s ≡ true → take_by s k t ≡ Stopped why → ⊥
+ended_goes Done k t n why fit word is e = no_passed e
+ended_goes (Token test) k t n why fit word is e = cc
+ended_goes Plain k t n why fit word is e = cc
+ended_goes Plains k t n why fit word is e =
     stopped_cond (is_plain_literal t) _ _ why e (λ plain f. no_took f)
     (λ off f. stopped_cond (of_kind StringLiteral t) _ _ why f
     (λ literal g. not_ended (of_kind StringLiteral t) (no_literal t word) literal) (λ other g. no_passed g))
-ended_goes Never k t d n why fit word is e = cc
-ended_goes (Then a b) k t d n why fit word is e =
+ended_goes Never k t n why fit word is e = cc
+ended_goes (Then a b) k t n why fit word is e =
     let both = and_parts (ended a) (ended b) is in
-    stopped_then (take_by a (b ∷ k) t d) (take_by b k t d) why e
-    (λ f. ended_goes a (b ∷ k) t d (head (example b) n) why fit.0 word both.0 f)
-    (λ f. ended_goes b k t d n why fit.3 word both.1 f)
-ended_goes (If test a b) k t d n why fit word is e =
-    stopped_cond (passes test t) _ _ why e (λ on f. no_took f) (λ off f. ended_goes b k t d n why fit.1 word is f)
-ended_goes (Ban r b) k t d n why fit word is e = not_ended (ended b) fit.0 is
-ended_goes (Lone r dotted b) k t d n why fit word is e = not_ended (ended b) fit.0 is
-ended_goes (Fork test a dotted b) k t d n why fit word is e =
-    stopped_cond (passes test t) _ _ why e
-    (λ on f. stopped_cond d _ _ why f (λ dot g. no_took g) (λ none g. no_took g))
-    (λ off f. ended_goes b k t d n why fit.3 word is f)
-ended_goes (Many test a) k t d n why fit word is e =
+    stopped_then (take_by a (b ∷ k) t) (take_by b k t) why e
+    (λ f. ended_goes a (b ∷ k) t (head (example b) n) why fit.0 word both.0 f)
+    (λ f. ended_goes b k t n why fit.2 word both.1 f)
+ended_goes (If test a b) k t n why fit word is e =
+    stopped_cond (passes test t) _ _ why e (λ on f. no_took f) (λ off f. ended_goes b k t n why fit.1 word is f)
+ended_goes (Ban r b) k t n why fit word is e = not_ended (ended b) fit.0 is
+ended_goes (Many test a) k t n why fit word is e =
     stopped_cond (passes test t) _ _ why e (λ on f. no_took f) (λ off f. no_passed f)
-ended_goes (Block a) k t d n why fit word is e = cc
-ended_goes (Closed depth) k t d n why fit word is e =
+ended_goes (Block a) k t n why fit word is e = cc
+ended_goes (Closed depth) k t n why fit word is e =
     stopped_cond (depth == 0) _ _ why e (λ on f. no_passed f) (λ off f. no_took f)
 
 -- ---- all steps
@@ -139,17 +126,17 @@ second_begun statement false Passed seen e = absurd (let off : Halted Misplaced 
 second_begun statement false (Stopped why) seen e = absurd (let off : Halted why ≡ SecondPackage = e in cc)
 
 -- where a second package statement begins, all has ended, and one was seen
-pub second_ended : (statement : Step) (k : List Step) (seen : Bool) (t : Lexeme) (d : Bool) → Fits k
-    → of_kind Identifier t ≡ true → feed statement k seen t d ≡ SecondPackage
+pub second_ended : (statement : Step) (k : List Step) (seen : Bool) (t : Lexeme) → Fits k
+    → of_kind Identifier t ≡ true → feed statement k seen t ≡ SecondPackage
     → (all_ended k ≡ true) × (seen ≡ true)
-second_ended statement [] seen t d fits word e =
+second_ended statement [] seen t fits word e =
     let both = and_parts seen (is_package t)
-    (second_begun statement (seen && is_package t) (take_by statement [] t d) (seen || is_package t) e) in
+    (second_begun statement (seen && is_package t) (take_by statement [] t) (seen || is_package t) e) in
     (refl, both.0)
-second_ended statement (s ∷ k) seen t d fits word e =
-    let both = second_by statement (take_by s k t d) seen (feed statement k seen t d) e in
-    let rest = second_ended statement k seen t d fits.1 word both.1 in
-    (rw (passed_ended s k t d (first (finish k)) fits.0.2 word both.0) rest.0, rest.1)
+second_ended statement (s ∷ k) seen t fits word e =
+    let both = second_by statement (take_by s k t) seen (feed statement k seen t) e in
+    let rest = second_ended statement k seen t fits.1 word both.1 in
+    (rw (passed_ended s k t (first (finish k)) fits.0.1 word both.0) rest.0, rest.1)
 
 halted_by : (statement : Step) (o : Taken) (seen : Bool) (f : Fed) (why : Why) → fed_by statement o seen f ≡ Halted why
     → (o ≡ Stopped why → ⊥) → (f ≡ Halted why → ⊥) → ⊥
@@ -161,14 +148,14 @@ halted_by statement (Stopped other) seen f why e first second = first (stopped_a
     stopped_as e = cc
 
 -- and there the word is no other fault
-pub ended_second : (statement : Step) (k : List Step) (seen : Bool) (t : Lexeme) (d : Bool) (why : Why) → Fits k
-    → is_package t ≡ true → all_ended k ≡ true → seen ≡ true → feed statement k seen t d ≡ Halted why → ⊥
-ended_second statement [] seen t d why fits is ended_all was e =
-    let second : feed statement [] seen t d ≡ SecondPackage = rw (was, is) refl in
+pub ended_second : (statement : Step) (k : List Step) (seen : Bool) (t : Lexeme) (why : Why) → Fits k
+    → is_package t ≡ true → all_ended k ≡ true → seen ≡ true → feed statement k seen t ≡ Halted why → ⊥
+ended_second statement [] seen t why fits is ended_all was e =
+    let second : feed statement [] seen t ≡ SecondPackage = rw (was, is) refl in
     let off : SecondPackage ≡ Halted why = sym second ∙ e in
     cc
-ended_second statement (s ∷ k) seen t d why fits is ended_all was e =
+ended_second statement (s ∷ k) seen t why fits is ended_all was e =
     let both = and_parts (ended s) (all_ended k) ended_all in
-    halted_by statement (take_by s k t d) seen (feed statement k seen t d) why e
-    (λ f. ended_goes s k t d (first (finish k)) why fits.0.2 (word_kind (codes "package") t is) both.0 f)
-    (λ f. ended_second statement k seen t d why fits.1 is both.1 was f)
+    halted_by statement (take_by s k t) seen (feed statement k seen t) why e
+    (λ f. ended_goes s k t (first (finish k)) why fits.0.1 (word_kind (codes "package") t is) both.0 f)
+    (λ f. ended_second statement k seen t why fits.1 is both.1 was f)

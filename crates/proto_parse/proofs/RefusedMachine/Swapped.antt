@@ -8,8 +8,9 @@ use Rattle.proto_grammar.specs.Terminal.{of_kind, is_plain_literal}
 use Rattle.proto_grammar.proofs.TerminalTokenLemmas.{same_kind}
 use Rattle.proto_parse.proofs.RefusedMachine.{Test, test_of, passes, Why, Step, Taken, or_next, take_by}
 use Rattle.proto_parse.proofs.RefusedMachine.{Fed, begun, fed_by, feed, is_package}
-use Rattle.proto_parse.proofs.RefusedMachine.Test.{OfKind, Word, Scalar, Key, Sign, Numeral, Number, GroupName}
-use Rattle.proto_parse.proofs.RefusedMachine.Step.{Done, Token, Plain, Plains, Never, Then, If, Ban, Lone, Fork, Many}
+use Rattle.proto_parse.proofs.RefusedMachine.Test.{OfKind, Word, Scalar, ScalarType, GroupWord, Key, Sign}
+use Rattle.proto_parse.proofs.RefusedMachine.Test.{Numeral, Number, GroupName}
+use Rattle.proto_parse.proofs.RefusedMachine.Step.{Done, Token, Plain, Plains, Never, Then, If, Ban, Many}
 use Rattle.proto_parse.proofs.RefusedMachine.Step.{Block}
 use Rattle.proto_parse.proofs.RefusedMachine.Step.{Closed}
 use Rattle.proto_parse.proofs.RefusedMachine.Why.{Misplaced, Escaped, Refused}
@@ -30,6 +31,8 @@ same_test : (test : Test) (t u : Lexeme) → of_kind StringLiteral t ≡ true �
 same_test (OfKind kind) t u a b = rw (literal_kind t a, literal_kind u b) refl
 same_test (Word word) t u a b = rw (literal_kind t a, literal_kind u b) refl
 same_test Scalar t u a b = rw (literal_kind t a, literal_kind u b) refl
+same_test ScalarType t u a b = rw (literal_kind t a, literal_kind u b) refl
+same_test GroupWord t u a b = rw (literal_kind t a, literal_kind u b) refl
 same_test Key t u a b = rw (literal_kind t a, literal_kind u b) refl
 same_test Sign t u a b = rw (literal_kind t a, literal_kind u b) refl
 same_test Numeral t u a b = rw (literal_kind t a, literal_kind u b) refl
@@ -63,46 +66,35 @@ plain_swaps true string other next is = tt
 plain_swaps false true other next is = (next, refl)
 plain_swaps false false other next is = absurd cc
 
-pub take_swaps : (s : Step) (k : List Step) (t u : Lexeme) (d : Bool) → of_kind StringLiteral t ≡ true
-    → is_plain_literal u ≡ true → Swaps (take_by s k t d) (take_by s k u d)
-take_swaps Done k t u d a b = refl
-take_swaps (Token test) k t u d a b =
+pub take_swaps : (s : Step) (k : List Step) (t u : Lexeme) → of_kind StringLiteral t ≡ true
+    → is_plain_literal u ≡ true → Swaps (take_by s k t) (take_by s k u)
+take_swaps Done k t u a b = refl
+take_swaps (Token test) k t u a b =
     swaps_cond (passes test t) (passes test u) (Took k) (Stopped Misplaced) (Took k) (Stopped Misplaced)
     (same_test test t u a (plain_literal u b)) tt refl
-take_swaps Plain k t u d a b =
+take_swaps Plain k t u a b =
     rw b (plain_swaps (is_plain_literal t) (of_kind StringLiteral t) (Stopped Misplaced) k a)
-take_swaps Plains k t u d a b =
+take_swaps Plains k t u a b =
     rw b (plain_swaps (is_plain_literal t) (of_kind StringLiteral t) Passed (Plains ∷ k) a)
-take_swaps Never k t u d a b = refl
-take_swaps (Then x y) k t u d a b =
-    swaps_next (take_by x (y ∷ k) t d) (take_by x (y ∷ k) u d) (take_by y k t d) (take_by y k u d)
-    (take_swaps x (y ∷ k) t u d a b) (take_swaps y k t u d a b)
-take_swaps (If test x y) k t u d a b =
-    swaps_cond (passes test t) (passes test u) (Took (x ∷ k)) (take_by y k t d) (Took (x ∷ k)) (take_by y k u d)
-    (same_test test t u a (plain_literal u b)) tt (take_swaps y k t u d a b)
-take_swaps (Ban r y) k t u d a b =
-    swaps_cond (passes (test_of r) t) (passes (test_of r) u) (Stopped (Refused r)) (take_by y k t d)
-    (Stopped (Refused r)) (take_by y k u d) (same_test (test_of r) t u a (plain_literal u b)) refl
-    (take_swaps y k t u d a b)
-take_swaps (Lone r dotted y) k t u d a b =
-    swaps_cond (passes (test_of r) t) (passes (test_of r) u) (cond d (Took (dotted ∷ k)) (Stopped (Refused r)))
-    (take_by y k t d) (cond d (Took (dotted ∷ k)) (Stopped (Refused r))) (take_by y k u d)
-    (same_test (test_of r) t u a (plain_literal u b))
-    (swaps_cond d d (Took (dotted ∷ k)) (Stopped (Refused r)) (Took (dotted ∷ k)) (Stopped (Refused r)) refl tt refl)
-    (take_swaps y k t u d a b)
-take_swaps (Fork word x dotted y) k t u d a b =
-    swaps_cond (passes word t) (passes word u) (cond d (Took (dotted ∷ k)) (Took (x ∷ k))) (take_by y k t d)
-    (cond d (Took (dotted ∷ k)) (Took (x ∷ k))) (take_by y k u d) (same_test word t u a (plain_literal u b))
-    (swaps_cond d d (Took (dotted ∷ k)) (Took (x ∷ k)) (Took (dotted ∷ k)) (Took (x ∷ k)) refl tt tt)
-    (take_swaps y k t u d a b)
-take_swaps (Many test x) k t u d a b =
+take_swaps Never k t u a b = refl
+take_swaps (Then x y) k t u a b =
+    swaps_next (take_by x (y ∷ k) t) (take_by x (y ∷ k) u) (take_by y k t) (take_by y k u)
+    (take_swaps x (y ∷ k) t u a b) (take_swaps y k t u a b)
+take_swaps (If test x y) k t u a b =
+    swaps_cond (passes test t) (passes test u) (Took (x ∷ k)) (take_by y k t) (Took (x ∷ k)) (take_by y k u)
+    (same_test test t u a (plain_literal u b)) tt (take_swaps y k t u a b)
+take_swaps (Ban r y) k t u a b =
+    swaps_cond (passes (test_of r) t) (passes (test_of r) u) (Stopped (Refused r)) (take_by y k t)
+    (Stopped (Refused r)) (take_by y k u) (same_test (test_of r) t u a (plain_literal u b)) refl
+    (take_swaps y k t u a b)
+take_swaps (Many test x) k t u a b =
     swaps_cond (passes test t) (passes test u) (Took (x ∷ (Many test x ∷ k))) Passed (Took (x ∷ (Many test x ∷ k)))
     Passed (same_test test t u a (plain_literal u b)) tt refl
-take_swaps (Block x) k t u d a b =
-    swaps_cond (of_kind CloseBrace t) (of_kind CloseBrace u) Passed (take_by x (Block x ∷ k) t d) Passed
-    (take_by x (Block x ∷ k) u d) (same_test (OfKind CloseBrace) t u a (plain_literal u b)) refl
-    (take_swaps x (Block x ∷ k) t u d a b)
-take_swaps (Closed depth) k t u d a b = by_depth (depth == 0) _ _
+take_swaps (Block x) k t u a b =
+    swaps_cond (of_kind CloseBrace t) (of_kind CloseBrace u) Passed (take_by x (Block x ∷ k) t) Passed
+    (take_by x (Block x ∷ k) u) (same_test (OfKind CloseBrace) t u a (plain_literal u b)) refl
+    (take_swaps x (Block x ∷ k) t u a b)
+take_swaps (Closed depth) k t u a b = by_depth (depth == 0) _ _
   where
     by_depth : (c : Bool) (x y : List Step) → Swaps (cond c Passed (Took x)) (cond c Passed (Took y))
     by_depth true x y = refl
@@ -138,16 +130,16 @@ nothing_seen : (b : Bool) → (b && false) ≡ false
 nothing_seen true = refl
 nothing_seen false = refl
 
-pub feed_swaps : (statement : Step) (k : List Step) (seen : Bool) (t u : Lexeme) (d : Bool)
+pub feed_swaps : (statement : Step) (k : List Step) (seen : Bool) (t u : Lexeme)
     → of_kind StringLiteral t ≡ true → is_plain_literal u ≡ true
-    → FedSwaps (feed statement k seen t d) (feed statement k seen u d)
-feed_swaps statement [] seen t u d a b =
+    → FedSwaps (feed statement k seen t) (feed statement k seen u)
+feed_swaps statement [] seen t u a b =
     rw (no_package t a, no_package u (plain_literal u b), nothing_seen seen)
-    (begun_swaps statement (take_by statement [] t d) (take_by statement [] u d) (seen || false)
-    (take_swaps statement [] t u d a b))
-feed_swaps statement (s ∷ k) seen t u d a b =
-    fed_swaps statement (take_by s k t d) (take_by s k u d) seen (feed statement k seen t d) (feed statement k seen u d)
-    (take_swaps s k t u d a b) (feed_swaps statement k seen t u d a b)
+    (begun_swaps statement (take_by statement [] t) (take_by statement [] u) (seen || false)
+    (take_swaps statement [] t u a b))
+feed_swaps statement (s ∷ k) seen t u a b =
+    fed_swaps statement (take_by s k t) (take_by s k u) seen (feed statement k seen t) (feed statement k seen u)
+    (take_swaps s k t u a b) (feed_swaps statement k seen t u a b)
 
 -- ---- at which tokens nothing is taken
 
@@ -171,28 +163,23 @@ stops_next (Took k) p t a b = tt
 stops_next Passed p t a b = b
 stops_next (Stopped why) p t a b = a
 
-take_stops : (s : Step) (k : List Step) (t : Lexeme) (d : Bool) → StopsAtToken (take_by s k t d) t
-take_stops Done k t d = tt
-take_stops (Token test) k t d = stops_cond (passes test t) _ _ t (λ is. tt) (λ off. tt)
-take_stops Plain k t d =
+take_stops : (s : Step) (k : List Step) (t : Lexeme) → StopsAtToken (take_by s k t) t
+take_stops Done k t = tt
+take_stops (Token test) k t = stops_cond (passes test t) _ _ t (λ is. tt) (λ off. tt)
+take_stops Plain k t =
     stops_cond (is_plain_literal t) _ _ t (λ is. tt)
     (λ off. stops_cond (of_kind StringLiteral t) _ _ t (λ is. (is, off)) (λ other. tt))
-take_stops Plains k t d =
+take_stops Plains k t =
     stops_cond (is_plain_literal t) _ _ t (λ is. tt)
     (λ off. stops_cond (of_kind StringLiteral t) _ _ t (λ is. (is, off)) (λ other. tt))
-take_stops Never k t d = tt
-take_stops (Then a b) k t d =
-    stops_next (take_by a (b ∷ k) t d) (take_by b k t d) t (take_stops a (b ∷ k) t d) (take_stops b k t d)
-take_stops (If test a b) k t d = stops_cond (passes test t) _ _ t (λ is. tt) (λ off. take_stops b k t d)
-take_stops (Ban r b) k t d = stops_cond (passes (test_of r) t) _ _ t (λ is. is) (λ off. take_stops b k t d)
-take_stops (Lone r dotted b) k t d =
-    stops_cond (passes (test_of r) t) _ _ t (λ is. stops_cond d _ _ t (λ dot. tt) (λ none. is))
-    (λ off. take_stops b k t d)
-take_stops (Fork word a dotted b) k t d =
-    stops_cond (passes word t) _ _ t (λ is. stops_cond d _ _ t (λ dot. tt) (λ none. tt)) (λ off. take_stops b k t d)
-take_stops (Many test a) k t d = stops_cond (passes test t) _ _ t (λ is. tt) (λ off. tt)
-take_stops (Block a) k t d = stops_cond (of_kind CloseBrace t) _ _ t (λ is. tt) (λ off. take_stops a (Block a ∷ k) t d)
-take_stops (Closed depth) k t d = stops_cond (depth == 0) _ _ t (λ is. tt) (λ off. tt)
+take_stops Never k t = tt
+take_stops (Then a b) k t =
+    stops_next (take_by a (b ∷ k) t) (take_by b k t) t (take_stops a (b ∷ k) t) (take_stops b k t)
+take_stops (If test a b) k t = stops_cond (passes test t) _ _ t (λ is. tt) (λ off. take_stops b k t)
+take_stops (Ban r b) k t = stops_cond (passes (test_of r) t) _ _ t (λ is. is) (λ off. take_stops b k t)
+take_stops (Many test a) k t = stops_cond (passes test t) _ _ t (λ is. tt) (λ off. tt)
+take_stops (Block a) k t = stops_cond (of_kind CloseBrace t) _ _ t (λ is. tt) (λ off. take_stops a (Block a ∷ k) t)
+take_stops (Closed depth) k t = stops_cond (depth == 0) _ _ t (λ is. tt) (λ off. tt)
 
 abbrev FedStops : Fed → Lexeme → Type 0
 FedStops (Went k seen) t = Unit {0}
@@ -212,19 +199,19 @@ begun_stops statement false (Took k) seen t is a = tt
 begun_stops statement false Passed seen t is a = tt
 begun_stops statement false (Stopped why) seen t is a = a
 
-feed_stops : (statement : Step) (k : List Step) (seen : Bool) (t : Lexeme) (d : Bool)
-    → FedStops (feed statement k seen t d) t
-feed_stops statement [] seen t d =
-    begun_stops statement (seen && is_package t) (take_by statement [] t d) (seen || is_package t) t
-    (λ both. (and_parts seen (is_package t) both).1) (take_stops statement [] t d)
-feed_stops statement (s ∷ k) seen t d =
-    fed_stops statement (take_by s k t d) seen (feed statement k seen t d) t (take_stops s k t d)
-    (feed_stops statement k seen t d)
+feed_stops : (statement : Step) (k : List Step) (seen : Bool) (t : Lexeme)
+    → FedStops (feed statement k seen t) t
+feed_stops statement [] seen t =
+    begun_stops statement (seen && is_package t) (take_by statement [] t) (seen || is_package t) t
+    (λ both. (and_parts seen (is_package t) both).1) (take_stops statement [] t)
+feed_stops statement (s ∷ k) seen t =
+    fed_stops statement (take_by s k t) seen (feed statement k seen t) t (take_stops s k t)
+    (feed_stops statement k seen t)
 
-pub halts_at : (statement : Step) (k : List Step) (seen : Bool) (t : Lexeme) (d : Bool) (why : Why)
-    → feed statement k seen t d ≡ Halted why → AtToken why t
-halts_at statement k seen t d why e = subst (λ f. FedStops f t) e (feed_stops statement k seen t d)
+pub halts_at : (statement : Step) (k : List Step) (seen : Bool) (t : Lexeme) (why : Why)
+    → feed statement k seen t ≡ Halted why → AtToken why t
+halts_at statement k seen t why e = subst (λ f. FedStops f t) e (feed_stops statement k seen t)
 
-pub second_at : (statement : Step) (k : List Step) (seen : Bool) (t : Lexeme) (d : Bool)
-    → feed statement k seen t d ≡ SecondPackage → is_package t ≡ true
-second_at statement k seen t d e = subst (λ f. FedStops f t) e (feed_stops statement k seen t d)
+pub second_at : (statement : Step) (k : List Step) (seen : Bool) (t : Lexeme)
+    → feed statement k seen t ≡ SecondPackage → is_package t ≡ true
+second_at statement k seen t e = subst (λ f. FedStops f t) e (feed_stops statement k seen t)

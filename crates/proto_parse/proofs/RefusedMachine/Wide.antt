@@ -8,13 +8,13 @@ use Rattle.proto_parse.proofs.RefusedMachine.{Test, test_of, passes, Refusal, Wh
 use Rattle.proto_parse.proofs.RefusedMachine.{begun}
 use Rattle.proto_parse.proofs.RefusedMachine.{fed_by}
 use Rattle.proto_parse.proofs.RefusedMachine.{feed, is_package}
-use Rattle.proto_parse.proofs.RefusedMachine.Step.{Done, Token, Plain, Plains, Never, Then, If, Ban, Lone, Fork, Many}
+use Rattle.proto_parse.proofs.RefusedMachine.Step.{Done, Token, Plain, Plains, Never, Then, If, Ban, Many}
 use Rattle.proto_parse.proofs.RefusedMachine.Step.{Block}
 use Rattle.proto_parse.proofs.RefusedMachine.Step.{Closed}
 use Rattle.proto_parse.proofs.RefusedMachine.Why.{Misplaced, Escaped, Refused}
 use Rattle.proto_parse.proofs.RefusedMachine.Taken.{Took, Passed, Stopped}
 use Rattle.proto_parse.proofs.RefusedMachine.Fed.{Went, Halted, SecondPackage}
-use Rattle.proto_parse.proofs.RefusedMachine.Reads.{Reads, dots_behind}
+use Rattle.proto_parse.proofs.RefusedMachine.Reads.{Reads}
 use Rattle.proto_parse.proofs.RefusedMachine.Reads.Reads.{here, onward}
 
 -- what is opened
@@ -35,12 +35,6 @@ pub data Wide (opens : Refusal → Bool) : Step → Step → Type 0 where
   ban : {r : Refusal} {b d : Step} → opens r ≡ false → Wide opens b d → Wide opens (Ban r b) (Ban r d)
   opened : {r : Refusal} {b c d : Step} → opens r ≡ true → Wide opens b d
       → Wide opens (Ban r b) (If (test_of r) c d)
-  lone : {r : Refusal} {dotted b c d : Step} → opens r ≡ false → Wide opens dotted c → Wide opens b d
-      → Wide opens (Lone r dotted b) (Lone r c d)
-  alone : {r : Refusal} {dotted b a c d : Step} → opens r ≡ true → Wide opens dotted c → Wide opens b d
-      → Wide opens (Lone r dotted b) (Fork (test_of r) a c d)
-  fork : {word : Test} {a dotted b c x d : Step} → Wide opens a c → Wide opens dotted x → Wide opens b d
-      → Wide opens (Fork word a dotted b) (Fork word c x d)
   many : {test : Test} {a c : Step} → Wide opens a c → Wide opens (Many test a) (Many test c)
   block : {a c : Step} → Wide opens a c → Wide opens (Block a) (Block c)
   closed : {depth : ℕ} → Wide opens (Closed depth) (Closed depth)
@@ -54,9 +48,6 @@ wide_same opens shut Never = never
 wide_same opens shut (Then a b) = then (wide_same opens shut a) (wide_same opens shut b)
 wide_same opens shut (If test a b) = choice (wide_same opens shut a) (wide_same opens shut b)
 wide_same opens shut (Ban r b) = ban (shut r) (wide_same opens shut b)
-wide_same opens shut (Lone r dotted b) = lone (shut r) (wide_same opens shut dotted) (wide_same opens shut b)
-wide_same opens shut (Fork word a dotted b) =
-    fork (wide_same opens shut a) (wide_same opens shut dotted) (wide_same opens shut b)
 wide_same opens shut (Many test a) = many (wide_same opens shut a)
 wide_same opens shut (Block a) = block (wide_same opens shut a)
 wide_same opens shut (Closed depth) = closed
@@ -94,54 +85,36 @@ wide_next opens (Stopped why) (Took l) q r first second = first
 wide_next opens (Stopped why) Passed q r first second = absurd first
 wide_next opens (Stopped why) (Stopped other) q r first second = first
 
-pub take_wide : {opens : Refusal → Bool} {s x : Step} {k l : List Step} (t : Lexeme) (d : Bool) → Wide opens s x
-    → AllWide opens k l → WideTaken opens (take_by s k t d) (take_by x l t d)
-take_wide t d done w = tt
-take_wide {opens} t d (token {test = test}) w =
+pub take_wide : {opens : Refusal → Bool} {s x : Step} {k l : List Step} (t : Lexeme) → Wide opens s x
+    → AllWide opens k l → WideTaken opens (take_by s k t) (take_by x l t)
+take_wide t done w = tt
+take_wide {opens} t (token {test = test}) w =
     wide_cond opens (passes test t) _ _ _ _ w (refl, refl)
-take_wide {opens} t d plain w =
+take_wide {opens} t plain w =
     wide_cond opens (is_plain_literal t) _ _ _ _ w
     (wide_cond opens (of_kind StringLiteral t) _ _ _ _ (refl, refl) (refl, refl))
-take_wide {opens} t d plains w =
+take_wide {opens} t plains w =
     wide_cond opens (is_plain_literal t) _ _ _ _ (some plains w)
     (wide_cond opens (of_kind StringLiteral t) _ _ _ _ (refl, refl) tt)
-take_wide t d never w = (refl, refl)
-take_wide {opens} {k = k} {l = l} t d (then {a = a} {b = b} {c = c} {d = e} v u) w =
-    wide_next opens (take_by a (b ∷ k) t d) (take_by c (e ∷ l) t d) (take_by b k t d) (take_by e l t d)
-    (take_wide t d v (some u w)) (take_wide t d u w)
-take_wide {opens} {k = k} {l = l} t d (choice {test = test} {a = a} {b = b} {c = c} {d = e} v u) w =
-    wide_cond opens (passes test t) (Took (a ∷ k)) (take_by b k t d) (Took (c ∷ l)) (take_by e l t d) (some v w)
-    (take_wide t d u w)
-take_wide {opens} {k = k} {l = l} t d (ban {r = r} {b = b} {d = e} shut u) w =
-    wide_cond opens (passes (test_of r) t) (Stopped (Refused r)) (take_by b k t d) (Stopped (Refused r))
-    (take_by e l t d) (refl, shut) (take_wide t d u w)
-take_wide {opens} {k = k} {l = l} t d (opened {r = r} {b = b} {c = c} {d = e} open_ u) w =
-    wide_cond opens (passes (test_of r) t) (Stopped (Refused r)) (take_by b k t d) (Took (c ∷ l)) (take_by e l t d)
-    open_ (take_wide t d u w)
-take_wide {opens} {k = k} {l = l} t d (lone {r = r} {dotted = dotted} {b = b} {c = c} {d = e} shut v u) w =
-    wide_cond opens (passes (test_of r) t) (cond d (Took (dotted ∷ k)) (Stopped (Refused r))) (take_by b k t d)
-    (cond d (Took (c ∷ l)) (Stopped (Refused r))) (take_by e l t d)
-    (wide_cond opens d (Took (dotted ∷ k)) (Stopped (Refused r)) (Took (c ∷ l)) (Stopped (Refused r)) (some v w)
-    (refl, shut))
-    (take_wide t d u w)
-take_wide {opens} {k = k} {l = l} t d
-    (alone {r = r} {dotted = dotted} {b = b} {a = a} {c = c} {d = e} open_ v u) w =
-    wide_cond opens (passes (test_of r) t) (cond d (Took (dotted ∷ k)) (Stopped (Refused r))) (take_by b k t d)
-    (cond d (Took (c ∷ l)) (Took (a ∷ l))) (take_by e l t d)
-    (wide_cond opens d (Took (dotted ∷ k)) (Stopped (Refused r)) (Took (c ∷ l)) (Took (a ∷ l)) (some v w) open_)
-    (take_wide t d u w)
-take_wide {opens} {k = k} {l = l} t d
-    (fork {word = word} {a = a} {dotted = dotted} {b = b} {c = c} {x = x} {d = e} z v u) w =
-    wide_cond opens (passes word t) (cond d (Took (dotted ∷ k)) (Took (a ∷ k))) (take_by b k t d)
-    (cond d (Took (x ∷ l)) (Took (c ∷ l))) (take_by e l t d)
-    (wide_cond opens d (Took (dotted ∷ k)) (Took (a ∷ k)) (Took (x ∷ l)) (Took (c ∷ l)) (some v w) (some z w))
-    (take_wide t d u w)
-take_wide {opens} t d (many {test = test} v) w =
+take_wide t never w = (refl, refl)
+take_wide {opens} {k = k} {l = l} t (then {a = a} {b = b} {c = c} {d = e} v u) w =
+    wide_next opens (take_by a (b ∷ k) t) (take_by c (e ∷ l) t) (take_by b k t) (take_by e l t)
+    (take_wide t v (some u w)) (take_wide t u w)
+take_wide {opens} {k = k} {l = l} t (choice {test = test} {a = a} {b = b} {c = c} {d = e} v u) w =
+    wide_cond opens (passes test t) (Took (a ∷ k)) (take_by b k t) (Took (c ∷ l)) (take_by e l t) (some v w)
+    (take_wide t u w)
+take_wide {opens} {k = k} {l = l} t (ban {r = r} {b = b} {d = e} shut u) w =
+    wide_cond opens (passes (test_of r) t) (Stopped (Refused r)) (take_by b k t) (Stopped (Refused r))
+    (take_by e l t) (refl, shut) (take_wide t u w)
+take_wide {opens} {k = k} {l = l} t (opened {r = r} {b = b} {c = c} {d = e} open_ u) w =
+    wide_cond opens (passes (test_of r) t) (Stopped (Refused r)) (take_by b k t) (Took (c ∷ l)) (take_by e l t)
+    open_ (take_wide t u w)
+take_wide {opens} t (many {test = test} v) w =
     wide_cond opens (passes test t) _ _ _ _ (some v (some (many v) w)) tt
-take_wide {opens} {k = k} {l = l} t d (block {a = a} {c = c} v) w =
-    wide_cond opens (of_kind CloseBrace t) Passed (take_by a (Block a ∷ k) t d) Passed (take_by c (Block c ∷ l) t d) tt
-    (take_wide t d v (some (block v) w))
-take_wide {opens} t d (closed {depth = depth}) w =
+take_wide {opens} {k = k} {l = l} t (block {a = a} {c = c} v) w =
+    wide_cond opens (of_kind CloseBrace t) Passed (take_by a (Block a ∷ k) t) Passed (take_by c (Block c ∷ l) t) tt
+    (take_wide t v (some (block v) w))
+take_wide {opens} t (closed {depth = depth}) w =
     wide_cond opens (depth == 0) _ _ _ _ tt (some closed w)
 
 -- what all steps do
@@ -183,14 +156,14 @@ wide_begun opens statement other false (Stopped why) Passed seen first = absurd 
 wide_begun opens statement other false (Stopped why) (Stopped also) seen first = first
 
 pub feed_wide : {opens : Refusal → Bool} {statement other : Step} {k l : List Step} (seen : Bool) (t : Lexeme)
-    (d : Bool) → Wide opens statement other → AllWide opens k l
-    → WideFed opens (feed statement k seen t d) (feed other l seen t d)
-feed_wide {opens} {statement} {other} seen t d base none =
-    wide_begun opens statement other (seen && is_package t) (take_by statement [] t d) (take_by other [] t d)
-    (seen || is_package t) (take_wide t d base none)
-feed_wide {opens} {statement} {other} seen t d base (some {s = s} {t = x} {k = k} {l = l} v w) =
-    wide_fed opens statement other (take_by s k t d) (take_by x l t d) seen (feed statement k seen t d)
-    (feed other l seen t d) (take_wide t d v w) (feed_wide seen t d base w)
+    → Wide opens statement other → AllWide opens k l
+    → WideFed opens (feed statement k seen t) (feed other l seen t)
+feed_wide {opens} {statement} {other} seen t base none =
+    wide_begun opens statement other (seen && is_package t) (take_by statement [] t) (take_by other [] t)
+    (seen || is_package t) (take_wide t base none)
+feed_wide {opens} {statement} {other} seen t base (some {s = s} {t = x} {k = k} {l = l} v w) =
+    wide_fed opens statement other (take_by s k t) (take_by x l t) seen (feed statement k seen t)
+    (feed other l seen t) (take_wide t v w) (feed_wide seen t base w)
 
 -- what one reads, the other does
 wide_went : (opens : Refusal → Bool) (f g : Fed) (next : List Step) (now : Bool) → f ≡ Went next now
@@ -201,24 +174,24 @@ wide_went opens f (Went l later) next now e w =
 wide_went opens f (Halted why) next now e w = absurd (subst (λ x. WideFed opens x (Halted why)) e w)
 wide_went opens f SecondPackage next now e w = absurd (subst (λ x. WideFed opens x SecondPackage) e w)
 
-pub reads_wide : {opens : Refusal → Bool} {statement other : Step} {k last l : List Step} {seen later d : Bool}
-    {front : List Lexeme} → Wide opens statement other → AllWide opens k l → Reads statement k seen front d last later
-    → (end : List Step) × Reads other l seen front d end later × AllWide opens last end
+pub reads_wide : {opens : Refusal → Bool} {statement other : Step} {k last l : List Step} {seen later : Bool}
+    {front : List Lexeme} → Wide opens statement other → AllWide opens k l → Reads statement k seen front last later
+    → (end : List Step) × Reads other l seen front end later × AllWide opens last end
 reads_wide {l = l} base w here = (l, here, w)
-reads_wide {opens} {statement} {other} {k} {l = l} {seen = seen} {d = d} base w
+reads_wide {opens} {statement} {other} {k} {l = l} {seen = seen} base w
     (onward {next = next} {now = now} {t = t} {front = front} f r) =
-    let v = wide_went opens (feed statement k seen t (dots_behind front d)) (feed other l seen t (dots_behind front d))
-    next now f (feed_wide seen t (dots_behind front d) base w) in
+    let v = wide_went opens (feed statement k seen t) (feed other l seen t)
+    next now f (feed_wide seen t base w) in
     let u = reads_wide base v.2 r in
     (u.0, onward v.1 u.1, u.2)
 
 -- a fault that isn't opened is one of both
 pub halts_wide : {opens : Refusal → Bool} {statement other : Step} {k l : List Step} (seen : Bool) (t : Lexeme)
-    (d : Bool) (why : Why) → Wide opens statement other → AllWide opens k l → opens_why opens why ≡ false
-    → feed statement k seen t d ≡ Halted why → feed other l seen t d ≡ Halted why
-halts_wide {opens} {statement} {other} {k} {l} seen t d why base w shut e =
-    by_other (feed other l seen t d) (subst (λ f. WideFed opens f (feed other l seen t d)) e
-    (feed_wide seen t d base w))
+    (why : Why) → Wide opens statement other → AllWide opens k l → opens_why opens why ≡ false
+    → feed statement k seen t ≡ Halted why → feed other l seen t ≡ Halted why
+halts_wide {opens} {statement} {other} {k} {l} seen t why base w shut e =
+    by_other (feed other l seen t) (subst (λ f. WideFed opens f (feed other l seen t)) e
+    (feed_wide seen t base w))
   where
     by_other : (g : Fed) → WideFed opens (Halted why) g → g ≡ Halted why
     by_other (Went k now) v = absurd (let off : true ≡ false = sym v ∙ shut in cc)
@@ -227,26 +200,26 @@ halts_wide {opens} {statement} {other} {k} {l} seen t d why base w shut e =
 
 -- one that is opened is none of the other
 pub opens_wide : {opens : Refusal → Bool} {statement other : Step} {k l : List Step} (seen : Bool) (t : Lexeme)
-    (d : Bool) (why : Why) → Wide opens statement other → AllWide opens k l → opens_why opens why ≡ true
-    → feed statement k seen t d ≡ Halted why
-    → (next : List Step) × (now : Bool) × (feed other l seen t d ≡ Went next now)
-opens_wide {opens} {statement} {other} {k} {l} seen t d why base w open_ e =
-    by_other (feed other l seen t d) refl (subst (λ f. WideFed opens f (feed other l seen t d)) e
-    (feed_wide seen t d base w))
+    (why : Why) → Wide opens statement other → AllWide opens k l → opens_why opens why ≡ true
+    → feed statement k seen t ≡ Halted why
+    → (next : List Step) × (now : Bool) × (feed other l seen t ≡ Went next now)
+opens_wide {opens} {statement} {other} {k} {l} seen t why base w open_ e =
+    by_other (feed other l seen t) refl (subst (λ f. WideFed opens f (feed other l seen t)) e
+    (feed_wide seen t base w))
   where
-    by_other : (g : Fed) → feed other l seen t d ≡ g → WideFed opens (Halted why) g
-        → (next : List Step) × (now : Bool) × (feed other l seen t d ≡ Went next now)
+    by_other : (g : Fed) → feed other l seen t ≡ g → WideFed opens (Halted why) g
+        → (next : List Step) × (now : Bool) × (feed other l seen t ≡ Went next now)
     by_other (Went next now) is v = (next, now, is)
     by_other (Halted also) is v = absurd (let off : true ≡ false = sym open_ ∙ v.1 in cc)
     by_other SecondPackage is v = absurd v
 
 -- a second package is one of both
 pub second_wide : {opens : Refusal → Bool} {statement other : Step} {k l : List Step} (seen : Bool) (t : Lexeme)
-    (d : Bool) → Wide opens statement other → AllWide opens k l
-    → feed statement k seen t d ≡ SecondPackage → feed other l seen t d ≡ SecondPackage
-second_wide {opens} {statement} {other} {k} {l} seen t d base w e =
-    by_other (feed other l seen t d) (subst (λ f. WideFed opens f (feed other l seen t d)) e
-    (feed_wide seen t d base w))
+    → Wide opens statement other → AllWide opens k l
+    → feed statement k seen t ≡ SecondPackage → feed other l seen t ≡ SecondPackage
+second_wide {opens} {statement} {other} {k} {l} seen t base w e =
+    by_other (feed other l seen t) (subst (λ f. WideFed opens f (feed other l seen t)) e
+    (feed_wide seen t base w))
   where
     by_other : (g : Fed) → WideFed opens SecondPackage g → g ≡ SecondPackage
     by_other (Went k now) v = absurd v

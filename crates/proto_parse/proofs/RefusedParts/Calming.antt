@@ -5,11 +5,11 @@ use Rattle.proto_grammar.specs.declared.dialect.CustomOptions.TheVariants.{Refus
 use Rattle.proto_grammar.specs.declared.dialect.Syntax.{Syntax}
 use Rattle.proto_grammar.specs.declared.dialect.Syntax.TheVariants.{Proto3, Extended, Proto2}
 use Rattle.proto_grammar.specs.Syntax.{custom_of}
-use Rattle.proto_parse.proofs.RefusedMachine.{Step, Refusal, test_of}
+use Rattle.proto_parse.proofs.RefusedMachine.{Step, Refusal}
 use Rattle.proto_parse.proofs.RefusedMachine.Refusal.{GroupNext, LabelledGroupNext}
 use Rattle.proto_parse.proofs.RefusedMachine.Step.{Never, Then}
-use Rattle.proto_parse.proofs.RefusedMachine.Quiet.{Calm, noisy, passable, takes_label}
-use Rattle.proto_parse.proofs.RefusedParts.{dot_names, name_step, type_name_step, named_type_step, part_step}
+use Rattle.proto_parse.proofs.RefusedMachine.Quiet.{Calm, noisy, passable}
+use Rattle.proto_parse.proofs.RefusedParts.{dot_names, name_step, type_name_step, named_type_step, type_step, part_step}
 use Rattle.proto_parse.proofs.RefusedParts.{option_name_step}
 use Rattle.proto_parse.proofs.RefusedParts.{aggregate_step, constant_step, setting_step, option_rest, bracketed_rest}
 use Rattle.proto_parse.proofs.RefusedParts.{options_step, numbered_step, typed_step, typed_rest, label_step}
@@ -40,7 +40,10 @@ calm_type_name : (n : Bool) → n ≡ false → Calm type_name_step n
 calm_type_name n h = ((refl, tt, tt), calm_name n h)
 
 calm_named_type : (n : Bool) → n ≡ false → Calm named_type_step n
-calm_named_type n h = (refl, calm_dot_names n h, calm_type_name n h)
+calm_named_type n h = calm_type_name n h
+
+calm_type : (n : Bool) → n ≡ false → Calm type_step n
+calm_type n h = (refl, tt, calm_type_name n h)
 
 calm_part : (custom : CustomOptions) (n : Bool) → n ≡ false → Calm (part_step custom) n
 calm_part Refuse n h = h
@@ -73,7 +76,7 @@ calm_numbered : (custom : CustomOptions) → Calms (numbered_step custom)
 calm_numbered custom n = (refl, (refl, (refl, (calm_options custom false, refl))))
 
 calm_typed : (custom : CustomOptions) → Calms (typed_step custom)
-calm_typed custom n = (calm_type_name false refl, calm_numbered custom n)
+calm_typed custom n = (calm_type false refl, calm_numbered custom n)
 
 calm_typed_rest : (custom : CustomOptions) → Calms (typed_rest custom)
 calm_typed_rest custom n = (calm_dot_names false refl, calm_numbered custom n)
@@ -88,7 +91,7 @@ calm_group : Calms group_rest
 calm_group n = (refl, (refl, (refl, (calm_options Skip false, refl))))
 
 calm_map : (custom : CustomOptions) → Calms (map_rest custom)
-calm_map custom n = (refl, (refl, (calm_type_name false refl, (refl, calm_numbered custom n))))
+calm_map custom n = (refl, (refl, (calm_type false refl, (refl, calm_numbered custom n))))
 
 calm_integer : (negative : Bool) → Calms (integer_step negative)
 calm_integer true n = (refl, refl, refl)
@@ -138,25 +141,24 @@ abbrev InnerCalms : Option Step → Type 0
 InnerCalms None = Unit {0}
 InnerCalms (Some inner) = Calms inner
 
-calm_group_or : (r : Refusal) → (takes_label (test_of r) && false) ≡ false → (inner : Option Step) → InnerCalms inner
-    → Calms (group_or r inner)
-calm_group_or r quiet None calm n = (quiet, calm_typed_rest Skip n, calm_typed Skip n)
-calm_group_or r quiet (Some inner) calm n =
-    (refl, refl, (calm_group (noisy inner || (passable inner && n)), calm n), calm_typed_rest Skip n, calm_typed Skip n)
+calm_group_or : (r : Refusal) (inner : Option Step) → InnerCalms inner → Calms (group_or r inner)
+calm_group_or r None calm n = calm_typed Skip n
+calm_group_or r (Some inner) calm n =
+    (refl, (calm_group (noisy inner || (passable inner && n)), calm n), calm_typed Skip n)
 
 calm_labelled : (syntax : Syntax) (inner : Option Step) → InnerCalms inner
     → Calms (labelled_step GroupNext syntax inner)
 calm_labelled (Proto3 custom) inner calm n = calm_typed custom n
 calm_labelled Extended inner calm n = calm_typed Skip n
-calm_labelled Proto2 inner calm n = calm_group_or GroupNext refl inner calm n
+calm_labelled Proto2 inner calm n = calm_group_or GroupNext inner calm n
 
 calm_member : (syntax : Syntax) (inner : Option Step) → InnerCalms inner → Calms (member_step syntax inner)
 calm_member (Proto3 custom) inner calm n = (calm_label false refl, calm_typed custom n)
 calm_member Extended inner calm n = (calm_label false refl, calm_typed Skip n)
 calm_member Proto2 None calm n =
-    (calm_needed_label false refl, calm_group_or LabelledGroupNext refl None calm n)
+    (calm_needed_label false refl, calm_group_or LabelledGroupNext None calm n)
 calm_member Proto2 (Some inner) calm n =
-    (calm_needed_label false refl, calm_group_or LabelledGroupNext refl (Some inner) calm n)
+    (calm_needed_label false refl, calm_group_or LabelledGroupNext (Some inner) calm n)
 
 calm_oneof_item : (syntax : Syntax) (inner : Option Step) → InnerCalms inner → Calms (oneof_item_step syntax inner)
 calm_oneof_item syntax inner calm n =

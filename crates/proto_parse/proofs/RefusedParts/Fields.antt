@@ -15,7 +15,7 @@ use Rattle.proto_grammar.specs.Reading.Repetition.{◌>>=◌, token_that, passin
 use Rattle.proto_grammar.specs.Reading.Options.{literal_at, literals_at, strings_at}
 use Rattle.proto_grammar.specs.Reading.Fields.{numbered_at, typed_at, label_at, pass_field_at}
 use Rattle.proto_grammar.specs.Reading.Fields.{map_field_at}
-use Rattle.proto_grammar.specs.Reading.Names.{pass_type_name_at}
+use Rattle.proto_grammar.specs.Reading.Names.{pass_type_at}
 use Rattle.proto_grammar.specs.Reading.Reserved.{plain_integer_at, integer_at, range_end_at, range_at, reserved_item_at}
 use Rattle.proto_grammar.specs.Reading.Reserved.{comma_item_at, comma_items_at, reserved_at, extensions_at}
 use Rattle.proto_grammar.proofs.RepetitionFallLemmas.{comma_items_fall}
@@ -25,15 +25,11 @@ use Rattle.proto_parse.proofs.RefusedMachine.Step.{Done, Token, Then, If, Many}
 use Rattle.proto_parse.proofs.RefusedMachine.Follows.{Fol, fol_then, fol_value, fol_done, fol_token, fol_if, fol_many}
 use Rattle.proto_parse.proofs.RefusedMachine.Follows.{fol_taken, fol_further, fol_if_true, fol_if_false, fol_rebind}
 use Rattle.proto_parse.proofs.RefusedMachine.Follows.{fol_cond}
-use Rattle.proto_parse.proofs.RefusedParts.{type_name_step, strings_step, numbered_step, typed_step}
+use Rattle.proto_parse.proofs.RefusedParts.{type_step, strings_step, numbered_step, typed_step}
 use Rattle.proto_parse.proofs.RefusedParts.{label_step, pass_field_step, map_rest, integer_step}
 use Rattle.proto_parse.proofs.RefusedParts.{range_step, ranges_rest, reserved_rest, extensions_rest}
-use Rattle.proto_parse.proofs.RefusedParts.Names.{type_follows, pass_type_name_follows}
+use Rattle.proto_parse.proofs.RefusedParts.Names.{nothing, type_follows, pass_type_follows}
 use Rattle.proto_parse.proofs.RefusedParts.Options.{options_follow, strings_follow, literal_follows, literals_follow}
-
--- what isn't kept
-abbrev nothing : Unit {0}
-nothing = tt
 
 module _ (st : Step) where
   pub numbered_follows : (custom : CustomOptions) (first : Span) (p : Place)
@@ -70,12 +66,12 @@ module _ (st : Step) where
   pass_field_follows (t ∷ left) end k seen =
       fol_then st label_step (typed_step Skip) (place_of end (t ∷ left))
       (label_at (Proto3 Skip) (place_of end (t ∷ left)))
-      (λ label. pass_type_name_at label.1 >>= λ type. numbered_at Skip t.span type.1 >>= λ heading.
+      (λ label. pass_type_at label.1 >>= λ type. numbered_at Skip t.span type.1 >>= λ heading.
       Ok (nothing, heading.1))
       (free_label_follows (Proto3 Skip) (place_of end (t ∷ left)) refl)
-      (λ label. fol_then st type_name_step (numbered_step Skip) label.1 (pass_type_name_at label.1)
+      (λ label. fol_then st type_step (numbered_step Skip) label.1 (pass_type_at label.1)
       (λ type. numbered_at Skip t.span type.1 >>= λ heading. Ok (nothing, heading.1))
-      (pass_type_name_follows st label.1)
+      (pass_type_follows st label.1)
       (λ type. fol_value st (numbered_step Skip) type.1 (numbered_at Skip t.span type.1) (λ heading. nothing)
       (numbered_follows Skip t.span type.1))) k seen
 

@@ -30,7 +30,7 @@ use Rattle.proto_grammar.proofs.TerminalTokenLemmas.{other_word, word_kind, othe
 use Rattle.proto_parse.proofs.ReadingFallLemmas.{path_literals_fall, items_fall, statements_fall}
 use Rattle.proto_parse.proofs.RefusedMachine.{Test, Refusal, test_of, passes, Why, Step, Taken, Fed, take_by, begun}
 use Rattle.proto_parse.proofs.RefusedMachine.{fed_by}
-use Rattle.proto_parse.proofs.RefusedMachine.{feed, going, is_package, dots, Outcome, machine}
+use Rattle.proto_parse.proofs.RefusedMachine.{feed, going, is_package, Outcome, machine}
 use Rattle.proto_parse.proofs.RefusedMachine.Test.{OfKind, Word}
 use Rattle.proto_parse.proofs.RefusedMachine.Step.{Done, Never, Token, Then, If, Ban, Plain}
 use Rattle.proto_parse.proofs.RefusedMachine.Why.{Misplaced, Refused}
@@ -229,17 +229,17 @@ took_no_pass k e = cc
 stop_no_pass : (why : Why) → Stopped why ≡ Passed → ⊥
 stop_no_pass why e = cc
 
-module _ (k : List Step) (t : Lexeme) (d : Bool) where
+module _ (k : List Step) (t : Lexeme) where
   abbrev NoPass : Step → Type 0
-  NoPass s = take_by s k t d ≡ Passed → ⊥
+  NoPass s = take_by s k t ≡ Passed → ⊥
 
   if_no_pass : (test : Test) (a b : Step) → NoPass b → NoPass (If test a b)
   if_no_pass test a b rest e =
-      no_pass_cond (passes test t) (Took (a ∷ k)) (take_by b k t d) (took_no_pass (a ∷ k)) rest e
+      no_pass_cond (passes test t) (Took (a ∷ k)) (take_by b k t) (took_no_pass (a ∷ k)) rest e
 
   ban_no_pass : (r : Refusal) (b : Step) → NoPass b → NoPass (Ban r b)
   ban_no_pass r b rest e =
-      no_pass_cond (passes (test_of r) t) (Stopped (Refused r)) (take_by b k t d) (stop_no_pass (Refused r)) rest e
+      no_pass_cond (passes (test_of r) t) (Stopped (Refused r)) (take_by b k t) (stop_no_pass (Refused r)) rest e
 
   message_no_pass : (inner : Option Step) (other : Step) → NoPass other → NoPass (message_or inner other)
   message_no_pass None other rest = ban_no_pass MessageNext other rest
@@ -290,8 +290,8 @@ module _ (levels : ℕ) (syntax : Syntax) where
       → machine st (t ∷ rest) [] seen ≡ machine st (t ∷ rest) (st ∷ []) (seen || is_package t)
   one_statement t rest seen none =
       rw none (ap (λ f. going st f (λ next now. machine st rest next now) (t ∷ rest))
-      (begun_fed (take_by st [] t (dots rest)) (seen || is_package t)
-      (feed st [] (seen || is_package t) t (dots rest)) (statement_takes [] t (dots rest) levels syntax)))
+      (begun_fed (take_by st [] t) (seen || is_package t)
+      (feed st [] (seen || is_package t) t) (statement_takes [] t levels syntax)))
 
   abbrev pub FileAgrees : Place → Outcome → Result (File × Place) SyntaxFault → Type 0
   FileAgrees p o (Ok x) = o ≡ Whole (is_some x.0.package_name)

@@ -11,12 +11,10 @@ use Rattle.proto_lex.specs.declared.token.TokenKind.TheVariants.{Comma, Dot}
 use Rattle.proto_grammar.specs.declared.dialect.CustomOptions.{CustomOptions}
 use Rattle.proto_grammar.specs.declared.dialect.CustomOptions.TheVariants.{Refuse, Skip}
 use Rattle.proto_grammar.specs.Lexeme.{Lexeme}
-use Rattle.proto_parse.proofs.RefusedMachine.{sees, take_by}
+use Rattle.proto_parse.proofs.RefusedMachine.{sees}
 use Rattle.proto_parse.proofs.RefusedMachine.Test.{OfKind, Word}
-use Rattle.proto_parse.proofs.RefusedMachine.Step.{Token}
-use Rattle.proto_parse.proofs.RefusedMachine.Taken.{Took}
-use Rattle.proto_parse.proofs.RefusedMachine.Finishing.{Has, Fit, Undotted, TakesDot, sign_of}
-use Rattle.proto_parse.proofs.RefusedParts.{dot_names, name_step, type_name_step, named_type_step, part_step}
+use Rattle.proto_parse.proofs.RefusedMachine.Finishing.{Has, Fit, sign_of}
+use Rattle.proto_parse.proofs.RefusedParts.{dot_names, name_step, type_name_step, named_type_step, type_step, part_step}
 use Rattle.proto_parse.proofs.RefusedParts.{option_name_step}
 use Rattle.proto_parse.proofs.RefusedParts.{strings_rest, aggregate_step, constant_step, setting_step, option_rest}
 use Rattle.proto_parse.proofs.RefusedParts.{bracketed_rest, options_step, numbered_step, typed_step, typed_rest}
@@ -35,42 +33,38 @@ NoDot n = sees (OfKind Dot) n ≡ false
 -- ---- names and types
 
 pub fit_dot_names : (n : Option Lexeme) → NoDot n → Fit dot_names n
-fit_dot_names n off = (off, refl, tt, tt)
+fit_dot_names n off = (off, tt, tt)
 
 pub fit_name : (n : Option Lexeme) → NoDot n → Fit name_step n
-fit_name n off = (tt, refl, off, fit_dot_names n off)
+fit_name n off = (tt, off, fit_dot_names n off)
 
 pub has_name : (n : Option Lexeme) → NoDot n → Has name_step n
 has_name n off = (tt, off)
 
 pub fit_type_name : (n : Option Lexeme) → NoDot n → Fit type_name_step n
-fit_type_name n off = (((refl, tt, tt), tt), refl, has_name n off, fit_name n off)
+fit_type_name n off = (((tt, tt), tt), has_name n off, fit_name n off)
 
 pub has_type_name : (n : Option Lexeme) → NoDot n → Has type_name_step n
 has_type_name n off = ((refl, tt), has_name n off)
 
-pub dot_names_take : TakesDot dot_names
-dot_names_take k t d is =
-    let took : take_by dot_names k t d ≡ Took (Token (OfKind Identifier) ∷ (dot_names ∷ k)) = rw is refl in
-    (Token (OfKind Identifier) ∷ (dot_names ∷ k), took)
-
 pub fit_named_type : (n : Option Lexeme) → NoDot n → Fit named_type_step n
-fit_named_type n off =
-    (refl, dot_names_take, (refl, off, fit_dot_names n off), fit_type_name n off)
+fit_named_type n off = (refl, fit_type_name n off)
 
 pub has_named_type : (n : Option Lexeme) → NoDot n → Has named_type_step n
 has_named_type n off = (refl, has_type_name n off)
+
+pub fit_type : (n : Option Lexeme) → NoDot n → Fit type_step n
+fit_type n off = ((tt, tt), fit_type_name n off)
+
+pub has_type : (n : Option Lexeme) → NoDot n → Has type_step n
+has_type n off = (refl, has_type_name n off)
 
 -- ---- options
 
 pub fit_part : (custom : CustomOptions) (n : Option Lexeme) → Fit (part_step custom) n
 fit_part Refuse n = (refl, tt)
 fit_part Skip n = (
-  (
-    refl,
-    (has_type_name (at CloseParenthesis) refl, tt),
-    (fit_type_name (at CloseParenthesis) refl, refl, tt, tt),
-  ),
+  ((has_type_name (at CloseParenthesis) refl, tt), (fit_type_name (at CloseParenthesis) refl, tt, tt)),
   tt,
 )
 
@@ -78,17 +72,8 @@ pub has_part : (custom : CustomOptions) (n : Option Lexeme) → Has (part_step c
 has_part Refuse n = (refl, tt)
 has_part Skip n = (refl, tt)
 
-pub undotted_part : (custom : CustomOptions) → Undotted (part_step custom)
-undotted_part Refuse = refl
-undotted_part Skip = refl
-
 pub fit_option_name : (custom : CustomOptions) (n : Option Lexeme) → NoDot n → Fit (option_name_step custom) n
-fit_option_name custom n off = (
-  fit_part custom n,
-  refl,
-  off,
-  (off, undotted_part custom, has_part custom n, fit_part custom n),
-)
+fit_option_name custom n off = (fit_part custom n, off, (off, has_part custom n, fit_part custom n))
 
 pub has_option_name : (custom : CustomOptions) (n : Option Lexeme) → NoDot n → Has (option_name_step custom) n
 has_option_name custom n off = (has_part custom n, off)
@@ -98,11 +83,11 @@ abbrev pub NoLiteral : Option Lexeme → Type 0
 NoLiteral n = sees (OfKind StringLiteral) n ≡ false
 
 pub fit_strings : (n : Option Lexeme) → NoLiteral n → Fit strings_rest n
-fit_strings n off = (off, refl, tt, tt)
+fit_strings n off = (off, tt, tt)
 
 pub fit_aggregate : (custom : CustomOptions) (n : Option Lexeme) → Fit (aggregate_step custom) n
 fit_aggregate Refuse n = (refl, tt)
-fit_aggregate Skip n = ((refl, tt, tt), tt)
+fit_aggregate Skip n = ((tt, tt), tt)
 
 pub has_aggregate : (custom : CustomOptions) (n : Option Lexeme) → Has (aggregate_step custom) n
 has_aggregate Refuse n = (refl, tt)
@@ -110,74 +95,46 @@ has_aggregate Skip n = (refl, tt)
 
 pub fit_constant : (custom : CustomOptions) (n : Option Lexeme) → NoDot n → NoLiteral n → Fit (constant_step custom) n
 fit_constant custom n off none = (
-  (refl, off, fit_dot_names n off),
-  ((refl, tt, tt), ((refl, none, fit_strings n none), fit_aggregate custom n)),
+  (off, fit_dot_names n off),
+  ((tt, tt), ((none, fit_strings n none), fit_aggregate custom n)),
 )
 
 pub has_constant : (custom : CustomOptions) (n : Option Lexeme) → Has (constant_step custom) n
 has_constant Refuse n = (refl, (refl, (refl, has_aggregate Refuse n)))
 has_constant Skip n = (refl, (refl, (refl, has_aggregate Skip n)))
 
-pub undotted_constant : (custom : CustomOptions) → Undotted (constant_step custom)
-undotted_constant Refuse = refl
-undotted_constant Skip = refl
-
 pub fit_setting : (custom : CustomOptions) (n : Option Lexeme) → NoDot n → NoLiteral n → Fit (setting_step custom) n
 fit_setting custom n off none = (
   fit_option_name custom (at Equals) refl,
-  refl,
   (tt, has_constant custom n),
-  (tt, undotted_constant custom, has_constant custom n, fit_constant custom n off none),
+  (tt, has_constant custom n, fit_constant custom n off none),
 )
 
 pub has_setting : (custom : CustomOptions) (n : Option Lexeme) → Has (setting_step custom) n
 has_setting custom n = (has_option_name custom (at Equals) refl, (tt, has_constant custom n))
 
-pub undotted_setting : (custom : CustomOptions) → Undotted (setting_step custom)
-undotted_setting Refuse = refl
-undotted_setting Skip = refl
-
 pub fit_option : (custom : CustomOptions) (n : Option Lexeme) → Fit (option_rest custom) n
-fit_option custom n = (fit_setting custom (at Semicolon) refl refl, refl, tt, tt)
+fit_option custom n = (fit_setting custom (at Semicolon) refl refl, tt, tt)
 
 pub has_option : (custom : CustomOptions) (n : Option Lexeme) → Has (option_rest custom) n
 has_option custom n = (has_setting custom (at Semicolon), tt)
 
-pub undotted_option : (custom : CustomOptions) → Undotted (option_rest custom)
-undotted_option Refuse = refl
-undotted_option Skip = refl
-
 pub fit_bracketed : (custom : CustomOptions) (n : Option Lexeme) → Fit (bracketed_rest custom) n
 fit_bracketed custom n = (
   fit_setting custom (at CloseBracket) refl refl,
-  refl,
   (refl, tt),
-  (
-    (
-      refl,
-      undotted_setting custom,
-      has_setting custom (at CloseBracket),
-      fit_setting custom (at CloseBracket) refl refl,
-    ),
-    refl,
-    tt,
-    tt,
-  ),
+  ((refl, has_setting custom (at CloseBracket), fit_setting custom (at CloseBracket) refl refl), tt, tt),
 )
 
 pub has_bracketed : (custom : CustomOptions) (n : Option Lexeme) → Has (bracketed_rest custom) n
 has_bracketed custom n = (has_setting custom (at CloseBracket), (refl, tt))
-
-pub undotted_bracketed : (custom : CustomOptions) → Undotted (bracketed_rest custom)
-undotted_bracketed Refuse = refl
-undotted_bracketed Skip = refl
 
 -- no `[` is next
 abbrev pub NoBracket : Option Lexeme → Type 0
 NoBracket n = sees (OfKind OpenBracket) n ≡ false
 
 pub fit_options : (custom : CustomOptions) (n : Option Lexeme) → Fit (options_step custom) n
-fit_options custom n = ((undotted_bracketed custom, has_bracketed custom n, fit_bracketed custom n), tt)
+fit_options custom n = ((has_bracketed custom n, fit_bracketed custom n), tt)
 
 pub has_options : (custom : CustomOptions) (n : Option Lexeme) → NoBracket n → Has (options_step custom) n
 has_options custom n off = (off, tt)
@@ -187,40 +144,33 @@ has_options custom n off = (off, tt)
 pub fit_numbered : (custom : CustomOptions) (n : Option Lexeme) → Fit (numbered_step custom) n
 fit_numbered custom n = (
   tt,
-  refl,
   (tt, (tt, ((refl, tt), tt))),
-  (tt, refl, (tt, ((refl, tt), tt)), (tt, refl, ((refl, tt), tt), (fit_options custom (at Semicolon), refl, tt, tt))),
+  (tt, (tt, ((refl, tt), tt)), (tt, ((refl, tt), tt), (fit_options custom (at Semicolon), tt, tt))),
 )
 
 pub has_numbered : (custom : CustomOptions) (n : Option Lexeme) → Has (numbered_step custom) n
 has_numbered custom n = (tt, (tt, (tt, ((refl, tt), tt))))
 
 pub fit_typed : (custom : CustomOptions) (n : Option Lexeme) → Fit (typed_step custom) n
-fit_typed custom n = (fit_type_name (at Identifier) refl, refl, has_numbered custom n, fit_numbered custom n)
+fit_typed custom n = (fit_type (at Identifier) refl, has_numbered custom n, fit_numbered custom n)
 
 pub has_typed : (custom : CustomOptions) (n : Option Lexeme) → Has (typed_step custom) n
-has_typed custom n = (has_type_name (at Identifier) refl, has_numbered custom n)
+has_typed custom n = (has_type (at Identifier) refl, has_numbered custom n)
 
 pub fit_typed_rest : (custom : CustomOptions) (n : Option Lexeme) → Fit (typed_rest custom) n
-fit_typed_rest custom n = (fit_dot_names (at Identifier) refl, refl, has_numbered custom n, fit_numbered custom n)
+fit_typed_rest custom n = (fit_dot_names (at Identifier) refl, has_numbered custom n, fit_numbered custom n)
 
 pub has_typed_rest : (custom : CustomOptions) (n : Option Lexeme) → Has (typed_rest custom) n
 has_typed_rest custom n = (refl, has_numbered custom n)
 
-pub typed_rest_takes : TakesDot (typed_rest Skip)
-typed_rest_takes k t d is =
-    let took : take_by (typed_rest Skip) k t d
-    ≡ Took (Token (OfKind Identifier) ∷ (dot_names ∷ (numbered_step Skip ∷ k))) = rw is refl in
-    (Token (OfKind Identifier) ∷ (dot_names ∷ (numbered_step Skip ∷ k)), took)
-
 pub fit_label : (n : Option Lexeme) → Fit label_step n
-fit_label n = ((refl, tt, tt), ((refl, tt, tt), tt))
+fit_label n = ((tt, tt), ((tt, tt), tt))
 
 pub fit_needed_label : (n : Option Lexeme) → Fit needed_label_step n
-fit_needed_label n = ((refl, tt, tt), ((refl, tt, tt), tt))
+fit_needed_label n = ((tt, tt), ((tt, tt), tt))
 
 pub fit_pass_field : (custom : CustomOptions) (n : Option Lexeme) → Fit (pass_field_step custom) n
-fit_pass_field custom n = (fit_label n, refl, has_typed custom n, fit_typed custom n)
+fit_pass_field custom n = (fit_label n, has_typed custom n, fit_typed custom n)
 
 pub has_pass_field : (custom : CustomOptions) (n : Option Lexeme) → Has (pass_field_step custom) n
 has_pass_field custom n = ((refl, (refl, tt)), has_typed custom n)
@@ -228,9 +178,8 @@ has_pass_field custom n = ((refl, (refl, tt)), has_typed custom n)
 pub fit_group : (n : Option Lexeme) → Fit group_rest n
 fit_group n = (
   tt,
-  refl,
   (tt, (tt, ((refl, tt), tt))),
-  (tt, refl, (tt, ((refl, tt), tt)), (tt, refl, ((refl, tt), tt), (fit_options Skip (at OpenBrace), refl, tt, tt))),
+  (tt, (tt, ((refl, tt), tt)), (tt, ((refl, tt), tt), (fit_options Skip (at OpenBrace), tt, tt))),
 )
 
 pub has_group : (n : Option Lexeme) → Has group_rest n
@@ -239,28 +188,25 @@ has_group n = (tt, (tt, (tt, ((refl, tt), tt))))
 pub fit_map : (custom : CustomOptions) (n : Option Lexeme) → Fit (map_rest custom) n
 fit_map custom n = (
   tt,
-  refl,
-  (tt, (has_type_name (at Greater) refl, (tt, has_numbered custom n))),
+  (tt, (has_type (at Greater) refl, (tt, has_numbered custom n))),
   (
     tt,
-    refl,
-    (has_type_name (at Greater) refl, (tt, has_numbered custom n)),
+    (has_type (at Greater) refl, (tt, has_numbered custom n)),
     (
-      fit_type_name (at Greater) refl,
-      refl,
+      fit_type (at Greater) refl,
       (tt, has_numbered custom n),
-      (tt, refl, has_numbered custom n, fit_numbered custom n),
+      (tt, has_numbered custom n, fit_numbered custom n),
     ),
   ),
 )
 
 pub has_map : (custom : CustomOptions) (n : Option Lexeme) → Has (map_rest custom) n
-has_map custom n = (tt, (tt, (has_type_name (at Greater) refl, (tt, has_numbered custom n))))
+has_map custom n = (tt, (tt, (has_type (at Greater) refl, (tt, has_numbered custom n))))
 
 -- ---- reserved statements and extension ranges
 
 pub fit_integer : (negative : Bool) (n : Option Lexeme) → Fit (integer_step negative) n
-fit_integer true n = ((refl, tt, tt), tt)
+fit_integer true n = ((tt, tt), tt)
 fit_integer false n = tt
 
 pub has_integer : (negative : Bool) (n : Option Lexeme) → Has (integer_step negative) n
@@ -274,49 +220,39 @@ NoRange n = sees (Word (codes "to")) n ≡ false
 pub fit_range : (negative : Bool) (n : Option Lexeme) → NoRange n → Fit (range_step negative) n
 fit_range true n off = (
   fit_integer true n,
-  refl,
   (off, tt),
-  ((refl, (refl, (refl, tt)), ((refl, tt, tt), fit_integer true n)), tt),
+  (((refl, (refl, tt)), ((tt, tt), fit_integer true n)), tt),
 )
 fit_range false n off = (
   fit_integer false n,
-  refl,
   (off, tt),
-  ((refl, (refl, tt), ((refl, tt, tt), fit_integer false n)), tt),
+  (((refl, tt), ((tt, tt), fit_integer false n)), tt),
 )
 
 pub has_range : (negative : Bool) (n : Option Lexeme) → NoRange n → Has (range_step negative) n
 has_range negative n off = (has_integer negative n, (off, tt))
-
-pub undotted_range : (negative : Bool) → Undotted (range_step negative)
-undotted_range true = refl
-undotted_range false = refl
 
 -- no `,` is next
 abbrev pub NoComma : Option Lexeme → Type 0
 NoComma n = sees (OfKind Comma) n ≡ false
 
 pub fit_ranges : (negative : Bool) (n : Option Lexeme) → NoComma n → NoRange n → Fit (ranges_rest negative) n
-fit_ranges negative n off none =
-    (off, undotted_range negative, has_range negative n none, fit_range negative n none)
+fit_ranges negative n off none = (off, has_range negative n none, fit_range negative n none)
 
 pub fit_reserved : (negative : Bool) (n : Option Lexeme) → Fit (reserved_rest negative) n
 fit_reserved negative n = (
   (
-    refl,
     (refl, (refl, tt)),
     (
       fit_strings (at Semicolon) refl,
-      refl,
       (refl, tt),
-      ((refl, refl, (tt, refl), (tt, refl, refl, fit_strings (at Semicolon) refl)), refl, tt, tt),
+      ((refl, (tt, refl), (tt, refl, fit_strings (at Semicolon) refl)), tt, tt),
     ),
   ),
   (
     fit_range negative (at Semicolon) refl,
-    refl,
     (refl, tt),
-    (fit_ranges negative (at Semicolon) refl refl, refl, tt, tt),
+    (fit_ranges negative (at Semicolon) refl refl, tt, tt),
   ),
 )
 
@@ -324,16 +260,11 @@ pub has_reserved : (negative : Bool) (n : Option Lexeme) → Has (reserved_rest 
 has_reserved true n = (refl, (has_range true (at Semicolon) refl, (refl, tt)))
 has_reserved false n = (refl, (has_range false (at Semicolon) refl, (refl, tt)))
 
-pub undotted_reserved : (negative : Bool) → Undotted (reserved_rest negative)
-undotted_reserved true = refl
-undotted_reserved false = refl
-
 pub fit_extensions : (n : Option Lexeme) → Fit extensions_rest n
 fit_extensions n = (
   fit_range false (at Semicolon) refl,
-  refl,
   (refl, ((refl, tt), tt)),
-  (fit_ranges false (at Semicolon) refl refl, refl, ((refl, tt), tt), (fit_options Skip (at Semicolon), refl, tt, tt)),
+  (fit_ranges false (at Semicolon) refl refl, ((refl, tt), tt), (fit_options Skip (at Semicolon), tt, tt)),
 )
 
 pub has_extensions : (n : Option Lexeme) → Has extensions_rest n

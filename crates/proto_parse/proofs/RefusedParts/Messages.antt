@@ -5,7 +5,7 @@ use Rattle.std.proofs.Common.{List, [], ◌∷◌, refl, sym, ◌∙◌, subst, 
 use Rattle.std.proofs.lemmas.Bool.{and_parts}
 use Rattle.proto_lex.specs.declared.span.Span.{Span}
 use Rattle.proto_lex.specs.declared.token.TokenKind.TheVariants.{Integer, Semicolon, Equals, OpenBrace}
-use Rattle.proto_lex.specs.declared.token.TokenKind.TheVariants.{CloseBrace, Less, Dot}
+use Rattle.proto_lex.specs.declared.token.TokenKind.TheVariants.{CloseBrace, Less}
 use Rattle.proto_grammar.specs.declared.fault.SyntaxFault.{SyntaxFault}
 use Rattle.proto_grammar.specs.declared.fault.SyntaxFault.TheVariants as variant
 use Rattle.proto_grammar.specs.declared.dialect.CustomOptions.{CustomOptions}
@@ -23,7 +23,7 @@ use Rattle.proto_parse.specs.Choice.{begins_map}
 use Rattle.proto_parse.specs.Refused.{is_label}
 use Rattle.proto_grammar.specs.Lexeme.{Lexeme, Place, place_of}
 use Rattle.proto_grammar.specs.Syntax.{custom_of, is_proto2}
-use Rattle.proto_grammar.specs.Terminal.{first_is, of_kind, is_word, begins_group, not_next, others}
+use Rattle.proto_grammar.specs.Terminal.{first_is, of_kind, is_word, begins_group, is_group_word, others}
 use Rattle.proto_grammar.specs.Reading.Repetition.{◌>>=◌, and_then, Read, span_at, token_that, adding, passing}
 use Rattle.proto_grammar.specs.Reading.Fields.{label_at, required_at, typed_at, group_head_at}
 use Rattle.proto_parse.specs.Reading.Messages.{Inside}
@@ -43,15 +43,17 @@ use Rattle.proto_parse.proofs.RefusedMachine.Outcome.{Stuck}
 use Rattle.proto_grammar.specs.declared.tree.Label.TheVariants.{Repeated, Optional, Required}
 use Rattle.proto_grammar.specs.declared.tree.Item.TheVariants.{Leaf}
 use Rattle.proto_grammar.specs.declared.tree.Leaf.TheVariants as leaf
-use Rattle.proto_parse.proofs.RefusedMachine.Test.{OfKind, Word, GroupName}
+use Rattle.proto_parse.proofs.RefusedMachine.Test.{OfKind, Word, ScalarType, GroupWord, GroupName}
 use Rattle.proto_parse.proofs.RefusedMachine.Refusal.{ExtendNext, MessageNext, GroupNext, LabelledGroupNext, RangesNext}
 use Rattle.proto_parse.proofs.RefusedMachine.Step.{Done, Token, Then, If}
 use Rattle.proto_parse.proofs.RefusedMachine.Follows.{Agrees, Fol, fol_as, fol_then, fol_value, fol_token, fol_if}
-use Rattle.proto_parse.proofs.RefusedMachine.Follows.{fol_block, fol_taken, fol_rebind, fol_lone, fol_fork, fol_cond}
+use Rattle.proto_parse.proofs.RefusedMachine.Follows.{fol_block, fol_taken, fol_rebind, fol_ban_front, fol_cond}
+use Rattle.proto_parse.proofs.RefusedMachine.Follows.{fol_if_wider}
 use Rattle.proto_parse.proofs.RefusedMachine.Follows.{fol_if_false, if_as, token_then, fol_last, fol_choose}
 use Rattle.proto_parse.proofs.RefusedMachine.Follows.{fol_choose_ban, agrees_behind}
 use Rattle.proto_parse.proofs.RefusedMachine.Tells.{Tells}
-use Rattle.proto_parse.proofs.RefusedParts.{type_name_step, dot_names, option_rest, numbered_step, typed_step}
+use Rattle.proto_parse.proofs.RefusedParts.{type_step, type_name_step, dot_names, option_rest, numbered_step}
+use Rattle.proto_parse.proofs.RefusedParts.{typed_step}
 use Rattle.proto_parse.proofs.RefusedParts.{typed_rest}
 use Rattle.proto_parse.proofs.RefusedParts.{label_step}
 use Rattle.proto_parse.proofs.RefusedParts.{needed_label_step, group_rest, map_rest, reserved_rest, extensions_rest}
@@ -61,7 +63,8 @@ use Rattle.proto_parse.proofs.RefusedParts.{member_step, oneof_item_step, extend
 use Rattle.proto_parse.proofs.RefusedParts.{passed_item_step, passed_extend_rest, extend_or, message_or, map_or}
 use Rattle.proto_parse.proofs.RefusedParts.{ranges_or}
 use Rattle.proto_parse.proofs.RefusedParts.{message_item_step, inside_step}
-use Rattle.proto_parse.proofs.RefusedParts.Names.{name_begun, named_type_follows, pass_type_name_follows}
+use Rattle.proto_parse.proofs.RefusedParts.Names.{map_no_scalar, name_begun, named_type_follows}
+use Rattle.proto_parse.proofs.RefusedParts.Names.{pass_type_name_follows}
 use Rattle.proto_parse.proofs.RefusedParts.Options.{option_follows, options_follow}
 use Rattle.proto_parse.proofs.RefusedParts.Fields.{typed_follows, free_label_follows, pass_field_follows}
 use Rattle.proto_parse.proofs.RefusedParts.Fields.{map_rest_follows, reserved_follows, extensions_follow}
@@ -84,13 +87,9 @@ module _ (st : Step) where
       fol_then st _ _ p _ _ (fol_block st item (adding read) falls (adding_follows st item read follow) [] p)
       (λ items. fol_value st _ items.1 _ _ (fol_token st (OfKind CloseBrace) items.1))
 
-  -- the word `group` begins the name of a type, too
-  group_begun : (t : Lexeme) (rest : List Lexeme) (k : List Step) (seen : Bool) → is_word (codes "group") t ≡ true
-      → machine st (t ∷ rest) (typed_step Skip ∷ k) seen ≡ machine st rest (typed_rest Skip ∷ k) seen
-  group_begun t rest k seen is =
-      machine_then st (t ∷ rest) type_name_step (numbered_step Skip) k seen
-      ∙ name_begun st t rest (numbered_step Skip ∷ k) seen (word_kind (codes "group") t is)
-      ∙ sym (machine_then st rest dot_names (numbered_step Skip) k seen)
+  -- a group begins with its word
+  group_wider : (t : Lexeme) → is_group_word t ≡ true → is_word (codes "group") t ≡ true
+  group_wider t is = (and_parts (is_word (codes "group") t) _ is).0
 
   group_head_follows : {A : Type 0} (inner : Step) (first : Span) (label : Option Label) (p : Place)
       (next : Group × Place → Result (A × Place) SyntaxFault) → ((x : Group × Place) → Fol st inner x.1 (next x))
@@ -108,7 +107,7 @@ module _ (st : Step) where
       (λ options. fol_value st _ options.1 _ _ (fol_token st (OfKind OpenBrace) options.1)))))) follow))
 
   -- a field or a group, which is told at a place further in front
-  group_or_follows : (r : Refusal) → passes (test_of r) ≡ is_word (codes "group") → (inner : Option Step)
+  group_or_follows : (r : Refusal) → passes (test_of r) ≡ is_group_word → (inner : Option Step)
       (read : Inside) → InnerFollows inner read → (first : Span) (label : Option Label) (p : Place)
       (left : List Lexeme) (end : ℕ) → Behind p (place_of end left)
       → Tells p (Stuck (Refused r) left) (variant.TooDeep first.start) → (k : List Step) (seen : Bool)
@@ -117,21 +116,22 @@ module _ (st : Step) where
   unfolding labelled_at group_at
   group_or_follows r is None None follow first label p left end front tells k seen =
       subst (λ test. Agrees st p k seen (machine st left (group_or r None ∷ k) seen)
-      (cond (first_is test left && not_next Dot (others left)) (Err (variant.TooDeep first.start))
+      (cond (first_is test left) (Err (variant.TooDeep first.start))
       (typed_at Skip first label (place_of end left) >>= λ x. Ok (Leaf (leaf.Field x.0), x.1)))) is
-      (fol_lone st r (typed_rest Skip) (typed_step Skip) p left end (variant.TooDeep first.start) _ front tells
+      (fol_ban_front st r (typed_step Skip) p left end (variant.TooDeep first.start) _ front tells
       (fol_value st (typed_step Skip) (place_of end left) _ _ (typed_follows st Skip first label (place_of end left)))
-      (λ t rest l was word. group_begun t rest l was (subst (λ test. test t ≡ true) is word)) k seen)
+      k seen)
   group_or_follows r is None (Some read) follow first label p left end front tells k seen = absurd follow
   group_or_follows r is (Some inner) None follow first label p left end front tells k seen = absurd follow
   group_or_follows r is (Some inner) (Some read) follow first label p left end front tells k seen =
       agrees_behind st p (place_of end left) k seen (machine st left (group_or r (Some inner) ∷ k) seen) _ front
-      (fol_fork st (Word (codes "group")) (Then group_rest inner) (typed_rest Skip) (typed_step Skip) left end _ _
-      (λ word. fol_value st _ (place_of end left) _ _
+      (fol_if_wider st GroupWord (Word (codes "group")) (Then group_rest inner) (typed_step Skip) (place_of end left)
+      _ _ group_wider
+      (fol_value st _ (place_of end left) _ _
       (group_head_follows inner first label (place_of end left) _
       (λ group. fol_value st inner group.1 _ _ (follow group.1))))
       (fol_value st (typed_step Skip) (place_of end left) _ _ (typed_follows st Skip first label (place_of end left)))
-      group_begun k seen)
+      k seen)
 
   -- a label of proto2
   abbrev HasLabel : Lexeme → List Lexeme → ℕ → Type 0
@@ -377,7 +377,9 @@ module _ (st : Step) where
       ∙ machine_if_false st (Word (codes "optional")) (t ∷ rest) Done Done (typed_step custom ∷ k) seen
       (other_word (codes "map") (codes "optional") t refl is)
       ∙ machine_done st (t ∷ rest) (typed_step custom ∷ k) seen
-      ∙ machine_then st (t ∷ rest) type_name_step (numbered_step custom) k seen
+      ∙ machine_then st (t ∷ rest) type_step (numbered_step custom) k seen
+      ∙ machine_if_false st ScalarType (t ∷ rest) Done type_name_step (numbered_step custom ∷ k) seen
+      (map_no_scalar t is)
       ∙ name_begun st t rest (numbered_step custom ∷ k) seen (word_kind (codes "map") t is)
       ∙ sym (machine_then st rest dot_names (numbered_step custom) k seen)
 

@@ -1,48 +1,48 @@
 -- What is read follows the parts: names and types.
-use Rattle.std.proofs.Common.{◌≡◌, ℕ, Bool, true, false, not, List, [], ◌∷◌}
+use Rattle.std.proofs.Common.{◌≡◌, Bool, true, false, Ok, List, [], ◌∷◌}
 use Rattle.std.proofs.Common.{refl, ◌∙◌}
+use Rattle.std.proofs.Common.{bytes_eq, codes}
 use Rattle.std.proofs.lemmas.Bool.{and_parts}
+use Rattle.std.proofs.lemmas.Slice.Eq.{bytes_eq-Decides}
 use Rattle.proto_lex.specs.declared.span.Span.{Span}
 use Rattle.proto_lex.specs.declared.token.TokenKind.TheVariants.{Identifier, Dot}
 use Rattle.proto_grammar.specs.declared.fault.SyntaxFault.TheVariants as variant
-use Rattle.proto_grammar.specs.Lexeme.{Lexeme, Place, place_of}
-use Rattle.proto_grammar.specs.Terminal.{of_kind, is_scalar, not_next, begins_scalar, offset_at}
-use Rattle.proto_grammar.specs.Reading.Repetition.{adding, passing, token_that}
+use Rattle.proto_grammar.specs.Lexeme.{Lexeme, Place}
+use Rattle.proto_grammar.specs.Terminal.{of_kind, is_word, is_scalar, is_scalar_type, not_next, offset_at}
+use Rattle.proto_grammar.specs.Reading.Repetition.{and_then, adding, passing, token_that}
 use Rattle.proto_grammar.specs.Reading.Names.{dot_name_at, dot_names_at, name_at, pass_dot_name_at, pass_dot_names_at}
 use Rattle.proto_grammar.specs.Reading.Names.{pass_name_at, leading_dot_at, type_name_at, pass_type_name_at}
-use Rattle.proto_grammar.specs.Reading.Names.{named_type_at, type_at}
-use Rattle.proto_grammar.proofs.TerminalPlaceLemmas.{behind_here, behind_one}
+use Rattle.proto_grammar.specs.Reading.Names.{named_type_at, type_at, pass_type_at}
 use Rattle.proto_grammar.proofs.RepetitionFallLemmas.{dot_names_fall, pass_dot_names_fall}
-use Rattle.proto_grammar.proofs.TerminalTokenLemmas.{other_kind}
-use Rattle.proto_parse.proofs.RefusedMachine.{Step, machine, dots, machine_then, machine_token, machine_if_false}
-use Rattle.proto_parse.proofs.RefusedMachine.{machine_done, machine_many_false}
-use Rattle.proto_parse.proofs.RefusedMachine.Test.{OfKind}
+use Rattle.proto_grammar.proofs.TerminalTokenLemmas.{other_kind, same_kind}
+use Rattle.proto_parse.proofs.RefusedMachine.{Step, machine, machine_then, machine_token, machine_if_false}
+use Rattle.proto_parse.proofs.RefusedMachine.{machine_done}
+use Rattle.proto_parse.proofs.RefusedMachine.Test.{OfKind, Scalar, ScalarType}
 use Rattle.proto_parse.proofs.RefusedMachine.Refusal.{ScalarNext}
 use Rattle.proto_parse.proofs.RefusedMachine.Step.{Done, Token, Then, If}
 use Rattle.proto_parse.proofs.RefusedMachine.Follows.{Fol, fol_then, fol_value, fol_done, fol_token, fol_if}
-use Rattle.proto_parse.proofs.RefusedMachine.Follows.{fol_many, fol_cond, fol_lone}
-use Rattle.proto_parse.proofs.RefusedParts.{dot_names, name_step, type_name_step, named_type_step}
+use Rattle.proto_parse.proofs.RefusedMachine.Follows.{fol_many, fol_last, fol_ban, fol_if_wider}
+use Rattle.proto_parse.proofs.RefusedParts.{dot_names, name_step, type_name_step, named_type_step, type_step}
 
 -- a word is no `.`
 pub word_no_dot : (t : Lexeme) → of_kind Identifier t ≡ true → of_kind Dot t ≡ false
 word_no_dot t is = other_kind Identifier Dot t refl is
 
-pub scalar_word : (t : Lexeme) → is_scalar t ≡ true → of_kind Identifier t ≡ true
-scalar_word t is = (and_parts (of_kind Identifier t) _ is).0
+-- what isn't kept
+abbrev pub nothing : Unit {0}
+nothing = tt
 
-not_dots : (l : List Lexeme) → not_next Dot l ≡ true → dots l ≡ false
-not_dots l e = by_test (dots l) e
-  where
-    by_test : (b : Bool) → not b ≡ true → b ≡ false
-    by_test true e = cc
-    by_test false e = refl
+-- a scalar type is its word
+scalar_wider : (t : Lexeme) → is_scalar_type t ≡ true → is_scalar t ≡ true
+scalar_wider t is = (and_parts (is_scalar t) _ is).0
 
-is_dots : (l : List Lexeme) → not_next Dot l ≡ false → dots l ≡ true
-is_dots l e = by_test (dots l) e
-  where
-    by_test : (b : Bool) → not b ≡ false → b ≡ true
-    by_test true e = refl
-    by_test false e = cc
+-- `map` is none
+pub map_no_scalar : (t : Lexeme) → is_word (codes "map") t ≡ true → is_scalar_type t ≡ false
+map_no_scalar t is =
+    let both = and_parts (of_kind Identifier t) (bytes_eq t.spelling (codes "map")) is in
+    let kind : t.kind ≡ Identifier = same_kind Identifier t.kind both.0 in
+    let spelling : t.spelling ≡ codes "map" = (bytes_eq-Decides t.spelling (codes "map")).0 both.1 in
+    rw (kind, spelling) refl
 
 module _ (st : Step) where
   dot_name_follows : (p : Place) → Fol st (Then (Token (OfKind Dot)) (Token (OfKind Identifier))) p (dot_name_at p)
@@ -96,33 +96,24 @@ module _ (st : Step) where
       ∙ machine_then st (t ∷ rest) (Token (OfKind Identifier)) dot_names k seen
       ∙ machine_token st (OfKind Identifier) t rest (dot_names ∷ k) seen is
 
-  -- a scalar word alone is read as a name is
-  scalar_by : (left : List Lexeme) (end : ℕ) → begins_scalar left ≡ true
-      → Fol st type_name_step (place_of end left) (token_that is_scalar (place_of end left))
-  unfolding token_that
-  scalar_by [] end is k seen = absurd cc
-  scalar_by (t ∷ left) end is k seen =
-      let both = and_parts (is_scalar t) (not_next Dot left) is in
-      let out : machine st (t ∷ left) (type_name_step ∷ k) seen ≡ machine st left k seen =
-      name_begun t left k seen (scalar_word t both.0)
-      ∙ machine_many_false st (OfKind Dot) left (Token (OfKind Identifier)) k seen (not_dots left both.1) in
-      rw both.0 (behind_one (place_of end (t ∷ left)), out)
+  scalar_follows : {A : Type 0} (p : Place) (f : Span × Place → A)
+      → Fol st (Then (Token Scalar) Done) p (and_then (token_that is_scalar p) (λ word. Ok (f word, word.1)))
+  scalar_follows p f =
+      fol_last st (Token Scalar) p _ (fol_value st (Token Scalar) p _ f (fol_token st Scalar p))
 
-  pub type_follows : (p : Place) → Fol st type_name_step p (type_at p)
+  pub type_follows : (p : Place) → Fol st type_step p (type_at p)
   unfolding type_at
   type_follows p =
-      fol_cond st type_name_step p (begins_scalar p.left) _ _
-      (λ is. fol_value st type_name_step p _ _ (scalar_by p.left p.end is))
-      (λ off. fol_value st type_name_step p _ _ (type_name_follows p))
+      fol_if_wider st ScalarType Scalar Done type_name_step p _ _ scalar_wider (scalar_follows p _)
+      (fol_value st type_name_step p _ _ (type_name_follows p))
 
-  named_by : (left : List Lexeme) (end : ℕ)
-      → Fol st named_type_step (place_of end left) (named_type_at (place_of end left))
-  unfolding named_type_at
-  named_by left end =
-      fol_lone st ScalarNext dot_names type_name_step (place_of end left) left end
-      (variant.Grammar (offset_at (place_of end left))) _ (behind_here (place_of end left)) ([], refl, refl)
-      (type_name_follows (place_of end left))
-      (λ t rest k seen is. name_begun t rest k seen (scalar_word t is))
+  pub pass_type_follows : (p : Place) → Fol st type_step p (pass_type_at p)
+  unfolding pass_type_at
+  pass_type_follows p =
+      fol_if_wider st ScalarType Scalar Done type_name_step p _ _ scalar_wider (scalar_follows p (λ word. nothing))
+      (pass_type_name_follows p)
 
   pub named_type_follows : (p : Place) → Fol st named_type_step p (named_type_at p)
-  named_type_follows p = named_by p.left p.end
+  unfolding named_type_at
+  named_type_follows p =
+      fol_ban st ScalarNext type_name_step p (variant.Grammar (offset_at p)) _ refl (λ off. type_name_follows p)

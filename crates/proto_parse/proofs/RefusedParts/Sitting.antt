@@ -16,7 +16,7 @@ use Rattle.proto_parse.proofs.RefusedMachine.{Refusal, Step, ended}
 use Rattle.proto_parse.proofs.RefusedMachine.Test.{OfKind, Word}
 use Rattle.proto_parse.proofs.RefusedMachine.Refusal.{GroupNext, LabelledGroupNext}
 use Rattle.proto_parse.proofs.RefusedMachine.Step.{Never, Then, If}
-use Rattle.proto_parse.proofs.RefusedMachine.Finishing.{Has, Fit, Undotted}
+use Rattle.proto_parse.proofs.RefusedMachine.Finishing.{Has, Fit}
 use Rattle.proto_parse.proofs.RefusedParts.{option_rest}
 use Rattle.proto_parse.proofs.RefusedParts.{typed_rest}
 use Rattle.proto_parse.proofs.RefusedParts.{group_rest, map_rest}
@@ -31,52 +31,47 @@ use Rattle.proto_parse.proofs.RefusedParts.{method_step}
 use Rattle.proto_parse.proofs.RefusedParts.{service_item_step, service_rest, import_rest, package_rest, statement_step}
 use Rattle.proto_parse.proofs.RefusedParts.Fitting.{at, fit_name, has_name, fit_type_name}
 use Rattle.proto_parse.proofs.RefusedParts.Fitting.{has_type_name, fit_named_type, has_named_type}
-use Rattle.proto_parse.proofs.RefusedParts.Fitting.{fit_option, has_option, undotted_option}
+use Rattle.proto_parse.proofs.RefusedParts.Fitting.{fit_option, has_option}
 use Rattle.proto_parse.proofs.RefusedParts.Fitting.{fit_options}
 use Rattle.proto_parse.proofs.RefusedParts.Fitting.{fit_typed, has_typed, fit_typed_rest, has_typed_rest}
-use Rattle.proto_parse.proofs.RefusedParts.Fitting.{typed_rest_takes, fit_label, fit_needed_label, fit_pass_field}
+use Rattle.proto_parse.proofs.RefusedParts.Fitting.{fit_label, fit_needed_label, fit_pass_field}
 use Rattle.proto_parse.proofs.RefusedParts.Fitting.{fit_group, has_group, fit_map, has_map, fit_integer}
-use Rattle.proto_parse.proofs.RefusedParts.Fitting.{fit_reserved, has_reserved, undotted_reserved}
+use Rattle.proto_parse.proofs.RefusedParts.Fitting.{fit_reserved, has_reserved}
 use Rattle.proto_parse.proofs.RefusedParts.Fitting.{fit_extensions, has_extensions}
 
 -- ---- blocks
 
 -- a part that fits whatever is behind it, and is read there
 abbrev Sits : Step → Type 0
-Sits s = (n : Option Lexeme) → Undotted s × Has s n × Fit s n
+Sits s = (n : Option Lexeme) → Has s n × Fit s n
 
 abbrev Fitting : Step → Type 0
 Fitting s = (n : Option Lexeme) → Fit s n
 
 sits_block : (item : Step) → ended item ≡ false → Fitting item → Sits (block item)
-sits_block item goes fit n = (refl, (refl, tt), ((refl, goes, fit (at CloseBrace)), refl, tt, tt))
+sits_block item goes fit n = ((refl, tt), ((refl, goes, fit (at CloseBrace)), tt, tt))
 
 -- a heading and a block
 sits_heading : (inner : Step) → Sits inner → Sits (Then heading_rest inner)
 sits_heading inner sits n =
     let i = sits n in
-    (refl, ((tt, tt), i.1), ((tt, refl, tt, tt), i.0, i.1, i.2))
+    (((tt, tt), i.0), ((tt, tt, tt), i.0, i.1))
 
 fit_value : (custom : CustomOptions) → Fitting (value_step custom)
 fit_value custom n = (
   tt,
-  refl,
   (tt, ((refl, tt), ((refl, tt), tt))),
   (
     tt,
-    refl,
     ((refl, tt), ((refl, tt), tt)),
-    (fit_integer true (at Semicolon), refl, ((refl, tt), tt), (fit_options custom (at Semicolon), refl, tt, tt)),
+    (fit_integer true (at Semicolon), ((refl, tt), tt), (fit_options custom (at Semicolon), tt, tt)),
   ),
 )
 
 fit_enum_item : (custom : CustomOptions) → Fitting (enum_item_step custom)
 fit_enum_item custom n = (
-  (refl, tt, tt),
-  (
-    (undotted_option custom, has_option custom n, fit_option custom n),
-    ((undotted_reserved true, has_reserved true n, fit_reserved true n), fit_value custom n),
-  ),
+  (tt, tt),
+  ((has_option custom n, fit_option custom n), ((has_reserved true n, fit_reserved true n), fit_value custom n)),
 )
 
 sits_enum : (custom : CustomOptions) → Sits (enum_rest custom)
@@ -93,13 +88,11 @@ InnerSits (Some inner) = Sits inner
 sits_group : (inner : Step) → Sits inner → Sits (Then group_rest inner)
 sits_group inner sits n =
     let i = sits n in
-    (refl, (has_group n, i.1), (fit_group n, i.0, i.1, i.2))
+    ((has_group n, i.0), (fit_group n, i.0, i.1))
 
 fit_group_or : (r : Refusal) (inner : Option Step) → InnerSits inner → Fitting (group_or r inner)
-fit_group_or r None sits n =
-    (refl, typed_rest_takes, (refl, has_typed_rest Skip n, fit_typed_rest Skip n), fit_typed Skip n)
-fit_group_or r (Some inner) sits n =
-    (typed_rest_takes, sits_group inner sits n, (refl, has_typed_rest Skip n, fit_typed_rest Skip n), fit_typed Skip n)
+fit_group_or r None sits n = (refl, fit_typed Skip n)
+fit_group_or r (Some inner) sits n = (sits_group inner sits n, fit_typed Skip n)
 
 fit_labelled : (syntax : Syntax) (inner : Option Step) → InnerSits inner
     → Fitting (labelled_step GroupNext syntax inner)
@@ -112,19 +105,11 @@ has_group_or : (inner : Option Step) (n : Option Lexeme) → Has (group_or Label
 has_group_or None n = (refl, has_typed Skip n)
 has_group_or (Some inner) n = (refl, has_typed Skip n)
 
-undotted_group_or : (inner : Option Step) → Undotted (group_or LabelledGroupNext inner)
-undotted_group_or None = refl
-undotted_group_or (Some inner) = refl
-
 fit_member : (syntax : Syntax) (inner : Option Step) → InnerSits inner → Fitting (member_step syntax inner)
-fit_member (Proto3 custom) inner sits n = (fit_label n, refl, has_typed custom n, fit_typed custom n)
-fit_member Extended inner sits n = (fit_label n, refl, has_typed Skip n, fit_typed Skip n)
-fit_member Proto2 inner sits n = (
-  fit_needed_label n,
-  undotted_group_or inner,
-  has_group_or inner n,
-  fit_group_or LabelledGroupNext inner sits n,
-)
+fit_member (Proto3 custom) inner sits n = (fit_label n, has_typed custom n, fit_typed custom n)
+fit_member Extended inner sits n = (fit_label n, has_typed Skip n, fit_typed Skip n)
+fit_member Proto2 inner sits n =
+    (fit_needed_label n, has_group_or inner n, fit_group_or LabelledGroupNext inner sits n)
 
 ended_member : (syntax : Syntax) (inner : Option Step) → ended (member_step syntax inner) ≡ false
 ended_member (Proto3 custom) inner = refl
@@ -139,11 +124,8 @@ ended_labelled Proto2 (Some inner) = refl
 
 fit_oneof_item : (syntax : Syntax) (inner : Option Step) → InnerSits inner → Fitting (oneof_item_step syntax inner)
 fit_oneof_item syntax inner sits n = (
-  (refl, tt, tt),
-  (
-    (undotted_option (custom_of syntax), has_option (custom_of syntax) n, fit_option (custom_of syntax) n),
-    fit_labelled syntax inner sits n,
-  ),
+  (tt, tt),
+  ((has_option (custom_of syntax) n, fit_option (custom_of syntax) n), fit_labelled syntax inner sits n),
 )
 
 sits_oneof : (syntax : Syntax) (inner : Option Step) → InnerSits inner → Sits (oneof_rest syntax inner)
@@ -151,26 +133,24 @@ sits_oneof syntax inner sits = sits_heading (block (oneof_item_step syntax inner
     (sits_block (oneof_item_step syntax inner) (ended_labelled syntax inner) (fit_oneof_item syntax inner sits))
 
 fit_extend_item : (syntax : Syntax) (inner : Option Step) → InnerSits inner → Fitting (extend_item_step syntax inner)
-fit_extend_item syntax inner sits n = ((refl, tt, tt), fit_member syntax inner sits n)
+fit_extend_item syntax inner sits n = ((tt, tt), fit_member syntax inner sits n)
 
 sits_extend : (syntax : Syntax) (inner : Option Step) → InnerSits inner → Sits (extend_rest syntax inner)
 sits_extend syntax inner sits n =
     let b = sits_block (extend_item_step syntax inner) (ended_member syntax inner) (fit_extend_item syntax inner sits) n
     in (
-      refl,
-      (has_named_type (at OpenBrace) refl, (tt, b.1)),
-      (fit_named_type (at OpenBrace) refl, refl, (tt, b.1), (tt, b.0, b.1, b.2)),
+      (has_named_type (at OpenBrace) refl, (tt, b.0)),
+      (fit_named_type (at OpenBrace) refl, (tt, b.0), (tt, b.0, b.1)),
     )
 
 fit_passed_item : Fitting passed_item_step
-fit_passed_item n = ((refl, tt, tt), fit_pass_field Skip n)
+fit_passed_item n = ((tt, tt), fit_pass_field Skip n)
 
 sits_passed_extend : Sits passed_extend_rest
 sits_passed_extend n =
     let b = sits_block passed_item_step refl fit_passed_item n in (
-      refl,
-      (has_type_name (at OpenBrace) refl, (tt, b.1)),
-      (fit_type_name (at OpenBrace) refl, refl, (tt, b.1), (tt, b.0, b.1, b.2)),
+      (has_type_name (at OpenBrace) refl, (tt, b.0)),
+      (fit_type_name (at OpenBrace) refl, (tt, b.0), (tt, b.0, b.1)),
     )
 
 fit_extend_or : (syntax : Syntax) (inner : Option Step) (other : Step) → InnerSits inner → ended other ≡ false
@@ -199,16 +179,15 @@ ended_message_or (Some inner) other = refl
 -- behind `map` in proto3
 sits_map : (custom : CustomOptions) → Sits (If (OfKind Less) (map_rest custom) (typed_rest custom))
 sits_map custom n = (
-  refl,
   (refl, has_typed_rest custom n),
-  ((refl, has_map custom n, fit_map custom n), fit_typed_rest custom n),
+  ((has_map custom n, fit_map custom n), fit_typed_rest custom n),
 )
 
 fit_map_or : (syntax : Syntax) (other : Step) → Fitting other → Fitting (map_or syntax other)
 fit_map_or (Proto3 custom) other fit n = (sits_map custom n, fit n)
 fit_map_or Extended other fit n = (sits_map Skip n, fit n)
 fit_map_or Proto2 other fit n =
-    ((refl, (tt, has_map Skip n), (tt, refl, has_map Skip n, fit_map Skip n)), fit n)
+    (((tt, has_map Skip n), (tt, has_map Skip n, fit_map Skip n)), fit n)
 
 ended_map_or : (syntax : Syntax) (other : Step) → ended (map_or syntax other) ≡ ended other
 ended_map_or (Proto3 custom) other = refl
@@ -219,7 +198,7 @@ fit_ranges_or : (syntax : Syntax) (other : Step) → ended other ≡ false → F
     → Fitting (ranges_or syntax other)
 fit_ranges_or (Proto3 custom) other goes fit n = (goes, fit n)
 fit_ranges_or Extended other goes fit n = (goes, fit n)
-fit_ranges_or Proto2 other goes fit n = ((refl, has_extensions n, fit_extensions n), fit n)
+fit_ranges_or Proto2 other goes fit n = ((has_extensions n, fit_extensions n), fit n)
 
 ended_ranges_or : (syntax : Syntax) (other : Step) → ended (ranges_or syntax other) ≡ ended other
 ended_ranges_or (Proto3 custom) other = refl
@@ -245,7 +224,7 @@ module _ (syntax : Syntax) (inner : Option Step) (sits : InnerSits inner) where
       (extend_or syntax inner (ranges_or syntax (member_step syntax inner)))
 
   fit_behind_map : Fitting behind_map
-  fit_behind_map n = ((undotted_reserved false, has_reserved false n, fit_reserved false n), fit_last n)
+  fit_behind_map n = ((has_reserved false n, fit_reserved false n), fit_last n)
 
   abbrev behind_message : Step
   behind_message =
@@ -257,7 +236,7 @@ module _ (syntax : Syntax) (inner : Option Step) (sits : InnerSits inner) where
   fit_behind_message n = (
     sits_enum (custom_of syntax) n,
     (
-      (undotted_option (custom_of syntax), has_option (custom_of syntax) n, fit_option (custom_of syntax) n),
+      (has_option (custom_of syntax) n, fit_option (custom_of syntax) n),
       (sits_oneof syntax inner sits n, fit_map_or syntax behind_map fit_behind_map n),
     ),
   )
@@ -267,7 +246,7 @@ module _ (syntax : Syntax) (inner : Option Step) (sits : InnerSits inner) where
 
   fit_message_item : Fitting (message_item_step syntax inner)
   fit_message_item n =
-      ((refl, tt, tt), fit_message_or inner behind_message sits goes_on_message fit_behind_message n)
+      ((tt, tt), fit_message_or inner behind_message sits goes_on_message fit_behind_message n)
 
   ended_message_item : ended (message_item_step syntax inner) ≡ false
   ended_message_item = ended_message_or inner behind_message ∙ goes_on_message
@@ -284,13 +263,11 @@ inside_sits syntax (suc levels) =
 fit_method_type : Fitting method_type_step
 fit_method_type n = (
   tt,
-  refl,
   ((refl, tt), (has_named_type (at CloseParenthesis) refl, tt)),
   (
-    ((refl, tt, tt), tt),
-    refl,
+    ((tt, tt), tt),
     (has_named_type (at CloseParenthesis) refl, tt),
-    (fit_named_type (at CloseParenthesis) refl, refl, tt, tt),
+    (fit_named_type (at CloseParenthesis) refl, tt, tt),
   ),
 )
 
@@ -299,41 +276,38 @@ has_method_type n = (tt, ((refl, tt), (has_named_type (at CloseParenthesis) refl
 
 fit_method_item : (custom : CustomOptions) → Fitting (method_item_step custom)
 fit_method_item custom n =
-    ((refl, tt, tt), (tt, undotted_option custom, has_option custom n, fit_option custom n))
+    ((tt, tt), (tt, has_option custom n, fit_option custom n))
 
 fit_method_end : (custom : CustomOptions) → Fitting (method_end_step custom)
 fit_method_end custom n =
     let b = sits_block (method_item_step custom) refl (fit_method_item custom) n in
-    ((refl, tt, tt), (tt, b.0, b.1, b.2))
+    ((tt, tt), (tt, b.0, b.1))
 
 has_method_end : (custom : CustomOptions) (n : Option Lexeme) → Has (method_end_step custom) n
 has_method_end custom n =
-    let b = sits_block (method_item_step custom) refl (fit_method_item custom) n in (refl, (tt, b.1))
+    let b = sits_block (method_item_step custom) refl (fit_method_item custom) n in (refl, (tt, b.0))
 
 fit_method : (custom : CustomOptions) → Fitting (method_step custom)
 fit_method custom n =
     let e = has_method_end custom n in
     let f = fit_method_end custom n in (
       tt,
-      refl,
       (tt, (has_method_type n, (tt, (has_method_type n, e)))),
       (
         tt,
-        refl,
         (has_method_type n, (tt, (has_method_type n, e))),
         (
           fit_method_type n,
-          refl,
           (tt, (has_method_type n, e)),
-          (tt, refl, (has_method_type n, e), (fit_method_type n, refl, e, f)),
+          (tt, (has_method_type n, e), (fit_method_type n, e, f)),
         ),
       ),
     )
 
 fit_service_item : (custom : CustomOptions) → Fitting (service_item_step custom)
 fit_service_item custom n = (
-  (refl, tt, tt),
-  ((undotted_option custom, has_option custom n, fit_option custom n), fit_method custom n),
+  (tt, tt),
+  ((has_option custom n, fit_option custom n), fit_method custom n),
 )
 
 sits_service : (custom : CustomOptions) → Sits (service_rest custom)
@@ -344,28 +318,22 @@ sits_service custom = sits_heading (block (service_item_step custom))
 
 sits_import : Sits import_rest
 sits_import n = (
-  refl,
   ((refl, (refl, tt)), (tt, (refl, tt))),
-  (
-    ((refl, tt, tt), ((refl, tt, tt), tt)),
-    refl,
-    (tt, (refl, tt)),
-    (tt, refl, (refl, tt), (refl, refl, tt, tt)),
-  ),
+  (((tt, tt), ((tt, tt), tt)), (tt, (refl, tt)), (tt, (refl, tt), (refl, tt, tt))),
 )
 
 sits_package : Sits package_rest
-sits_package n = (refl, (has_name (at Semicolon) refl, tt), (fit_name (at Semicolon) refl, refl, tt, tt))
+sits_package n = ((has_name (at Semicolon) refl, tt), (fit_name (at Semicolon) refl, tt, tt))
 
 pub fit_statement : (levels : ℕ) (syntax : Syntax) (n : Option Lexeme) → Fit (statement_step levels syntax) n
 fit_statement levels syntax n = (
-  (refl, tt, tt),
+  (tt, tt),
   (
     sits_import n,
     (
       sits_package n,
       (
-        (undotted_option (custom_of syntax), has_option (custom_of syntax) n, fit_option (custom_of syntax) n),
+        (has_option (custom_of syntax) n, fit_option (custom_of syntax) n),
         fit_message_or (inside_step syntax levels) _ (inside_sits syntax levels)
             (ended_extend_or syntax (inside_step syntax levels) Never)
             (λ m. (

@@ -1,23 +1,23 @@
 -- The parts where custom options are read past accept more, and so do those where a level more is left.
-use Rattle.std.proofs.Common.{◌≡◌, ℕ, zero, suc, Bool, true, false, Option, Some, None, refl, subst, codes}
+use Rattle.std.proofs.Common.{◌≡◌, ℕ, zero, suc, Bool, true, false, Option, Some, None, refl, subst}
 use Rattle.proto_grammar.specs.declared.dialect.CustomOptions.{CustomOptions}
 use Rattle.proto_grammar.specs.declared.dialect.CustomOptions.TheVariants.{Refuse, Skip}
 use Rattle.proto_grammar.specs.declared.dialect.Syntax.{Syntax}
 use Rattle.proto_grammar.specs.declared.dialect.Syntax.TheVariants.{Proto3, Extended, Proto2}
 use Rattle.proto_grammar.specs.Syntax.{custom_of}
 use Rattle.proto_parse.proofs.RefusedMachine.{Refusal, Step, test_of}
-use Rattle.proto_parse.proofs.RefusedMachine.Test.{Word}
+use Rattle.proto_parse.proofs.RefusedMachine.Test.{GroupWord}
 use Rattle.proto_parse.proofs.RefusedMachine.Refusal.{CustomOptionNext, AggregateNext, ExtendNext, MessageNext}
 use Rattle.proto_parse.proofs.RefusedMachine.Refusal.{GroupNext}
 use Rattle.proto_parse.proofs.RefusedMachine.Refusal.{LabelledGroupNext, RangesNext, ScalarNext}
-use Rattle.proto_parse.proofs.RefusedMachine.Step.{Then, Fork}
+use Rattle.proto_parse.proofs.RefusedMachine.Step.{Then, If}
 use Rattle.proto_parse.proofs.RefusedMachine.Wide.{Wide}
 use Rattle.proto_parse.proofs.RefusedMachine.Wide.Wide.{done, token, plain, plains, never, then, choice, ban, opened}
-use Rattle.proto_parse.proofs.RefusedMachine.Wide.Wide.{lone}
-use Rattle.proto_parse.proofs.RefusedMachine.Wide.Wide.{alone, fork, many, block as wide_block, closed}
+use Rattle.proto_parse.proofs.RefusedMachine.Wide.Wide.{many, block as wide_block, closed}
 use Rattle.proto_parse.proofs.RefusedParts.{part_step, aggregate_step, setting_step, option_rest}
 use Rattle.proto_parse.proofs.RefusedParts.{options_step, numbered_step, typed_step, typed_rest, map_rest}
-use Rattle.proto_parse.proofs.RefusedParts.{type_name_step, label_step, needed_label_step, group_rest, reserved_rest}
+use Rattle.proto_parse.proofs.RefusedParts.{type_step, type_name_step, label_step, needed_label_step, group_rest}
+use Rattle.proto_parse.proofs.RefusedParts.{reserved_rest}
 use Rattle.proto_parse.proofs.RefusedParts.{extensions_rest, block, heading_rest, enum_rest, group_or}
 use Rattle.proto_parse.proofs.RefusedParts.{labelled_step, member_step}
 use Rattle.proto_parse.proofs.RefusedParts.{extend_or, message_or, map_or, ranges_or}
@@ -45,7 +45,10 @@ type_name_o : SameO type_name_step
 type_name_o = then (choice done done) (then token (many token))
 
 named_type_o : SameO named_type_step
-named_type_o = lone refl (many token) type_name_o
+named_type_o = ban refl type_name_o
+
+type_o : SameO type_step
+type_o = choice done type_name_o
 
 part_o : Wide of_options (part_step Refuse) (part_step Skip)
 part_o = opened refl token
@@ -65,13 +68,13 @@ numbered_o : Wide of_options (numbered_step Refuse) (numbered_step Skip)
 numbered_o = then token (then token (then token (then options_o token)))
 
 typed_o : Wide of_options (typed_step Refuse) (typed_step Skip)
-typed_o = then type_name_o numbered_o
+typed_o = then type_o numbered_o
 
 typed_rest_o : Wide of_options (typed_rest Refuse) (typed_rest Skip)
 typed_rest_o = then (many token) numbered_o
 
 map_o : Wide of_options (map_rest Refuse) (map_rest Skip)
-map_o = then token (then token (then type_name_o (then token numbered_o)))
+map_o = then token (then token (then type_o (then token numbered_o)))
 
 range_o : SameO (reserved_rest false)
 range_o =
@@ -209,14 +212,17 @@ numbered_l custom = then token (then token (then token (then (options_l custom) 
 type_name_l : Wide of_levels type_name_step type_name_step
 type_name_l = then (choice done done) (then token (many token))
 
+type_l : Wide of_levels type_step type_step
+type_l = choice done type_name_l
+
 typed_l : (custom : CustomOptions) → Wide of_levels (typed_step custom) (typed_step custom)
-typed_l custom = then type_name_l (numbered_l custom)
+typed_l custom = then type_l (numbered_l custom)
 
 typed_rest_l : (custom : CustomOptions) → Wide of_levels (typed_rest custom) (typed_rest custom)
 typed_rest_l custom = then (many token) (numbered_l custom)
 
 map_l : (custom : CustomOptions) → Wide of_levels (map_rest custom) (map_rest custom)
-map_l custom = then token (then token (then type_name_l (then token (numbered_l custom))))
+map_l custom = then token (then token (then type_l (then token (numbered_l custom))))
 
 range_l : Wide of_levels (reserved_rest false) (reserved_rest false)
 range_l =
@@ -256,15 +262,14 @@ needed_label_l = choice done (choice done token)
 group_l : Wide of_levels group_rest group_rest
 group_l = then token (then token (then token (then (options_l Skip) token)))
 
-group_or_l : (r : Refusal) (inner other : Option Step) → of_levels r ≡ true → test_of r ≡ Word (codes "group")
+group_or_l : (r : Refusal) (inner other : Option Step) → of_levels r ≡ true → test_of r ≡ GroupWord
     → Deeper inner other → Wide of_levels (group_or r inner) (group_or r other)
 group_or_l r None None opens is w = absurd w
 group_or_l r None (Some other) opens is w =
-    subst
-    (λ t. Wide of_levels (group_or r None) (Fork t (Then group_rest other) (typed_rest Skip) (typed_step Skip))) is
-    (alone opens (typed_rest_l Skip) (typed_l Skip))
+    subst (λ t. Wide of_levels (group_or r None) (If t (Then group_rest other) (typed_step Skip))) is
+    (opened opens (typed_l Skip))
 group_or_l r (Some inner) None opens is w = absurd w
-group_or_l r (Some inner) (Some other) opens is w = fork (then group_l w) (typed_rest_l Skip) (typed_l Skip)
+group_or_l r (Some inner) (Some other) opens is w = choice (then group_l w) (typed_l Skip)
 
 labelled_l : (syntax : Syntax) (inner other : Option Step) → Deeper inner other
     → Wide of_levels (labelled_step GroupNext syntax inner) (labelled_step GroupNext syntax other)
@@ -279,7 +284,7 @@ member_l Extended inner other w = then label_l (typed_l Skip)
 member_l Proto2 inner other w = then needed_label_l (group_or_l LabelledGroupNext inner other refl refl w)
 
 named_type_l : Wide of_levels named_type_step named_type_step
-named_type_l = lone refl (many token) type_name_l
+named_type_l = ban refl type_name_l
 
 extend_or_l : (syntax : Syntax) (inner other : Option Step) {b d : Step} → Deeper inner other → Wide of_levels b d
     → Wide of_levels (extend_or syntax inner b) (extend_or syntax other d)

@@ -104,7 +104,12 @@ AreNameable files target = (index : ℕ) (part : Entity) → slice_get target.pa
 -- the file's own
 abbrev pub own_occurrence : Package → (path : List ℕ) → Occurrence
 own_occurrence id path =
-    record { range = start_of_text; symbol = text_of id (OfFile path); symbol_roles = definition_role }
+    record {
+      range = start_of_text;
+      symbol = text_of id (OfFile path);
+      symbol_roles = definition_role;
+      enclosing_range = None;
+    }
 
 -- with the package of what occurs
 module _ (id : Package) (encoding : Encoding) (text : List ℕ) where

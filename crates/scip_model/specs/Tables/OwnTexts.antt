@@ -1,8 +1,9 @@
 -- The texts of the symbols of a file's own declarations, what has them, and texts that are kept as one.
-use Rattle.std.specs.Prelude.{ℕ, ℤ, List, map, ◌≡◌, zero, suc, ◌≤◌, [], ◌∷◌, ◌++◌, length, slice_range}
+use Rattle.std.specs.Prelude.{ℕ, ℤ, None, List, map, ◌≡◌, zero, suc, ◌≤◌, [], ◌∷◌, ◌++◌, length, slice_range}
 use Rattle.std.specs.Str.{IsCharBoundary}
 use Rattle.proto_lex.specs.declared.span.Span.{Span}
 use Rattle.proto_lex.specs.declared.position.Encoding.{Encoding}
+use Rattle.scip_records.specs.Details.{no_details}
 use Rattle.proto_decl.specs.Declares.{simple_name}
 use Rattle.proto_decl.specs.Facts.{Facts}
 use Rattle.proto_decl.specs.declared.declaration.Declaration.{Declaration}
@@ -21,7 +22,7 @@ declaration_texts id facts = map (λ declaration. text_of id (declaration_at fac
 -- a symbol with this text over a span
 abbrev pub occurrence_with : Encoding → (text : List ℕ) → Span → (symbol : List ℕ) → ℤ → Occurrence
 occurrence_with encoding text span symbol roles =
-    record { range = range_over encoding text span; symbol = symbol; symbol_roles = roles }
+    record { range = range_over encoding text span; symbol = symbol; symbol_roles = roles; enclosing_range = None }
 
 -- the entry of a declaration whose symbol has this text
 abbrev pub entry_with : (symbol : List ℕ) → Declaration → Choice → SymbolInformation
@@ -29,6 +30,7 @@ entry_with symbol declared choice = record {
   symbol = symbol;
   documentation = documentation_of choice.doc declared;
   display_name = simple_name declared.path;
+  details = no_details;
 }
 
 -- ---- texts that are parts of one, one behind the other, and texts that begin alike

@@ -7,6 +7,7 @@ use Rattle.index_hooks.specs.declared.choice.Choice.{Choice}
 use Rattle.proto_decl.specs.Declares.{simple_name}
 use Rattle.proto_decl.specs.Facts.{Facts}
 use Rattle.proto_decl.specs.declared.declaration.Declaration.{Declaration}
+use Rattle.scip_records.specs.Details.{no_details}
 use Rattle.scip_records.specs.declared.records.Occurrence.{Occurrence}
 use Rattle.scip_records.specs.declared.records.SymbolInformation.{SymbolInformation}
 use Rattle.proto_visibility.specs.Files.{File, HasFacts}
@@ -37,6 +38,7 @@ occurrence_of texts planned = record {
   range = planned.range;
   symbol = text_at texts planned.symbol;
   symbol_roles = planned.symbol_roles;
+  enclosing_range = None;
 }
 
 -- what is planned is these occurrences, whatever the texts grow to
@@ -77,12 +79,14 @@ declaration_number facts index = 1 + length facts.package_name + index
 
 -- what documents a declaration, and its name
 abbrev pub shown_as : (symbol : List ℕ) → Option Declaration → Option Choice → SymbolInformation
-shown_as symbol None choice = record { symbol = symbol; documentation = []; display_name = [] }
-shown_as symbol (Some declared) None = record { symbol = symbol; documentation = []; display_name = [] }
+shown_as symbol None choice = record { symbol = symbol; documentation = []; display_name = []; details = no_details }
+shown_as symbol (Some declared) None =
+    record { symbol = symbol; documentation = []; display_name = []; details = no_details }
 shown_as symbol (Some declared) (Some choice) = record {
   symbol = symbol;
   documentation = documentation_of choice.doc declared;
   display_name = simple_name declared.path;
+  details = no_details;
 }
 
 -- The entry with a number, of those of a source: the file is shown by its path, and its packages by these names.
@@ -92,6 +96,7 @@ module _ (texts : List (List ℕ)) (path : List ℕ) (names : List (List ℕ)) (
     symbol = text_at texts number;
     documentation = [];
     display_name = text_at (path ∷ names) number;
+    details = no_details;
   }
 
   abbrev pub documented : (number index : ℕ) → SymbolInformation

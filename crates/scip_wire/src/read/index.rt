@@ -3,6 +3,7 @@
 ghost use Rattle.scip_wire.specs.Reading.{no_index, index_step};
 ghost use Rattle.scip_wire.specs.Blamed.{index_step_fault};
 
+use crate::read::document::add_document;
 use crate::read::field::{Field, Payload};
 use crate::read::message::{Decode, add_message, take_only};
 use crate::wire_fault::WireFault;
@@ -41,7 +42,7 @@ impl Decode for Index {
                 start,
                 end,
             ),
-            (2, Payload::Delimited(bytes)) => add_message(alloc, &mut self.documents, bytes, end),
+            (2, Payload::Delimited(bytes)) => add_document(alloc, &mut self.documents, bytes, end),
             (3, Payload::Delimited(bytes)) => add_message(
                 alloc,
                 &mut self.external_symbols,

@@ -2,7 +2,7 @@
 
 ghost use Rattle.std.specs.Prelude.{◌≡◌, ◌≤◌, length};
 ghost use Rattle.scip_wire.specs.Gives.{Blames, Gives};
-ghost use Rattle.scip_wire.specs.Reading.{occurrence_after};
+ghost use Rattle.scip_wire.specs.Reading.{enclosing_at, occurrence_after};
 ghost use Rattle.scip_wire.specs.Blamed.{occurrence_fault};
 
 use crate::read::field::{Field, Payload};
@@ -11,15 +11,16 @@ use crate::read::range::{add_packed, range_of};
 use crate::read::text::{add, low_bits, number_of, take_text};
 use crate::wire_fault::WireFault;
 use basics::{OwnedText, Sequence};
-use scip_records::Occurrence;
+use scip_records::{Occurrence, Range};
 use std::alloc::Global;
 
-/// An occurrence's parts, before its range is made of its numbers.
+/// An occurrence's parts, before its ranges are made of their numbers.
 #[derive(Drop)]
 pub struct OccurrenceParts {
     pub numbers: Sequence<u32>,
     pub symbol: OwnedText,
     pub symbol_roles: i32,
+    pub around: Sequence<u32>,
 }
 
 impl Decode for OccurrenceParts {
@@ -37,6 +38,7 @@ impl Decode for OccurrenceParts {
             numbers: Sequence::new(alloc),
             symbol: OwnedText::new(alloc),
             symbol_roles: 0,
+            around: Sequence::new(alloc),
         }
     }
 
@@ -56,8 +58,26 @@ impl Decode for OccurrenceParts {
                 self.symbol_roles = number_of(value);
                 Ok(())
             }
+            (7, Payload::Varint(value)) => Ok(add(&mut self.around, low_bits(value))?),
+            (7, Payload::Delimited(bytes)) => add_packed(&mut self.around, bytes, start),
             _ => Ok(()),
         }
+    }
+}
+
+/// The enclosing range of these numbers, of an occurrence whose record is at `start` in the input; none if there are no
+/// numbers.
+#[tactic(auto, unfolding(crate::specs::Reading::enclosing_at))]
+fn enclosing_range_of(numbers: &[u32], start: usize) -> Result<Option<Range>, WireFault>
+    ensures reads { Gives (λ range. range) result (enclosing_at numbers.now) }
+    ensures fault { Blames result (WireFault.BadRange start) }
+{
+    if numbers.is_empty() {
+        return Ok(None);
+    }
+    match range_of(numbers) {
+        Some(range) => Ok(Some(range)),
+        None => Err(WireFault::BadRange(start)),
     }
 }
 
@@ -80,6 +100,7 @@ pub fn add_occurrence(
         numbers,
         symbol,
         symbol_roles,
+        around,
     } = parts;
     let numbers = numbers.into_vec();
     if numbers.is_empty() {
@@ -88,10 +109,12 @@ pub fn add_occurrence(
     let Some(range) = range_of(&numbers) else {
         return Err(WireFault::BadRange(start));
     };
+    let enclosing_range = enclosing_range_of(around.as_slice(), start)?;
     let occurrence = Occurrence {
         range,
         symbol,
         symbol_roles,
+        enclosing_range,
     };
     Ok(add(occurrences, occurrence)?)
 }

@@ -1,9 +1,9 @@
 //! The record of a range (`scip.proto`, `Occurrence.range`): its numbers, packed.
 
-ghost use Rattle.std.specs.Prelude.{◌≡◌, ◌≤◌, [], ◌∷◌, cond, flat_map, length, nat_eq};
+ghost use Rattle.std.specs.Prelude.{◌≡◌, ◌≤◌, [], ◌∷◌, cond, flat_map, length, nat_eq, IfSome};
 ghost use Rattle.scip_records.specs.Range.{IsRange};
 ghost use Rattle.scip_wire.specs.Fields.{max_field_number};
-ghost use Rattle.scip_wire.specs.Spelling.{bytes_of, bytes_field, varint, range_numbers};
+ghost use Rattle.scip_wire.specs.Spelling.{bytes_of, varint, range_numbers, range_field, optional_range_fields};
 ghost use Rattle.scip_wire.specs.Saturated.{saturated, fields_len};
 ghost use Rattle.scip_wire.specs.Outputs.{IsPut};
 
@@ -15,18 +15,43 @@ use scip_records::Range;
 /// The length of a range's record.
 pub(super) fn range_len(number: u64, range: &Range) -> u64
     requires { number ≤ max_field_number }
-    ensures value { result ≡ saturated (fields_len (bytes_field number (flat_map varint (range_numbers range.now))
-        ∷ [])) }
+    ensures value { result ≡ saturated (fields_len (range_field number range.now ∷ [])) }
     ensures fit { IsRange range.now }
 {
     record_len(number, numbers_len(range))
 }
 
+/// The length of the record of a range that may be absent.
+pub(super) fn optional_range_len(number: u64, range: &Option<Range>) -> u64
+    requires { number ≤ max_field_number }
+    ensures value { result ≡ saturated (fields_len (optional_range_fields number range.now)) }
+    ensures fit { IfSome range.now IsRange }
+{
+    match range {
+        Some(range) => range_len(number, range),
+        None => 0,
+    }
+}
+
+/// Puts the record of a range that may be absent.
+pub(super) fn encode_optional_range<W, O: Output<W>>(
+    out: &mut O,
+    sink: &mut W,
+    number: u64,
+    range: &Option<Range>,
+)
+    requires { number ≤ max_field_number }
+    ensures { IsPut O.holds sink.old out.old sink.new out.new (bytes_of (optional_range_fields number range.now)) }
+{
+    if let Some(range) = range {
+        encode_range(out, sink, number, range);
+    }
+}
+
 /// Puts a range's record.
 pub(super) fn encode_range<W, O: Output<W>>(out: &mut O, sink: &mut W, number: u64, range: &Range)
     requires { number ≤ max_field_number }
-    ensures { IsPut O.holds sink.old out.old sink.new out.new (bytes_of (bytes_field number
-        (flat_map varint (range_numbers range.now)) ∷ [])) }
+    ensures { IsPut O.holds sink.old out.old sink.new out.new (bytes_of (range_field number range.now ∷ [])) }
 {
     encode_varint(out, sink, 8 * number + 2);
     encode_varint(out, sink, numbers_len(range));

@@ -1,5 +1,9 @@
 //! The records of an index as messages of `scip.proto`.
 
+use super::details::{
+    enclosing_symbol_len, encode_enclosing_symbol, encode_kind, encode_signature, kind_len,
+    signature_len,
+};
 use super::document::DocumentMessage;
 use super::fields::{
     encode_int, encode_ref, encode_text, encode_texts, encode_texts_ref, int_len, ref_len,
@@ -9,7 +13,7 @@ use super::message::{
     Encode, encode_messages, encode_optional_message, messages_len, optional_message_len,
 };
 use super::output::Output;
-use super::range::{encode_range, range_len};
+use super::range::{encode_optional_range, encode_range, optional_range_len, range_len};
 use super::symbols::{encode_symbol, symbol_len};
 use scip_records::{
     Document, Index, InformationRef, Metadata, Occurrence, OccurrenceRef, SymbolInformation,
@@ -134,16 +138,25 @@ impl<'a> Encode for InformationRef<'a> {
     fn encoded_len(&self) -> u64 {
         let symbol = symbol_len(1, &self.symbol);
         let documentation = texts_ref_len(3, &self.documentation);
+        let kind = kind_len(5, &self.details);
         let display_name = ref_len(6, self.display_name);
+        let signature = signature_len(7, &self.details);
+        let enclosing_symbol = enclosing_symbol_len(8, &self.details);
         symbol
             .saturating_add(documentation)
+            .saturating_add(kind)
             .saturating_add(display_name)
+            .saturating_add(signature)
+            .saturating_add(enclosing_symbol)
     }
 
     fn encode<W, O: Output<W>>(&self, out: &mut O, sink: &mut W) {
         encode_symbol(out, sink, 1, &self.symbol);
         encode_texts_ref(out, sink, 3, &self.documentation);
+        encode_kind(out, sink, 5, &self.details);
         encode_ref(out, sink, 6, self.display_name);
+        encode_signature(out, sink, 7, &self.details);
+        encode_enclosing_symbol(out, sink, 8, &self.details);
     }
 }
 
@@ -176,12 +189,17 @@ impl<'a> Encode for OccurrenceRef<'a> {
         let range = range_len(1, &self.range);
         let symbol = symbol_len(2, &self.symbol);
         let roles = int_len(3, self.symbol_roles);
-        range.saturating_add(symbol).saturating_add(roles)
+        let enclosing_range = optional_range_len(7, &self.enclosing_range);
+        range
+            .saturating_add(symbol)
+            .saturating_add(roles)
+            .saturating_add(enclosing_range)
     }
 
     fn encode<W, O: Output<W>>(&self, out: &mut O, sink: &mut W) {
         encode_range(out, sink, 1, &self.range);
         encode_symbol(out, sink, 2, &self.symbol);
         encode_int(out, sink, 3, self.symbol_roles);
+        encode_optional_range(out, sink, 7, &self.enclosing_range);
     }
 }

@@ -5,7 +5,7 @@ use Rattle.std.specs.String.{string_bytes}
 use Rattle.streams.specs.Writers.{writing}
 use Rattle.proto_parse.specs.dialect.Dialect.{Dialect}
 use Rattle.protoscip.specs.Explanations.{explain_in}
-use Rattle.protoscip.specs.FaultLines.{HasFilesOf}
+use Rattle.protoscip.specs.FaultLines.{HasFilesOf, HaveFilesOf}
 use Rattle.protoscip.specs.Indexes.{Indexes, recorded_of}
 use Rattle.protoscip.specs.ToldLines.{IsTextOfAllOmissions}
 use Rattle.protoscip.specs.declared.fault.Fault.{Fault}
@@ -62,14 +62,15 @@ returns-in-Some g c =
     (rw (c.settle-done.ensures, c.in-Some.is) at c.broken_limit-broken.ensures.unmade)
     (rw (c.settle-done.ensures, c.in-Some.is) at c.finish-done.ensures) in
     let Ended : Option Dialect → Result KeptIndex Fault → Type 0 = λ dialect done.
-    Ends SaysOfSuccess (λ line. line ≡ option_map string_bytes run.none_found) dialect run.tree unread
+    Ends SaysOfSuccess (λ line. line ≡ option_map string_bytes run.none_found) dialect
+    asked.options.is_real run.tree unread
     (λ kept. kept.built.told) done messages c.end-status.result in
     let lacks = made.0.built.told in
     let apart = c.in-Ok.ensures.apart in
     too_poor (recorded made.0) c.in-Some.fault (record { index = apart.index; reported = apart.reported; two = apart.two }) made.2 made.3 (
       c.end-status.new.messages,
       is_success (λ line. line ≡ option_map string_bytes run.none_found)
-          (explain_in asked.options.explain run.settings.dialect) run.tree messages
+          (explain_in asked.options.explain run.settings.dialect) asked.options.is_real run.tree messages
           c.end-status.result unread lacks
           (subst (λ dialect. Ended dialect (Ok made.0)) c.explain_in.ensures
           (subst (Ended c.explain_in.result) made.1 c.end-status.ensures)),
@@ -102,7 +103,8 @@ returns-in-None g c =
     (λ fault. Indexes allows run.settings run.tree workers (writing sink c.in-Ok.part whole) (Err fault)) in
     let done = c.finish-done.result in
     let Ended : Option Dialect → Type 0 = λ dialect.
-    Ends SaysOfSuccess (λ line. line ≡ option_map string_bytes run.none_found) dialect run.tree unread (λ r. r.told)
+    Ends SaysOfSuccess (λ line. line ≡ option_map string_bytes run.none_found) dialect
+    asked.options.is_real run.tree unread (λ r. r.told)
     (part_of recorded done) messages c.end-status.result in
     let apart = c.in-Ok.ensures.apart in
     into_part (part_of recorded done) (record { index = apart.index; reported = apart.reported; two = apart.two })
@@ -116,7 +118,7 @@ returns-in-None g c =
     (rw (c.settle-done.ensures, c.in-None.is) at c.finish-done.ensures))
     (subst Ended c.explain_in.ensures
     (ends_alike recorded (λ r. r.told) SaysOfSuccess (λ line. line ≡ option_map string_bytes run.none_found)
-    c.explain_in.result run.tree unread done messages c.end-status.result c.end-status.ensures))
+    c.explain_in.result asked.options.is_real run.tree unread done messages c.end-status.result c.end-status.ensures))
 
 -- each fault names files of the tree
 
@@ -154,3 +156,17 @@ end-status-requires-clause-said g c =
     (subst Settled (sym c.settle-done.ensures)
     (settled_said Says ran c.report_run-reported.result
     (subst Said c.as_slice.ensures.value c.index_and_tell-ran.ensures.said)))
+
+-- what is told names files of the tree
+
+pub end-status-requires-clause-told : goal.end-status-requires-clause-told
+end-status-requires-clause-told g c =
+    let run = c.args.run.now in
+    let there = place g.P.OutPlace g.P.Part.Sink c.args.places.now.file c.finish-done.new.out in
+    let ran = c.index_and_tell-ran.result in
+    let Says : KeptIndex → Type 0 = λ kept. HaveFilesOf run.tree kept.built.told in
+    let Settled : Result KeptIndex Fault → Type 0 = λ r. IfOk r Says in
+    finished_said there c.index_and_tell-ran.new.out Says c.settle-done.result c.broken_limit-broken.result
+    c.finish-done.result c.finish-done.ensures
+    (subst Settled (sym c.settle-done.ensures)
+    (settled_said Says ran c.report_run-reported.result c.index_and_tell-ran.ensures.told))

@@ -60,7 +60,8 @@ returns-clause-served g c =
     Reports report c.args.options.now.report no_limits (IsChosenBy only doc) settings workers run.tree unread
     (told_by ran) reported in
     let Ended : Option Dialect → Type 0 = λ explain.
-    Ends TellsOfSuccess (λ l. l ≡ line) explain run.tree unread (λ r. r.told) (settled ran reported) messages
+    Ends TellsOfSuccess (λ l. l ≡ line) explain options.is_real run.tree unread (λ r. r.told) (settled ran reported)
+    messages
     c.end.result in
     over_tree run.tree unread run.settings.package ran reported c.in-Ok.ensures.named c.in-Ok.ensures.folders
     c.in-Ok-see_report.ensures.apart
@@ -73,9 +74,10 @@ returns-clause-served g c =
     c.told_in.ensures c.fault_in.ensures c.report_run-reported.ensures))
     (ends_of TellsOfSuccess
     (NoneFoundBy (g.F.LookAgain.passes c.args.host.now.files.now) c.args.host.now.is_watched options run.tree)
-    (explain_in options.explain (settings_in options run.settings.package).dialect) run.tree messages c.end.result
+    (explain_in options.explain (settings_in options run.settings.package).dialect) options.is_real run.tree messages
+    c.end.result
     unread (λ r. r.told) (settled ran reported) line c.in-Ok.ensures.none_found (subst Ended
-    (c.explain_in-explain.ensures
+    (c.explain_in.ensures
     ∙ ap (λ (s : Settings). explain_in options.explain s.dialect) c.in-Ok.ensures.settings)
     (rw c.settle-done.ensures at c.end.ensures)))
 

@@ -6,11 +6,12 @@ use Rattle.proto_decl.proofs.comments.leading_text.Goals as goal
 
 pub returns-in-None : goal.returns-in-None
 returns-in-None c =
-    subst (IsLeadingText c.args.lexed.now c.args.first) (sym c.borrowed.ensures) (not_first c.in-None.ensures)
+    subst (IsLeadingText c.args.form c.args.lexed.now c.args.first) (sym c.borrowed.ensures)
+    (not_first c.in-None.ensures)
 
 pub returns-in-Some : goal.returns-in-Some
 returns-in-Some c =
-    IfOk-weaker c.texts_of.result _ _
-    (λ text same. subst (IsLeadingText c.args.lexed.now c.args.first) (sym same)
+    IfOk-weaker c.texts_in.result _ _
+    (λ text same. subst (IsLeadingText c.args.form c.args.lexed.now c.args.first) (sym same)
     (leading c.in-Some.ensures.0 c.leading_comments.ensures.longest))
-    c.texts_of.ensures
+    c.texts_in.ensures

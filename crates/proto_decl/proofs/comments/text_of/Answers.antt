@@ -1,32 +1,7 @@
-use Rattle.std.proofs.Common.{◌≡◌, ◌∙◌, ap, sym, subst, ℕ, List, drop}
-use Rattle.proto_lex.specs.Comments.{IsComment}
-use Rattle.proto_lex.specs.Lexed.{part_of}
-use Rattle.proto_decl.proofs.CommentTextLemmas.{behind_mark, before_mark}
+use Rattle.std.proofs.Common.{◌∙◌, sym, subst, List, ℕ}
+use Rattle.comment_texts.specs.Comments.{IsCommentIn}
 use Rattle.proto_decl.proofs.comments.text_of.Goals as goal
-use Rattle.proto_decl.proofs.comments.text_of.Goals.{After-spelling_at-spelling}
 
-spelled : (c : After-spelling_at-spelling)
-    → IsComment c.args.comment.kind c.spelling_at-spelling.result.now
-    (drop c.args.comment.span.end c.args.lexed.now.text)
-spelled c =
-    let same : c.spelling_at-spelling.result.now ≡ part_of c.args.lexed.now.text c.args.comment.span =
-    c.spelling_at-spelling.ensures ∙ ap (λ t. part_of t c.args.comment.span) (c.as_str.ensures.same ∙ c.text.ensures) in
-    subst (λ (s : List ℕ). IsComment c.args.comment.kind s (drop c.args.comment.span.end c.args.lexed.now.text))
-    (sym same) c.requires.spelled
-
-pub range_from-requires : goal.range_from-requires
-range_from-requires c = λ some. behind_mark
-    (spelled (goal.at.range_from-requires c).After-spelling_at-spelling) c.spelling_at-spelling.utf8
-
-pub range-requires-clause-start_le_end : goal.range-requires-clause-start_le_end
-range-requires-clause-start_le_end c =
-    (before_mark (spelled (goal.at.range-requires-clause-start_le_end c).After-spelling_at-spelling) c.in-Block.is).0
-
-pub range-requires-clause-start_boundary : goal.range-requires-clause-start_boundary
-range-requires-clause-start_boundary c =
-    λ some. behind_mark (spelled (goal.at.range-requires-clause-start_boundary c).After-spelling_at-spelling)
-    c.spelling_at-spelling.utf8
-
-pub range-requires-clause-end_boundary : goal.range-requires-clause-end_boundary
-range-requires-clause-end_boundary c =
-    (before_mark (spelled (goal.at.range-requires-clause-end_boundary c).After-spelling_at-spelling) c.in-Block.is).1
+pub between_marks-between-requires : goal.between_marks-between-requires
+between_marks-between-requires c =
+    subst (λ (text : List ℕ). IsCommentIn text c.args.comment) (sym (c.as_str.ensures.same ∙ c.text.ensures)) c.requires

@@ -43,7 +43,7 @@ loop-item-preserved c =
     let around = c.args.surrounding.now in
     let i = c.loop-item.item-index in
     let declares = in_item text around in
-    let R = IsDeclaration c.args.lexed.now in
+    let R = IsDeclaration c.args.form c.args.lexed.now in
     let before = subst (λ (os : List Outline). AllZip R os c.loop-item.declared.declarations.items)
     (sym (outlines_are text around (take i items))) c.loop-item.invariant.declarations in
     record {

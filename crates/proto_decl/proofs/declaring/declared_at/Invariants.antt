@@ -7,7 +7,7 @@ use Rattle.proto_decl.proofs.declaring.declared_at.Given as goal
 -- what the items so far declare and use
 abbrev pub invariant-loop-item : goal.invariant-loop-item
 invariant-loop-item l = record {
-  declarations : AllZip (IsDeclaration l.lexed) (outlines_in l.text l.surrounding (take l.item-index l.items))
+  declarations : AllZip (IsDeclaration l.form l.lexed) (outlines_in l.text l.surrounding (take l.item-index l.items))
       l.declared.declarations.items;
   uses : l.uses.items ≡ uses_in l.text l.surrounding (take l.item-index l.items);
 }

@@ -16,5 +16,5 @@ loop-outline-init c = λ before all. rw (append-nil before) all
 pub loop-outline-preserved : goal.loop-outline-preserved
 loop-outline-preserved c = λ before all.
     rw c.in_ok-push.ensures.items
-    (push_behind (IsDeclaration c.args.lexed.now) before c.loop-outline.yielded _ _ _
+    (push_behind (IsDeclaration c.args.form c.args.lexed.now) before c.loop-outline.yielded _ _ _
     (c.loop-outline.invariant before all) c.in_ok-declaration.ensures)

@@ -14,6 +14,6 @@ returns-clause-uses c = λ facts origin.
 
 pub returns-clause-names : goal.returns-clause-names
 returns-clause-names c = λ facts origin.
-    let named = c.names_are_spelled.ensures facts.number origin.lexed origin.file facts origin.is_lexed
+    let named = c.names_are_spelled.ensures origin.form facts.number origin.lexed origin.file facts origin.is_lexed
     origin.derives origin.of_file in
     λ k d h. named_some origin.lexed.text facts.declarations _ (named k d h)

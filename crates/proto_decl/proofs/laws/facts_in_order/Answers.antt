@@ -28,7 +28,7 @@ items_ordered c facts origin =
 
 names : (c : After-names_have_components) (facts : Facts) → AreOfSomeFile facts → NamesInOrder facts.declarations
 names c facts origin =
-    subst placed (sym (same_names origin.lexed
+    subst placed (sym (same_names origin.form origin.lexed
     (outlines_of origin.lexed.text origin.file) facts.declarations origin.of_file.declarations))
     (names_in_order origin.lexed.text origin.file (items_ordered c facts origin))
 
@@ -59,7 +59,7 @@ returns-clause-package_name c = λ facts origin.
     let lexed = origin.lexed in
     let file = origin.file in
     let before = (goal.at.returns-clause-package_name c).After-names_have_components in
-    package_placed facts.number lexed file facts origin.of_file
+    package_placed origin.form facts.number lexed file facts origin.of_file
     (lexemes_of lexed.text lexed.tokens) file.package_name refl
     (c.spans_of_tokens.ensures.package_place lexed.text lexed.tokens file origin.derives)
     (ordered before facts origin) (names before facts origin)

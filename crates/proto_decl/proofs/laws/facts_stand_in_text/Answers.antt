@@ -38,7 +38,7 @@ returns c = λ facts origin.
           (subst (λ (spans : List Span). AreInOrder 0 spans) (ap at_spans origin.of_file.imports)
           (c.facts_in_order.ensures.imports facts origin)));
       names = names_part text facts.declarations facts.declarations
-          (c.names_are_spelled.ensures facts.number lexed file facts origin.is_lexed origin.derives
+          (c.names_are_spelled.ensures origin.form facts.number lexed file facts origin.is_lexed origin.derives
           origin.of_file);
       uses = moved _ _ (ap use_spans origin.of_file.uses)
           (uses_part text file (parts_hold P P text lexed.tokens file each

@@ -2,4 +2,5 @@ use Rattle.proto_decl.proofs.LawLemmas.{one_facts}
 use Rattle.proto_decl.proofs.laws.one_list_of_facts.Goals as goal
 
 pub returns : goal.returns
-returns c = λ number lexed file facts other is a b. one_facts lexed is.comments_in_order number file facts other a b
+returns c = λ form number lexed file facts other is a b.
+    one_facts form lexed is.comments_in_order number file facts other a b

@@ -12,7 +12,7 @@ pub returns-clause-declarations : goal.returns-clause-declarations
 returns-clause-declarations c = λ facts origin.
     let among = c.spans_of_tokens.ensures.items origin.lexed.text origin.lexed.tokens origin.file
     origin.derives in
-    stand_in_scopes facts.number origin.lexed origin.file facts origin.of_file
+    stand_in_scopes origin.form facts.number origin.lexed origin.file facts origin.of_file
     (names_simple origin.lexed origin.is_lexed among)
 
 pub returns-clause-package_name : goal.returns-clause-package_name

@@ -6,12 +6,14 @@ use Rattle.scip_build.proofs.building.build_in_form.Goals as goal
 
 pub build_whole-requires-clause-tree : goal.build_whole-requires-clause-tree
 build_whole-requires-clause-tree g c = λ _ _.
-    of_tree c.args.settings.now.faulty c.args.settings.now.dialect (g.C.Chooses.allows c.args.chooser.now)
+    of_tree c.args.settings.now.faulty c.args.settings.now.dialect c.args.settings.now.comments
+    (g.C.Chooses.allows c.args.chooser.now)
     c.args.tree.now c.in_ok-all.all.items c.in_ok-all.ensures c.file_count.ensures.tree
 
 pub build_kept-requires-clause-tree : goal.build_kept-requires-clause-tree
 build_kept-requires-clause-tree g c = λ _ _.
-    of_tree c.args.settings.now.faulty c.args.settings.now.dialect (g.C.Chooses.allows c.args.chooser.now)
+    of_tree c.args.settings.now.faulty c.args.settings.now.dialect c.args.settings.now.comments
+    (g.C.Chooses.allows c.args.chooser.now)
     c.args.tree.now c.in_ok-all.all.items c.in_ok-all.ensures c.file_count.ensures.tree
 
 pub returns-in-Refuse-clause-built : goal.returns-in-Refuse-clause-built
@@ -31,10 +33,12 @@ returns-in_err-all-clause-refused g c =
     let p = err_from_is_err_and c.from_residual.result c.from_residual.ensures.1 in
     rw (p.1, p.2)
     (of_parsed_file (g.C.Chooses.allows c.args.chooser.now) c.args.settings.now.faulty c.args.settings.now.dialect
+    c.args.settings.now.comments
     c.args.tree.now c.args.run.now.workers c.in_err-all.field-0.0 c.in_err-all.ensures)
 
 pub returns-in-Skip-clause-refused : goal.returns-in-Skip-clause-refused
 returns-in-Skip-clause-refused g c =
     if_err _ _ _ c.build_kept.result c.build_kept.ensures
     (of_kept (g.C.Chooses.allows c.args.chooser.now) c.args.settings.now.faulty c.args.settings.now.dialect
+    c.args.settings.now.comments
     c.args.tree.now c.args.run.now.workers)

@@ -1,4 +1,4 @@
-use Rattle.std.proofs.Common.{◌∙◌, ap, [], ◌∷◌, ◌++◌, List, map}
+use Rattle.std.proofs.Common.{◌∙◌, ap, [], ◌∷◌, ◌++◌, List, None, map}
 use Rattle.scip_records.specs.Range.{RangeNumbers}
 use Rattle.scip_symbol.specs.Entities.{OfFile}
 use Rattle.scip_model.specs.Named.{text_of}
@@ -14,7 +14,12 @@ returns c = λ id run path facts later more.
     one_added (own_texts id run path facts) c.in_ok-list.list.items c.push.new.self.items _ _ (own_occurrence id path)
     c.in_ok-push.ensures.items (file_number id run path facts)
     (ap (λ (range : RangeNumbers).
-    record { range = range; symbol = text_of id (OfFile path); symbol_roles = definition_role })
+    record {
+      range = range;
+      symbol = text_of id (OfFile path);
+      symbol_roles = definition_role;
+      enclosing_range = None;
+    })
     c.start_of_text.ensures)
     later more
     ∙ ap (λ (list : List PlannedOccurrence). map (occurrence_of later) list ++ own_occurrence id path ∷ [])

@@ -11,6 +11,7 @@ use scip_records::{Index, records_of};
 use scip_wire::WireFault;
 use std::alloc::{AllocError, Global};
 use std::process::Abort;
+use std::test::Fail;
 
 /// Bytes that what they decode to is spelled as.
 static SAME: [&[u8]; 3] = [
@@ -134,12 +135,10 @@ fn see_copies(rt: &impl Abort, alloc: Global, index: &Index) -> Result<(), Alloc
 }
 
 #[test]
-fn copies_have_all_details(rt: HostRuntime) -> Result<(), AllocError> {
+fn copies_have_all_details(rt: HostRuntime) -> Result<(), Fail> {
     match decoded(rt.alloc(), DETAILED) {
-        Ok(index) => see_copies(&rt, rt.alloc(), &index),
-        Err(_) => {
-            see(&rt, false, "read");
-            Ok(())
-        }
+        Ok(index) => see_copies(&rt, rt.alloc(), &index)?,
+        Err(_) => see(&rt, false, "read"),
     }
+    Ok(())
 }

@@ -19,6 +19,8 @@ ghost use Rattle.programs.specs.Missing.{
   missing_line,
   missing_paths,
   most_named,
+  one_front,
+  one_line,
   others_text,
 };
 
@@ -161,14 +163,24 @@ fn named_of(each: &[String]) -> &[String]
     each.split_at(each.len().min(MOST_NAMED)).0
 }
 
-/// The line, without its end, of one path.
-fn one_line(alloc: Global, count: usize, path: &str) -> Result<String, AllocError>
-    ensures { IfOk result (λ line. string_bytes line ≡ codes "protoscip: " ++ decimal count ++ codes " imports of "
-        ++ path.now ++ codes " lead nowhere: --include the folder that has it") }
+/// How the line begins of one path.
+fn one_front(alloc: Global, count: usize, path: &str) -> Result<String, AllocError>
+    ensures { IfOk result (λ front. string_bytes front ≡ one_front count path.now) }
 {
-    format!(in alloc;
-        "protoscip: {count} imports of {path} lead nowhere: --include the folder that has it"
-    )
+    if count == 1 {
+        format!(in alloc; "protoscip: 1 import of {path} leads")
+    } else {
+        format!(in alloc; "protoscip: {count} imports of {path} lead")
+    }
+}
+
+/// The line, without its end, of one path.
+fn one_line(alloc: Global, paths: &[String], path: &str) -> Result<String, AllocError>
+    ensures { IfOk result (λ line. string_bytes line ≡ one_line (map string_bytes paths.now) path.now) }
+{
+    let mut line = one_front(alloc, paths.len(), path)?;
+    line.push_str(" nowhere: --include the folder that has it")?;
+    Ok(line)
 }
 
 /// How the line begins of several paths.
@@ -209,7 +221,7 @@ fn line_of(alloc: Global, paths: &[String], each: &[String]) -> Result<Option<St
 {
     match each {
         [] => Ok(None),
-        [path] => Ok(Some(one_line(alloc, paths.len(), path.as_str())?)),
+        [path] => Ok(Some(one_line(alloc, paths, path.as_str())?)),
         _ => Ok(Some(many_line(alloc, paths, each)?)),
     }
 }

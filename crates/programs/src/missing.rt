@@ -1,6 +1,6 @@
 //! The line that groups what is missing: the imports that lead nowhere, by their paths.
 
-ghost use Rattle.std.specs.Prelude.{◌≡◌, ◌++◌, ℕ, List, IfOk, IfSome, OnOk, Some, codes, map, string_bytes, take};
+ghost use Rattle.std.specs.Prelude.{◌≡◌, ◌++◌, IfOk, OnOk, codes, map, string_bytes, take};
 ghost use Rattle.std.specs.Fmt.{decimal};
 ghost use Rattle.std.specs.List.{count_by, flat_map};
 ghost use Rattle.std.specs.Option.{option_map};
@@ -236,46 +236,33 @@ fn missing_line(alloc: Global, tree: &Tree, told: &[Omission]) -> Result<Option<
     line_of(alloc, paths.as_slice(), each.as_slice())
 }
 
-/// A text, and that line behind it; none if there is no such line.
-fn longer(
-    alloc: Global,
-    tree: &Tree,
-    told: &[Omission],
-    text: &str,
-) -> Result<Option<String>, AllocError>
-    requires { HaveFilesOf tree.now told.now }
-    ensures { IfOk result (λ all. IfSome all (λ all. (line : List ℕ) × IsMissingLine tree.now told.now (Some line)
-        × (string_bytes all ≡ text.now ++ codes "\n" ++ line))) }
+/// A text, and behind a line end a line.
+fn with_line(text: String, line: &str) -> Result<String, AllocError>
+    ensures { IfOk result (λ all. string_bytes all ≡ string_bytes text ++ codes "\n" ++ line.now) }
 {
-    match missing_line(alloc, tree, told)? {
-        Some(line) => {
-            let mut all = String::from_str(alloc, text)?;
-            all.push_str("\n")?;
-            all.push_str(line.as_str())?;
-            Ok(Some(all))
-        }
-        None => Ok(None),
-    }
+    let mut all = text;
+    all.push_str("\n")?;
+    all.push_str(line)?;
+    Ok(all)
 }
 
-/// A text of what an index of a tree lacks, and behind it the line of what is missing, if that is wanted, something is
-/// missing, and there is memory for it.
+/// A text of what an index of a tree lacks, and behind it the line of what is missing, if that is wanted and something
+/// is missing.
 pub(crate) fn with_missing(
     alloc: Global,
     wanted: bool,
     tree: &Tree,
     told: &[Omission],
     text: String,
-) -> String
+) -> Result<String, AllocError>
     requires { HaveFilesOf tree.now told.now }
-    ensures { IsWithMissing wanted tree.now told.now (string_bytes text) (string_bytes result) }
+    ensures { IfOk result (λ all. IsWithMissing wanted tree.now told.now (string_bytes text) (string_bytes all)) }
 {
-    if wanted {
-        match longer(alloc, tree, told, text.as_str()) {
-            Ok(Some(all)) => all,
-            Ok(None) | Err(AllocError) => text,
-        }
-    } else {
-        text
+    if !wanted {
+        return Ok(text);
+    }
+    match missing_line(alloc, tree, told)? {
+        Some(line) => with_line(text, line.as_str()),
+        None => Ok(text),
     }
 }

@@ -58,8 +58,8 @@ pub use recorded::Recorded;
 pub use sessions::session;
 pub use statuses::{MEMORY_STATUS, SOURCES_STATUS, STREAM_STATUS};
 pub use telling::{
-    Telling, count_imports, count_left_out, count_skipped, count_skipped_sources, count_uses,
-    omits_nothing, told_text, told_text_with,
+    Telling, Tells, count_imports, count_left_out, count_skipped, count_skipped_sources,
+    count_uses, omits_nothing, told_text, told_text_with,
 };
 pub use told_lines::told_line;
 pub use told_trees::told_of_tree;

@@ -1,6 +1,5 @@
 -- One index of several (`scip.proto`, Index, Metadata, Document, SymbolInformation): its documents by path, its
--- external
--- entries by symbol.
+-- external entries by symbol.
 use Rattle.std.specs.Prelude.{◌≡◌, ◌↔◌, ℕ, pos, Bool, false, Option, Some, None, List, [], ◌∷◌, map, flat_map, filter}
 use Rattle.std.specs.Prelude.{reverse, Contains}
 use Rattle.std.specs.List.{enumerate_from, list_any}

@@ -25,8 +25,7 @@ abbrev pub in_index : (Occurrence → Bool) → Index → List (Document × Occu
 in_index test index = flat_map (in_document test) index.documents
 
 -- What is answered of a symbol that isn't local: of each index, its occurrences, document by document. So a join
--- answers
--- in the order of paths.
+-- answers in the order of paths.
 abbrev pub AnswersByDocument : Type 0
 AnswersByDocument = (index : Index) (subject : Subject) → is_local subject.symbol ≡ false
     → (map shown (references_of index subject) ≡ in_index (has subject.symbol) index)

@@ -5,7 +5,7 @@ use Rattle.protoscip.specs.Indexes.{recorded_of}
 use Rattle.protoscip.proofs.HeadlineFileLemmas.{files_of_build, files_of_built}
 use Rattle.protoscip.proofs.HeadlineNavigableLemmas.{answers}
 use Rattle.protoscip.proofs.SessionLemmas.{unserved, all_served, no_files}
-use Rattle.protoscip.proofs.sessions.session.Goals as goal
+use Rattle.protoscip.proofs.sessions.session_in.Goals as goal
 
 -- where the tree isn't built
 
@@ -13,8 +13,9 @@ pub returns-in_err-index-clause-files : goal.returns-in_err-index-clause-files
 returns-in_err-index-clause-files g c =
     let p = err_from_is_err_and c.from_residual.result c.from_residual.ensures.1 in
     rw (p.1, p.2) (files_of_build
-    (g.C.Chooses.allows c.args.chooser.now) c.args.settings.now.faulty c.args.settings.now.dialect
-    c.args.settings.now.comments c.args.tree.now c.args.run.now.workers
+    (g.C.Chooses.allows c.args.talk.now.chooser.now) c.args.talk.now.settings.now.faulty
+    c.args.talk.now.settings.now.dialect c.args.talk.now.settings.now.comments
+    c.args.tree.now c.args.run.now.workers
     c.in_err-index.field-0.0 c.in_err-index.ensures.refused)
 
 -- where the conversation stops
@@ -22,15 +23,15 @@ returns-in_err-index-clause-files g c =
 pub returns-in_err-converse-clause-served : goal.returns-in_err-converse-clause-served
 returns-in_err-converse-clause-served g c =
     let p = err_from_is_err_and c.from_residual-in_err-converse.result c.from_residual-in_err-converse.ensures.1 in
-    rw (p.1, p.2) (unserved (reading g.F.Feed c.args.commands.now c.converse.new.commands)
+    rw (p.1, p.2) (unserved c.args.talk.now.manner (reading g.F.Feed c.args.commands.now c.converse.new.commands)
     (writing g.W.Sink c.args.answers.now c.converse.new.answers)
-    (g.C.Chooses.allows c.args.chooser.now) c.args.settings.now c.args.tree.now c.args.run.now.workers
+    (g.C.Chooses.allows c.args.talk.now.chooser.now) c.args.talk.now.settings.now c.args.tree.now c.args.run.now.workers
     c.in_ok-index.field-0 c.in_ok-index.ensures.built c.in_err-converse.field-0.0 c.in_err-converse.ensures)
 
 pub returns-in_err-converse-clause-files : goal.returns-in_err-converse-clause-files
 returns-in_err-converse-clause-files g c =
     let p = err_from_is_err_and c.from_residual-in_err-converse.result c.from_residual-in_err-converse.ensures.1 in
-    rw (p.1, p.2) (no_files (reading g.F.Feed c.args.commands.now c.converse.new.commands)
+    rw (p.1, p.2) (no_files c.args.talk.now.manner (reading g.F.Feed c.args.commands.now c.converse.new.commands)
     (writing g.W.Sink c.args.answers.now c.converse.new.answers)
     c.args.tree.now c.in_ok-index.field-0.index c.in_err-converse.field-0.0 c.in_err-converse.ensures)
 
@@ -38,20 +39,23 @@ returns-in_err-converse-clause-files g c =
 
 pub returns-clause-served : goal.returns-clause-served
 returns-clause-served g c =
-    all_served (reading g.F.Feed c.args.commands.now c.converse.new.commands) (writing g.W.Sink c.args.answers.now
+    all_served c.args.talk.now.manner (reading g.F.Feed c.args.commands.now c.converse.new.commands)
+    (writing g.W.Sink c.args.answers.now
     c.converse.new.answers)
-    (g.C.Chooses.allows c.args.chooser.now) c.args.settings.now c.args.tree.now c.args.run.now.workers
+    (g.C.Chooses.allows c.args.talk.now.chooser.now) c.args.talk.now.settings.now c.args.tree.now c.args.run.now.workers
     c.in_ok-index.field-0 c.in_ok-index.ensures.built c.in_ok-converse.field-0 c.in_ok-converse.ensures
 
 pub returns-clause-navigable : goal.returns-clause-navigable
 returns-clause-navigable g c =
-    answers (g.C.Chooses.allows c.args.chooser.now) c.args.settings.now c.args.tree.now c.headline_of_tree.ensures
-    (reading g.F.Feed c.args.commands.now c.converse.new.commands)
+    answers (g.C.Chooses.allows c.args.talk.now.chooser.now) c.args.talk.now.settings.now c.args.tree.now
+    c.headline_of_tree.ensures
+    c.args.talk.now.manner (reading g.F.Feed c.args.commands.now c.converse.new.commands)
     (writing g.W.Sink c.args.answers.now c.converse.new.answers) c.args.run.now.workers
     (recorded_of c.in_ok-index.field-0.choices c.in_ok-index.field-0.told)
     (returns-clause-served g c)
 
 pub returns-clause-told : goal.returns-clause-told
 returns-clause-told g c =
-    files_of_built (g.C.Chooses.allows c.args.chooser.now) c.args.settings.now c.args.tree.now c.in_ok-index.field-0
+    files_of_built (g.C.Chooses.allows c.args.talk.now.chooser.now) c.args.talk.now.settings.now c.args.tree.now
+    c.in_ok-index.field-0
     c.in_ok-index.ensures.built

@@ -15,6 +15,7 @@ use Rattle.command_line.specs.Options.Include.{folder_of, include_of, include_pa
 use Rattle.command_line.specs.Options.Include.{package_folders_of}
 use Rattle.command_line.specs.Options.Limits.{limits_of, max_skipped_rule, min_sources_rule}
 use Rattle.command_line.specs.Options.Links.{links_of, links_rule, links_words}
+use Rattle.command_line.specs.Options.More.{more_in}
 use Rattle.command_line.specs.Options.Only.{only_of, only_rule}
 use Rattle.command_line.specs.Options.Package.{manager_of, manager_rule, package_of, package_rule, release_of}
 use Rattle.command_line.specs.Options.Package.{release_rule}
@@ -30,6 +31,8 @@ use Rattle.command_line.specs.declared.options.DumpOptions.{DumpOptions}
 use Rattle.command_line.specs.declared.options.IndexOptions.{IndexOptions}
 use Rattle.command_line.specs.declared.options.IndexRequest.{IndexRequest}
 use Rattle.command_line.specs.declared.options.PagesOptions.{PagesOptions}
+use Rattle.command_line.specs.declared.options.QueryOptions.{QueryOptions}
+use Rattle.command_line.specs.declared.options.ShellRequest.{ShellRequest}
 use Rattle.command_line.specs.declared.options.SnapshotOptions.{SnapshotOptions}
 use Rattle.command_line.specs.declared.options.WordLists.{WordLists}
 pub mod Accept
@@ -42,6 +45,7 @@ pub mod Faulty
 pub mod Include
 pub mod Limits
 pub mod Links
+pub mod More
 pub mod Only
 pub mod Package
 pub mod Positions
@@ -131,6 +135,17 @@ pub record CarriesIndex (rows : List Row) (given : IndexRequest) : Type 0 where
   pub out : string_bytes given.out ≡ text_of (codes "OUT") rows
   pub quiet : given.quiet ≡ quiet_in rows
   pub limits : given.limits ≡ limits_of rows
+
+-- and all that `shell` is given
+pub record CarriesShell (rows : List Row) (given : ShellRequest) : Type 0 where
+  pub options : Carries rows given.options
+  pub more : given.more ≡ more_in rows
+
+-- and the options of `query`
+pub record CarriesQuery (rows : List Row) (options : QueryOptions) : Type 0 where
+  pub index : string_bytes options.index ≡ text_of (codes "INDEX") rows
+  pub explain : options.explain ≡ explains_in rows
+  pub more : options.more ≡ more_in rows
 
 -- and so the options of `dump`
 pub record CarriesDump (rows : List Row) (options : DumpOptions) : Type 0 where

@@ -8,6 +8,7 @@ use Rattle.command_line.specs.Options.{index_option_rules, tree_rules}
 use Rattle.command_line.specs.Options.Accept.{accept_rule}
 use Rattle.command_line.specs.Options.CustomOptions.{custom_options_rule}
 use Rattle.command_line.specs.Options.Explain.{explain_rule}
+use Rattle.command_line.specs.Options.More.{more_rule}
 use Rattle.command_line.specs.Options.To.{to_rule}
 use Rattle.command_line.specs.declared.options.WordLists.{WordLists}
 
@@ -29,16 +30,16 @@ index_rules lists = required_rule (codes "ROOT") ∷ required_rule (codes "OUT")
 abbrev pub index_line : WordLists → Shape
 index_line lists = line_of (codes "index") (index_rules lists)
 
--- `shell` wants the folder alone
+-- `shell` wants the folder alone, and has an option of its own
 abbrev pub shell_rules : WordLists → List Rule
-shell_rules lists = required_rule (codes "ROOT") ∷ tree_rules lists
+shell_rules lists = required_rule (codes "ROOT") ∷ more_rule ∷ tree_rules lists
 
 abbrev pub shell_line : WordLists → Shape
 shell_line lists = line_of (codes "shell") (shell_rules lists)
 
 -- `query` wants one argument, the path of an index
 abbrev pub query_line : Shape
-query_line = line_of (codes "query") (required_rule (codes "INDEX") ∷ explain_rule ∷ [])
+query_line = line_of (codes "query") (required_rule (codes "INDEX") ∷ more_rule ∷ explain_rule ∷ [])
 
 -- `snapshot` wants the path of an index, and the folder with its sources
 abbrev pub snapshot_line : Shape

@@ -18,7 +18,7 @@ mod arguments;
 
 pub use options::{
     DumpOptions, IndexOptions, IndexRequest, Limits, Links, PackageFolder, PagesOptions,
-    ReportOptions, SnapshotOptions,
+    QueryOptions, ReportOptions, ShellRequest, SnapshotOptions,
 };
 pub use reading::{request_of, request_of_process};
 pub use request::Request;

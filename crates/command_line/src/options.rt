@@ -9,6 +9,8 @@ ghost use Rattle.command_line.specs.Options.{
   CarriesDump,
   CarriesIndex,
   CarriesPages,
+  CarriesQuery,
+  CarriesShell,
   CarriesSnapshot,
   choice_rules,
   index_option_rules,
@@ -29,6 +31,7 @@ mod faulty;
 mod include;
 mod limits;
 mod links;
+pub(crate) mod more;
 mod only;
 mod package;
 mod positions;
@@ -49,6 +52,7 @@ use crate::options::faulty::faulty_of;
 use crate::options::include::package_folders_of;
 use crate::options::limits::limits_of;
 use crate::options::links::links_of;
+use crate::options::more::more_in;
 use crate::options::positions::encoding_of;
 use crate::options::quiet::quiet_in;
 use crate::options::real::is_real;
@@ -157,6 +161,26 @@ pub struct IndexRequest {
     pub quiet: bool,
     /// The limits that the index has to keep.
     pub limits: Limits,
+}
+
+/// What `shell` is given.
+#[derive(Debug, Drop)]
+pub struct ShellRequest {
+    /// What `index` can be given, too.
+    pub options: IndexOptions,
+    /// Whether more commands are known.
+    pub more: bool,
+}
+
+/// What `query` is given.
+#[derive(Debug, Drop)]
+pub struct QueryOptions {
+    /// The path of the file that holds the index.
+    pub index: String,
+    /// Whether a fault is explained.
+    pub explain: bool,
+    /// Whether more commands are known.
+    pub more: bool,
 }
 
 /// What `dump` is given.
@@ -326,6 +350,34 @@ pub(crate) fn index_request_of(
         out: text_of(alloc, given, OUT)?,
         quiet: quiet_in(given),
         limits: limits_of(given),
+    })
+}
+
+/// What `shell` is given.
+pub(crate) fn shell_request_of(
+    alloc: Global,
+    given: &ArgMatches<'_>,
+) -> Result<ShellRequest, AllocError>
+    ensures { IfOk result (CarriesShell (rows_of (found_of given.now))) }
+{
+    Ok(ShellRequest {
+        options: options_of(alloc, given)?,
+        more: more_in(given),
+    })
+}
+
+/// What `query` is given.
+pub(crate) fn query_options_of(
+    alloc: Global,
+    given: &ArgMatches<'_>,
+) -> Result<QueryOptions, AllocError>
+    ensures { IfOk result (CarriesQuery (rows_of (found_of given.now))) }
+{
+    let file = text_of(alloc, given, INDEX_FILE)?;
+    Ok(QueryOptions {
+        index: file,
+        explain: explains_in(given),
+        more: more_in(given),
     })
 }
 

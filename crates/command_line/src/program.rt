@@ -19,7 +19,7 @@ ghost use Rattle.command_line.specs.Program.{
 use crate::arguments::required;
 use crate::names::{DUMP, INDEX, INDEX_FILE, OUT, PAGES, QUERY, ROOT, SHELL, SNAPSHOT};
 use crate::options::{
-    WordLists, accept, add_index_options, add_tree_options, custom_options, explain, to,
+    WordLists, accept, add_index_options, add_tree_options, custom_options, explain, more, to,
 };
 use basics::tool::{NAME, VERSION};
 use clap::{Arg, Command};
@@ -98,7 +98,7 @@ fn shell_program<'a>(alloc: Global, lists: WordLists<'a>) -> Result<Command<'a>,
 {
     let about = "Indexes the sources below a folder and answers commands from standard input";
     let root = required(alloc, ROOT, "The folder whose sources are indexed");
-    let mut args = vec![in alloc; root]?;
+    let mut args = vec![in alloc; root, more::arg(alloc)]?;
     add_tree_options(alloc, &mut args, lists)?;
     program_of(alloc, SHELL, about, SHELL_EXAMPLE, args)
 }
@@ -111,6 +111,7 @@ fn query_program<'a>(alloc: Global) -> Result<Command<'a>, AllocError>
     let about = "Answers commands from standard input about an index";
     let args = vec![in alloc;
         required(alloc, INDEX_FILE, "A file with a SCIP index"),
+        more::arg(alloc),
         explain::arg(alloc),
     ]?;
     program_of(alloc, QUERY, about, QUERY_EXAMPLE, args)

@@ -69,7 +69,9 @@ Arguments:
 
 Options:
 ",
-        "",
+        "      --more
+          Knows more commands, as on a terminal; the command help lists them
+",
         Some(
             "
 Example session. The lines that begin with a word are typed; Ctrl-D ends the session:
@@ -94,6 +96,7 @@ Arguments:
   <INDEX>  A file with a SCIP index
 
 Options:
+      --more     Knows more commands, as on a terminal; the command help lists them
       --explain  Explains a fault: adds its line and column, a sentence, and the text of that line
   -h, --help     Print help
 

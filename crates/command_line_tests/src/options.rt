@@ -72,11 +72,11 @@ struct Asked {
 static ASKED: [Asked; 17] = [
     Asked {
         words: "query a.scip",
-        request: "Query(\"a.scip\", false)",
+        request: "Query(QueryOptions { index: \"a.scip\", explain: false, more: false })",
     },
     Asked {
-        words: "query --explain a.scip",
-        request: "Query(\"a.scip\", true)",
+        words: "query --explain a.scip --more",
+        request: "Query(QueryOptions { index: \"a.scip\", explain: true, more: true })",
     },
     Asked {
         words: "dump",
@@ -99,8 +99,8 @@ static ASKED: [Asked; 17] = [
         request: "Index(IndexRequest { options: IndexOptions { root: \"api\", is_real: false, workers: Workers { count: 2 }, project_root: \"u\", manager: \"m\", package: \"p\", release: \"r\", only: Some(\"o\"), doc: Some(Both), comments: Clean, include: [\"j\", \"i\"], include_packages: [], well_known: false, encoding: Utf16, dialect: All, faulty: Skip, explain: true, exclude: [], links: Ignore, report: ReportOptions { path: Some(\"f\"), format: Sarif } }, out: \"out\", quiet: true, limits: Limits { max_skipped: Some(3), min_sources: Some(812) } })",
     },
     Asked {
-        words: "shell --workers 16 --project-root=u --manager=m --package=p --release=r --report=f --report-format=jsonl --only=o --doc=trailing --comments=raw --include=i --positions=utf8 --accept=proto3 --custom-options=refuse --faulty=refuse -- -api",
-        request: "Shell(IndexOptions { root: \"-api\", is_real: false, workers: Workers { count: 16 }, project_root: \"u\", manager: \"m\", package: \"p\", release: \"r\", only: Some(\"o\"), doc: Some(Trailing), comments: Raw, include: [\"i\"], include_packages: [], well_known: false, encoding: Utf8, dialect: Proto3(Refuse), faulty: Refuse, explain: false, exclude: [], links: Ignore, report: ReportOptions { path: Some(\"f\"), format: JsonLines } })",
+        words: "shell --more --workers 16 --project-root=u --manager=m --package=p --release=r --report=f --report-format=jsonl --only=o --doc=trailing --comments=raw --include=i --positions=utf8 --accept=proto3 --custom-options=refuse --faulty=refuse -- -api",
+        request: "Shell(ShellRequest { options: IndexOptions { root: \"-api\", is_real: false, workers: Workers { count: 16 }, project_root: \"u\", manager: \"m\", package: \"p\", release: \"r\", only: Some(\"o\"), doc: Some(Trailing), comments: Raw, include: [\"i\"], include_packages: [], well_known: false, encoding: Utf8, dialect: Proto3(Refuse), faulty: Refuse, explain: false, exclude: [], links: Ignore, report: ReportOptions { path: Some(\"f\"), format: JsonLines } }, more: true })",
     },
     Asked {
         words: "index api --include a --include-package m n r d --include b out --include-package '' '' '' e --include c",
@@ -120,7 +120,7 @@ static ASKED: [Asked; 17] = [
     },
     Asked {
         words: "shell --accept proto3 --custom-options skip --faulty refuse --doc nothing --comments raw --real api",
-        request: "Shell(IndexOptions { root: \"api\", is_real: true, workers: Workers { count: 4 }, project_root: \"file:///\", manager: \"\", package: \"\", release: \"\", only: None, doc: Some(Nothing), comments: Raw, include: [], include_packages: [], well_known: true, encoding: Utf8, dialect: Proto3(Skip), faulty: Refuse, explain: false, exclude: [], links: Ignore, report: ReportOptions { path: None, format: JsonLines } })",
+        request: "Shell(ShellRequest { options: IndexOptions { root: \"api\", is_real: true, workers: Workers { count: 4 }, project_root: \"file:///\", manager: \"\", package: \"\", release: \"\", only: None, doc: Some(Nothing), comments: Raw, include: [], include_packages: [], well_known: true, encoding: Utf8, dialect: Proto3(Skip), faulty: Refuse, explain: false, exclude: [], links: Ignore, report: ReportOptions { path: None, format: JsonLines } }, more: false })",
     },
     Asked {
         words: "snapshot a.scip api",
@@ -236,7 +236,7 @@ fn words_of_the_system(rt: HostRuntime) -> Result<(), Fail> {
     let text = asked(rt.alloc(), "query a.scip", By::System)?;
     see(
         &rt,
-        text.as_str() == "Query(\"a.scip\", false)",
+        text.as_str() == "Query(QueryOptions { index: \"a.scip\", explain: false, more: false })",
         text.as_str(),
     );
     Ok(())

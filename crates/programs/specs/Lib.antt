@@ -29,6 +29,7 @@ pub mod Settled
 pub mod TreeRuns
 pub mod Dumping
 pub mod Limits
+pub mod Manners
 pub mod Asked
 pub mod Placing
 pub mod WellKnown

@@ -32,11 +32,11 @@ fn is_explained(asked: &Result<Request, AllocError>) -> bool
     match asked {
         Ok(request) => match request {
             Request::Dump(options) => options.explain,
-            Request::Query(_, explain) => *explain,
+            Request::Query(options) => options.explain,
             Request::Snapshot(options) => options.explain,
             Request::Pages(options) => options.explain,
             Request::Index(given) => given.options.explain,
-            Request::Shell(options) => options.explain,
+            Request::Shell(given) => given.options.explain,
             Request::Print(_) | Request::Refuse(_) => false,
         },
         Err(AllocError) => false,
@@ -56,7 +56,7 @@ fn made_path(asked: &Result<Request, AllocError>) -> &str
                 None => "",
             },
             Request::Dump(_)
-            | Request::Query(..)
+            | Request::Query(_)
             | Request::Shell(_)
             | Request::Print(_)
             | Request::Refuse(_) => "",

@@ -330,6 +330,7 @@ where
         alloc: host.alloc,
         files: &files,
         is_watched: host.is_watched,
+        manner: host.manner,
     };
     index(&searched, request, places, messages)
 }

@@ -74,10 +74,10 @@ fn answer<R, F: ReadFiles + LookAgain, I: Feed, W: Sink, M: Sink>(
     messages: &mut M,
 ) -> u8
     ensures { (done : Result (Unit {0}) QueryFault)
-        × Queried (F.gives host.now.files.now path.now) (reader I.Feed input) (writer W.Sink out) done
+        × Queried host.now.manner (F.gives host.now.files.now path.now) (reader I.Feed input) (writer W.Sink out) done
         × Answers (F.blames host.now.files.now [] []) explain path.now done (writer M.Sink messages) result }
 {
-    match query(host.alloc, host.files, path, input, out) {
+    match query(host, path, input, out) {
         Ok(()) => 0,
         Err(fault) => report_query(host, &fault, path, explain, messages),
     }
@@ -114,7 +114,7 @@ pub fn report_path(asked: &Result<Request, AllocError>) -> &str
 {
     match asked {
         Ok(Request::Index(given)) => path_of(&given.options.report),
-        Ok(Request::Shell(options)) => path_of(&options.report),
+        Ok(Request::Shell(given)) => path_of(&given.options.report),
         _ => "",
     }
 }
@@ -125,7 +125,7 @@ pub fn links_followed(asked: &Result<Request, AllocError>) -> bool
 {
     match asked {
         Ok(Request::Index(given)) => matches!(given.options.links, Links::Follow),
-        Ok(Request::Shell(options)) => matches!(options.links, Links::Follow),
+        Ok(Request::Shell(given)) => matches!(given.options.links, Links::Follow),
         _ => false,
     }
 }
@@ -165,7 +165,7 @@ where
     // What `query` promises of its answers, and what becomes of that.
     ensures queried { IfOk asked.now (λ request. IfSome (index_path request) (λ path.
         ((done : Result (Unit {0}) QueryFault)
-        × Queried (F.gives host.now.files.now path) (reader I.Feed input) (writer W.Sink out) done
+        × Queried host.now.manner (F.gives host.now.files.now path) (reader I.Feed input) (writer W.Sink out) done
         × Answers (F.blames host.now.files.now [] []) (explains request) path done (writer M.Sink messages) result)
         × (places.new ≡ places.old))) }
     // What `index` does.
@@ -178,7 +178,7 @@ where
         × (input.new ≡ input.old) × (out.new ≡ out.old))) }
     // What `shell` does.
     ensures served { IfOk asked.now (λ request. IfSome (shell_options request) (λ options.
-        Served (searched_by options (F.lists host.now.files.now)) (F.gives host.now.files.now)
+        Served host.now.manner (searched_by options (F.lists host.now.files.now)) (F.gives host.now.files.now)
         (blamed_by options (F.blames host.now.files.now))
         (NoneFoundBy (F.passes host.now.files.now) host.now.is_watched options)
         (Q.suspects places.old.report) options (place Q.OutPlace Q.Part.Sink places.old.report places.new.report)
@@ -190,7 +190,8 @@ where
         given.options
         (place O.OutPlace O.Part.Sink places.old.file places.new.file) result)
         × IfSome (shell_options request) (λ options.
-        AnswersNavigable (searched_by options (F.lists host.now.files.now)) (F.gives host.now.files.now) options
+        AnswersNavigable host.now.manner (searched_by options (F.lists host.now.files.now))
+        (F.gives host.now.files.now) options
         (reader I.Feed input) (writer W.Sink out) result)) }
     // What `snapshot` does.
     ensures snapshotted { IfOk asked.now (λ request. IfSome (snapshot_options request) (λ options.
@@ -209,15 +210,17 @@ where
     match asked {
         Ok(request) => match request {
             Request::Dump(options) => dump_source(host, options, input, out, messages),
-            Request::Query(path, explain) => {
-                answer(host, path.as_str(), *explain, input, out, messages)
+            Request::Query(options) => {
+                let (path, explain) = (options.index.as_str(), options.explain);
+                answer(host, path, explain, input, out, messages)
             }
             Request::Snapshot(options) => {
                 snapshot(host, options, out, &mut places.file, messages)
             }
             Request::Pages(options) => pages(host, options, &mut places.file, messages),
             Request::Index(given) => index_searched(host, given, places, messages),
-            Request::Shell(options) => {
+            Request::Shell(given) => {
+                let options = &given.options;
                 shell_searched(host, options, input, out, &mut places.report, messages)
             }
             Request::Print(text) => print(host.alloc, text.as_str(), out, messages),

@@ -29,7 +29,7 @@ returns-in-Print-clause-printed g c =
     let Here : Request → Type 0 = λ request. IfSome (printed_text request) (λ text. Printed text
     × (c.args.input.now ≡ c.args.input.now) × (c.args.places.now ≡ c.args.places.now)) in
     subst (λ (asked : Result Request AllocError). IfOk asked Here) (sym c.in-Ok.is)
-    (subst Here (sym c.in-Print.is) (subst Printed c.as_str-in-Print.ensures.value c.print.ensures, refl, refl))
+    (subst Here (sym c.in-Print.is) (subst Printed c.as_str.ensures.value c.print.ensures, refl, refl))
 
 pub returns-in-Refuse-clause-refused : goal.returns-in-Refuse-clause-refused
 returns-in-Refuse-clause-refused g c =
@@ -64,7 +64,7 @@ returns-in-Index-clause-indexed g c =
 pub returns-in-Shell-clause-served : goal.returns-in-Shell-clause-served
 returns-in-Shell-clause-served g c =
     let Here : Request → Type 0 = λ request. IfSome (shell_options request) (λ options.
-    Served (searched_by options (g.F.ReadFiles.lists c.args.host.now.files.now))
+    Served c.args.host.now.manner (searched_by options (g.F.ReadFiles.lists c.args.host.now.files.now))
     (g.F.ReadFiles.gives c.args.host.now.files.now)
     (blamed_by options (g.F.LookAgain.blames c.args.host.now.files.now))
     (NoneFoundBy (g.F.LookAgain.passes c.args.host.now.files.now) c.args.host.now.is_watched options)
@@ -85,7 +85,8 @@ returns-in-Index-clause-navigable g c =
     IfSome (index_request request) (λ given. WritesNavigable (searched_by given.options lists) gives given.options
     (place g.O.OutPlace g.O.Part.Sink c.args.places.now.file c.index_searched.new.places.file)
     c.index_searched.result)
-    × IfSome (shell_options request) (λ options. AnswersNavigable (searched_by options lists) gives options
+    × IfSome (shell_options request) (λ options. AnswersNavigable c.args.host.now.manner
+    (searched_by options lists) gives options
     (reading g.I.Feed c.args.input.now c.args.input.now)
     (writing g.W.Sink c.args.out.now c.args.out.now) c.index_searched.result) in
     subst (λ (asked : Result Request AllocError). IfOk asked Here) (sym c.in-Ok.is)
@@ -99,7 +100,8 @@ returns-in-Shell-clause-navigable g c =
     IfSome (index_request request) (λ given. WritesNavigable (searched_by given.options lists) gives given.options
     (place g.O.OutPlace g.O.Part.Sink c.args.places.now.file c.args.places.now.file)
     c.shell_searched.result)
-    × IfSome (shell_options request) (λ options. AnswersNavigable (searched_by options lists) gives options
+    × IfSome (shell_options request) (λ options. AnswersNavigable c.args.host.now.manner
+    (searched_by options lists) gives options
     (reading g.I.Feed c.args.input.now c.shell_searched.new.commands)
     (writing g.W.Sink c.args.out.now c.shell_searched.new.answers) c.shell_searched.result) in
     subst (λ (asked : Result Request AllocError). IfOk asked Here) (sym c.in-Ok.is)

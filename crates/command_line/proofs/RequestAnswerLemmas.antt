@@ -41,6 +41,7 @@ refuses (request.Dump options) p = absurd p
 refuses (request.Query options) p = absurd p
 refuses (request.Snapshot options) p = absurd p
 refuses (request.Pages options) p = absurd p
+refuses (request.Join options) p = absurd p
 refuses (request.Index given) p = absurd p
 refuses (request.Shell given) p = absurd p
 refuses (request.Print text) (inl help) = absurd cc

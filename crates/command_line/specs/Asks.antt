@@ -4,8 +4,8 @@ use Rattle.std.specs.Prelude.{◌≡◌, ◌≢◌, Bool, true, false, List, [],
 use Rattle.std.specs.Option.{option_map}
 use Rattle.clap.specs.Words.{Kinds, IsAmong, Row, Text, fault_of, subcommand_of}
 use Rattle.clap.specs.declared.error.kind.ErrorKind.{ErrorKind}
-use Rattle.command_line.specs.Options.{AreListed, CarriesDump, CarriesIndex, CarriesPages, CarriesQuery, CarriesShell}
-use Rattle.command_line.specs.Options.{CarriesSnapshot}
+use Rattle.command_line.specs.Options.{AreListed, CarriesDump, CarriesIndex, CarriesJoin, CarriesPages}
+use Rattle.command_line.specs.Options.{CarriesQuery, CarriesShell, CarriesSnapshot}
 use Rattle.command_line.specs.Options.Report.{lacks_report}
 use Rattle.command_line.specs.Program.{command_line}
 use Rattle.command_line.specs.Requests.{IsRefused, Prints}
@@ -18,7 +18,7 @@ use Rattle.command_line.specs.declared.request.Request.TheVariants as request
 abbrev pub program_name : Option (Text × List Row) → Option Text
 program_name program = option_map (λ p. p.0) program
 
--- the program, with what it is given: `index`, `shell`, `query`, `snapshot`, `pages`, and else
+-- the program, with what it is given: `index`, `shell`, `query`, `snapshot`, `pages`, `join`, and else
 -- `dump`, the only other one
 abbrev pub Names : Option (Text × List Row) → Request → Type 0
 Names program (request.Index given) = (program_name program ≡ Some (codes "index"))
@@ -31,11 +31,14 @@ Names program (request.Snapshot options) = (program_name program ≡ Some (codes
     × CarriesSnapshot (rows_in program) options
 Names program (request.Pages options) = (program_name program ≡ Some (codes "pages"))
     × CarriesPages (rows_in program) options
+Names program (request.Join options) = (program_name program ≡ Some (codes "join"))
+    × CarriesJoin (rows_in program) options
 Names program (request.Dump options) = (program_name program ≢ Some (codes "index"))
     × (program_name program ≢ Some (codes "shell"))
     × (program_name program ≢ Some (codes "query"))
     × (program_name program ≢ Some (codes "snapshot"))
     × (program_name program ≢ Some (codes "pages"))
+    × (program_name program ≢ Some (codes "join"))
     × CarriesDump (rows_in program) options
 Names program (request.Print text) = ⊥
 Names program (request.Refuse text) = ⊥

@@ -1,14 +1,16 @@
 -- The programs of the command line with their arguments and options, as the rules of the crate `clap`
 -- see them.
-use Rattle.std.specs.Prelude.{Bool, List, [], ◌∷◌, ◌++◌, true, codes}
+use Rattle.std.specs.Prelude.{Bool, List, [], ◌∷◌, true, codes}
 use Rattle.std.specs.List.{list_all}
 use Rattle.clap.specs.Words.{App, Rule, Shape, Text, new_app, with_rule, with_subcommand}
-use Rattle.command_line.specs.Arguments.{required_rule}
+use Rattle.command_line.specs.Arguments.{repeated, required_rule}
 use Rattle.command_line.specs.Options.{index_option_rules, tree_rules}
 use Rattle.command_line.specs.Options.Accept.{accept_rule}
 use Rattle.command_line.specs.Options.CustomOptions.{custom_options_rule}
 use Rattle.command_line.specs.Options.Explain.{explain_rule}
+use Rattle.command_line.specs.Options.JoinedRoot.{joined_root_rule}
 use Rattle.command_line.specs.Options.More.{more_rule}
+use Rattle.command_line.specs.Options.Replace.{replace_rule}
 use Rattle.command_line.specs.Options.To.{to_rule}
 use Rattle.command_line.specs.declared.options.WordLists.{WordLists}
 
@@ -53,6 +55,17 @@ pages_line =
     line_of (codes "pages")
     (required_rule (codes "INDEX") ∷ required_rule (codes "ROOT") ∷ required_rule (codes "OUT") ∷ explain_rule ∷ [])
 
+-- `join` wants the path of a file for the index, and then the paths of one index or more
+abbrev pub join_line : Shape
+join_line =
+    line_of (codes "join")
+    (required_rule (codes "OUT")
+    ∷ repeated (required_rule (codes "INDEX"))
+    ∷ joined_root_rule
+    ∷ replace_rule
+    ∷ explain_rule
+    ∷ [])
+
 abbrev pub dump_line : WordLists → Shape
 dump_line lists =
     line_of (codes "dump")
@@ -66,5 +79,6 @@ no_program =
 
 abbrev pub command_line : WordLists → App
 command_line lists =
-    with_subcommand (with_subcommand (with_subcommand (with_subcommand (with_subcommand (with_subcommand no_program
-    (index_line lists)) (shell_line lists)) query_line) snapshot_line) pages_line) (dump_line lists)
+    with_subcommand (with_subcommand (with_subcommand (with_subcommand (with_subcommand (with_subcommand
+    (with_subcommand no_program (index_line lists)) (shell_line lists)) query_line) snapshot_line) pages_line)
+    join_line) (dump_line lists)

@@ -8,6 +8,7 @@ use Rattle.command_line.specs.declared.options.IndexRequest.{IndexRequest}
 use Rattle.command_line.specs.declared.options.SnapshotOptions.{SnapshotOptions}
 use Rattle.command_line.specs.declared.options.PagesOptions.{PagesOptions}
 use Rattle.command_line.specs.declared.options.DumpOptions.{DumpOptions}
+use Rattle.command_line.specs.declared.options.JoinOptions.{JoinOptions}
 use Rattle.command_line.specs.declared.request.Request.{Request}
 use Rattle.command_line.specs.declared.request.Request.TheVariants as request
 
@@ -47,9 +48,10 @@ abbrev pub index_request : Request → Option IndexRequest
 index_request (request.Index given) = Some given
 index_request _ = None
 
--- the path of the file that it goes to
+-- the path of the file that it goes to, or the join of several
 abbrev pub out_path : Request → Option Text
 out_path (request.Index given) = Some (string_bytes given.out)
+out_path (request.Join options) = Some (string_bytes options.out)
 out_path _ = None
 
 -- the options of the index about which commands are to be answered, and which no file holds
@@ -66,6 +68,11 @@ snapshot_options _ = None
 abbrev pub pages_options : Request → Option PagesOptions
 pages_options (request.Pages options) = Some options
 pages_options _ = None
+
+-- what the join of several indexes is asked for with
+abbrev pub join_options : Request → Option JoinOptions
+join_options (request.Join options) = Some options
+join_options _ = None
 
 -- whether a fault of the dump or of the answers from a file is explained
 abbrev pub explains : Request → Bool

@@ -8,6 +8,7 @@ ghost use Rattle.command_line.specs.Options.{
   Carries,
   CarriesDump,
   CarriesIndex,
+  CarriesJoin,
   CarriesPages,
   CarriesQuery,
   CarriesShell,
@@ -29,6 +30,7 @@ mod exclude;
 pub(crate) mod explain;
 mod faulty;
 mod include;
+pub(crate) mod joined_root;
 mod limits;
 mod links;
 pub(crate) mod more;
@@ -38,6 +40,7 @@ mod positions;
 mod project_root;
 mod quiet;
 mod real;
+pub(crate) mod replace;
 pub(crate) mod report;
 pub(crate) mod to;
 mod well_known;
@@ -56,6 +59,7 @@ use crate::options::more::more_in;
 use crate::options::positions::encoding_of;
 use crate::options::quiet::quiet_in;
 use crate::options::real::is_real;
+use crate::options::replace::replaces_in;
 use crate::options::report::report_options_of;
 use crate::options::well_known::well_known_in;
 use crate::options::workers::workers_of;
@@ -214,6 +218,21 @@ pub struct PagesOptions {
     pub root: String,
     /// The folder that the pages go to.
     pub out: String,
+    /// Whether a fault is explained.
+    pub explain: bool,
+}
+
+/// What `join` is given.
+#[derive(Debug, Drop)]
+pub struct JoinOptions {
+    /// The path of the file that the join goes to.
+    pub out: String,
+    /// The paths of the files that hold the indexes, in the order of the words.
+    pub indexes: Vec<String>,
+    /// Where the sources' folder is, as a URI; all indexes have to name the same folder if it isn't given.
+    pub project_root: Option<String>,
+    /// Whether a document takes the place of an earlier one with its path.
+    pub replace: bool,
     /// Whether a fault is explained.
     pub explain: bool,
 }
@@ -420,6 +439,23 @@ pub(crate) fn pages_options_of(
         index,
         root,
         out,
+        explain: explains_in(given),
+    })
+}
+
+/// What `join` is given.
+pub(crate) fn join_options_of(
+    alloc: Global,
+    given: &ArgMatches<'_>,
+) -> Result<JoinOptions, AllocError>
+    ensures { IfOk result (CarriesJoin (rows_of (found_of given.now))) }
+{
+    let joined = text_of(alloc, given, OUT)?;
+    Ok(JoinOptions {
+        out: joined,
+        indexes: texts_of(alloc, given, INDEX_FILE)?,
+        project_root: optional_text_of(alloc, given, joined_root::NAME)?,
+        replace: replaces_in(given),
         explain: explains_in(given),
     })
 }

@@ -10,12 +10,12 @@ ghost use Rattle.command_line.specs.Options.Report.{lacks_report};
 ghost use Rattle.command_line.specs.Requests.{IsRefused, Prints};
 ghost use Rattle.command_line.specs.Values.{rows_in};
 
-use crate::names::{INDEX, PAGES, QUERY, SHELL, SNAPSHOT};
+use crate::names::{INDEX, JOIN, PAGES, QUERY, SHELL, SNAPSHOT};
 use crate::options::accept::add_what_all_is;
 use crate::options::report::{FORM_ALONE, lacks_report};
 use crate::options::{
-    DumpOptions, WordLists, dump_options_of, index_request_of, pages_options_of, query_options_of,
-    shell_request_of, snapshot_options_of,
+    DumpOptions, WordLists, dump_options_of, index_request_of, join_options_of, pages_options_of,
+    query_options_of, shell_request_of, snapshot_options_of,
 };
 use crate::program::program;
 use crate::request::Request;
@@ -71,6 +71,9 @@ fn named(alloc: Global, matches: &ArgMatches<'_>) -> Result<Request, AllocError>
     }
     if let Some(given) = matches.subcommand_matches(PAGES) {
         return Ok(Request::Pages(pages_options_of(alloc, given)?));
+    }
+    if let Some(given) = matches.subcommand_matches(JOIN) {
+        return Ok(Request::Join(join_options_of(alloc, given)?));
     }
     Ok(Request::Dump(dump_options(matches)))
 }

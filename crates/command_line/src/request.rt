@@ -1,7 +1,8 @@
 //! What a command line asks for.
 
 use crate::options::{
-    DumpOptions, IndexRequest, PagesOptions, QueryOptions, ShellRequest, SnapshotOptions,
+    DumpOptions, IndexRequest, JoinOptions, PagesOptions, QueryOptions, ShellRequest,
+    SnapshotOptions,
 };
 
 /// What a command line asks for.
@@ -15,6 +16,8 @@ pub enum Request {
     Snapshot(SnapshotOptions),
     /// The program `pages`.
     Pages(PagesOptions),
+    /// The program `join`.
+    Join(JoinOptions),
     /// The program `index`.
     Index(IndexRequest),
     /// The program `shell`, about the index of the tree that the options tell.

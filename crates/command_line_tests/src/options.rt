@@ -69,7 +69,7 @@ struct Asked {
 
 // The fourth row reads: `dump --explain --custom-options skip` asks for a dump that reads past custom options, and
 // explains a fault.
-static ASKED: [Asked; 17] = [
+static ASKED: [Asked; 19] = [
     Asked {
         words: "query a.scip",
         request: "Query(QueryOptions { index: \"a.scip\", explain: false, more: false })",
@@ -137,6 +137,14 @@ static ASKED: [Asked; 17] = [
     Asked {
         words: "pages a.scip --explain api -- -out",
         request: "Pages(PagesOptions { index: \"a.scip\", root: \"api\", out: \"-out\", explain: true })",
+    },
+    Asked {
+        words: "join all a",
+        request: "Join(JoinOptions { out: \"all\", indexes: [\"a\"], project_root: None, replace: false, explain: false })",
+    },
+    Asked {
+        words: "join all a --replace b --project-root u --explain a",
+        request: "Join(JoinOptions { out: \"all\", indexes: [\"a\", \"b\", \"a\"], project_root: Some(\"u\"), replace: true, explain: true })",
     },
 ];
 

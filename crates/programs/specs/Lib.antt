@@ -38,5 +38,8 @@ pub mod Reporting
 pub mod StartReports
 pub mod Indexing
 pub mod Serving
+-- `join`
+pub mod JoinStops
+pub mod Joining
 -- the laws
 pub mod OptionLaws

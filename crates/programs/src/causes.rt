@@ -35,6 +35,7 @@ fn is_explained(asked: &Result<Request, AllocError>) -> bool
             Request::Query(options) => options.explain,
             Request::Snapshot(options) => options.explain,
             Request::Pages(options) => options.explain,
+            Request::Join(options) => options.explain,
             Request::Index(given) => given.options.explain,
             Request::Shell(given) => given.options.explain,
             Request::Print(_) | Request::Refuse(_) => false,
@@ -43,7 +44,7 @@ fn is_explained(asked: &Result<Request, AllocError>) -> bool
     }
 }
 
-/// The path of what is made: of an index, or of the folder of snapshots or of pages; else empty.
+/// The path of what is made: of an index, that of a join too, or of the folder of snapshots or of pages; else empty.
 fn made_path(asked: &Result<Request, AllocError>) -> &str
     ensures { result.now ≡ made_name asked.now }
 {
@@ -51,6 +52,7 @@ fn made_path(asked: &Result<Request, AllocError>) -> &str
         Ok(request) => match request {
             Request::Index(given) => given.out.as_str(),
             Request::Pages(options) => options.out.as_str(),
+            Request::Join(options) => options.out.as_str(),
             Request::Snapshot(options) => match &options.to {
                 Some(to) => to.as_str(),
                 None => "",

@@ -25,6 +25,10 @@ mod snapshotting;
 mod paging;
 mod site_faults;
 
+// `join`: one index of several goes to a file.
+mod join_stop;
+mod joining;
+
 // The programs about a tree: what their options say of the run, and why there is no package or no tree.
 mod choices;
 mod ending;

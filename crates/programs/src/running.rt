@@ -9,6 +9,7 @@ ghost use Rattle.command_line.specs.Requests.{
   explains,
   index_path,
   index_request,
+  join_options,
   out_path,
   pages_options,
   printed_text,
@@ -24,6 +25,7 @@ ghost use Rattle.programs.specs.Answering.{Answers};
 ghost use Rattle.programs.specs.Asked.{report_path};
 ghost use Rattle.programs.specs.Dumping.{EndsDump};
 ghost use Rattle.programs.specs.Indexing.{Indexed, WritesNavigable};
+ghost use Rattle.programs.specs.Joining.{RunsJoin};
 ghost use Rattle.programs.specs.Messages.{Tells, memory_line, memory_status};
 ghost use Rattle.programs.specs.NoSources.{NoneFoundBy};
 ghost use Rattle.programs.specs.Paging.{RunsPages, folder_places};
@@ -37,6 +39,7 @@ ghost use Rattle.programs.specs.Snapshotting.{RunsSnapshot};
 use crate::dumping::dump_source;
 use crate::host::Host;
 use crate::indexing::index_searched;
+use crate::joining::join;
 use crate::messages::report;
 use crate::output::print;
 use crate::paging::pages;
@@ -83,7 +86,7 @@ fn answer<R, F: ReadFiles + LookAgain, I: Feed, W: Sink, M: Sink>(
     }
 }
 
-/// The path of the file that the index is to be written to; empty if no index is asked for.
+/// The path of the file that an index is to be written to, that of a join too; empty if none is asked for.
 pub fn out_path(asked: &Result<Request, AllocError>) -> &str
     ensures path { IfOk asked.now (λ request. IfSome (out_path request) (λ path. result.now ≡ path)) }
     ensures none { IfOk asked.now (λ request. out_path request ≡ None → result.now ≡ []) }
@@ -91,6 +94,7 @@ pub fn out_path(asked: &Result<Request, AllocError>) -> &str
 {
     match asked {
         Ok(Request::Index(given)) => given.out.as_str(),
+        Ok(Request::Join(options)) => options.out.as_str(),
         _ => "",
     }
 }
@@ -203,6 +207,11 @@ where
         RunsPages (F.frees host.now.files.now) (F.gives host.now.files.now) (F.blames host.now.files.now [] []) options
         (folder_places O.FolderPlace O.Folder.MakeFiles places.old.file places.new.file) (writer M.Sink messages) result
         × (input.new ≡ input.old) × (out.new ≡ out.old) × (places.new.report ≡ places.old.report))) }
+    // What `join` does.
+    ensures joined { IfOk asked.now (λ request. IfSome (join_options request) (λ options.
+        RunsJoin (F.gives host.now.files.now) (F.blames host.now.files.now [] []) options
+        (place O.OutPlace O.Part.Sink places.old.file places.new.file) (writer M.Sink messages) result
+        × (input.new ≡ input.old) × (out.new ≡ out.old) × (places.new.report ≡ places.old.report))) }
     // Nothing was asked for, since memory ran out, and that is said.
     ensures unknown { IfErr asked.now (λ _. Tells memory_line memory_status (writer M.Sink messages) result
         × (input.new ≡ input.old) × (out.new ≡ out.old) × (places.new ≡ places.old)) }
@@ -218,6 +227,7 @@ where
                 snapshot(host, options, out, &mut places.file, messages)
             }
             Request::Pages(options) => pages(host, options, &mut places.file, messages),
+            Request::Join(options) => join(host, options, &mut places.file, messages),
             Request::Index(given) => index_searched(host, given, places, messages),
             Request::Shell(given) => {
                 let options = &given.options;

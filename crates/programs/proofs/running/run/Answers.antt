@@ -5,11 +5,12 @@ use Rattle.std.specs.declared.alloc.AllocError.{AllocError}
 use Rattle.streams.specs.Readers.{reading}
 use Rattle.streams.specs.Writers.{writing}
 use Rattle.source_files.specs.Makers.{making}
-use Rattle.command_line.specs.Requests.{index_request, pages_options, printed_text, refused_text, shell_options}
-use Rattle.command_line.specs.Requests.{snapshot_options}
+use Rattle.command_line.specs.Requests.{index_request, join_options, pages_options, printed_text, refused_text}
+use Rattle.command_line.specs.Requests.{shell_options, snapshot_options}
 use Rattle.command_line.specs.declared.options.IndexRequest.{IndexRequest}
 use Rattle.command_line.specs.declared.request.Request.{Request}
 use Rattle.programs.specs.Indexing.{Indexed, WritesNavigable}
+use Rattle.programs.specs.Joining.{RunsJoin}
 use Rattle.programs.specs.Messages.{memory_line}
 use Rattle.programs.specs.NoSources.{NoneFoundBy}
 use Rattle.programs.specs.Paging.{RunsPages, folder_places}
@@ -130,6 +131,17 @@ returns-in-Pages-clause-paged g c =
     × (c.args.places.now.report ≡ c.args.places.now.report)) in
     subst (λ (asked : Result Request AllocError). IfOk asked Here) (sym c.in-Ok.is)
     (subst Here (sym c.in-Pages.is) (c.pages.ensures, refl, refl, refl))
+
+pub returns-in-Join-clause-joined : goal.returns-in-Join-clause-joined
+returns-in-Join-clause-joined g c =
+    let Here : Request → Type 0 = λ request. IfSome (join_options request) (λ options.
+    RunsJoin (g.F.ReadFiles.gives c.args.host.now.files.now) (g.F.LookAgain.blames c.args.host.now.files.now [] [])
+    options (place g.O.OutPlace g.O.Part.Sink c.args.places.now.file c.join.new.at)
+    (writing g.M.Sink c.args.messages.now c.join.new.messages) c.join.result
+    × (c.args.input.now ≡ c.args.input.now) × (c.args.out.now ≡ c.args.out.now)
+    × (c.args.places.now.report ≡ c.args.places.now.report)) in
+    subst (λ (asked : Result Request AllocError). IfOk asked Here) (sym c.in-Ok.is)
+    (subst Here (sym c.in-Join.is) (c.join.ensures, refl, refl, refl))
 
 pub returns-in-Err-clause-unknown : goal.returns-in-Err-clause-unknown
 returns-in-Err-clause-unknown g c =

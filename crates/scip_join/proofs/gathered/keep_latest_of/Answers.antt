@@ -24,7 +24,8 @@ returns-clause-allowed c = elim c.in_ok-refuse_twice.ensures.none [
 
 pub returns-in_err-refuse_twice-clause-refused : goal.returns-in_err-refuse_twice-clause-refused
 returns-in_err-refuse_twice-clause-refused c =
-    let p = err_from_is_err_and c.from_residual-in_err-refuse_twice.result c.from_residual-in_err-refuse_twice.ensures.1 in
+    let p = err_from_is_err_and c.from_residual-in_err-refuse_twice.result
+    c.from_residual-in_err-refuse_twice.ensures.1 in
     let fault = c.in_err-refuse_twice.field-0.0 in
     rw (p.1, p.2) (refuses c.args.replace (reverse c.args.pieces.now.items) c.sort_latest_first.new.pieces.items fault
     c.in_ok-sort_latest_first.ensures

@@ -38,11 +38,12 @@ asks_answer (k ∷ ks) program e r (inr among) p = (kind_of e, among, p.1)
 -- an answer that is neither help nor the version is a refusal
 pub refuses : (r : Request) → Prints kind.ValueValidation r → IsRefused r
 refuses (request.Dump options) p = absurd p
-refuses (request.Query index explain) p = absurd p
+refuses (request.Query options) p = absurd p
 refuses (request.Snapshot options) p = absurd p
 refuses (request.Pages options) p = absurd p
+refuses (request.Join options) p = absurd p
 refuses (request.Index given) p = absurd p
-refuses (request.Shell options) p = absurd p
+refuses (request.Shell given) p = absurd p
 refuses (request.Print text) (inl help) = absurd cc
 refuses (request.Print text) (inr version) = absurd cc
 refuses (request.Refuse text) p = tt

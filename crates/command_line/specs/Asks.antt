@@ -1,15 +1,15 @@
 -- What a command line asks for. Which words name a program, and which ask for help or are refused,
 -- is as the rules of the crate `clap` say of this program's command line.
-use Rattle.std.specs.Prelude.{◌≡◌, ◌≢◌, Bool, true, false, List, [], ◌∷◌, Option, Some, codes, string_bytes}
+use Rattle.std.specs.Prelude.{◌≡◌, ◌≢◌, Bool, true, false, List, [], ◌∷◌, Option, Some, codes}
 use Rattle.std.specs.Option.{option_map}
 use Rattle.clap.specs.Words.{Kinds, IsAmong, Row, Text, fault_of, subcommand_of}
 use Rattle.clap.specs.declared.error.kind.ErrorKind.{ErrorKind}
-use Rattle.command_line.specs.Options.{AreListed, Carries, CarriesDump, CarriesIndex, CarriesPages, CarriesSnapshot}
-use Rattle.command_line.specs.Options.Explain.{explains_in}
+use Rattle.command_line.specs.Options.{AreListed, CarriesDump, CarriesIndex, CarriesJoin, CarriesPages}
+use Rattle.command_line.specs.Options.{CarriesQuery, CarriesShell, CarriesSnapshot}
 use Rattle.command_line.specs.Options.Report.{lacks_report}
 use Rattle.command_line.specs.Program.{command_line}
 use Rattle.command_line.specs.Requests.{IsRefused, Prints}
-use Rattle.command_line.specs.Values.{rows_in, text_of}
+use Rattle.command_line.specs.Values.{rows_in}
 use Rattle.command_line.specs.declared.options.WordLists.{WordLists}
 use Rattle.command_line.specs.declared.request.Request.{Request}
 use Rattle.command_line.specs.declared.request.Request.TheVariants as request
@@ -18,25 +18,27 @@ use Rattle.command_line.specs.declared.request.Request.TheVariants as request
 abbrev pub program_name : Option (Text × List Row) → Option Text
 program_name program = option_map (λ p. p.0) program
 
--- the program, with what it is given: `index`, `shell`, `query`, `snapshot`, `pages`, and else
+-- the program, with what it is given: `index`, `shell`, `query`, `snapshot`, `pages`, `join`, and else
 -- `dump`, the only other one
 abbrev pub Names : Option (Text × List Row) → Request → Type 0
 Names program (request.Index given) = (program_name program ≡ Some (codes "index"))
     × CarriesIndex (rows_in program) given
-Names program (request.Shell options) = (program_name program ≡ Some (codes "shell"))
-    × Carries (rows_in program) options
-Names program (request.Query index explain) = (program_name program ≡ Some (codes "query"))
-    × (string_bytes index ≡ text_of (codes "INDEX") (rows_in program))
-    × (explain ≡ explains_in (rows_in program))
+Names program (request.Shell given) = (program_name program ≡ Some (codes "shell"))
+    × CarriesShell (rows_in program) given
+Names program (request.Query options) = (program_name program ≡ Some (codes "query"))
+    × CarriesQuery (rows_in program) options
 Names program (request.Snapshot options) = (program_name program ≡ Some (codes "snapshot"))
     × CarriesSnapshot (rows_in program) options
 Names program (request.Pages options) = (program_name program ≡ Some (codes "pages"))
     × CarriesPages (rows_in program) options
+Names program (request.Join options) = (program_name program ≡ Some (codes "join"))
+    × CarriesJoin (rows_in program) options
 Names program (request.Dump options) = (program_name program ≢ Some (codes "index"))
     × (program_name program ≢ Some (codes "shell"))
     × (program_name program ≢ Some (codes "query"))
     × (program_name program ≢ Some (codes "snapshot"))
     × (program_name program ≢ Some (codes "pages"))
+    × (program_name program ≢ Some (codes "join"))
     × CarriesDump (rows_in program) options
 Names program (request.Print text) = ⊥
 Names program (request.Refuse text) = ⊥

@@ -3,7 +3,7 @@ use Rattle.std.specs.Prelude.{◌≡◌, List, [], ◌∷◌, ◌++◌, codes, m
 use Rattle.std.specs.Option.{option_map}
 use Rattle.clap.specs.Words.{Row, Rule}
 use Rattle.command_line.specs.Arguments.{texts_at}
-use Rattle.command_line.specs.Values.{text_of}
+use Rattle.command_line.specs.Values.{text_of, texts_of}
 use Rattle.command_line.specs.Options.Accept.{accept_rule, accept_words, dialect_of}
 use Rattle.command_line.specs.Options.Comments.{comments_of, comments_rule, comments_words}
 use Rattle.command_line.specs.Options.CustomOptions.{custom_options_rule, custom_options_words}
@@ -13,8 +13,10 @@ use Rattle.command_line.specs.Options.Explain.{explain_rule, explains_in}
 use Rattle.command_line.specs.Options.Faulty.{faulty_of, faulty_rule, faulty_words}
 use Rattle.command_line.specs.Options.Include.{folder_of, include_of, include_package_rule, include_rule}
 use Rattle.command_line.specs.Options.Include.{package_folders_of}
+use Rattle.command_line.specs.Options.JoinedRoot.{joined_root_of}
 use Rattle.command_line.specs.Options.Limits.{limits_of, max_skipped_rule, min_sources_rule}
 use Rattle.command_line.specs.Options.Links.{links_of, links_rule, links_words}
+use Rattle.command_line.specs.Options.More.{more_in}
 use Rattle.command_line.specs.Options.Only.{only_of, only_rule}
 use Rattle.command_line.specs.Options.Package.{manager_of, manager_rule, package_of, package_rule, release_of}
 use Rattle.command_line.specs.Options.Package.{release_rule}
@@ -22,6 +24,7 @@ use Rattle.command_line.specs.Options.Positions.{encoding_of, positions_rule, po
 use Rattle.command_line.specs.Options.ProjectRoot.{project_root_of, project_root_rule}
 use Rattle.command_line.specs.Options.Quiet.{quiet_in, quiet_rule}
 use Rattle.command_line.specs.Options.Real.{is_real, real_rule}
+use Rattle.command_line.specs.Options.Replace.{replaces_in}
 use Rattle.command_line.specs.Options.Report.{CarriesReport, format_rule, format_words, report_rule}
 use Rattle.command_line.specs.Options.To.{to_of}
 use Rattle.command_line.specs.Options.WellKnown.{well_known_in, well_known_rule}
@@ -29,7 +32,10 @@ use Rattle.command_line.specs.Options.Workers.{workers_of, workers_rule}
 use Rattle.command_line.specs.declared.options.DumpOptions.{DumpOptions}
 use Rattle.command_line.specs.declared.options.IndexOptions.{IndexOptions}
 use Rattle.command_line.specs.declared.options.IndexRequest.{IndexRequest}
+use Rattle.command_line.specs.declared.options.JoinOptions.{JoinOptions}
 use Rattle.command_line.specs.declared.options.PagesOptions.{PagesOptions}
+use Rattle.command_line.specs.declared.options.QueryOptions.{QueryOptions}
+use Rattle.command_line.specs.declared.options.ShellRequest.{ShellRequest}
 use Rattle.command_line.specs.declared.options.SnapshotOptions.{SnapshotOptions}
 use Rattle.command_line.specs.declared.options.WordLists.{WordLists}
 pub mod Accept
@@ -40,14 +46,17 @@ pub mod Exclude
 pub mod Explain
 pub mod Faulty
 pub mod Include
+pub mod JoinedRoot
 pub mod Limits
 pub mod Links
+pub mod More
 pub mod Only
 pub mod Package
 pub mod Positions
 pub mod ProjectRoot
 pub mod Quiet
 pub mod Real
+pub mod Replace
 pub mod Report
 pub mod To
 pub mod WellKnown
@@ -132,6 +141,17 @@ pub record CarriesIndex (rows : List Row) (given : IndexRequest) : Type 0 where
   pub quiet : given.quiet ≡ quiet_in rows
   pub limits : given.limits ≡ limits_of rows
 
+-- and all that `shell` is given
+pub record CarriesShell (rows : List Row) (given : ShellRequest) : Type 0 where
+  pub options : Carries rows given.options
+  pub more : given.more ≡ more_in rows
+
+-- and the options of `query`
+pub record CarriesQuery (rows : List Row) (options : QueryOptions) : Type 0 where
+  pub index : string_bytes options.index ≡ text_of (codes "INDEX") rows
+  pub explain : options.explain ≡ explains_in rows
+  pub more : options.more ≡ more_in rows
+
 -- and so the options of `dump`
 pub record CarriesDump (rows : List Row) (options : DumpOptions) : Type 0 where
   pub dialect : options.dialect ≡ dialect_of rows
@@ -149,4 +169,12 @@ pub record CarriesPages (rows : List Row) (options : PagesOptions) : Type 0 wher
   pub index : string_bytes options.index ≡ text_of (codes "INDEX") rows
   pub root : string_bytes options.root ≡ text_of (codes "ROOT") rows
   pub out : string_bytes options.out ≡ text_of (codes "OUT") rows
+  pub explain : options.explain ≡ explains_in rows
+
+-- and those of `join`
+pub record CarriesJoin (rows : List Row) (options : JoinOptions) : Type 0 where
+  pub out : string_bytes options.out ≡ text_of (codes "OUT") rows
+  pub indexes : map string_bytes options.indexes.items ≡ texts_of (codes "INDEX") rows
+  pub project_root : option_map string_bytes options.project_root ≡ joined_root_of rows
+  pub replace : options.replace ≡ replaces_in rows
   pub explain : options.explain ≡ explains_in rows

@@ -1,13 +1,16 @@
 -- The programs of the command line with their arguments and options, as the rules of the crate `clap`
 -- see them.
-use Rattle.std.specs.Prelude.{Bool, List, [], ◌∷◌, ◌++◌, true, codes}
+use Rattle.std.specs.Prelude.{Bool, List, [], ◌∷◌, true, codes}
 use Rattle.std.specs.List.{list_all}
 use Rattle.clap.specs.Words.{App, Rule, Shape, Text, new_app, with_rule, with_subcommand}
-use Rattle.command_line.specs.Arguments.{required_rule}
+use Rattle.command_line.specs.Arguments.{repeated, required_rule}
 use Rattle.command_line.specs.Options.{index_option_rules, tree_rules}
 use Rattle.command_line.specs.Options.Accept.{accept_rule}
 use Rattle.command_line.specs.Options.CustomOptions.{custom_options_rule}
 use Rattle.command_line.specs.Options.Explain.{explain_rule}
+use Rattle.command_line.specs.Options.JoinedRoot.{joined_root_rule}
+use Rattle.command_line.specs.Options.More.{more_rule}
+use Rattle.command_line.specs.Options.Replace.{replace_rule}
 use Rattle.command_line.specs.Options.To.{to_rule}
 use Rattle.command_line.specs.declared.options.WordLists.{WordLists}
 
@@ -29,16 +32,16 @@ index_rules lists = required_rule (codes "ROOT") ∷ required_rule (codes "OUT")
 abbrev pub index_line : WordLists → Shape
 index_line lists = line_of (codes "index") (index_rules lists)
 
--- `shell` wants the folder alone
+-- `shell` wants the folder alone, and has an option of its own
 abbrev pub shell_rules : WordLists → List Rule
-shell_rules lists = required_rule (codes "ROOT") ∷ tree_rules lists
+shell_rules lists = required_rule (codes "ROOT") ∷ more_rule ∷ tree_rules lists
 
 abbrev pub shell_line : WordLists → Shape
 shell_line lists = line_of (codes "shell") (shell_rules lists)
 
 -- `query` wants one argument, the path of an index
 abbrev pub query_line : Shape
-query_line = line_of (codes "query") (required_rule (codes "INDEX") ∷ explain_rule ∷ [])
+query_line = line_of (codes "query") (required_rule (codes "INDEX") ∷ more_rule ∷ explain_rule ∷ [])
 
 -- `snapshot` wants the path of an index, and the folder with its sources
 abbrev pub snapshot_line : Shape
@@ -51,6 +54,17 @@ abbrev pub pages_line : Shape
 pages_line =
     line_of (codes "pages")
     (required_rule (codes "INDEX") ∷ required_rule (codes "ROOT") ∷ required_rule (codes "OUT") ∷ explain_rule ∷ [])
+
+-- `join` wants the path of a file for the index, and then the paths of one index or more
+abbrev pub join_line : Shape
+join_line =
+    line_of (codes "join")
+    (required_rule (codes "OUT")
+    ∷ repeated (required_rule (codes "INDEX"))
+    ∷ joined_root_rule
+    ∷ replace_rule
+    ∷ explain_rule
+    ∷ [])
 
 abbrev pub dump_line : WordLists → Shape
 dump_line lists =
@@ -65,5 +79,6 @@ no_program =
 
 abbrev pub command_line : WordLists → App
 command_line lists =
-    with_subcommand (with_subcommand (with_subcommand (with_subcommand (with_subcommand (with_subcommand no_program
-    (index_line lists)) (shell_line lists)) query_line) snapshot_line) pages_line) (dump_line lists)
+    with_subcommand (with_subcommand (with_subcommand (with_subcommand (with_subcommand (with_subcommand
+    (with_subcommand no_program (index_line lists)) (shell_line lists)) query_line) snapshot_line) pages_line)
+    join_line) (dump_line lists)

@@ -1,5 +1,5 @@
 -- What a request is.
-use Rattle.std.specs.Prelude.{◌≡◌, ◌≢◌, ◌⊎◌, ⊤, Bool, false, Option, Some, None, string_bytes}
+use Rattle.std.specs.Prelude.{◌≡◌, ◌≢◌, ◌⊎◌, ⊤, Bool, true, false, Option, Some, None, string_bytes}
 use Rattle.clap.specs.Words.{Text}
 use Rattle.clap.specs.declared.error.kind.ErrorKind.{ErrorKind}
 use Rattle.clap.specs.declared.error.kind.ErrorKind.TheVariants as kind
@@ -8,6 +8,7 @@ use Rattle.command_line.specs.declared.options.IndexRequest.{IndexRequest}
 use Rattle.command_line.specs.declared.options.SnapshotOptions.{SnapshotOptions}
 use Rattle.command_line.specs.declared.options.PagesOptions.{PagesOptions}
 use Rattle.command_line.specs.declared.options.DumpOptions.{DumpOptions}
+use Rattle.command_line.specs.declared.options.JoinOptions.{JoinOptions}
 use Rattle.command_line.specs.declared.request.Request.{Request}
 use Rattle.command_line.specs.declared.request.Request.TheVariants as request
 
@@ -39,7 +40,7 @@ dump_options _ = None
 
 -- the path of the index about which commands are to be answered
 abbrev pub index_path : Request → Option Text
-index_path (request.Query index explain) = Some (string_bytes index)
+index_path (request.Query options) = Some (string_bytes options.index)
 index_path _ = None
 
 -- what the index that is to be written is asked for with
@@ -47,14 +48,15 @@ abbrev pub index_request : Request → Option IndexRequest
 index_request (request.Index given) = Some given
 index_request _ = None
 
--- the path of the file that it goes to
+-- the path of the file that it goes to, or the join of several
 abbrev pub out_path : Request → Option Text
 out_path (request.Index given) = Some (string_bytes given.out)
+out_path (request.Join options) = Some (string_bytes options.out)
 out_path _ = None
 
 -- the options of the index about which commands are to be answered, and which no file holds
 abbrev pub shell_options : Request → Option IndexOptions
-shell_options (request.Shell options) = Some options
+shell_options (request.Shell given) = Some given.options
 shell_options _ = None
 
 -- what the snapshots of an index are asked for with
@@ -67,8 +69,25 @@ abbrev pub pages_options : Request → Option PagesOptions
 pages_options (request.Pages options) = Some options
 pages_options _ = None
 
+-- what the join of several indexes is asked for with
+abbrev pub join_options : Request → Option JoinOptions
+join_options (request.Join options) = Some options
+join_options _ = None
+
 -- whether a fault of the dump or of the answers from a file is explained
 abbrev pub explains : Request → Bool
 explains (request.Dump options) = options.explain
-explains (request.Query index explain) = explain
+explains (request.Query options) = options.explain
 explains _ = false
+
+-- whether more commands are known to the program that answers them
+abbrev pub knows_more : Request → Bool
+knows_more (request.Query options) = options.more
+knows_more (request.Shell given) = given.more
+knows_more _ = false
+
+-- whether it reads commands
+abbrev pub reads_commands : Request → Bool
+reads_commands (request.Query options) = true
+reads_commands (request.Shell given) = true
+reads_commands _ = false

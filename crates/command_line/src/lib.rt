@@ -17,8 +17,8 @@ mod values;
 mod arguments;
 
 pub use options::{
-    DumpOptions, IndexOptions, IndexRequest, Limits, Links, PackageFolder, PagesOptions,
-    ReportOptions, SnapshotOptions,
+    DumpOptions, IndexOptions, IndexRequest, JoinOptions, Limits, Links, PackageFolder,
+    PagesOptions, QueryOptions, ReportOptions, ShellRequest, SnapshotOptions,
 };
 pub use reading::{request_of, request_of_process};
 pub use request::Request;

@@ -4,6 +4,8 @@ pub(crate) const DUMP: &str = "dump";
 
 pub(crate) const INDEX: &str = "index";
 
+pub(crate) const JOIN: &str = "join";
+
 pub(crate) const PAGES: &str = "pages";
 
 pub(crate) const QUERY: &str = "query";
@@ -12,11 +14,11 @@ pub(crate) const SHELL: &str = "shell";
 
 pub(crate) const SNAPSHOT: &str = "snapshot";
 
-/// The argument that `query`, `snapshot` and `pages` want.
+/// The argument that `query`, `snapshot` and `pages` want, and `join` once or more.
 pub(crate) const INDEX_FILE: &str = "INDEX";
 
 /// The argument that `index` and `shell` want, and the second one of `snapshot` and `pages`.
 pub(crate) const ROOT: &str = "ROOT";
 
-/// The last argument that `index` and `pages` want.
+/// The last argument that `index` and `pages` want, and the first one of `join`.
 pub(crate) const OUT: &str = "OUT";

@@ -8,7 +8,10 @@ ghost use Rattle.command_line.specs.Options.{
   Carries,
   CarriesDump,
   CarriesIndex,
+  CarriesJoin,
   CarriesPages,
+  CarriesQuery,
+  CarriesShell,
   CarriesSnapshot,
   choice_rules,
   index_option_rules,
@@ -27,14 +30,17 @@ mod exclude;
 pub(crate) mod explain;
 mod faulty;
 mod include;
+pub(crate) mod joined_root;
 mod limits;
 mod links;
+pub(crate) mod more;
 mod only;
 mod package;
 mod positions;
 mod project_root;
 mod quiet;
 mod real;
+pub(crate) mod replace;
 pub(crate) mod report;
 pub(crate) mod to;
 mod well_known;
@@ -49,9 +55,11 @@ use crate::options::faulty::faulty_of;
 use crate::options::include::package_folders_of;
 use crate::options::limits::limits_of;
 use crate::options::links::links_of;
+use crate::options::more::more_in;
 use crate::options::positions::encoding_of;
 use crate::options::quiet::quiet_in;
 use crate::options::real::is_real;
+use crate::options::replace::replaces_in;
 use crate::options::report::report_options_of;
 use crate::options::well_known::well_known_in;
 use crate::options::workers::workers_of;
@@ -159,6 +167,26 @@ pub struct IndexRequest {
     pub limits: Limits,
 }
 
+/// What `shell` is given.
+#[derive(Debug, Drop)]
+pub struct ShellRequest {
+    /// What `index` can be given, too.
+    pub options: IndexOptions,
+    /// Whether more commands are known.
+    pub more: bool,
+}
+
+/// What `query` is given.
+#[derive(Debug, Drop)]
+pub struct QueryOptions {
+    /// The path of the file that holds the index.
+    pub index: String,
+    /// Whether a fault is explained.
+    pub explain: bool,
+    /// Whether more commands are known.
+    pub more: bool,
+}
+
 /// What `dump` is given.
 #[derive(Clone, Copy, Debug, PartialEq, Eq)]
 pub struct DumpOptions {
@@ -190,6 +218,21 @@ pub struct PagesOptions {
     pub root: String,
     /// The folder that the pages go to.
     pub out: String,
+    /// Whether a fault is explained.
+    pub explain: bool,
+}
+
+/// What `join` is given.
+#[derive(Debug, Drop)]
+pub struct JoinOptions {
+    /// The path of the file that the join goes to.
+    pub out: String,
+    /// The paths of the files that hold the indexes, in the order of the words.
+    pub indexes: Vec<String>,
+    /// Where the sources' folder is, as a URI; all indexes have to name the same folder if it isn't given.
+    pub project_root: Option<String>,
+    /// Whether a document takes the place of an earlier one with its path.
+    pub replace: bool,
     /// Whether a fault is explained.
     pub explain: bool,
 }
@@ -329,6 +372,34 @@ pub(crate) fn index_request_of(
     })
 }
 
+/// What `shell` is given.
+pub(crate) fn shell_request_of(
+    alloc: Global,
+    given: &ArgMatches<'_>,
+) -> Result<ShellRequest, AllocError>
+    ensures { IfOk result (CarriesShell (rows_of (found_of given.now))) }
+{
+    Ok(ShellRequest {
+        options: options_of(alloc, given)?,
+        more: more_in(given),
+    })
+}
+
+/// What `query` is given.
+pub(crate) fn query_options_of(
+    alloc: Global,
+    given: &ArgMatches<'_>,
+) -> Result<QueryOptions, AllocError>
+    ensures { IfOk result (CarriesQuery (rows_of (found_of given.now))) }
+{
+    let file = text_of(alloc, given, INDEX_FILE)?;
+    Ok(QueryOptions {
+        index: file,
+        explain: explains_in(given),
+        more: more_in(given),
+    })
+}
+
 /// What `dump` is given.
 pub(crate) fn dump_options_of(given: &ArgMatches<'_>) -> DumpOptions
     ensures { CarriesDump (rows_of (found_of given.now)) result }
@@ -368,6 +439,23 @@ pub(crate) fn pages_options_of(
         index,
         root,
         out,
+        explain: explains_in(given),
+    })
+}
+
+/// What `join` is given.
+pub(crate) fn join_options_of(
+    alloc: Global,
+    given: &ArgMatches<'_>,
+) -> Result<JoinOptions, AllocError>
+    ensures { IfOk result (CarriesJoin (rows_of (found_of given.now))) }
+{
+    let joined = text_of(alloc, given, OUT)?;
+    Ok(JoinOptions {
+        out: joined,
+        indexes: texts_of(alloc, given, INDEX_FILE)?,
+        project_root: optional_text_of(alloc, given, joined_root::NAME)?,
+        replace: replaces_in(given),
         explain: explains_in(given),
     })
 }

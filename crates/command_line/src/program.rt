@@ -8,6 +8,7 @@ ghost use Rattle.command_line.specs.Program.{
   command_line,
   dump_line,
   index_line,
+  join_line,
   line_of,
   no_program,
   pages_line,
@@ -16,10 +17,11 @@ ghost use Rattle.command_line.specs.Program.{
   snapshot_line,
 };
 
-use crate::arguments::required;
-use crate::names::{DUMP, INDEX, INDEX_FILE, OUT, PAGES, QUERY, ROOT, SHELL, SNAPSHOT};
+use crate::arguments::{repeated, required};
+use crate::names::{DUMP, INDEX, INDEX_FILE, JOIN, OUT, PAGES, QUERY, ROOT, SHELL, SNAPSHOT};
 use crate::options::{
-    WordLists, accept, add_index_options, add_tree_options, custom_options, explain, to,
+    WordLists, accept, add_index_options, add_tree_options, custom_options, explain, joined_root,
+    more, replace, to,
 };
 use basics::tool::{NAME, VERSION};
 use clap::{Arg, Command};
@@ -54,6 +56,10 @@ const PAGES_EXAMPLE: &str =
     "Example: make pages of the sources below api; then open pages/index.html in a browser:
 
   protoscip pages api.scip api pages";
+
+const JOIN_EXAMPLE: &str = "Example: make one index of those of two parts of a project:
+
+  protoscip join all.scip api.scip internal.scip";
 
 const DUMP_EXAMPLE: &str = "Example: print the occurrences of a source, past its custom options:
 
@@ -98,7 +104,7 @@ fn shell_program<'a>(alloc: Global, lists: WordLists<'a>) -> Result<Command<'a>,
 {
     let about = "Indexes the sources below a folder and answers commands from standard input";
     let root = required(alloc, ROOT, "The folder whose sources are indexed");
-    let mut args = vec![in alloc; root]?;
+    let mut args = vec![in alloc; root, more::arg(alloc)]?;
     add_tree_options(alloc, &mut args, lists)?;
     program_of(alloc, SHELL, about, SHELL_EXAMPLE, args)
 }
@@ -111,6 +117,7 @@ fn query_program<'a>(alloc: Global) -> Result<Command<'a>, AllocError>
     let about = "Answers commands from standard input about an index";
     let args = vec![in alloc;
         required(alloc, INDEX_FILE, "A file with a SCIP index"),
+        more::arg(alloc),
         explain::arg(alloc),
     ]?;
     program_of(alloc, QUERY, about, QUERY_EXAMPLE, args)
@@ -145,6 +152,23 @@ fn pages_program<'a>(alloc: Global) -> Result<Command<'a>, AllocError>
         explain::arg(alloc),
     ]?;
     program_of(alloc, PAGES, about, PAGES_EXAMPLE, args)
+}
+
+/// The command line of `join`.
+fn join_program<'a>(alloc: Global) -> Result<Command<'a>, AllocError>
+    ensures line { IfOk result (λ c. (app_of c).top ≡ join_line) }
+    ensures local { IfOk result (λ c. (fields_of c).has_globals ≡ false) }
+{
+    let about = "Makes one index of several and writes it to a file";
+    let index = required(alloc, INDEX_FILE, "A file with a SCIP index");
+    let args = vec![in alloc;
+        required(alloc, OUT, "The file to which the index is written"),
+        repeated(index),
+        joined_root::arg(alloc),
+        replace::arg(alloc),
+        explain::arg(alloc),
+    ]?;
+    program_of(alloc, JOIN, about, JOIN_EXAMPLE, args)
 }
 
 /// The command line of `dump`.
@@ -192,5 +216,6 @@ pub(crate) fn program<'a>(alloc: Global, lists: WordLists<'a>) -> Result<Command
     let querying = with_program(serving, query_program(alloc))?;
     let showing = with_program(querying, snapshot_program(alloc))?;
     let paging = with_program(showing, pages_program(alloc))?;
-    with_program(paging, dump_program(alloc, lists))
+    let joining = with_program(paging, join_program(alloc))?;
+    with_program(joining, dump_program(alloc, lists))
 }

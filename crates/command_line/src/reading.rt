@@ -10,17 +10,15 @@ ghost use Rattle.command_line.specs.Options.Report.{lacks_report};
 ghost use Rattle.command_line.specs.Requests.{IsRefused, Prints};
 ghost use Rattle.command_line.specs.Values.{rows_in};
 
-use crate::names::{INDEX, INDEX_FILE, PAGES, QUERY, SHELL, SNAPSHOT};
+use crate::names::{INDEX, JOIN, PAGES, QUERY, SHELL, SNAPSHOT};
 use crate::options::accept::add_what_all_is;
-use crate::options::explain::explains_in;
 use crate::options::report::{FORM_ALONE, lacks_report};
 use crate::options::{
-    DumpOptions, WordLists, dump_options_of, index_request_of, options_of, pages_options_of,
-    snapshot_options_of,
+    DumpOptions, WordLists, dump_options_of, index_request_of, join_options_of, pages_options_of,
+    query_options_of, shell_request_of, snapshot_options_of,
 };
 use crate::program::program;
 use crate::request::Request;
-use crate::values::text_of;
 use clap::error::ErrorKind;
 use clap::{ArgMatches, Error};
 use proto_parse::{CustomOptions, Dialect};
@@ -63,17 +61,19 @@ fn named(alloc: Global, matches: &ArgMatches<'_>) -> Result<Request, AllocError>
         return Ok(Request::Index(index_request_of(alloc, given)?));
     }
     if let Some(given) = matches.subcommand_matches(SHELL) {
-        return Ok(Request::Shell(options_of(alloc, given)?));
+        return Ok(Request::Shell(shell_request_of(alloc, given)?));
     }
     if let Some(given) = matches.subcommand_matches(QUERY) {
-        let index = text_of(alloc, given, INDEX_FILE)?;
-        return Ok(Request::Query(index, explains_in(given)));
+        return Ok(Request::Query(query_options_of(alloc, given)?));
     }
     if let Some(given) = matches.subcommand_matches(SNAPSHOT) {
         return Ok(Request::Snapshot(snapshot_options_of(alloc, given)?));
     }
     if let Some(given) = matches.subcommand_matches(PAGES) {
         return Ok(Request::Pages(pages_options_of(alloc, given)?));
+    }
+    if let Some(given) = matches.subcommand_matches(JOIN) {
+        return Ok(Request::Join(join_options_of(alloc, given)?));
     }
     Ok(Request::Dump(dump_options(matches)))
 }

@@ -14,7 +14,7 @@ type Printed = (
 );
 
 // The last row reads: `protoscip --version` prints one line.
-static PRINTED: [Printed; 8] = [
+static PRINTED: [Printed; 9] = [
     (
         "--help",
         "Indexes proto3 sources and writes SCIP
@@ -27,6 +27,7 @@ Commands:
   query     Answers commands from standard input about an index
   snapshot  Shows the sources of an index, and below each line what the index says about it
   pages     Makes pages of the sources of an index, to be read in a browser
+  join      Makes one index of several and writes it to a file
   dump      Indexes one source from standard input and prints its occurrences
   help      Print this message or the help of the given subcommand(s)
 
@@ -69,7 +70,9 @@ Arguments:
 
 Options:
 ",
-        "",
+        "      --more
+          Knows more commands, as on a terminal; the command help lists them
+",
         Some(
             "
 Example session. The lines that begin with a word are typed; Ctrl-D ends the session:
@@ -94,6 +97,7 @@ Arguments:
   <INDEX>  A file with a SCIP index
 
 Options:
+      --more     Knows more commands, as on a terminal; the command help lists them
       --explain  Explains a fault: adds its line and column, a sentence, and the text of that line
   -h, --help     Print help
 
@@ -144,6 +148,29 @@ Options:
 Example: make pages of the sources below api; then open pages/index.html in a browser:
 
   protoscip pages api.scip api pages
+",
+        "",
+        None,
+    ),
+    (
+        "join --help",
+        "Makes one index of several and writes it to a file
+
+Usage: protoscip join [OPTIONS] <OUT> <INDEX>...
+
+Arguments:
+  <OUT>       The file to which the index is written
+  <INDEX>...  A file with a SCIP index
+
+Options:
+      --project-root <URI>  Where the sources' folder is; if not given, all indexes have to name the same folder
+      --replace             Takes the later of two documents with one path; without it, they are refused
+      --explain             Explains a fault: adds its line and column, a sentence, and the text of that line
+  -h, --help                Print help
+
+Example: make one index of those of two parts of a project:
+
+  protoscip join all.scip api.scip internal.scip
 ",
         "",
         None,

@@ -69,14 +69,14 @@ struct Asked {
 
 // The fourth row reads: `dump --explain --custom-options skip` asks for a dump that reads past custom options, and
 // explains a fault.
-static ASKED: [Asked; 17] = [
+static ASKED: [Asked; 19] = [
     Asked {
         words: "query a.scip",
-        request: "Query(\"a.scip\", false)",
+        request: "Query(QueryOptions { index: \"a.scip\", explain: false, more: false })",
     },
     Asked {
-        words: "query --explain a.scip",
-        request: "Query(\"a.scip\", true)",
+        words: "query --explain a.scip --more",
+        request: "Query(QueryOptions { index: \"a.scip\", explain: true, more: true })",
     },
     Asked {
         words: "dump",
@@ -99,8 +99,8 @@ static ASKED: [Asked; 17] = [
         request: "Index(IndexRequest { options: IndexOptions { root: \"api\", is_real: false, workers: Workers { count: 2 }, project_root: \"u\", manager: \"m\", package: \"p\", release: \"r\", only: Some(\"o\"), doc: Some(Both), comments: Clean, include: [\"j\", \"i\"], include_packages: [], well_known: false, encoding: Utf16, dialect: All, faulty: Skip, explain: true, exclude: [], links: Ignore, report: ReportOptions { path: Some(\"f\"), format: Sarif } }, out: \"out\", quiet: true, limits: Limits { max_skipped: Some(3), min_sources: Some(812) } })",
     },
     Asked {
-        words: "shell --workers 16 --project-root=u --manager=m --package=p --release=r --report=f --report-format=jsonl --only=o --doc=trailing --comments=raw --include=i --positions=utf8 --accept=proto3 --custom-options=refuse --faulty=refuse -- -api",
-        request: "Shell(IndexOptions { root: \"-api\", is_real: false, workers: Workers { count: 16 }, project_root: \"u\", manager: \"m\", package: \"p\", release: \"r\", only: Some(\"o\"), doc: Some(Trailing), comments: Raw, include: [\"i\"], include_packages: [], well_known: false, encoding: Utf8, dialect: Proto3(Refuse), faulty: Refuse, explain: false, exclude: [], links: Ignore, report: ReportOptions { path: Some(\"f\"), format: JsonLines } })",
+        words: "shell --more --workers 16 --project-root=u --manager=m --package=p --release=r --report=f --report-format=jsonl --only=o --doc=trailing --comments=raw --include=i --positions=utf8 --accept=proto3 --custom-options=refuse --faulty=refuse -- -api",
+        request: "Shell(ShellRequest { options: IndexOptions { root: \"-api\", is_real: false, workers: Workers { count: 16 }, project_root: \"u\", manager: \"m\", package: \"p\", release: \"r\", only: Some(\"o\"), doc: Some(Trailing), comments: Raw, include: [\"i\"], include_packages: [], well_known: false, encoding: Utf8, dialect: Proto3(Refuse), faulty: Refuse, explain: false, exclude: [], links: Ignore, report: ReportOptions { path: Some(\"f\"), format: JsonLines } }, more: true })",
     },
     Asked {
         words: "index api --include a --include-package m n r d --include b out --include-package '' '' '' e --include c",
@@ -120,7 +120,7 @@ static ASKED: [Asked; 17] = [
     },
     Asked {
         words: "shell --accept proto3 --custom-options skip --faulty refuse --doc nothing --comments raw --real api",
-        request: "Shell(IndexOptions { root: \"api\", is_real: true, workers: Workers { count: 4 }, project_root: \"file:///\", manager: \"\", package: \"\", release: \"\", only: None, doc: Some(Nothing), comments: Raw, include: [], include_packages: [], well_known: true, encoding: Utf8, dialect: Proto3(Skip), faulty: Refuse, explain: false, exclude: [], links: Ignore, report: ReportOptions { path: None, format: JsonLines } })",
+        request: "Shell(ShellRequest { options: IndexOptions { root: \"api\", is_real: true, workers: Workers { count: 4 }, project_root: \"file:///\", manager: \"\", package: \"\", release: \"\", only: None, doc: Some(Nothing), comments: Raw, include: [], include_packages: [], well_known: true, encoding: Utf8, dialect: Proto3(Skip), faulty: Refuse, explain: false, exclude: [], links: Ignore, report: ReportOptions { path: None, format: JsonLines } }, more: false })",
     },
     Asked {
         words: "snapshot a.scip api",
@@ -137,6 +137,14 @@ static ASKED: [Asked; 17] = [
     Asked {
         words: "pages a.scip --explain api -- -out",
         request: "Pages(PagesOptions { index: \"a.scip\", root: \"api\", out: \"-out\", explain: true })",
+    },
+    Asked {
+        words: "join all a",
+        request: "Join(JoinOptions { out: \"all\", indexes: [\"a\"], project_root: None, replace: false, explain: false })",
+    },
+    Asked {
+        words: "join all a --replace b --project-root u --explain a",
+        request: "Join(JoinOptions { out: \"all\", indexes: [\"a\", \"b\", \"a\"], project_root: Some(\"u\"), replace: true, explain: true })",
     },
 ];
 
@@ -236,7 +244,7 @@ fn words_of_the_system(rt: HostRuntime) -> Result<(), Fail> {
     let text = asked(rt.alloc(), "query a.scip", By::System)?;
     see(
         &rt,
-        text.as_str() == "Query(\"a.scip\", false)",
+        text.as_str() == "Query(QueryOptions { index: \"a.scip\", explain: false, more: false })",
         text.as_str(),
     );
     Ok(())

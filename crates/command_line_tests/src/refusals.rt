@@ -28,6 +28,10 @@ shell
 error: the following required arguments were not provided:
   <ROOT>
 
+join all
+error: the following required arguments were not provided:
+  <INDEX>...
+
 ";
 
 /// Sees that each command line of such a table is refused so.

@@ -7,6 +7,10 @@ mod DumpingEndLemmas
 mod FolderLemmas
 -- What becomes of the places of folders, by what was answered of the pages made in one
 mod FolderPlaceLemmas
+-- What the program `join` makes of the indexes that files hold
+mod JoiningLemmas
+-- Why no index comes behind others, and why there is no join
+mod JoiningRules
 -- The headline, of the tree of the files that options name
 mod LawLemmas
 -- What is said of a line that is there, or isn't

@@ -9,6 +9,7 @@ use Rattle.scip_wire.specs.declared.wire_fault.WireFault.{WireFault}
 use Rattle.scip_wire.specs.declared.wire_fault.WireFault.TheVariants as wire
 use Rattle.programs.specs.QueryFaults.{fault_of_wire}
 use Rattle.scip_query.specs.declared.answer_fault.AnswerFault.{AnswerFault}
+use Rattle.scip_query.specs.declared.manner.Manner.{Manner}
 use Rattle.scip_query.specs.declared.answer_fault.AnswerFault.TheVariants as answer
 use Rattle.protoscip.specs.Sessions.{MayAnswer, AreAnswered, AreUntouched}
 use Rattle.programs.specs.declared.query_fault.QueryFault.{QueryFault}
@@ -40,24 +41,25 @@ refused_bytes gives bytes (wire.Utf8 at) given why = no_index gives bytes _ give
 refused_bytes gives bytes (wire.BadRange at) given why = no_index gives bytes _ given why (λ same. cc)
 refused_bytes gives bytes wire.Memory given why = reading_lacks_memory
 
-module _ {R W : Type 0} (gives : Option (List ℕ) → Type 0) (commands : Reader R) (answers : Writer W) where
+module _ {R W : Type 0} (manner : Manner) (gives : Option (List ℕ) → Type 0) (commands : Reader R)
+    (answers : Writer W) where
   -- there is no index
   pub unread : (fault : QueryFault) → IsReadFrom gives (Err fault) → AreUntouched commands answers
-      → Queried gives commands answers (Err fault)
+      → Queried manner gives commands answers (Err fault)
   unread _ (is_unreadable given) unused = (is_unreadable given, unused)
   unread _ (is_no_index bytes given none) unused = (is_no_index bytes given none, unused)
   unread _ reading_lacks_memory unused = inl unused
 
   module _ (index : Index) (is : IsReadFrom gives (Ok index)) where
     answered : (done : Result (Unit {0}) AnswerFault)
-        → AreAnswered commands answers index done
-        → IsAnswered gives commands answers done
+        → AreAnswered manner commands answers index done
+        → IsAnswered manner gives commands answers done
     answered done are = record { index = index; is = is; are = are }
 
     -- commands about it are answered, or that stops
     pub told : (done : Result (Unit {0}) AnswerFault)
-        → MayAnswer commands answers index done
-        → Queried gives commands answers (outcome_of done)
+        → MayAnswer manner commands answers index done
+        → Queried manner gives commands answers (outcome_of done)
     told (Ok done) are = answered (Ok done) are
     told (Err answer.Read) are = answered (Err answer.Read) are
     told (Err (answer.Write count)) are = answered (Err (answer.Write count)) are

@@ -8,6 +8,7 @@ use Rattle.proto_parse.specs.fault.SyntaxFault.{SyntaxFault}
 use Rattle.proto_parse.specs.fault.SyntaxFault.TheVariants as parsing
 use Rattle.command_line.specs.declared.options.IndexOptions.{IndexOptions}
 use Rattle.command_line.specs.declared.options.IndexRequest.{IndexRequest}
+use Rattle.scip_query.specs.declared.manner.Manner.{Manner}
 use Rattle.source_files.specs.Listings.{Listing}
 use Rattle.source_tree.specs.Files.{TreeFile}
 use Rattle.source_files.specs.declared.load_fault.LoadFault.TheVariants.{Unreadable, TooMany, BadPath, SamePath}
@@ -140,13 +141,14 @@ module _ (lists : List ℕ → List ℕ → Option Listing → Type 0) (gives : 
       (indexing.over_tree tree unread ids named folders (too_poor recorded fault apart forgoes breaks ends)) none =
       absurd (told_no_success _ limit_status _ status tt ends.2 none)
 
-module _ (lists : List ℕ → List ℕ → Option Listing → Type 0) (gives : List ℕ → Option (List ℕ) → Type 0)
-    (options : IndexOptions) (headline : HeadlineOfFiles lists gives options) where
+module _ (manner : Manner) (lists : List ℕ → List ℕ → Option Listing → Type 0)
+    (gives : List ℕ → Option (List ℕ) → Type 0) (options : IndexOptions)
+    (headline : HeadlineOfFiles lists gives options) where
   pub answers : {Q V R W M : Type 0} (blames : List ℕ → Option (List ℕ) → Type 0)
       (none_found : List TreeFile → Option (List ℕ) → Type 0) (suspects : Bool → Type 0)
       (report : Place Q V) (commands : Reader R) (written : Writer W) (messages : Writer M) (status : ℕ)
-      → Served lists gives blames none_found suspects options report commands written messages status
-      → AnswersNavigable lists gives options commands written status
+      → Served manner lists gives blames none_found suspects options report commands written messages status
+      → AnswersNavigable manner lists gives options commands written status
   answers blames none_found suspects report commands written messages status
       (not_started fault said may untouched reported tells) none =
       absurd (told_one_no_success _ (start_status said) messages status (start_fails said) tells none)

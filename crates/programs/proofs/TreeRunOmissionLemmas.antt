@@ -1,7 +1,6 @@
 -- What is said of an index, by what it lacks.
 use Rattle.std.proofs.Common.{◌≡◌, ℕ, suc, Bool, true, false, List, [], ◌∷◌, Option, Some, None, Result, Ok, Err}
-use Rattle.std.proofs.Common.{length, ◌==◌, ◌&&◌, ◌∙◌, ◌+◌, ◌-◌, ◌++◌, ap, arith, map, refl, subst, sym}
-use Rattle.std.specs.List.{count_by}
+use Rattle.std.proofs.Common.{length, ◌==◌, ◌&&◌, map, refl, subst, sym}
 use Rattle.std.specs.Prelude.{IfSome}
 use Rattle.std.specs.Option.{option_map}
 use Rattle.std.proofs.lemmas.Option.{same_Some}
@@ -9,25 +8,11 @@ use Rattle.basics.proofs.TestLemmas.{never_zero as no_items, first_holds}
 use Rattle.streams.specs.Writers.{Writer}
 use Rattle.proto_parse.specs.dialect.Dialect.{Dialect}
 use Rattle.source_tree.specs.Files.{TreeFile}
+use Rattle.source_tree.specs.Trees.{IsSourceCount}
 use Rattle.scip_build.specs.declared.omission.Omission.{Omission}
-use Rattle.protoscip.specs.ToldLines.{IsTextOfAllOmissions, IsToldText, IsToldTextWith, is_import, is_skipped}
-use Rattle.protoscip.specs.ToldLines.{is_skipped_source, is_use, numbers_line}
 use Rattle.protoscip.specs.declared.fault.Fault.{Fault}
 use Rattle.programs.specs.Messages.{Says, SaysIfAny, SaysOfSuccess}
-use Rattle.programs.specs.Missing.{IsIfAnyWithMissing, IsWithMissing}
-use Rattle.programs.specs.TreeRuns.{Ends, SaysOmissions, SaysAll}
-
--- where all could be read, the text of what an index lacks is the whole text
-all_read : (explain : Option Dialect) (tree : List TreeFile) (sources : ℕ) (told : List Omission) (text : List ℕ)
-    → IsToldText explain tree sources told text → IsToldTextWith explain tree sources [] told text
-all_read explain tree sources told text is =
-    let skipped = count_by is_skipped told in
-    let none : skipped ≡ 0 + skipped = omega arith in (
-      is.0,
-      is.1,
-      is.2 ∙ ap (λ (n : ℕ). is.0 ++ numbers_line (sources - count_by (is_skipped_source sources) told) n
-          (count_by is_import told) (count_by is_use told)) none,
-    )
+use Rattle.programs.specs.TreeRuns.{Ends, IsWholeText, IsWholeTextIfAny, SaysOmissions, SaysAll}
 
 module _ {M : Type 0} (says : (List ℕ → Type 0) → Writer M → (status : ℕ) → Type 0)
     (none_found : Option (List ℕ) → Type 0) (explain : Option Dialect) (real : Bool)
@@ -83,53 +68,55 @@ is_success none_found explain real tree messages status [] (first ∷ others) sa
 is_success none_found explain real tree messages status (path ∷ unread) told says =
     (says.0, says.1, (says.2.0, says.2.1, (refl, says.2.2.1)))
 
--- the text that was made of it is said, and what is missing behind it; or, if there is none, the line of none found
+-- the text that was made of it is said; or, if there is none, the line of none found
 pub text_is_said : {M T : Type 0} (bytes : T → List ℕ) (explain : Option Dialect) (real : Bool)
     (tree : List TreeFile) (messages : Writer M) (status : ℕ) (line : Option (List ℕ)) (unread : List (List ℕ))
-    (told : List Omission) (text whole : Option T)
-    → IsTextOfAllOmissions explain tree unread told (option_map bytes text)
-    → IsIfAnyWithMissing real tree told (option_map bytes text) (option_map bytes whole)
-    → IfSome whole (λ (t : T). Says (bytes t) 0 messages status)
-    → (whole ≡ None → SaysIfAny line messages status)
+    (told : List Omission) (text : Option T)
+    → IsWholeTextIfAny explain real tree unread told (option_map bytes text)
+    → IfSome text (λ (t : T). Says (bytes t) 0 messages status)
+    → (text ≡ None → SaysIfAny line messages status)
     → SaysOmissions SaysOfSuccess (λ l. l ≡ line) explain real tree unread told messages status
-text_is_said bytes explain real tree messages status line unread told None (Some w) is with_line said silent =
-    absurd with_line
-text_is_said bytes explain real tree messages status line unread told (Some t) None is with_line said silent =
-    absurd with_line
-text_is_said bytes explain real tree messages status line [] [] None None is with_line said silent =
-    (line, refl, silent refl)
-text_is_said bytes explain real tree messages status line [] [] (Some t) (Some w) is with_line said silent = absurd cc
-text_is_said bytes explain real tree messages status line [] (first ∷ others) None None is with_line said silent =
+text_is_said bytes explain real tree messages status line [] [] None is said silent = (line, refl, silent refl)
+text_is_said bytes explain real tree messages status line [] [] (Some t) is said silent = absurd cc
+text_is_said bytes explain real tree messages status line [] (first ∷ others) None is said silent =
     let never = is.2.2 in absurd cc
-text_is_said bytes explain real tree messages status line [] (first ∷ others) (Some t) (Some w) is with_line said
-    silent = (
-      is.0,
-      is.1,
-      (
-        bytes w,
-        (
-          is.2.0,
-          all_read explain tree is.0 (first ∷ others) is.2.0 is.2.1,
-          subst (λ (l : List ℕ). IsWithMissing real tree (first ∷ others) l (bytes w))
-              (same_Some (bytes t) is.2.0 is.2.2) with_line,
-        ),
-        said,
-      ),
-    )
-text_is_said bytes explain real tree messages status line (path ∷ unread) told None None is with_line said silent =
+text_is_said bytes explain real tree messages status line [] (first ∷ others) (Some t) is said silent = (
+  is.0,
+  is.1,
+  (
+    bytes t,
+    subst (IsWholeText explain real tree is.0 [] (first ∷ others)) (sym (same_Some (bytes t) is.2.0 is.2.2)) is.2.1,
+    said,
+  ),
+)
+text_is_said bytes explain real tree messages status line (path ∷ unread) told None is said silent =
     let never = is.2.2 in absurd cc
-text_is_said bytes explain real tree messages status line (path ∷ unread) told (Some t) (Some w) is with_line said
-    silent = (
-      is.0,
-      is.1,
-      (
-        bytes w,
-        (
-          is.2.0,
-          is.2.1,
-          subst (λ (l : List ℕ). IsWithMissing real tree told l (bytes w)) (same_Some (bytes t) is.2.0 is.2.2)
-              with_line,
-        ),
-        said,
-      ),
-    )
+text_is_said bytes explain real tree messages status line (path ∷ unread) told (Some t) is said silent = (
+  is.0,
+  is.1,
+  (
+    bytes t,
+    subst (IsWholeText explain real tree is.0 (path ∷ unread) told) (sym (same_Some (bytes t) is.2.0 is.2.2))
+        is.2.1,
+    said,
+  ),
+)
+
+module _ (explain : Option Dialect) (real : Bool) (tree : List TreeFile) {X : Type 0} (path_of : X → List ℕ) where
+  -- if nothing is lacking, there is no text
+  pub no_text : (unread : List X) (told : List Omission) → (length unread == 0 && length told == 0) ≡ true
+      → IsWholeTextIfAny explain real tree (map path_of unread) told None
+  no_text [] [] none = refl
+  no_text [] (first ∷ others) none = absurd (no_items (length others) none)
+  no_text (path ∷ unread) told none =
+      absurd (no_items (length unread) (first_holds (suc (length unread) == 0) (length told == 0) none))
+
+  -- if something is, there is one
+  pub some_text : (unread : List X) (told : List Omission) (text : List ℕ)
+      → (length unread == 0 && length told == 0) ≡ false
+      → ((sources : ℕ) × IsSourceCount tree sources
+      × IsWholeText explain real tree sources (map path_of unread) told text)
+      → IsWholeTextIfAny explain real tree (map path_of unread) told (Some text)
+  some_text [] [] text some is = absurd cc
+  some_text [] (first ∷ others) text some is = (is.0, is.1, (text, is.2, refl))
+  some_text (path ∷ unread) told text some is = (is.0, is.1, (text, is.2, refl))

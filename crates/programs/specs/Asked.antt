@@ -7,5 +7,5 @@ use Rattle.command_line.specs.declared.request.Request.TheVariants.{Index, Shell
 -- its path, if one is asked for
 abbrev pub report_path : Request → Option (List ℕ)
 report_path (Index given) = option_map string_bytes given.options.report.path
-report_path (Shell options) = option_map string_bytes options.report.path
+report_path (Shell given) = option_map string_bytes given.options.report.path
 report_path request = None

@@ -8,8 +8,8 @@ use Rattle.streams.specs.Writers.{AreTold, IsUntouched, Writer}
 use Rattle.source_files.specs.Causes.{words_of}
 use Rattle.source_files.specs.declared.cause.Cause.{Cause}
 use Rattle.command_line.specs.declared.request.Request.{Request}
-use Rattle.command_line.specs.declared.request.Request.TheVariants.{Dump, Query, Snapshot, Pages, Index, Shell, Print}
-use Rattle.command_line.specs.declared.request.Request.TheVariants.{Refuse}
+use Rattle.command_line.specs.declared.request.Request.TheVariants.{Dump, Query, Snapshot, Pages, Join, Index, Shell}
+use Rattle.command_line.specs.declared.request.Request.TheVariants.{Print, Refuse}
 use Rattle.programs.specs.Asked.{report_path}
 
 -- ---- why a path can't be read
@@ -32,23 +32,25 @@ IsReasoned blames (Some path) told text =
 -- what is asked for, and that its faults are explained
 abbrev pub is_explained : Result Request AllocError → Bool
 is_explained (Ok (Dump options)) = options.explain
-is_explained (Ok (Query index explain)) = explain
+is_explained (Ok (Query options)) = options.explain
 is_explained (Ok (Snapshot options)) = options.explain
 is_explained (Ok (Pages options)) = options.explain
+is_explained (Ok (Join options)) = options.explain
 is_explained (Ok (Index given)) = given.options.explain
-is_explained (Ok (Shell options)) = options.explain
+is_explained (Ok (Shell given)) = given.options.explain
 is_explained (Ok (Print text)) = false
 is_explained (Ok (Refuse text)) = false
 is_explained (Err refused) = false
 
--- the path of what is made: of an index, or of the folder of snapshots or of pages; else empty
+-- the path of what is made: of an index, that of a join too, or of the folder of snapshots or of pages; else empty
 abbrev pub made_name : Result Request AllocError → List ℕ
 made_name (Ok (Dump options)) = []
-made_name (Ok (Query index explain)) = []
+made_name (Ok (Query options)) = []
 made_name (Ok (Snapshot options)) = unwrap_or (option_map string_bytes options.to) []
 made_name (Ok (Pages options)) = string_bytes options.out
+made_name (Ok (Join options)) = string_bytes options.out
 made_name (Ok (Index given)) = string_bytes given.out
-made_name (Ok (Shell options)) = []
+made_name (Ok (Shell given)) = []
 made_name (Ok (Print text)) = []
 made_name (Ok (Refuse text)) = []
 made_name (Err refused) = []

@@ -29,6 +29,7 @@ pub mod Settled
 pub mod TreeRuns
 pub mod Dumping
 pub mod Limits
+pub mod Manners
 pub mod Asked
 pub mod Placing
 pub mod WellKnown
@@ -37,5 +38,8 @@ pub mod Reporting
 pub mod StartReports
 pub mod Indexing
 pub mod Serving
+-- `join`
+pub mod JoinStops
+pub mod Joining
 -- the laws
 pub mod OptionLaws

@@ -1,7 +1,7 @@
 -- The line that groups what is missing of a tree: the imports that lead nowhere, by their paths. (The text is this
 -- project's own.)
-use Rattle.std.specs.Prelude.{◌≡◌, ℕ, Bool, true, List, [], ◌∷◌, ◌++◌, Option, Some, None, codes, length, take}
-use Rattle.std.specs.Prelude.{if◌then◌else◌, nat_lt}
+use Rattle.std.specs.Prelude.{◌≡◌, ℕ, Bool, true, false, List, [], ◌∷◌, ◌++◌, Option, Some, None, codes, length, take}
+use Rattle.std.specs.Prelude.{if◌then◌else◌, nat_eq, nat_lt}
 use Rattle.std.specs.Fmt.{decimal}
 use Rattle.std.specs.List.{count_by, flat_map}
 use Rattle.std.specs.Str.{bytes_eq}
@@ -51,11 +51,15 @@ others_text each = if nat_lt most_named (length each) then codes " and others" e
 abbrev pub many_front : ℕ → List ℕ
 many_front count = codes "protoscip: " ++ decimal count ++ codes " imports lead nowhere"
 
+-- `protoscip: 1 import of PATH leads`, or `protoscip: N imports of PATH lead`
+abbrev pub one_front : (count : ℕ) → (path : List ℕ) → List ℕ
+one_front count path =
+    if nat_eq count 1 then codes "protoscip: 1 import of " ++ path ++ codes " leads"
+    else codes "protoscip: " ++ decimal count ++ codes " imports of " ++ path ++ codes " lead"
+
 -- `protoscip: N imports of PATH lead nowhere: --include the folder that has it`, if it is one path
 abbrev pub one_line : (paths : List (List ℕ)) → (path : List ℕ) → List ℕ
-one_line paths path =
-    codes "protoscip: " ++ decimal (length paths) ++ codes " imports of " ++ path
-    ++ codes " lead nowhere: --include the folder that has it"
+one_line paths path = one_front (length paths) path ++ codes " nowhere: --include the folder that has it"
 
 -- `protoscip: N imports lead nowhere, N of PATH, N of PATH: --include the folders that have them`, if it is several
 abbrev pub many_line : (paths each : List (List ℕ)) → List ℕ
@@ -77,17 +81,10 @@ IsMissingLine tree told line =
 
 -- ---- where it is said
 
--- A text, and behind a line end the line of what is missing, if that is wanted. Without memory for the line, it isn't
--- there.
+-- A text, and behind a line end the line of what is missing, if that is wanted and something is missing.
 pub data IsWithMissing (wanted : Bool) (tree : List TreeFile) (told : List Omission) (text : List ℕ)
     : (all : List ℕ) → Type 0 where
-  alone : IsWithMissing wanted tree told text text
+  unwanted : wanted ≡ false → IsWithMissing wanted tree told text text
+  nothing : wanted ≡ true → IsMissingLine tree told None → IsWithMissing wanted tree told text text
   with_line : {line : List ℕ} → wanted ≡ true → IsMissingLine tree told (Some line)
       → IsWithMissing wanted tree told text (text ++ codes "\n" ++ line)
-
--- the same, if there is a text
-abbrev pub IsIfAnyWithMissing : (wanted : Bool) → List TreeFile → List Omission → (text all : Option (List ℕ)) → Type 0
-IsIfAnyWithMissing wanted tree told None None = Unit {0}
-IsIfAnyWithMissing wanted tree told None (Some all) = ⊥
-IsIfAnyWithMissing wanted tree told (Some text) None = ⊥
-IsIfAnyWithMissing wanted tree told (Some text) (Some all) = IsWithMissing wanted tree told text all

@@ -8,6 +8,7 @@ use Rattle.scip_wire.specs.Decodes.{Decodes}
 use Rattle.scip_wire.specs.Refused.{NoIndex}
 use Rattle.scip_wire.specs.declared.wire_fault.WireFault.{WireFault}
 use Rattle.scip_query.specs.declared.answer_fault.AnswerFault.{AnswerFault}
+use Rattle.scip_query.specs.declared.manner.Manner.{Manner}
 use Rattle.scip_query.specs.declared.answer_fault.AnswerFault.TheVariants as answer
 use Rattle.protoscip.specs.Sessions.{AreAnswered, AreUntouched}
 use Rattle.programs.specs.declared.query_fault.QueryFault.{QueryFault}
@@ -22,18 +23,19 @@ pub data IsReadFrom (gives : Option (List ℕ) → Type 0) : Result Index QueryF
   reading_lacks_memory : IsReadFrom gives (Err (Answers answer.Memory))
 
 -- the index is read, and answers go out to commands about it
-pub record IsAnswered {R W : Type 0} (gives : Option (List ℕ) → Type 0) (commands : Reader R) (answers : Writer W)
+pub record IsAnswered {R W : Type 0} (manner : Manner) (gives : Option (List ℕ) → Type 0) (commands : Reader R)
+    (answers : Writer W)
     (answered : Result (Unit {0}) AnswerFault) : Type 0 where
   pub index : Index
   pub is : IsReadFrom gives (Ok index)
-  pub are : AreAnswered commands answers index answered
+  pub are : AreAnswered manner commands answers index answered
 
 -- all commands are answered; or reading them or writing answers stops; or memory ran out before an answer, or before
 -- the first; or there is no index
-abbrev pub Queried : {R W : Type 0} → (Option (List ℕ) → Type 0) → Reader R → Writer W → Result (Unit {0}) QueryFault
-    → Type 0
-Queried gives commands answers (Ok done) = IsAnswered gives commands answers (Ok done)
-Queried gives commands answers (Err (Answers answer.Memory)) =
-    AreUntouched commands answers ⊎ IsAnswered gives commands answers (Err answer.Memory)
-Queried gives commands answers (Err (Answers fault)) = IsAnswered gives commands answers (Err fault)
-Queried gives commands answers (Err fault) = IsReadFrom gives (Err fault) × AreUntouched commands answers
+abbrev pub Queried : {R W : Type 0} → Manner → (Option (List ℕ) → Type 0) → Reader R → Writer W
+    → Result (Unit {0}) QueryFault → Type 0
+Queried manner gives commands answers (Ok done) = IsAnswered manner gives commands answers (Ok done)
+Queried manner gives commands answers (Err (Answers answer.Memory)) =
+    AreUntouched commands answers ⊎ IsAnswered manner gives commands answers (Err answer.Memory)
+Queried manner gives commands answers (Err (Answers fault)) = IsAnswered manner gives commands answers (Err fault)
+Queried manner gives commands answers (Err fault) = IsReadFrom gives (Err fault) × AreUntouched commands answers

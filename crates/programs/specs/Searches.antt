@@ -18,7 +18,7 @@ follows Follow = true
 -- by what is asked for: an index may follow them
 abbrev pub links_followed : Result Request AllocError → Bool
 links_followed (Ok (request.Index given)) = follows given.options.links
-links_followed (Ok (request.Shell options)) = follows options.links
+links_followed (Ok (request.Shell given)) = follows given.options.links
 links_followed (Ok other) = false
 links_followed (Err refused) = false
 

@@ -5,6 +5,7 @@ use Rattle.std.specs.Prelude.{◌≡◌, ℕ, Bool, List, Option, Result, Ok, fa
 use Rattle.streams.specs.Readers.{Reader}
 use Rattle.streams.specs.Writers.{Writer}
 use Rattle.source_tree.specs.Files.{TreeFile}
+use Rattle.scip_query.specs.declared.manner.Manner.{Manner}
 use Rattle.scip_model.specs.Packages.{Packages}
 use Rattle.protoscip.specs.Explanations.{explain_in}
 use Rattle.protoscip.specs.Sessions.{AreAnswered, AreUntouched, Serves}
@@ -35,7 +36,7 @@ IsUnserved report commands answers =
 -- place, and nothing is read or written; or none of the files that were read is said to be the one at that place,
 -- commands are answered from the index of the tree of the files, as the options say, and the report goes where it is
 -- asked for. `suspects` says whether a source may be at that place.
-pub data Served {Q V R W M : Type 0} (lists : List ℕ → List ℕ → Option Listing → Type 0)
+pub data Served {Q V R W M : Type 0} (manner : Manner) (lists : List ℕ → List ℕ → Option Listing → Type 0)
     (gives blames : List ℕ → Option (List ℕ) → Type 0) (none_found : List TreeFile → Option (List ℕ) → Type 0)
     (suspects : Bool → Type 0) (options : IndexOptions) (report : Place Q V) (commands : Reader R) (answers : Writer W)
     (messages : Writer M) (status : ℕ) : Type 0 where
@@ -43,29 +44,29 @@ pub data Served {Q V R W M : Type 0} (lists : List ℕ → List ℕ → Option L
       → AreUntouched commands answers
       → EndsUnstarted report suspects false options.report fault said
       → TellsOne (IsStartTold blames options.explain said) (start_status said) messages status
-      → Served lists gives blames none_found suspects options report commands answers messages status
+      → Served manner lists gives blames none_found suspects options report commands answers messages status
   not_begun : (tree : List TreeFile) (unread : List (List ℕ)) (ids : Packages) (fault : StartFault)
       → NamePackages options → AreFolders lists gives options tree unread ids
       → MayNotReport report options tree fault
       → IsUnserved report commands answers
       → Tells (start_told options.explain fault) (start_status fault) messages status
-      → Served lists gives blames none_found suspects options report commands answers messages status
+      → Served manner lists gives blames none_found suspects options report commands answers messages status
   over_tree : (tree : List TreeFile) (unread : List (List ℕ)) (ids : Packages) (ran : Result Recorded Fault)
       (reported : Result (Unit {0}) Fault) → NamePackages options → AreFolders lists gives options tree unread ids
       → IfSome options.report.path (λ _. IsRead report options tree false)
-      → Serves commands answers (allowed_by options) (settings_in options ids) tree options.workers ran
+      → Serves manner commands answers (allowed_by options) (settings_in options ids) tree options.workers ran
       → Reports report options.report no_limits (allowed_by options) (settings_in options ids) options.workers tree
       unread (told_by ran) reported
       → Ends TellsOfSuccess (none_found tree) (explain_in options.explain (settings_in options ids).dialect)
       options.is_real tree
       unread (λ recorded. recorded.told) (settled ran reported) messages status
-      → Served lists gives blames none_found suspects options report commands answers messages status
+      → Served manner lists gives blames none_found suspects options report commands answers messages status
 
 -- if the exit status is 0, all commands are answered from an index that navigates the tree of the files
-abbrev pub AnswersNavigable : {R W : Type 0} → (lists : List ℕ → List ℕ → Option Listing → Type 0)
+abbrev pub AnswersNavigable : {R W : Type 0} → Manner → (lists : List ℕ → List ℕ → Option Listing → Type 0)
     → (gives : List ℕ → Option (List ℕ) → Type 0)
     → IndexOptions → Reader R → Writer W → (status : ℕ) → Type 0
-AnswersNavigable lists gives options commands answers status =
+AnswersNavigable manner lists gives options commands answers status =
     status ≡ 0
     → AreNavigable lists gives options
-    (λ _ index. AreAnswered commands answers index (Ok tt))
+    (λ _ index. AreAnswered manner commands answers index (Ok tt))

@@ -1,7 +1,7 @@
 -- How the programs about a tree end: `index` and `shell`.
 -- `lists` and `gives` are what the system of files gives, and `messages` is the stream of messages. `none_found` says
 -- which line, if any, is said of a tree whose index lacks nothing: that it has no source.
-use Rattle.std.specs.Prelude.{ℕ, Bool, List, [], ◌∷◌, Option, Result, Ok, Err}
+use Rattle.std.specs.Prelude.{◌≡◌, ℕ, Bool, List, [], ◌∷◌, Option, Some, None, Result, Ok, Err}
 use Rattle.streams.specs.Writers.{Writer}
 use Rattle.proto_parse.specs.dialect.Dialect.{Dialect}
 use Rattle.source_tree.specs.Files.{TreeFile}
@@ -28,6 +28,20 @@ abbrev pub IsWholeText : (explain : Option Dialect) → (real : Bool) → List T
     → (unread : List (List ℕ)) → List Omission → (text : List ℕ) → Type 0
 IsWholeText explain real tree sources unread told text =
     (front : List ℕ) × IsToldTextWith explain tree sources unread told front × IsWithMissing real tree told front text
+
+-- the same, by the number of the tree's sources
+abbrev pub IsSomeWholeText : (explain : Option Dialect) → (real : Bool) → List TreeFile → (unread : List (List ℕ))
+    → List Omission → Option (List ℕ) → Type 0
+IsSomeWholeText explain real tree unread told text =
+    (sources : ℕ) × IsSourceCount tree sources
+    × ((said : List ℕ) × IsWholeText explain real tree sources unread told said × (text ≡ Some said))
+
+-- what is said of an index that lacks this: nothing if nothing is lacking, else all that
+abbrev pub IsWholeTextIfAny : (explain : Option Dialect) → (real : Bool) → List TreeFile → (unread : List (List ℕ))
+    → List Omission → Option (List ℕ) → Type 0
+IsWholeTextIfAny explain real tree [] [] text = text ≡ None
+IsWholeTextIfAny explain real tree [] (first ∷ others) text = IsSomeWholeText explain real tree [] (first ∷ others) text
+IsWholeTextIfAny explain real tree (path ∷ unread) told text = IsSomeWholeText explain real tree (path ∷ unread) told text
 
 -- `says` says how a text with a property is written after a success: here all that
 abbrev pub SaysAll : {M : Type 0} → (says : (List ℕ → Type 0) → Writer M → (status : ℕ) → Type 0)

@@ -78,5 +78,6 @@ module _ (finds : List ℕ → Bool → Type 0) (path : Option (List ℕ)) where
   abbrev pub IncludesIn : {M : Type 0} → Writer M → (asked now : Request) → (known : Option (List ℕ)) → Type 0
   IncludesIn messages (request.Index given) (request.Index now) known =
       Includes messages given.options now.options known × (now ≡ record given { options = now.options })
-  IncludesIn messages (request.Shell options) (request.Shell now) known = Includes messages options now known
+  IncludesIn messages (request.Shell given) (request.Shell now) known =
+      Includes messages given.options now.options known × (now ≡ record given { options = now.options })
   IncludesIn messages asked now known = (now ≡ asked) × (known ≡ None) × IsUntouched messages

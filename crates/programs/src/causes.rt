@@ -32,18 +32,19 @@ fn is_explained(asked: &Result<Request, AllocError>) -> bool
     match asked {
         Ok(request) => match request {
             Request::Dump(options) => options.explain,
-            Request::Query(_, explain) => *explain,
+            Request::Query(options) => options.explain,
             Request::Snapshot(options) => options.explain,
             Request::Pages(options) => options.explain,
+            Request::Join(options) => options.explain,
             Request::Index(given) => given.options.explain,
-            Request::Shell(options) => options.explain,
+            Request::Shell(given) => given.options.explain,
             Request::Print(_) | Request::Refuse(_) => false,
         },
         Err(AllocError) => false,
     }
 }
 
-/// The path of what is made: of an index, or of the folder of snapshots or of pages; else empty.
+/// The path of what is made: of an index, that of a join too, or of the folder of snapshots or of pages; else empty.
 fn made_path(asked: &Result<Request, AllocError>) -> &str
     ensures { result.now ≡ made_name asked.now }
 {
@@ -51,12 +52,13 @@ fn made_path(asked: &Result<Request, AllocError>) -> &str
         Ok(request) => match request {
             Request::Index(given) => given.out.as_str(),
             Request::Pages(options) => options.out.as_str(),
+            Request::Join(options) => options.out.as_str(),
             Request::Snapshot(options) => match &options.to {
                 Some(to) => to.as_str(),
                 None => "",
             },
             Request::Dump(_)
-            | Request::Query(..)
+            | Request::Query(_)
             | Request::Shell(_)
             | Request::Print(_)
             | Request::Refuse(_) => "",

@@ -8,13 +8,13 @@ ghost use Rattle.protoscip.specs.Explanations.{IsFaultText};
 ghost use Rattle.protoscip.specs.FaultLines.{HasFilesOf, HaveFilesOf};
 ghost use Rattle.protoscip.specs.FaultTexts.{status_of};
 ghost use Rattle.programs.specs.Messages.{SaysIfAny, TellsOfSuccess, TellsOne};
-ghost use Rattle.programs.specs.TreeRuns.{IsWholeText, SaysOmissions};
+ghost use Rattle.programs.specs.TreeRuns.{IsWholeText, IsWholeTextIfAny, SaysOmissions};
 
 use crate::messages::report;
 use crate::missing::with_missing;
 use crate::starting::TreeRun;
 use proto_parse::Dialect;
-use protoscip::{Fault, Telling, fault_text, omits_nothing, told_text_with};
+use protoscip::{Fault, Telling, Tells, fault_text, omits_nothing, told_text_with};
 use scip_build::Omission;
 use scip_site::say;
 use source_tree::Tree;
@@ -33,22 +33,50 @@ pub(crate) struct Closing {
 /// The text of what couldn't be read, and of what an index of the tree lacks.
 fn whole_text(
     alloc: Global,
-    run: &TreeRun,
+    tree: &Tree,
+    unread: &[String],
     told: &[Omission],
     closing: Closing,
 ) -> Result<String, AllocError>
-    requires { HaveFilesOf run.now.tree told.now }
-    ensures { (sources : ℕ) × IsSourceCount run.now.tree sources
-        × IfOk result (λ text. IsWholeText closing.explain closing.is_real run.now.tree sources
-        (map string_bytes run.now.unread.items) told.now (string_bytes text)) }
+    requires { HaveFilesOf tree.now told.now }
+    ensures { (sources : ℕ) × IsSourceCount tree.now sources
+        × IfOk result (λ text. IsWholeText closing.explain closing.is_real tree.now sources
+        (map string_bytes unread.now) told.now (string_bytes text)) }
 {
     let telling = Telling {
-        unread: run.unread.as_slice(),
+        unread,
         explain: closing.explain,
     };
-    match told_text_with(alloc, &run.tree, told, &telling) {
-        Ok(text) => Ok(with_missing(alloc, closing.is_real, &run.tree, told, text)),
+    match told_text_with(alloc, tree, told, &telling) {
+        Ok(text) => with_missing(alloc, closing.is_real, tree, told, text),
         Err(refused) => Err(refused),
+    }
+}
+
+/// How that is told which an index of a run lacks.
+#[derive(Clone, Copy)]
+pub(crate) struct WholeTelling<'a> {
+    /// What couldn't be read below the folders of the run, and was left out: a path for each.
+    pub(crate) unread: &'a [String],
+    pub(crate) closing: Closing,
+}
+
+impl Tells for WholeTelling<'_> {
+    // All that is lacking, and of a tree as it lies what is missing.
+    ghost tells = { λ whole tree told text. IsWholeTextIfAny whole.closing.explain whole.closing.is_real tree
+        (map string_bytes whole.unread.now) told text };
+
+    /// The text of what couldn't be read, and of what an index of the tree lacks; nothing if nothing is lacking.
+    fn text(
+        &self,
+        alloc: Global,
+        tree: &Tree,
+        told: &[Omission],
+    ) -> Result<Option<String>, AllocError> {
+        if omits_nothing(self.unread, told) {
+            return Ok(None);
+        }
+        Ok(Some(whole_text(alloc, tree, self.unread, told, self.closing)?))
     }
 }
 
@@ -67,10 +95,12 @@ pub(crate) fn tell<M: Sink>(
         (map string_bytes run.now.unread.items) told.now
         (writer M.Sink messages) result }
 {
-    if omits_nothing(run.unread.as_slice(), told) {
+    let unread = run.unread.as_slice();
+    if omits_nothing(unread, told) {
         return say_line(&run.none_found, messages);
     }
-    report(whole_text(alloc, run, told, closing), 0, messages)
+    let text = whole_text(alloc, &run.tree, unread, told, closing);
+    report(text, 0, messages)
 }
 
 /// Says a line of a success, if there is one, and gives the exit status.

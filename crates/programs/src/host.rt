@@ -1,5 +1,6 @@
 //! What a program runs over.
 
+use scip_query::Manner;
 use std::alloc::Global;
 
 /// What a program runs over besides its streams: threads, memory and files.
@@ -13,4 +14,6 @@ pub struct Host<'a, R, F> {
     pub files: &'a F,
     /// Whether standard error is a terminal, which may show how far a run is.
     pub is_watched: bool,
+    /// How commands are taken and answered.
+    pub manner: Manner,
 }

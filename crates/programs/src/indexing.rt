@@ -3,27 +3,24 @@
 ghost use Rattle.std.specs.Prelude.{◌≡◌, None, [], false, IfErr, IfOk, IfSome, MatchResult, map, string_bytes};
 ghost use Rattle.std.specs.Option.{option_map};
 ghost use Rattle.streams.specs.Writers.{writer};
-ghost use Rattle.protoscip.specs.FaultLines.{HasFilesOf, HaveFilesOf};
-ghost use Rattle.protoscip.specs.ToldLines.{IsTextOfAllOmissions};
+ghost use Rattle.protoscip.specs.FaultLines.{HasFilesOf};
 ghost use Rattle.source_files.specs.Places.{IsBegun};
 ghost use Rattle.programs.specs.Choices.{IsChosenBy};
 ghost use Rattle.programs.specs.Indexing.{Indexed, IndexesInto, WritesNavigable};
 ghost use Rattle.programs.specs.Limits.{Breaks};
 ghost use Rattle.programs.specs.Messages.{Says, SaysIfAny, SaysOfSuccess};
-ghost use Rattle.programs.specs.Missing.{IsIfAnyWithMissing};
 ghost use Rattle.programs.specs.NoSources.{NoneFoundBy};
 ghost use Rattle.programs.specs.Searches.{blamed_by, searched_by};
 ghost use Rattle.programs.specs.Placing.{AreApart, Finishes, IsOneFile, MayNotBegin, place};
 ghost use Rattle.programs.specs.StartReports.{IsOut};
-ghost use Rattle.programs.specs.TreeRuns.{Ends};
+ghost use Rattle.programs.specs.TreeRuns.{Ends, IsWholeTextIfAny};
 
-use crate::ending::{Closing, say_line, stop};
+use crate::ending::{Closing, WholeTelling, say_line, stop};
 use crate::folders::folders_read;
 use crate::host::Host;
 use crate::laws::headline_of_options;
 use crate::limits::{LimitFault, broken_by, report_limit};
 use crate::messages::report;
-use crate::missing::with_missing;
 use crate::places::Places;
 use crate::progress::{LineWiped, Progress};
 use crate::reporting::{Reporter, fault_in, report_run, see_report, settle};
@@ -32,7 +29,7 @@ use crate::start_fault::StartFault;
 use crate::start_reports::put_start_report;
 use crate::starting::{TreeRun, start};
 use command_line::{IndexRequest, Limits};
-use protoscip::{Fault, KeptIndex, Telling, explain_in, index_and_tell};
+use protoscip::{Fault, KeptIndex, explain_in, index_and_tell};
 use scip_build::Omission;
 use source_files::{Excluding, LookAgain, OutPlace, ReadFiles, is_read_from};
 use source_tree::Tree;
@@ -55,8 +52,7 @@ fn end<M: Sink>(
     messages: &mut M,
 ) -> u8
     requires files { IfErr done (HasFilesOf run.now.tree) }
-    requires told { IfOk done (λ kept. HaveFilesOf run.now.tree kept.built.told) }
-    requires said { IfOk done (λ kept. IsTextOfAllOmissions closing.explain run.now.tree
+    requires said { IfOk done (λ kept. IsWholeTextIfAny closing.explain closing.is_real run.now.tree
         (map string_bytes run.now.unread.items) kept.built.told (option_map string_bytes kept.text)) }
     ensures { Ends SaysOfSuccess (λ line. line ≡ option_map string_bytes run.now.none_found) closing.explain
         closing.is_real run.now.tree (map string_bytes run.now.unread.items) (λ kept. kept.built.told) done.entry
@@ -65,31 +61,11 @@ fn end<M: Sink>(
     match done {
         Ok(kept) => {
             let KeptIndex { built, text } = kept;
-            let told = built.told.as_slice();
-            let whole = whole_of(alloc, closing.is_real, &run.tree, told, text);
             // What was made goes with the process.
             forget(built);
-            say_end(whole, &run.none_found, messages)
+            say_end(text, &run.none_found, messages)
         }
         Err(fault) => stop(alloc, &run.tree, &fault, closing.explain, messages),
-    }
-}
-
-/// The text of what an index lacks, if there is one, and behind it what is missing, if that is wanted.
-fn whole_of(
-    alloc: Global,
-    wanted: bool,
-    tree: &Tree,
-    told: &[Omission],
-    text: Option<String>,
-) -> Option<String>
-    requires { HaveFilesOf tree.now told.now }
-    ensures { IsIfAnyWithMissing wanted tree.now told.now (option_map string_bytes text)
-        (option_map string_bytes result) }
-{
-    match text {
-        Some(text) => Some(with_missing(alloc, wanted, tree, told, text)),
-        None => None,
     }
 }
 
@@ -249,9 +225,13 @@ where
     let gate = Progress::over(host.alloc, host.rt, begun, &run.tree);
     let work = run.over(host.rt, host.alloc, &gate);
     let (tree, choices, settings) = (&run.tree, &run.choices, &run.settings);
-    let telling = Telling {
-        unread: run.unread.as_slice(),
+    let closing = Closing {
         explain: explain_in(explain, settings.dialect),
+        is_real: request.options.is_real,
+    };
+    let telling = WholeTelling {
+        unread: run.unread.as_slice(),
+        closing,
     };
     let ran = index_and_tell(&work, tree, choices, settings, &telling, &mut part);
     let reporter = Reporter {
@@ -266,10 +246,6 @@ where
     let broken = broken_limit(request.limits, run, &done);
     let done = finish(done, broken, part, &mut places.file);
     let wiped = gate.wipe();
-    let closing = Closing {
-        explain: telling.explain,
-        is_real: request.options.is_real,
-    };
     let status = end(wiped, host.alloc, run, done, closing, messages);
     match broken {
         Some(fault) => report_limit(host.alloc, fault, explain, messages),
@@ -354,6 +330,7 @@ where
         alloc: host.alloc,
         files: &files,
         is_watched: host.is_watched,
+        manner: host.manner,
     };
     index(&searched, request, places, messages)
 }

@@ -14,6 +14,9 @@ mod query_explanations;
 mod query_fault;
 mod querying;
 
+// How commands are taken.
+mod manners;
+
 // `snapshot`: the sources of an index, with what the index says about them, are printed, or go to files.
 mod show_faults;
 mod snapshotting;
@@ -21,6 +24,10 @@ mod snapshotting;
 // `pages`: the sources of an index as pages, in a folder.
 mod paging;
 mod site_faults;
+
+// `join`: one index of several goes to a file.
+mod join_stop;
+mod joining;
 
 // The programs about a tree: what their options say of the run, and why there is no package or no tree.
 mod choices;
@@ -62,6 +69,7 @@ pub use causes::explain_failure;
 pub use choices::OptionChoices;
 pub use host::Host;
 pub use laws::headline_of_options;
+pub use manners::{Prompting, manner_of, takes_commands};
 pub use messages::report;
 pub use places::Places;
 pub use progress::{LineWiped, Progress};

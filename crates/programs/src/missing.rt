@@ -1,6 +1,6 @@
 //! The line that groups what is missing: the imports that lead nowhere, by their paths.
 
-ghost use Rattle.std.specs.Prelude.{◌≡◌, ◌++◌, ℕ, List, IfOk, IfSome, OnOk, Some, codes, map, string_bytes, take};
+ghost use Rattle.std.specs.Prelude.{◌≡◌, ◌++◌, IfOk, OnOk, codes, map, string_bytes, take};
 ghost use Rattle.std.specs.Fmt.{decimal};
 ghost use Rattle.std.specs.List.{count_by, flat_map};
 ghost use Rattle.std.specs.Option.{option_map};
@@ -19,6 +19,8 @@ ghost use Rattle.programs.specs.Missing.{
   missing_line,
   missing_paths,
   most_named,
+  one_front,
+  one_line,
   others_text,
 };
 
@@ -161,14 +163,24 @@ fn named_of(each: &[String]) -> &[String]
     each.split_at(each.len().min(MOST_NAMED)).0
 }
 
-/// The line, without its end, of one path.
-fn one_line(alloc: Global, count: usize, path: &str) -> Result<String, AllocError>
-    ensures { IfOk result (λ line. string_bytes line ≡ codes "protoscip: " ++ decimal count ++ codes " imports of "
-        ++ path.now ++ codes " lead nowhere: --include the folder that has it") }
+/// How the line begins of one path.
+fn one_front(alloc: Global, count: usize, path: &str) -> Result<String, AllocError>
+    ensures { IfOk result (λ front. string_bytes front ≡ one_front count path.now) }
 {
-    format!(in alloc;
-        "protoscip: {count} imports of {path} lead nowhere: --include the folder that has it"
-    )
+    if count == 1 {
+        format!(in alloc; "protoscip: 1 import of {path} leads")
+    } else {
+        format!(in alloc; "protoscip: {count} imports of {path} lead")
+    }
+}
+
+/// The line, without its end, of one path.
+fn one_line(alloc: Global, paths: &[String], path: &str) -> Result<String, AllocError>
+    ensures { IfOk result (λ line. string_bytes line ≡ one_line (map string_bytes paths.now) path.now) }
+{
+    let mut line = one_front(alloc, paths.len(), path)?;
+    line.push_str(" nowhere: --include the folder that has it")?;
+    Ok(line)
 }
 
 /// How the line begins of several paths.
@@ -209,7 +221,7 @@ fn line_of(alloc: Global, paths: &[String], each: &[String]) -> Result<Option<St
 {
     match each {
         [] => Ok(None),
-        [path] => Ok(Some(one_line(alloc, paths.len(), path.as_str())?)),
+        [path] => Ok(Some(one_line(alloc, paths, path.as_str())?)),
         _ => Ok(Some(many_line(alloc, paths, each)?)),
     }
 }
@@ -224,46 +236,33 @@ fn missing_line(alloc: Global, tree: &Tree, told: &[Omission]) -> Result<Option<
     line_of(alloc, paths.as_slice(), each.as_slice())
 }
 
-/// A text, and that line behind it; none if there is no such line.
-fn longer(
-    alloc: Global,
-    tree: &Tree,
-    told: &[Omission],
-    text: &str,
-) -> Result<Option<String>, AllocError>
-    requires { HaveFilesOf tree.now told.now }
-    ensures { IfOk result (λ all. IfSome all (λ all. (line : List ℕ) × IsMissingLine tree.now told.now (Some line)
-        × (string_bytes all ≡ text.now ++ codes "\n" ++ line))) }
+/// A text, and behind a line end a line.
+fn with_line(text: String, line: &str) -> Result<String, AllocError>
+    ensures { IfOk result (λ all. string_bytes all ≡ string_bytes text ++ codes "\n" ++ line.now) }
 {
-    match missing_line(alloc, tree, told)? {
-        Some(line) => {
-            let mut all = String::from_str(alloc, text)?;
-            all.push_str("\n")?;
-            all.push_str(line.as_str())?;
-            Ok(Some(all))
-        }
-        None => Ok(None),
-    }
+    let mut all = text;
+    all.push_str("\n")?;
+    all.push_str(line)?;
+    Ok(all)
 }
 
-/// A text of what an index of a tree lacks, and behind it the line of what is missing, if that is wanted, something is
-/// missing, and there is memory for it.
+/// A text of what an index of a tree lacks, and behind it the line of what is missing, if that is wanted and something
+/// is missing.
 pub(crate) fn with_missing(
     alloc: Global,
     wanted: bool,
     tree: &Tree,
     told: &[Omission],
     text: String,
-) -> String
+) -> Result<String, AllocError>
     requires { HaveFilesOf tree.now told.now }
-    ensures { IsWithMissing wanted tree.now told.now (string_bytes text) (string_bytes result) }
+    ensures { IfOk result (λ all. IsWithMissing wanted tree.now told.now (string_bytes text) (string_bytes all)) }
 {
-    if wanted {
-        match longer(alloc, tree, told, text.as_str()) {
-            Ok(Some(all)) => all,
-            Ok(None) | Err(AllocError) => text,
-        }
-    } else {
-        text
+    if !wanted {
+        return Ok(text);
+    }
+    match missing_line(alloc, tree, told)? {
+        Some(line) => with_line(text, line.as_str()),
+        None => Ok(text),
     }
 }

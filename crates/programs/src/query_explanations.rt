@@ -30,7 +30,7 @@ fn query_text(
 }
 
 /// The path of the file, if it can't be read and that is to be explained.
-fn unread_path<'a>(fault: &QueryFault, path: &'a str, explain: bool) -> Option<&'a str>
+pub(crate) fn unread_path<'a>(fault: &QueryFault, path: &'a str, explain: bool) -> Option<&'a str>
     ensures { option_map (λ path. path.now) result ≡ unread_path explain path.now fault.now }
 {
     if !explain {

@@ -4,8 +4,9 @@ ghost use Rattle.streams.specs.Readers.{reader};
 ghost use Rattle.streams.specs.Writers.{writer};
 ghost use Rattle.programs.specs.Queries.{IsReadFrom, Queried};
 
+use crate::host::Host;
 use crate::query_fault::QueryFault;
-use protoscip::answer_commands;
+use protoscip::answer_commands_in;
 use scip_records::Index;
 use scip_wire::read_index;
 use source_files::ReadFiles;
@@ -30,22 +31,22 @@ pub(crate) fn index_of_file<F: ReadFiles>(
 }
 
 /// Reads the index that a file holds, and answers commands about it, one a line, as
-/// `Queries::answer_all` does.
+/// `Queries::answer_all_in` does in the host's manner.
 ///
 /// - `Unreadable`: the file can't be read.
 /// - `Wire`: its bytes decode to no index.
 /// - `Answers`: reading commands or writing answers failed, as `Queries::answer_all` says.
-pub(crate) fn query<F: ReadFiles, R: Feed, W: Sink>(
-    alloc: Global,
-    files: &F,
+pub(crate) fn query<R, F: ReadFiles, I: Feed, W: Sink>(
+    host: &Host<'_, R, F>,
     path: &str,
-    commands: &mut R,
+    commands: &mut I,
     answers: &mut W,
 ) -> Result<(), QueryFault>
-    ensures { Queried (F.gives files.now path.now) (reader R.Feed commands) (writer W.Sink answers) result }
+    ensures { Queried host.now.manner (F.gives host.now.files.now path.now) (reader I.Feed commands)
+        (writer W.Sink answers) result }
 {
-    let index = index_of_file(alloc, files, path)?;
-    match answer_commands(alloc, index, commands, answers) {
+    let index = index_of_file(host.alloc, host.files, path)?;
+    match answer_commands_in(host.alloc, host.manner, index, commands, answers) {
         Ok(()) => Ok(()),
         Err(fault) => Err(QueryFault::Answers(fault)),
     }

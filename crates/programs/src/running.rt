@@ -9,6 +9,7 @@ ghost use Rattle.command_line.specs.Requests.{
   explains,
   index_path,
   index_request,
+  join_options,
   out_path,
   pages_options,
   printed_text,
@@ -24,6 +25,7 @@ ghost use Rattle.programs.specs.Answering.{Answers};
 ghost use Rattle.programs.specs.Asked.{report_path};
 ghost use Rattle.programs.specs.Dumping.{EndsDump};
 ghost use Rattle.programs.specs.Indexing.{Indexed, WritesNavigable};
+ghost use Rattle.programs.specs.Joining.{RunsJoin};
 ghost use Rattle.programs.specs.Messages.{Tells, memory_line, memory_status};
 ghost use Rattle.programs.specs.NoSources.{NoneFoundBy};
 ghost use Rattle.programs.specs.Paging.{RunsPages, folder_places};
@@ -37,6 +39,7 @@ ghost use Rattle.programs.specs.Snapshotting.{RunsSnapshot};
 use crate::dumping::dump_source;
 use crate::host::Host;
 use crate::indexing::index_searched;
+use crate::joining::join;
 use crate::messages::report;
 use crate::output::print;
 use crate::paging::pages;
@@ -74,16 +77,16 @@ fn answer<R, F: ReadFiles + LookAgain, I: Feed, W: Sink, M: Sink>(
     messages: &mut M,
 ) -> u8
     ensures { (done : Result (Unit {0}) QueryFault)
-        × Queried (F.gives host.now.files.now path.now) (reader I.Feed input) (writer W.Sink out) done
+        × Queried host.now.manner (F.gives host.now.files.now path.now) (reader I.Feed input) (writer W.Sink out) done
         × Answers (F.blames host.now.files.now [] []) explain path.now done (writer M.Sink messages) result }
 {
-    match query(host.alloc, host.files, path, input, out) {
+    match query(host, path, input, out) {
         Ok(()) => 0,
         Err(fault) => report_query(host, &fault, path, explain, messages),
     }
 }
 
-/// The path of the file that the index is to be written to; empty if no index is asked for.
+/// The path of the file that an index is to be written to, that of a join too; empty if none is asked for.
 pub fn out_path(asked: &Result<Request, AllocError>) -> &str
     ensures path { IfOk asked.now (λ request. IfSome (out_path request) (λ path. result.now ≡ path)) }
     ensures none { IfOk asked.now (λ request. out_path request ≡ None → result.now ≡ []) }
@@ -91,6 +94,7 @@ pub fn out_path(asked: &Result<Request, AllocError>) -> &str
 {
     match asked {
         Ok(Request::Index(given)) => given.out.as_str(),
+        Ok(Request::Join(options)) => options.out.as_str(),
         _ => "",
     }
 }
@@ -114,7 +118,7 @@ pub fn report_path(asked: &Result<Request, AllocError>) -> &str
 {
     match asked {
         Ok(Request::Index(given)) => path_of(&given.options.report),
-        Ok(Request::Shell(options)) => path_of(&options.report),
+        Ok(Request::Shell(given)) => path_of(&given.options.report),
         _ => "",
     }
 }
@@ -125,7 +129,7 @@ pub fn links_followed(asked: &Result<Request, AllocError>) -> bool
 {
     match asked {
         Ok(Request::Index(given)) => matches!(given.options.links, Links::Follow),
-        Ok(Request::Shell(options)) => matches!(options.links, Links::Follow),
+        Ok(Request::Shell(given)) => matches!(given.options.links, Links::Follow),
         _ => false,
     }
 }
@@ -165,7 +169,7 @@ where
     // What `query` promises of its answers, and what becomes of that.
     ensures queried { IfOk asked.now (λ request. IfSome (index_path request) (λ path.
         ((done : Result (Unit {0}) QueryFault)
-        × Queried (F.gives host.now.files.now path) (reader I.Feed input) (writer W.Sink out) done
+        × Queried host.now.manner (F.gives host.now.files.now path) (reader I.Feed input) (writer W.Sink out) done
         × Answers (F.blames host.now.files.now [] []) (explains request) path done (writer M.Sink messages) result)
         × (places.new ≡ places.old))) }
     // What `index` does.
@@ -178,7 +182,7 @@ where
         × (input.new ≡ input.old) × (out.new ≡ out.old))) }
     // What `shell` does.
     ensures served { IfOk asked.now (λ request. IfSome (shell_options request) (λ options.
-        Served (searched_by options (F.lists host.now.files.now)) (F.gives host.now.files.now)
+        Served host.now.manner (searched_by options (F.lists host.now.files.now)) (F.gives host.now.files.now)
         (blamed_by options (F.blames host.now.files.now))
         (NoneFoundBy (F.passes host.now.files.now) host.now.is_watched options)
         (Q.suspects places.old.report) options (place Q.OutPlace Q.Part.Sink places.old.report places.new.report)
@@ -190,7 +194,8 @@ where
         given.options
         (place O.OutPlace O.Part.Sink places.old.file places.new.file) result)
         × IfSome (shell_options request) (λ options.
-        AnswersNavigable (searched_by options (F.lists host.now.files.now)) (F.gives host.now.files.now) options
+        AnswersNavigable host.now.manner (searched_by options (F.lists host.now.files.now))
+        (F.gives host.now.files.now) options
         (reader I.Feed input) (writer W.Sink out) result)) }
     // What `snapshot` does.
     ensures snapshotted { IfOk asked.now (λ request. IfSome (snapshot_options request) (λ options.
@@ -202,6 +207,11 @@ where
         RunsPages (F.frees host.now.files.now) (F.gives host.now.files.now) (F.blames host.now.files.now [] []) options
         (folder_places O.FolderPlace O.Folder.MakeFiles places.old.file places.new.file) (writer M.Sink messages) result
         × (input.new ≡ input.old) × (out.new ≡ out.old) × (places.new.report ≡ places.old.report))) }
+    // What `join` does.
+    ensures joined { IfOk asked.now (λ request. IfSome (join_options request) (λ options.
+        RunsJoin (F.gives host.now.files.now) (F.blames host.now.files.now [] []) options
+        (place O.OutPlace O.Part.Sink places.old.file places.new.file) (writer M.Sink messages) result
+        × (input.new ≡ input.old) × (out.new ≡ out.old) × (places.new.report ≡ places.old.report))) }
     // Nothing was asked for, since memory ran out, and that is said.
     ensures unknown { IfErr asked.now (λ _. Tells memory_line memory_status (writer M.Sink messages) result
         × (input.new ≡ input.old) × (out.new ≡ out.old) × (places.new ≡ places.old)) }
@@ -209,15 +219,18 @@ where
     match asked {
         Ok(request) => match request {
             Request::Dump(options) => dump_source(host, options, input, out, messages),
-            Request::Query(path, explain) => {
-                answer(host, path.as_str(), *explain, input, out, messages)
+            Request::Query(options) => {
+                let (path, explain) = (options.index.as_str(), options.explain);
+                answer(host, path, explain, input, out, messages)
             }
             Request::Snapshot(options) => {
                 snapshot(host, options, out, &mut places.file, messages)
             }
             Request::Pages(options) => pages(host, options, &mut places.file, messages),
+            Request::Join(options) => join(host, options, &mut places.file, messages),
             Request::Index(given) => index_searched(host, given, places, messages),
-            Request::Shell(options) => {
+            Request::Shell(given) => {
+                let options = &given.options;
                 shell_searched(host, options, input, out, &mut places.report, messages)
             }
             Request::Print(text) => print(host.alloc, text.as_str(), out, messages),

@@ -22,7 +22,7 @@ use crate::start_reports::put_start_report;
 use crate::starting::{TreeRun, start};
 use command_line::IndexOptions;
 use index_pool::NoGate;
-use protoscip::{Fault, Recorded, explain_in, session};
+use protoscip::{Fault, Recorded, Talk, explain_in, session_in};
 use scip_build::Omission;
 use source_files::{Excluding, LookAgain, OutPlace, ReadFiles};
 use std::alloc::Global;
@@ -63,8 +63,8 @@ fn told_in(ran: &Result<Recorded, Fault>) -> &[Omission]
 }
 
 /// Reads the sources below the root of the options and the files below their included roots, builds the index of the
-/// sources, answers commands about it, one a line, as `session` does, makes its report if one is asked for, and gives
-/// the exit status. Once all commands are answered, it says what couldn't be read and what the index lacks, or that
+/// sources, answers commands about it, one a line, as `session_in` does, makes its report if one is asked for, and
+/// gives the exit status. Once all commands are answered, it says what couldn't be read and what the index lacks, or that
 /// there are no sources, where somebody is told. If it stops early, it says why.
 ///
 /// If there are several faults, it says the first: those of `index` in its order, up to `TooLarge`, after which
@@ -85,7 +85,7 @@ fn shell<
     report: &mut Q,
     messages: &mut M,
 ) -> u8
-    ensures served { Served (F.lists host.now.files.now) (F.gives host.now.files.now)
+    ensures served { Served host.now.manner (F.lists host.now.files.now) (F.gives host.now.files.now)
         (blamed_by options.now (F.blames host.now.files.now))
         (NoneFoundBy (F.passes host.now.files.now) host.now.is_watched options.now)
         (Q.suspects report.old) options.now
@@ -93,7 +93,7 @@ fn shell<
         (reader I.Feed commands)
         (writer W.Sink answers)
         (writer M.Sink messages) result }
-    ensures navigable { AnswersNavigable (F.lists host.now.files.now) (F.gives host.now.files.now)
+    ensures navigable { AnswersNavigable host.now.manner (F.lists host.now.files.now) (F.gives host.now.files.now)
         options.now
         (reader I.Feed commands) (writer W.Sink answers) result }
 {
@@ -110,8 +110,12 @@ fn shell<
         Err(fault) => return report_start(host.alloc, &fault, options.explain, messages),
     }
     let work = run.over(host.rt, host.alloc, &NoGate);
-    let (tree, choices, settings) = (&run.tree, &run.choices, &run.settings);
-    let ran = session(&work, tree, choices, settings, commands, answers);
+    let talk = Talk {
+        chooser: &run.choices,
+        settings: &run.settings,
+        manner: host.manner,
+    };
+    let ran = session_in(&work, &run.tree, &talk, commands, answers);
     let reporter = Reporter {
         rt: host.rt,
         alloc: host.alloc,
@@ -141,7 +145,8 @@ where
     R: Threads + Wait,
     Q: OutPlace,
     M: Sink,
-    ensures served { Served (searched_by options.now (F.lists host.now.files.now)) (F.gives host.now.files.now)
+    ensures served { Served host.now.manner (searched_by options.now (F.lists host.now.files.now))
+        (F.gives host.now.files.now)
         (blamed_by options.now (F.blames host.now.files.now))
         (NoneFoundBy (F.passes host.now.files.now) host.now.is_watched options.now)
         (Q.suspects report.old) options.now
@@ -149,7 +154,7 @@ where
         (reader I.Feed commands)
         (writer W.Sink answers)
         (writer M.Sink messages) result }
-    ensures navigable { AnswersNavigable (searched_by options.now (F.lists host.now.files.now))
+    ensures navigable { AnswersNavigable host.now.manner (searched_by options.now (F.lists host.now.files.now))
         (F.gives host.now.files.now) options.now
         (reader I.Feed commands) (writer W.Sink answers) result }
 {
@@ -162,6 +167,7 @@ where
         alloc: host.alloc,
         files: &files,
         is_watched: host.is_watched,
+        manner: host.manner,
     };
     shell(&searched, options, commands, answers, report, messages)
 }

@@ -181,10 +181,10 @@ pub fn with_well_known<F: FindFiles, M: Sink>(
             let known = include_known(alloc, files, path, &mut given.options, messages)?;
             Ok((Request::Index(given), known))
         }
-        Request::Shell(options) => {
-            let mut options = options;
-            let known = include_known(alloc, files, path, &mut options, messages)?;
-            Ok((Request::Shell(options), known))
+        Request::Shell(given) => {
+            let mut given = given;
+            let known = include_known(alloc, files, path, &mut given.options, messages)?;
+            Ok((Request::Shell(given), known))
         }
         request => Ok((request, None)),
     }

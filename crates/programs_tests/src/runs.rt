@@ -7,7 +7,7 @@ use crate::pipe::Pipe;
 use crate::shared::{see, words_of};
 use crate::written::Written;
 use command_line::{Request, request_of};
-use programs::{Host, Places, explain_failure, out_path, report_path, run};
+use programs::{Host, Places, explain_failure, manner_of, out_path, report_path, run};
 use source_files::SystemStream;
 use std::alloc::{AllocError, Global};
 use std::cell::Cell;
@@ -262,6 +262,7 @@ fn ended<R: Threads + Wait + Clock + Eprint + Sync>(
         alloc,
         files: &Files { alloc },
         is_watched: true,
+        manner: manner_of(asked, false),
     };
     let status = run(
         &host,

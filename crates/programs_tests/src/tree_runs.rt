@@ -117,7 +117,7 @@ protoscip: 1 sources indexed, 1 skipped, 1 imports and 0 uses without a target\n
         said: "protoscip: no target: a.proto@26: MissingImport
 protoscip: skipped: b.proto@27: Duplicate of a.proto@46
 protoscip: 1 sources indexed, 1 skipped, 1 imports and 0 uses without a target
-protoscip: 1 imports of no.proto lead nowhere: --include the folder that has it\n",
+protoscip: 1 import of no.proto leads nowhere: --include the folder that has it\n",
         ..SILENT
     },
     // one file is left out, and one source indexed: each limit is kept, and each broken by one

@@ -122,7 +122,7 @@ fn folders_of(alloc: Global, options: &IndexOptions) -> Result<String, AllocErro
 fn included_in(alloc: Global, request: &Request) -> Result<String, AllocError> {
     match request {
         Request::Index(given) => folders_of(alloc, &given.options),
-        Request::Shell(options) => folders_of(alloc, options),
+        Request::Shell(given) => folders_of(alloc, &given.options),
         _ => Ok(String::new(alloc)),
     }
 }

@@ -8,12 +8,14 @@ use Rattle.proto_visibility.specs.declared.files.FilePlace.{FilePlace}
 use Rattle.proto_visibility.specs.declared.omissions.FileOmission.{FileOmission}
 use Rattle.proto_visibility.specs.declared.omissions.FileOmission.TheVariants.{Broken, Duplicate}
 use Rattle.proto_visibility.specs.Files.{File, HasFacts, HaveOrigins}
-use Rattle.proto_visibility.specs.Clashes.{Before, Item, IsItem, ClashBy}
-use Rattle.proto_visibility.specs.Clashes.IsItem.{declared, packaged}
-use Rattle.proto_visibility.specs.Absences.{IsUnread}
-use Rattle.proto_visibility.specs.Kept.{Omissions, IsKeptFile, IsMet, IsOmission, AreOmissions}
+use Rattle.proto_visibility.specs.Clashes.{Item, IsItemBy, ClashBy}
+use Rattle.proto_visibility.specs.Clashes.IsItemBy.{declared, packaged}
+use Rattle.proto_visibility.specs.Absences.{IsUnreadBy}
+use Rattle.proto_visibility.specs.Kept.{Omissions, IsKeptFile, IsCounted, IsTakenBefore, Precedes, IsMet, IsOmission}
+use Rattle.proto_visibility.specs.Kept.{AreOmissions}
 use Rattle.proto_visibility.proofs.ClashLemmas.{clash_by}
-use Rattle.proto_visibility.proofs.KeptLemmas.{one_kept, met}
+use Rattle.proto_visibility.proofs.KeptLemmas.{counted_alike, one_kept, met}
+use Rattle.proto_visibility.proofs.KeptOrderLemmas.{taken_ordered}
 use Rattle.proto_link.proofs.TargetOneLemmas.{one_clash_of}
 
 one_list : {X : Type 0} (xs ys : List X) → length xs ≡ length ys
@@ -26,13 +28,13 @@ one_list (x ∷ xs) (y ∷ ys) size each =
     ∙ ap (λ zs. y ∷ zs) (one_list xs ys (omega (arith, size)) (λ k a b e f. each (suc k) a b e f))
 
 -- a file without facts has no items
-no_item : (files : List File) (number : ℕ) (item : Item) → IsUnread files number → IsItem files item
-    → item.place.file ≡ number → ⊥
-no_item files number item unread is same = by (facts_of item is)
+no_item : (files : List File) (C D : ℕ → Type 0) (number : ℕ) (item : Item) → IsUnreadBy files C number
+    → IsItemBy files D item → item.place.file ≡ number → ⊥
+no_item files C D number item unread is same = by (facts_of item is)
   where
-    facts_of : (x : Item) → IsItem files x → (facts : Facts) × HasFacts files x.place.file facts
-    facts_of _ (declared {facts = facts} is_reachable has listed) = (facts, has)
-    facts_of _ (packaged {facts = facts} index is_reachable has stands) = (facts, has)
+    facts_of : (x : Item) → IsItemBy files D x → (facts : Facts) × HasFacts files x.place.file facts
+    facts_of _ (declared {facts = facts} counts has listed) = (facts, has)
+    facts_of _ (packaged {facts = facts} index counts has stands) = (facts, has)
 
     by : (its : (facts : Facts) × HasFacts files item.place.file facts) → ⊥
     by its =
@@ -45,10 +47,12 @@ module _ (files : List File) (origins : HaveOrigins files)
     (names : (facts : Facts) → AreOfSomeFile facts → NamesInOrder facts.declarations)
     (packages : (facts : Facts) → AreOfSomeFile facts → PackageInOrder facts) where
   -- a clash is of the file itself: those before it that are kept have none
-  unread_or_clash : (omissions : Omissions) → AreOmissions files omissions → (number : ℕ) (first second : FilePlace)
-      → IsUnread files number → ClashBy (IsMet (IsItem files) omissions number) first second → ⊥
-  unread_or_clash omissions are number first second unread clash = elim clash.exclude.second_is.meets [
-    | inl own ↦ no_item files number clash.later unread clash.exclude.second_is.is_item own
+  unread_or_clash : (C : ℕ → Type 0) (omissions : Omissions) → AreOmissions files omissions → (number : ℕ)
+      (first second : FilePlace) → IsUnreadBy files C number
+      → ClashBy (Precedes files) (IsMet files omissions number) first second → ⊥
+  unread_or_clash C omissions are number first second unread clash = elim clash.exclude.second_is.meets [
+    | inl own ↦ no_item files C (IsCounted files omissions) number clash.later unread
+        clash.exclude.second_is.is_item own
     | inr before ↦ (
         let fine = are.each clash.later.place.file None before.1 in
         fine.1 clash.earlier clash.later (record {
@@ -60,17 +64,18 @@ module _ (files : List File) (origins : HaveOrigins files)
         }))
   ]
     where
-      meets : (clash.earlier.place.file ≡ number)
-          ⊎ ((clash.earlier.place.file < number) × IsKeptFile omissions clash.earlier.place.file)
-          → (clash.earlier.place.file ≡ clash.later.place.file)
-          ⊎ ((clash.earlier.place.file < clash.later.place.file) × IsKeptFile omissions clash.earlier.place.file)
-      meets (inl own) = absurd (no_item files number clash.earlier unread clash.exclude.first_is.is_item own)
+      Meets : (file : ℕ) → Type 0
+      Meets file =
+          (clash.earlier.place.file ≡ file)
+          ⊎ (IsTakenBefore files clash.earlier.place.file file × IsKeptFile omissions clash.earlier.place.file)
+
+      meets : Meets number → Meets clash.later.place.file
+      meets (inl own) = absurd (no_item files C (IsCounted files omissions) number clash.earlier unread
+          clash.exclude.first_is.is_item own)
       meets (inr its) = by clash.exclude.ordered
         where
-          by : Before clash.earlier.place clash.later.place
-              → (clash.earlier.place.file ≡ clash.later.place.file)
-              ⊎ ((clash.earlier.place.file < clash.later.place.file) × IsKeptFile omissions clash.earlier.place.file)
-          by (inl less) = inr (less, its.1)
+          by : Precedes files clash.earlier.place clash.later.place → Meets clash.later.place.file
+          by (inl taken) = inr (taken, its.1)
           by (inr same) = inl same.0
 
   one_omission : (a b : Omissions) → AreOmissions files a → AreOmissions files b → (number : ℕ)
@@ -83,18 +88,21 @@ module _ (files : List File) (origins : HaveOrigins files)
       same_Some (Some Broken) None (sym at ∙ (one_kept files a b are too number).1 there)
   one_omission a b are too number (Some Broken) (Some Broken) at there x y = refl
   one_omission a b are too number (Some Broken) (Some (Duplicate first second)) at there x y =
-      absurd (unread_or_clash b too number first second x y)
+      absurd (unread_or_clash (IsCounted files a) b too number first second x y)
   one_omission a b are too number (Some (Duplicate first second)) None at there x y =
       same_Some (Some (Duplicate first second)) None (sym at ∙ (one_kept files a b are too number).1 there)
   one_omission a b are too number (Some (Duplicate first second)) (Some Broken) at there x y =
-      absurd (unread_or_clash a are number first second y x)
+      absurd (unread_or_clash (IsCounted files b) a are number first second y x)
   one_omission a b are too number (Some (Duplicate first second)) (Some (Duplicate other its)) at there x y =
-      let same : (item : Item) → IsMet (IsItem files) a number item ↔ IsMet (IsItem files) b number item =
+      let same : (item : Item) → IsMet files a number item ↔ IsMet files b number item =
       λ item. (
-        met files a b number (λ m h. one_kept files a b are too m) item,
-        met files b a number (λ m h. one_kept files b a too are m) item,
+        met files a b number (λ m taken. (one_kept files a b are too m).0)
+            (λ m near. counted_alike files a b are too m) item,
+        met files b a number (λ m taken. (one_kept files b a too are m).0)
+            (λ m near. counted_alike files b a too are m) item,
       ) in
-      let one = one_clash_of files origins names packages (IsMet (IsItem files) b number)
+      let one = one_clash_of files origins names packages (IsTakenBefore files) (IsCounted files b)
+      (IsMet files b number) (taken_ordered files)
       (λ item is. is.is_item) first second other its (clash_by same first second x) y in
       ap (λ place. Some (Duplicate place second)) one.0 ∙ ap (λ place. Some (Duplicate other place)) one.1
 

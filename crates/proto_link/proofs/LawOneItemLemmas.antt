@@ -1,5 +1,5 @@
 -- Where items and imports stand there is one, and in files without a clash a full name has one declaration.
-use Rattle.std.proofs.Common.{◌≡◌, inl, inr, ℕ, ◌+◌, ◌-◌, ◌<◌, ◌≤◌, ◌||◌, true, false, zero, suc, List, [], ◌∷◌}
+use Rattle.std.proofs.Common.{◌≡◌, ◌⊎◌, inl, inr, ℕ, ◌+◌, ◌-◌, ◌<◌, ◌≤◌, ◌||◌, true, false, zero, suc, List, [], ◌∷◌}
 use Rattle.std.proofs.Common.{◌++◌, map, Some, refl, ap, sym, ◌∙◌, subst, arith}
 use Rattle.std.specs.List.{Contains, slice_get}
 use Rattle.std.proofs.lemmas.Bool.{cases_order, or_left}
@@ -17,8 +17,8 @@ use Rattle.proto_decl.specs.declared.declaration.Declaration.{Declaration}
 use Rattle.proto_decl.specs.declared.uses.Component.{Component}
 use Rattle.proto_visibility.specs.declared.files.FilePlace.{FilePlace}
 use Rattle.proto_visibility.specs.Files.{File, HasFacts, HaveOrigins}
-use Rattle.proto_visibility.specs.Clashes.{Before, Item, IsItem, NoClash}
-use Rattle.proto_visibility.specs.Clashes.IsItem.{declared, packaged}
+use Rattle.proto_visibility.specs.Clashes.{Before, BeforeBy, Item, IsItem, IsItemBy, NoClash}
+use Rattle.proto_visibility.specs.Clashes.IsItemBy.{declared, packaged}
 use Rattle.proto_link.specs.Laws.{IsDeclaredAt, HasPackage}
 use Rattle.basics.proofs.FirstLemmas.{contained}
 use Rattle.proto_visibility.proofs.FileFactLemmas.{one_list_of_facts}
@@ -151,9 +151,11 @@ place_at number span = record { file = number; span = span }
 pub one_FilePlace : (a b : FilePlace) → a.file ≡ b.file → a.span ≡ b.span → a ≡ b
 one_FilePlace a b file span = ap (λ n. place_at n a.span) file ∙ ap (place_at b.file) span
 
-pub neither : (a b : FilePlace) → (Before a b → ⊥) → (Before b a → ⊥)
-    → (a.file ≡ b.file) × (a.span.start ≡ b.span.start)
-neither a b not nor = elim (cases_order a.file b.file) [
+-- of two places neither of which is before the other
+pub neither_by : (Earlier : ℕ → ℕ → Type 0) (a b : FilePlace)
+    → (a.file ≡ b.file) ⊎ (Earlier a.file b.file ⊎ Earlier b.file a.file)
+    → (BeforeBy Earlier a b → ⊥) → (BeforeBy Earlier b a → ⊥) → (a.file ≡ b.file) × (a.span.start ≡ b.span.start)
+neither_by Earlier a b files not nor = elim files [
   | inl same ↦ elim (cases_order a.span.start b.span.start) [
     | inl one ↦ (same, one)
     | inr unequal ↦ elim unequal
@@ -161,6 +163,10 @@ neither a b not nor = elim (cases_order a.file b.file) [
   ]
   | inr unequal ↦ elim unequal [ inl less ↦ absurd (not (inl less)) | inr more ↦ absurd (nor (inl more)) ]
 ]
+
+pub neither : (a b : FilePlace) → (Before a b → ⊥) → (Before b a → ⊥)
+    → (a.file ≡ b.file) × (a.span.start ≡ b.span.start)
+neither a b not nor = neither_by (λ number other. number < other) a b (cases_order a.file b.file) not nor
 
 -- ---- the files
 
@@ -195,8 +201,8 @@ module _ (files : List File) (origins : HaveOrigins files)
       not_one_place its d c (packages its (origins other its also))
       (subst (λ (f : Facts). Contains f.declarations d) (facts_there has also same) listed) there start
 
-  pub one_place : {a b : Item} → IsItem files a → IsItem files b → a.place.file ≡ b.place.file
-      → a.place.span.start ≡ b.place.span.start → a.place ≡ b.place
+  pub one_place : {C D : ℕ → Type 0} {a b : Item} → IsItemBy files C a → IsItemBy files D b
+      → a.place.file ≡ b.place.file → a.place.span.start ≡ b.place.span.start → a.place ≡ b.place
   one_place (declared is_reachable has listed) (declared also its there) file start =
       one_FilePlace _ _ file (declared_place has its listed there file start)
   one_place (declared is_reachable has listed)

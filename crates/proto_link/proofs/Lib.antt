@@ -5,8 +5,12 @@ pub mod LawLemmas
 pub mod LawOmissionLemmas
 -- Where items and imports stand there is one, and in files without a clash a full name has one declaration
 pub mod LawOneItemLemmas
+-- Where no file is left out and no names clash, a name that a use resolves to has an owner
+pub mod LawOwnerLemmas
 -- Lookup along scopes
 pub mod LookupLemmas
+-- What a use names if files without facts are mended
+pub mod MendedLemmas
 -- From lookups to what a use names
 pub mod ResolveLemmas
 -- What the last components of a name that a use resolves to name

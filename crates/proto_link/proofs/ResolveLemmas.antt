@@ -8,8 +8,7 @@ use Rattle.proto_visibility.specs.Files.{File}
 use Rattle.proto_visibility.specs.Knows.{KnowsAs, is_type, is_message, is_aggregate}
 use Rattle.proto_link.specs.Resolves.{Innermost, ResolvesIn, Resolves, words_of, wanted}
 use Rattle.proto_link.specs.Resolves.ResolvesIn.{absolute, single, extended, compound}
-use Rattle.proto_link.specs.Targets.{IsUnresolved}
-use Rattle.proto_link.specs.Tables.Found.{IsSingle, IsCompound}
+use Rattle.proto_link.specs.Tables.Found.{HasNoName, IsSingle, IsCompound}
 use Rattle.proto_link.proofs.LawLemmas.{one_scope}
 
 module _ (files : List File) (file : ℕ) (is_extended : Bool) (first words : List ℕ) (from : List ℕ) where
@@ -117,7 +116,7 @@ more_words (c ∷ (d ∷ ds)) first h is =
 
 module _ {S : Type 0} (files : List File) (file : ℕ) (type_use : Use) (bytes : S → List ℕ) (result : Option S) where
   abbrev pub AnswersUse : Type 0
-  AnswersUse = MatchOption result (IsUnresolved files file type_use) (λ name. Resolves files file type_use (bytes name))
+  AnswersUse = MatchOption result (HasNoName files file type_use) (λ name. Resolves files file type_use (bytes name))
 
   by_parts : (is_extended has_dot : Bool) (words : List (List ℕ)) → type_use.is_extended ≡ is_extended
       → type_use.has_leading_dot ≡ has_dot → words_of type_use ≡ words
@@ -165,7 +164,7 @@ module _ {S : Type 0} (files : List File) (file : ℕ) (type_use : Use) (bytes :
       (text_is ∙ ap dotted words.2) found)
 
 pub use_none : (files : List File) (file : ℕ) (type_use : Use) → type_use.has_leading_dot ≡ false
-    → length type_use.components ≡ 0 → IsUnresolved files file type_use
+    → length type_use.components ≡ 0 → HasNoName files file type_use
 use_none files file type_use dot size =
     λ name r. no type_use.components size type_use.is_extended name
     (subst (λ d. ResolvesIn files file type_use.is_extended d (words_of type_use) type_use.scope name) dot r)

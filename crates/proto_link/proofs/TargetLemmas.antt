@@ -18,22 +18,21 @@ use Rattle.proto_decl.specs.declared.uses.Use.{Use}
 use Rattle.proto_decl.specs.declared.declaration.Declaration.{Declaration}
 use Rattle.proto_visibility.specs.declared.lookup.Entity.{Entity}
 use Rattle.proto_visibility.specs.Files.{File, HasFacts}
-use Rattle.proto_visibility.specs.Sees.{Sees}
 use Rattle.proto_decl.specs.declared.declaration.DeclarationKind.TheVariants.{Message, Enum, Service, Field, Oneof}
 use Rattle.proto_decl.specs.declared.declaration.DeclarationKind.TheVariants.{Value, Method}
-use Rattle.proto_visibility.specs.Knows.{NameKind, Knows, KnowsAs, is_type, is_message, DeclaresName, DeclaresNameAs}
-use Rattle.proto_visibility.specs.Knows.{SeesGiving}
+use Rattle.proto_visibility.specs.Knows.{NameKind, KnowsAs, is_type, is_message, DeclaresName, DeclaresNameAs}
+use Rattle.proto_visibility.specs.Knows.{IsGiving, IsOwner}
 use Rattle.proto_visibility.specs.Knows.NameKind.{OfPackage, OfDeclaration}
-use Rattle.proto_visibility.specs.Knows.Knows.{packaged as known_packaged}
 use Rattle.proto_link.specs.Resolves.{Innermost, ResolvesIn, Resolves, wanted}
 use Rattle.proto_link.specs.Resolves.Innermost.{here, farther}
 use Rattle.proto_link.specs.Resolves.ResolvesIn.{absolute, single, extended, compound}
 use Rattle.proto_link.specs.declared.target.Target.{Target}
-use Rattle.proto_link.specs.Targets.{IsNamed, IsTarget}
-use Rattle.proto_link.specs.Targets.IsNamed.{packaged as named_packaged, declared as named_declared}
+use Rattle.proto_link.specs.Targets.{Names, IsTarget, IsUnresolved}
+use Rattle.proto_link.specs.Tables.Found.{HasNoName}
+use Rattle.proto_link.proofs.LawLemmas.{one_name_a_use}
 use Rattle.proto_visibility.specs.Knows.DeclaresName.{declared as gives_declared, packaged as gives_packaged}
 use Rattle.proto_visibility.specs.Knows.{IsEntityOf}
-use Rattle.proto_link.specs.Tables.Parts.{AreEntitiesOf, AreNamed, longer}
+use Rattle.proto_link.specs.Tables.Parts.{AreEntitiesOf, AreEntitiesAt, longer}
 use Rattle.proto_visibility.specs.Knows.IsEntityOf.{packaged, declared}
 use Rattle.proto_decl.proofs.CommentTextLemmas.{join_with_byte-push}
 use Rattle.proto_visibility.proofs.SeeingLemmas.{slice_get_prefix}
@@ -214,78 +213,98 @@ parts_all number facts name components used skipped count parts are few skip all
           (so_far.each j part at);
     }
 
--- ---- and what a file knows by them
-
-module _ (files : List File) (file seen : ℕ) (facts : Facts) (sees : Sees files file seen)
-    (has : HasFacts files seen facts) where
-  named : (name : List ℕ) (count : ℕ) (part : Entity) → IsEntityOf seen facts (prefix_of name count) count part
-      → IsNamed files file name count part
-  named name count part (packaged prefix) =
-      named_packaged (subst (λ n. Knows files file n OfPackage) (sym prefix.3)
-      (known_packaged sees has prefix.1 prefix.2))
-  named name count part (declared stands is) = named_declared sees has stands is
-
-  pub all_named : (name : List ℕ) (count : ℕ) (parts : List Entity) → AreEntitiesOf seen facts name count parts
-      → AreNamed files file name count parts
-  all_named name count parts are =
-      record {
-        one_each = are.one_each;
-        named = λ j part at. named name (length (components_of name) - count + j + 1) part (are.each j part at);
-      }
-
 -- ---- so they are a target
 
 module _ (files : List File) (file : ℕ) (type_use : Use) where
-  target_made : (name : List ℕ) (parts : List Entity) → Resolves files file type_use name
-      → AreNamed files file name (length type_use.components) parts
+  target_made : (owner : ℕ) (name : List ℕ) (parts : List Entity) → Names files file type_use name owner
+      → AreEntitiesAt files owner name (length type_use.components) parts
       → IsTarget files file type_use (record { name = name; parts = parts })
-  target_made name parts resolves are =
-      let few = used_fit files file type_use name resolves in
+  target_made owner name parts names at =
+      let few = used_fit files file type_use name names.resolves in
       record {
-        resolves = resolves;
+        owner = owner;
+        facts = at.facts;
+        names = names;
+        known = at.known;
         skipped = length (components_of name) - length type_use.components;
         split = omega (arith, few);
-        one_each = are.one_each;
-        named = are.named;
+        one_each = at.are.one_each;
+        named = at.are.each;
       }
 
-  pub target_is : (name spelled whole : List ℕ) (used : List Component) (parts all : List Entity)
-      → Resolves files file type_use name → spelled ≡ name → used ≡ type_use.components
-      → AreNamed files file spelled (length used) parts → whole ≡ name → all ≡ parts
+  pub target_is : (owner : ℕ) (name spelled whole : List ℕ) (used : List Component) (parts all : List Entity)
+      → Names files file type_use name owner → spelled ≡ name → used ≡ type_use.components
+      → AreEntitiesAt files owner spelled (length used) parts → whole ≡ name → all ≡ parts
       → IsTarget files file type_use (record { name = whole; parts = all })
-  target_is name spelled whole used parts all resolves spelled_is used_is are whole_is all_is =
-      let its_use : AreNamed files file spelled (length type_use.components) parts =
-      subst (λ (cs : List Component). AreNamed files file spelled (length cs) parts) used_is are in
-      let its_name : AreNamed files file name (length type_use.components) parts =
-      subst (λ (n : List ℕ). AreNamed files file n (length type_use.components) parts) spelled_is its_use in
-      let made = target_made name parts resolves its_name in
+  target_is owner name spelled whole used parts all names spelled_is used_is at whole_is all_is =
+      let its_use : AreEntitiesAt files owner spelled (length type_use.components) parts =
+      subst (λ (cs : List Component). AreEntitiesAt files owner spelled (length cs) parts) used_is at in
+      let its_name : AreEntitiesAt files owner name (length type_use.components) parts =
+      subst (λ (n : List ℕ). AreEntitiesAt files owner n (length type_use.components) parts) spelled_is its_use in
+      let made = target_made owner name parts names its_name in
       subst (λ (n : List ℕ). IsTarget files file type_use (record { name = n; parts = all })) (sym whole_is)
       (subst (λ (ps : List Entity). IsTarget files file type_use (record { name = name; parts = ps }))
       (sym all_is) made)
 
+-- ---- who declares a type of the name declares it as a type
+
+pub gives_type : (files : List File) (is_extended : Bool) (name : List ℕ) (owner : ℕ)
+    → IsGiving files (wanted is_extended) name owner → IsGiving files is_type name owner
+gives_type files true name owner is =
+    let its = is.gives.gives in
+    record {
+      file = is.file;
+      numbered = is.numbered;
+      gives = record {
+        facts = is.gives.facts;
+        known = is.gives.known;
+        gives = record { kind = its.kind; gives = its.gives; admitted = message_type its.kind its.admitted };
+      };
+    }
+gives_type files false name owner is = is
+
 -- ---- the file that declares it
 
-pub some_seen : {P : Type 0} (Q : ℕ → Type 0) (found : Option ℕ) → MatchOption found (P → ⊥) Q → P → IsSome found
-some_seen Q None none p = absurd (none p)
-some_seen Q (Some number) some p = refl
-
-pub facts_known : (files : List File) (file : ℕ) (admits : NameKind → Bool) (name : List ℕ) (seen : ℕ)
-    → (s : SeesGiving files file admits name seen) → HasFacts files seen s.giving.gives.facts
-facts_known files file admits name seen s =
-    record { file = s.giving.file; numbered = s.giving.numbered; known = s.giving.gives.known }
+pub facts_known : (files : List File) (admits : NameKind → Bool) (name : List ℕ) (owner : ℕ)
+    → (is : IsGiving files admits name owner) → HasFacts files owner is.gives.facts
+facts_known files admits name owner is =
+    record { file = is.file; numbered = is.numbered; known = is.gives.known }
 
 pub some_facts : {S : Type 0} (Q : S → Type 0) (files : List File) (seen : ℕ) (facts : Facts) (found : Option S)
     → HasFacts files seen facts → MatchOption found ((other : Facts) → HasFacts files seen other → ⊥) Q → IsSome found
 some_facts Q files seen facts None has none = absurd (none facts has)
 some_facts Q files seen facts (Some other) has some = refl
 
-pub seen_within_files : (files : List File) (file : ℕ) (admits : NameKind → Bool) (name : List ℕ) (seen : ℕ)
-    → SeesGiving files file admits name seen → seen < length files
-seen_within_files files file admits name seen s = slice_get_within files seen s.giving.file s.giving.numbered
+pub within_files : (files : List File) (admits : NameKind → Bool) (name : List ℕ) (owner : ℕ)
+    → IsGiving files admits name owner → owner < length files
+within_files files admits name owner is = slice_get_within files owner is.file is.numbered
 
-pub gives_there : (files : List File) (file : ℕ) (admits : NameKind → Bool) (name : List ℕ) (seen : ℕ) (facts : Facts)
-    → SeesGiving files file admits name seen → HasFacts files seen facts → DeclaresNameAs admits name facts
-gives_there files file admits name seen facts s has =
+pub gives_there : (files : List File) (admits : NameKind → Bool) (name : List ℕ) (owner : ℕ) (facts : Facts)
+    → IsGiving files admits name owner → HasFacts files owner facts → DeclaresNameAs admits name facts
+gives_there files admits name owner facts is has =
     subst (DeclaresNameAs admits name)
-    (one_list_of_facts files seen s.giving.gives.facts facts (facts_known files file admits name seen s) has)
-    s.giving.gives.gives
+    (one_list_of_facts files owner is.gives.facts facts (facts_known files admits name owner is) has)
+    is.gives.gives
+
+-- ---- a use without a target
+
+pub without_name : (files : List File) (file : ℕ) (type_use : Use) → HasNoName files file type_use
+    → IsUnresolved files file type_use
+without_name files file type_use none name owner names = none name names.resolves
+
+module _ (files : List File) (file : ℕ) (type_use : Use) (name : List ℕ) (admits : NameKind → Bool)
+    (resolves : Resolves files file type_use name) (role : admits ≡ wanted type_use.is_extended) where
+  pub without_owner : ((owner : ℕ) → IsOwner files file admits name owner → ⊥) → IsUnresolved files file type_use
+  without_owner none other owner names =
+      let same = one_name_a_use files file type_use other name names.resolves resolves in
+      none owner (subst (λ (a : NameKind → Bool). IsOwner files file a name owner) (sym role)
+      (subst (λ (n : List ℕ). IsOwner files file (wanted type_use.is_extended) n owner) same names.owned))
+
+  pub with_owner : (owner : ℕ) → IsOwner files file admits name owner → Names files file type_use name owner
+  with_owner owner owned = record {
+    resolves = resolves;
+    owned = subst (λ (a : NameKind → Bool). IsOwner files file a name owner) role owned;
+  }
+
+  pub owner_gives : (owner : ℕ) → IsOwner files file admits name owner → IsGiving files is_type name owner
+  owner_gives owner owned = gives_type files type_use.is_extended name owner (with_owner owner owned).owned.gives.giving

@@ -1,11 +1,13 @@
 -- One entity a name, one target a use, one clash, one absence, one refusal.
-use Rattle.std.proofs.Common.{◌≡◌, ◌≢◌, ℕ, ◌+◌, ◌-◌, List, length, get_or, Some, refl, ap, sym, ◌∙◌, subst, arith}
+use Rattle.std.proofs.Common.{◌≡◌, ◌≢◌, ◌⊎◌, ℕ, ◌+◌, ◌-◌, ◌<◌, List, length, get_or, Some, refl, ap, sym, ◌∙◌, subst}
+use Rattle.std.proofs.Common.{arith}
 use Rattle.std.specs.List.{Contains, slice_get}
+use Rattle.std.proofs.lemmas.Bool.{cases_order}
 use Rattle.std.proofs.lemmas.Option.{slice_get-get_or}
 use Rattle.std.proofs.lemmas.List.{same_lists}
 use Rattle.basics.proofs.ListLemmas.{contains_map}
 use Rattle.proto_lex.specs.declared.span.Span.{Span}
-use Rattle.proto_decl.specs.Names.{components_of}
+use Rattle.proto_decl.specs.Names.{components_of, prefix_of}
 use Rattle.proto_decl.specs.Facts.{Facts, AreOfSomeFile, NamesInOrder, ImportsInOrder, PackageInOrder}
 use Rattle.proto_decl.specs.declared.declaration.Declaration.{Declaration}
 use Rattle.proto_decl.specs.declared.imports.Imported.{Imported}
@@ -17,22 +19,21 @@ use Rattle.proto_visibility.specs.declared.lookup.Entity.{Entity}
 use Rattle.proto_visibility.specs.declared.lookup.Entity.TheVariants.{Declared}
 use Rattle.proto_link.specs.declared.target.Target.{Target}
 use Rattle.proto_visibility.specs.Files.{File, HasFacts, HaveOrigins, IsSource}
-use Rattle.proto_visibility.specs.Sees.{Sees, IsReachable}
+use Rattle.proto_visibility.specs.Sees.{IsReachable}
 use Rattle.proto_visibility.specs.Sees.IsReachable.{seen as counts_seen}
-use Rattle.proto_visibility.specs.Clashes.{Before, Item, IsItem, Clash, ClashBy, NoClash}
+use Rattle.proto_visibility.specs.Clashes.{BeforeBy, Item, IsItem, IsItemBy, Clash, ClashBy, NoClash}
 use Rattle.proto_visibility.specs.Absences.{IsNeeded, Absent}
 use Rattle.proto_visibility.specs.Absences.IsNeeded.{of_source, of_included}
-use Rattle.proto_visibility.specs.Knows.{NameKind, Knows}
-use Rattle.proto_visibility.specs.Knows.NameKind.{OfPackage, OfDeclaration}
-use Rattle.proto_visibility.specs.Knows.Knows.{declared as known_declared, packaged as known_packaged}
-use Rattle.proto_link.specs.Targets.{IsNamed, IsTarget}
-use Rattle.proto_link.specs.Targets.IsNamed.{packaged, declared}
+use Rattle.proto_visibility.specs.Knows.{IsPrefix, IsEntityOf, SeesGiving}
+use Rattle.proto_visibility.specs.Knows.IsEntityOf.{packaged, declared}
+use Rattle.proto_link.specs.Resolves.{wanted}
+use Rattle.proto_link.specs.Targets.{Names, IsTarget}
 use Rattle.proto_visibility.specs.Linked.{MayRefuse}
 use Rattle.proto_visibility.specs.Linked.MayRefuse.{broken_file, clashing, absent_import, lacks_memory}
 use Rattle.proto_link.specs.Laws.{IsDeclaredAt, HasPackage}
 use Rattle.proto_link.proofs.LawLemmas.{one_name_a_use, one_broken_file}
 use Rattle.proto_visibility.proofs.FileFactLemmas.{one_list_of_facts}
-use Rattle.proto_link.proofs.LawOneItemLemmas.{one_start, neither, one_FilePlace, one_place, one_declaration}
+use Rattle.proto_link.proofs.LawOneItemLemmas.{one_start, neither, neither_by, one_FilePlace, one_place, one_declaration}
 use Rattle.proto_link.proofs.LawOneItemLemmas.{package_not_declared}
 
 module _ (files : List File) (origins : HaveOrigins files)
@@ -40,104 +41,108 @@ module _ (files : List File) (origins : HaveOrigins files)
     (packages : (facts : Facts) → AreOfSomeFile facts → PackageInOrder facts) where
   -- ---- entities
 
-  package_known : {file : ℕ} {name : List ℕ} {kind : NameKind}
-      → ((other : ℕ) → Sees files file other → IsReachable files other) → Knows files file name kind → kind ≡ OfPackage
-      → HasPackage files name
-  package_known is_reachable (known_declared sees has listed) e = absurd (not_declared e)
-    where
-      not_declared : {k : _} → OfDeclaration k ≡ OfPackage → ⊥
-      not_declared h = cc
-  package_known is_reachable (known_packaged {seen = seen} {count = count} {facts = facts} sees has some few) e =
-      record {
-        number = seen;
-        facts = facts;
-        count = count;
-        is_reachable = is_reachable seen sees;
-        known = has;
-        some = some;
-        few = few;
-        named = refl;
-      }
+  module _ (clear : NoClash files) (number : ℕ) (is_reachable : IsReachable files number) (facts : Facts)
+      (known : HasFacts files number facts) where
+    at : {index : ℕ} {d : Declaration} → slice_get facts.declarations index ≡ Some d
+        → IsDeclaredAt files number index d
+    at stands = record { facts = facts; is_reachable = is_reachable; known = known; stands = stands }
 
-  module _ (clear : NoClash files) (source : ℕ) (is_source : IsSource files source) where
-    reachable : (other : ℕ) → Sees files source other → IsReachable files other
-    reachable other sees = counts_seen is_source sees
+    has_package : {name : List ℕ} → IsPrefix facts.package_name name → HasPackage files name
+    has_package prefix = record {
+      number = number;
+      facts = facts;
+      count = prefix.0;
+      is_reachable = is_reachable;
+      known = known;
+      some = prefix.1;
+      few = prefix.2;
+      named = prefix.3;
+    }
 
-    one_Declared : (seen other index its : ℕ) → (seen ≡ other) × (index ≡ its)
-        → Declared seen index ≡ Declared other its
-    one_Declared seen other index its same = ap (λ n. Declared n index) same.0 ∙ ap (Declared other) same.1
+    mixed : {name : List ℕ} (index : ℕ) {d : Declaration} → IsPrefix facts.package_name name
+        → slice_get facts.declarations index ≡ Some d → d.full_name ≡ name → ⊥
+    mixed index {d} prefix stands is =
+        package_not_declared files origins names packages clear number index d (at stands)
+        (subst (HasPackage files) (sym is) (has_package prefix))
 
-    at : {seen index : ℕ} {facts : Facts} {d : Declaration} → Sees files source seen → HasFacts files seen facts
-        → slice_get facts.declarations index ≡ Some d → IsDeclaredAt files seen index d
-    at {seen} {index} {facts} {d} sees has stands =
-        record { facts = facts; is_reachable = reachable seen sees; known = has; stands = stands }
+    pub one_entity : (name : List ℕ) (count : ℕ) (a b : Entity) → IsEntityOf number facts name count a
+        → IsEntityOf number facts name count b → a ≡ b
+    one_entity name count a b (packaged prefix) (packaged also) = refl
+    one_entity name count a b (packaged prefix) (declared {index = index} stands is) =
+        absurd (mixed index prefix stands is)
+    one_entity name count a b (declared {index = index} stands is) (packaged prefix) =
+        absurd (mixed index prefix stands is)
+    one_entity name count a b (declared {index = index} {declaration = d} stands is)
+        (declared {index = its} {declaration = e} there named) =
+        ap (Declared number)
+        (one_declaration files origins names packages clear number index number its d e (at stands) (at there)
+        (is ∙ sym named)).1
 
-    mixed : {name : List ℕ} {seen : ℕ} (index : ℕ) {facts : Facts} {d : Declaration} → Knows files source name OfPackage
-        → Sees files source seen → HasFacts files seen facts → slice_get facts.declarations index ≡ Some d
-        → d.full_name ≡ name → ⊥
-    mixed {name} {seen} index {facts} {d} known sees has stands is =
-        package_not_declared files origins names packages clear seen index d (at sees has stands)
-        (subst (HasPackage files) (sym is) (package_known reachable known refl))
+  -- ---- targets
 
-    pub one_entity : (name : List ℕ) (count : ℕ) (a b : Entity) → IsNamed files source name count a
-        → IsNamed files source name count b → a ≡ b
-    one_entity name count a b (packaged known) (packaged also) = refl
-    one_entity name count a b (packaged known) (declared {index = index} sees has stands is) =
-        absurd (mixed index known sees has stands is)
-    one_entity name count a b (declared {index = index} sees has stands is) (packaged known) =
-        absurd (mixed index known sees has stands is)
-    one_entity name count a b (declared {seen = seen} {index = index} {declaration = d} sees has stands is)
-        (declared {seen = other} {index = its} {declaration = e} also known there named) =
-        one_Declared seen other index its
-        (one_declaration files origins names packages clear seen index other its d e (at sees has stands)
-        (at also known there) (is ∙ sym named))
+  abbrev made : List ℕ → List Entity → Target
+  made name parts = record { name = name; parts = parts }
 
-    -- ---- targets
+  one_Target : (a b : Target) → a.name ≡ b.name → a.parts ≡ b.parts → a ≡ b
+  one_Target a b name parts = ap (λ n. made n a.parts) name ∙ ap (made b.name) parts
 
-    abbrev made : List ℕ → List Entity → Target
-    made name parts = record { name = name; parts = parts }
+  -- the file that declares what a use of a source names is reachable
+  owner_reachable : (source : ℕ) → IsSource files source → (type_use : Use) (name : List ℕ) (owner : ℕ)
+      → Names files source type_use name owner → IsReachable files owner
+  owner_reachable source is type_use name owner names = counts_seen is names.owned.gives.sees names.owned.present
 
-    one_Target : (a b : Target) → a.name ≡ b.name → a.parts ≡ b.parts → a ≡ b
-    one_Target a b name parts = ap (λ n. made n a.parts) name ∙ ap (made b.name) parts
-
-    pub one_target : (type_use : Use) (a b : Target) → IsTarget files source type_use a
-        → IsTarget files source type_use b → a ≡ b
-    one_target type_use a b first second =
-        let name = one_name_a_use files source type_use a.name b.name first.resolves second.resolves in
-        one_Target a b name (same_lists a.parts b.parts (first.one_each ∙ sym second.one_each) (λ k d within.
-        let its = slice_get-get_or a.parts k d within in
-        let other = slice_get-get_or b.parts k d (omega (arith, within, first.one_each, second.one_each)) in
-        let skipped : first.skipped ≡ second.skipped =
-        omega (arith, first.split, second.split, ap (λ (n : List ℕ). length (components_of n)) name) in
-        let moved = subst (λ s. IsNamed files source a.name (s + k + 1) (get_or a.parts k d)) skipped
-        (first.named k (get_or a.parts k d) its) in
-        one_entity b.name (second.skipped + k + 1) (get_or a.parts k d) (get_or b.parts k d)
-        (subst (λ n. IsNamed files source n (second.skipped + k + 1) (get_or a.parts k d)) name moved)
-        (second.named k (get_or b.parts k d) other)))
+  pub one_target : NoClash files → (source : ℕ) → IsSource files source → (type_use : Use) (a b : Target)
+      → IsTarget files source type_use a → IsTarget files source type_use b → a ≡ b
+  one_target clear source is_source type_use a b first second =
+      let name = one_name_a_use files source type_use a.name b.name first.names.resolves second.names.resolves in
+      let Gives : List ℕ → Type 0 = λ n. SeesGiving files source (wanted type_use.is_extended) n first.owner in
+      let owner : first.owner ≡ second.owner =
+      second.names.owned.alone first.owner (subst Gives name first.names.owned.gives) in
+      let facts : first.facts ≡ second.facts = one_list_of_facts files second.owner first.facts second.facts
+      (subst (λ n. HasFacts files n first.facts) owner first.known) second.known in
+      let reachable = owner_reachable source is_source type_use b.name second.owner second.names in
+      one_Target a b name (same_lists a.parts b.parts (first.one_each ∙ sym second.one_each) (λ k d within.
+      let its = slice_get-get_or a.parts k d within in
+      let other = slice_get-get_or b.parts k d (omega (arith, within, first.one_each, second.one_each)) in
+      let skipped : first.skipped ≡ second.skipped =
+      omega (arith, first.split, second.split, ap (λ (n : List ℕ). length (components_of n)) name) in
+      let Is : ℕ → Facts → List ℕ → ℕ → Type 0 = λ number fs n s.
+      IsEntityOf number fs (prefix_of n (s + k + 1)) (s + k + 1) (get_or a.parts k d) in
+      let by_owner = subst (λ number. Is number first.facts a.name first.skipped) owner
+      (first.named k (get_or a.parts k d) its) in
+      let by_facts = subst (λ fs. Is second.owner fs a.name first.skipped) facts by_owner in
+      let by_name = subst (λ n. Is second.owner second.facts n first.skipped) name by_facts in
+      let moved = subst (Is second.owner second.facts b.name) skipped by_name in
+      one_entity clear second.owner reachable second.facts second.known (prefix_of b.name (second.skipped + k + 1))
+      (second.skipped + k + 1) (get_or a.parts k d) (get_or b.parts k d) moved
+      (second.named k (get_or b.parts k d) other)))
 
   -- ---- clashes
 
-  pub one_clash_of : (I : Item → Type 0) → ((item : Item) → I item → IsItem files item)
-      → (first second other its : FilePlace) → ClashBy I first second → ClashBy I other its
-      → (first ≡ other) × (second ≡ its)
-  one_clash_of I items first second other its a b =
-      let seconds = neither second its
-      (λ before. b.least_second a.earlier a.later a.exclude (subst (λ p. Before p its) (sym a.second_is) before))
-      (λ before. a.least_second b.earlier b.later b.exclude (subst (λ p. Before p second) (sym b.second_is) before)) in
+  pub one_clash_of : (Earlier : ℕ → ℕ → Type 0) (C : ℕ → Type 0) (I : Item → Type 0)
+      → ((m n : ℕ) → (m ≡ n) ⊎ (Earlier m n ⊎ Earlier n m)) → ((item : Item) → I item → IsItemBy files C item)
+      → (first second other its : FilePlace) → ClashBy (BeforeBy Earlier) I first second
+      → ClashBy (BeforeBy Earlier) I other its → (first ≡ other) × (second ≡ its)
+  one_clash_of Earlier C I ordered items first second other its a b =
+      let seconds = neither_by Earlier second its (ordered second.file its.file)
+      (λ before. b.least_second a.earlier a.later a.exclude
+      (subst (λ p. BeforeBy Earlier p its) (sym a.second_is) before))
+      (λ before. a.least_second b.earlier b.later b.exclude
+      (subst (λ p. BeforeBy Earlier p second) (sym b.second_is) before)) in
       let second_is : second ≡ its =
       place_of a.later b.later second its a.second_is b.second_is (items a.later a.exclude.second_is)
       (items b.later b.exclude.second_is) seconds in
-      let firsts = neither first other
+      let firsts = neither_by Earlier first other (ordered first.file other.file)
       (λ before. b.least_first a.earlier a.later a.exclude (a.second_is ∙ second_is)
-      (subst (λ p. Before p other) (sym a.first_is) before))
+      (subst (λ p. BeforeBy Earlier p other) (sym a.first_is) before))
       (λ before. a.least_first b.earlier b.later b.exclude (b.second_is ∙ sym second_is)
-      (subst (λ p. Before p first) (sym b.first_is) before)) in (
+      (subst (λ p. BeforeBy Earlier p first) (sym b.first_is) before)) in (
         place_of a.earlier b.earlier first other a.first_is b.first_is (items a.earlier a.exclude.first_is)
             (items b.earlier b.exclude.first_is) firsts,
         second_is,
       )
     where
-      place_of : (x y : Item) (p q : FilePlace) → x.place ≡ p → y.place ≡ q → IsItem files x → IsItem files y
+      place_of : (x y : Item) (p q : FilePlace) → x.place ≡ p → y.place ≡ q → IsItemBy files C x → IsItemBy files C y
           → (p.file ≡ q.file) × (p.span.start ≡ q.span.start) → p ≡ q
       place_of x y p q is its_is item other_item same =
           let file : x.place.file ≡ y.place.file =
@@ -148,7 +153,8 @@ module _ (files : List File) (origins : HaveOrigins files)
 
   pub one_clash : (first second other its : FilePlace) → Clash files first second → Clash files other its
       → (first ≡ other) × (second ≡ its)
-  one_clash = one_clash_of (IsItem files) (λ item is. is)
+  one_clash = one_clash_of (λ number other. number < other) (IsReachable files) (IsItem files) cases_order
+      (λ item is. is)
 
 -- ---- imports
 

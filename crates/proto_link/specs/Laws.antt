@@ -10,12 +10,13 @@ use Rattle.proto_visibility.specs.declared.fault.LinkFault.{LinkFault}
 use Rattle.proto_visibility.specs.declared.fault.LinkFault.TheVariants.{Memory}
 use Rattle.proto_visibility.specs.declared.lookup.Entity.{Entity}
 use Rattle.proto_link.specs.declared.target.Target.{Target}
-use Rattle.proto_visibility.specs.Files.{File, HasFacts, HaveOrigins, IsSource}
+use Rattle.proto_visibility.specs.Files.{File, HasFacts, HaveOrigins, IsPresent, IsSource}
 use Rattle.proto_visibility.specs.Sees.{IsReachable}
 use Rattle.proto_visibility.specs.Clashes.{Clash, NoClash}
+use Rattle.proto_visibility.specs.Knows.{IsEntityOf}
 use Rattle.proto_visibility.specs.Absences.{Absent, Broken}
 use Rattle.proto_link.specs.Resolves.{Resolves}
-use Rattle.proto_link.specs.Targets.{IsNamed, IsTarget}
+use Rattle.proto_link.specs.Targets.{Names, IsTarget}
 use Rattle.proto_visibility.specs.Linked.{MayRefuse}
 use Rattle.proto_visibility.specs.Kept.{Omissions, AreOmissions}
 
@@ -58,11 +59,17 @@ NoPackageIsDeclared = (files : List File) → HaveOrigins files → NoClash file
     → (number index : ℕ) (declaration : Declaration)
     → IsDeclaredAt files number index declaration → HasPackage files declaration.full_name → ⊥
 
--- so a source knows one entity at most by a name's first components
+-- so a full name is that of one entity of a reachable file at most
 abbrev pub OneEntityAName : Type 0
-OneEntityAName = (files : List File) → HaveOrigins files → NoClash files → (source : ℕ) → IsSource files source
-    → (name : List ℕ) (count : ℕ) (a b : Entity)
-    → IsNamed files source name count a → IsNamed files source name count b → a ≡ b
+OneEntityAName = (files : List File) → HaveOrigins files → NoClash files → (number : ℕ) → IsReachable files number
+    → (facts : Facts) → HasFacts files number facts → (name : List ℕ) (count : ℕ) (a b : Entity)
+    → IsEntityOf number facts name count a → IsEntityOf number facts name count b → a ≡ b
+
+-- Where no file is left out, a full name to which a use in a source resolves is that of one file, so the use names it.
+abbrev pub EachNameHasAnOwner : Type 0
+EachNameHasAnOwner = (files : List File) → ((number : ℕ) → number < length files → IsPresent files number)
+    → NoClash files → (source : ℕ) → IsSource files source → (type_use : Use) (name : List ℕ)
+    → Resolves files source type_use name → (owner : ℕ) × Names files source type_use name owner
 
 -- and a use in a source has one target at most
 abbrev pub OneTargetAUse : Type 0

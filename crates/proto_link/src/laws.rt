@@ -6,12 +6,14 @@ ghost use Rattle.proto_link.specs.Laws.{
   OneDeclarationAName,
   NoPackageIsDeclared,
   OneEntityAName,
+  EachNameHasAnOwner,
   OneTargetAUse,
   OneClash,
   OneAbsence,
   OneRefusal,
   OneOmissionList,
 };
+ghost use Rattle.proto_link.specs.Mended.{MendedResolvesAlike};
 
 use proto_decl::facts_in_order;
 
@@ -33,8 +35,14 @@ pub fn one_declaration_a_name()
     facts_in_order();
 }
 
-/// In files without a clash a use in a source has one target at most, and each part of a name that
-/// the source knows is that of one entity.
+/// In files without a clash of which none is left out, the type that a use in a source resolves to is declared by one file
+/// alone of those that are seen.
+pub fn each_name_has_an_owner()
+    ensures { EachNameHasAnOwner }
+{}
+
+/// In files without a clash a use in a source has one target at most, and a full name names one entity at most of a file
+/// that is reachable.
 pub fn one_target_a_use()
     ensures entities { OneEntityAName }
     ensures targets { OneTargetAUse }
@@ -58,3 +66,8 @@ pub fn one_omission_list()
 {
     facts_in_order();
 }
+
+/// If files without facts are mended, a use names what it named, unless a name that matters for it is new.
+pub fn mended_resolves_alike()
+    ensures { MendedResolvesAlike }
+{}

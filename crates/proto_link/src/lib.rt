@@ -16,8 +16,8 @@ mod target;
 mod laws;
 
 pub use laws::{
-    one_broken_file, one_declaration_a_name, one_name_a_use, one_omission_list, one_refusal,
-    one_target_a_use,
+    each_name_has_an_owner, mended_resolves_alike, one_broken_file, one_declaration_a_name,
+    one_name_a_use, one_omission_list, one_refusal, one_target_a_use,
 };
 pub use linker::Linker;
 pub use proto_visibility::{

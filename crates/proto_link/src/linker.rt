@@ -2,7 +2,8 @@
 
 ghost use Rattle.std.specs.Prelude.{ℕ, ◌≡◌, ◌<◌, ◌↔◌, IsTrue, IfOk, IfErr, MatchOption, length};
 ghost use Rattle.proto_decl.specs.Facts.{Facts};
-ghost use Rattle.proto_visibility.specs.Files.{HaveOwnPaths, HaveOrigins, HasFacts, HasPath, HasPathAt, IsIncludedAt};
+ghost use Rattle.proto_visibility.specs.Files.{HaveOwnPaths, HaveOrigins, HasFacts, HasPath, HasPathAt};
+ghost use Rattle.proto_visibility.specs.Files.{IsIncludedAt, IsSourceAt};
 ghost use Rattle.proto_visibility.specs.Sees.{Sees};
 ghost use Rattle.proto_visibility.specs.Absences.{AreMissing};
 ghost use Rattle.proto_visibility.specs.Linked.{HaveClearNames, CanBeLinked, MayRefuse};
@@ -146,6 +147,14 @@ impl<'a, 't> Linker<'a, 't> {
         self.namespace.is_included(number)
     }
 
+    /// Whether a file is a source: neither included nor left out. Its number has to be below `count`. Takes no memory.
+    pub fn is_source(&self, number: usize) -> bool
+        requires { number < length self.now }
+        ensures { IsSourceAt self.now number result }
+    {
+        self.namespace.is_source(number)
+    }
+
     /// The path of a file. Its number has to be below `count`. Takes no memory.
     pub fn path_of(&self, number: usize) -> &str
         requires { number < length self.now }
@@ -157,11 +166,11 @@ impl<'a, 't> Linker<'a, 't> {
     /// What a use names, in a file's scopes: by the names of the files that it sees. The file's number has to be below
     /// `count`.
     ///
-    /// Refusals are `Unresolved`, at the place of the whole use, if it names no type, and `Memory`, if memory was
+    /// Refusals are `Unresolved`, at the place of the whole use, if it names nothing, and `Memory`, if memory was
     /// refused. The others never come.
     ///
-    /// For a source the answer is the only one. An included file may see files that don't count,
-    /// whose names may clash: there a part may be any declaration of its name.
+    /// A use names what one file alone declares, of those that are seen: if several declare the type that it resolves
+    /// to, or the one that does is left out, it names nothing. So the answer is the only one.
     pub fn resolve(&self, alloc: Global, file: usize, type_use: &Use) -> Result<Target, LinkFault>
         requires { file < length self.now }
         ensures target { IfOk result (IsTarget self.now file type_use.now) }

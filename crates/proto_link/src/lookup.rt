@@ -3,10 +3,10 @@
 ghost use Rattle.std.specs.Prelude.{List, [], ℕ, ◌≡◌, ◌<◌, ◌↔◌, IsTrue, IfOk, OnOk, MatchOption, ◌∷◌, false, map, length};
 ghost use Rattle.std.specs.String.{string_bytes};
 ghost use Rattle.proto_decl.specs.Names.{qualified, dotted};
+ghost use Rattle.proto_visibility.specs.Knows.NameKind.{OfPackage};
 ghost use Rattle.proto_visibility.specs.Knows.{KnowsAs, is_type, admits};
 ghost use Rattle.proto_link.specs.Resolves.{Innermost, Resolves, wanted, words_of};
-ghost use Rattle.proto_link.specs.Targets.{IsUnresolved};
-ghost use Rattle.proto_link.specs.Tables.Found.{IsSingle, IsCompound};
+ghost use Rattle.proto_link.specs.Tables.Found.{HasNoName, IsSingle, IsCompound};
 
 use proto_decl::{Component, Use, scope_around};
 use proto_visibility::{Namespace, Role};
@@ -64,7 +64,7 @@ pub(crate) fn full_name_of_use(
     type_use: &Use,
 ) -> Result<Option<String>, AllocError>
     requires { file < length namespace.now }
-    ensures { IfOk result (λ found. MatchOption found (IsUnresolved namespace.now file type_use.now)
+    ensures { IfOk result (λ found. MatchOption found (HasNoName namespace.now file type_use.now)
         (λ name. Resolves namespace.now file type_use.now (string_bytes name))) }
 {
     let components = type_use.components.as_slice();
@@ -100,7 +100,7 @@ fn one_word(
     requires file { file < length namespace.now }
     requires plain { type_use.now.has_leading_dot ≡ false }
     requires alone { words_of type_use.now ≡ word.now ∷ [] }
-    ensures { IfOk result (λ found. MatchOption found (IsUnresolved namespace.now file type_use.now)
+    ensures { IfOk result (λ found. MatchOption found (HasNoName namespace.now file type_use.now)
         (λ name. Resolves namespace.now file type_use.now (string_bytes name))) }
 {
     if type_use.is_extended {
@@ -199,8 +199,9 @@ fn if_wanted(namespace: &Namespace, file: usize, is_extended: bool, text: String
 }
 
 /// As what a use names what it names: as a message, if an `extend` extends it.
-fn role_wanted(is_extended: bool) -> Role
-    ensures { admits result ≡ wanted is_extended }
+pub(crate) fn role_wanted(is_extended: bool) -> Role
+    ensures role { admits result ≡ wanted is_extended }
+    ensures declared { admits result OfPackage ≡ false }
 {
     if is_extended {
         Role::AsMessage

@@ -1,6 +1,6 @@
 //! What linking answers to files, as a text.
 //!
-//! Files that can be linked have a line each: its path, behind a `+` where it is included; for each file
+//! Files that can be linked have a line each: its path, behind a `+` where it is included, and a `-` where it is left out; for each file
 //! a digit, which is 1 where the one sees the other; and for each use of a source a `;` and what it names.
 //! That is the full name of a type and what each component names: the number of a package's words, or a
 //! file and a declaration of it as `FILE/NUMBER`. Where it names no type, it is `?` and the use's place.
@@ -103,17 +103,41 @@ fn add_sights(draft: &mut Draft, linker: &Linker, file: usize)
     }
 }
 
+/// The mark before the path of a file.
+pub(crate) fn mark_of(file: &LinkFile) -> &'static str {
+    if file.left_out {
+        "-"
+    } else if file.included {
+        "+"
+    } else {
+        ""
+    }
+}
+
+/// The same for a file of a linker, which has no path of a file that is left out.
+fn mark_in(linker: &Linker, file: usize) -> &'static str
+    requires { file < length linker.now }
+{
+    if linker.is_source(file) {
+        ""
+    } else if linker.has_path(linker.path_of(file)) {
+        "+"
+    } else {
+        "-"
+    }
+}
+
 /// Adds the line of a file.
 fn add_file(draft: &mut Draft, linker: &Linker, file: usize)
     requires { file < length linker.now }
 {
-    let is_included = linker.is_included(file);
-    draft.add(if is_included { "+" } else { "" });
+    let mark = mark_in(linker, file);
+    draft.add(mark);
     draft.add(linker.path_of(file));
     draft.add(" ");
     add_sights(draft, linker, file);
     if let Some(facts) = linker.facts_of(file) {
-        if !is_included {
+        if mark.is_empty() {
             add_uses(draft, linker, file, facts);
         }
     }
@@ -138,22 +162,12 @@ pub(crate) fn line_of(alloc: Global, fault: LinkFault) -> Made<String> {
     draft.finish()
 }
 
-/// Whether a linker has the path of each of its files, and not one that none has.
-fn has_its_paths(linker: &Linker) -> bool {
-    for file in 0..linker.count() {
-        if !linker.has_path(linker.path_of(file)) {
-            return false;
-        }
-    }
-    !linker.has_path("none.proto")
-}
-
-/// What a linker answers; nothing where it lacks the path of a file, or has one of none.
+/// What a linker answers; nothing where it has a path that no file has.
 pub(crate) fn listing_with_paths(alloc: Global, linker: &Linker) -> Made<String> {
-    if has_its_paths(linker) {
-        listing_of(alloc, linker)
-    } else {
+    if linker.has_path("none.proto") {
         Ok(String::new(alloc))
+    } else {
+        listing_of(alloc, linker)
     }
 }
 

@@ -1,6 +1,6 @@
 //! Trees of up to 12 files that look like chance, compared with scans.
 
-use crate::trees::see_tree;
+use crate::trees::{Due, see_tree};
 use std::alloc::Global;
 use std::test::Fail;
 use test_kit::{Draft, Made};
@@ -131,7 +131,7 @@ fn tree_of(alloc: Global, seed: u32) -> Made<String> {
 fn generated_trees(rt: HostRuntime) -> Result<(), Fail> {
     for seed in 0..500 {
         let tree = tree_of(rt.alloc(), seed)?;
-        see_tree(&rt, rt.alloc(), seed as usize, tree.as_str(), None)?;
+        see_tree(&rt, rt.alloc(), seed as usize, tree.as_str(), Due::Any)?;
     }
     Ok(())
 }

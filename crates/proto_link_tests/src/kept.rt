@@ -1,8 +1,8 @@
 //! Which files of a tree with faults are left out, and what linking answers to the others, beside what scans tell.
 
-ghost use Rattle.std.specs.Prelude.{◌≡◌, IfOk};
+ghost use Rattle.std.specs.Prelude.{◌≡◌, ◌++◌, map, IfOk, OnOk};
 ghost use Rattle.proto_visibility.specs.Files.{HaveOwnPaths};
-ghost use Rattle.proto_visibility.specs.Kept.{AreOmissions, kept_of};
+ghost use Rattle.proto_visibility.specs.Kept.{AreOmissions, kept_of, left_of, as_left_out};
 ghost use Rattle.proto_visibility.specs.Linked.{HaveClearNames};
 
 use crate::answers::listing_with_paths;
@@ -20,6 +20,19 @@ fn same<'a, 't>(file: &LinkFile<'a, 't>) -> LinkFile<'a, 't>
         path: file.path,
         facts: file.facts,
         included: file.included,
+        left_out: file.left_out,
+    }
+}
+
+/// The file, left out.
+fn as_left_out<'a, 't>(file: &LinkFile<'a, 't>) -> LinkFile<'a, 't>
+    ensures { result ≡ as_left_out file.now }
+{
+    LinkFile {
+        path: file.path,
+        facts: file.facts,
+        included: file.included,
+        left_out: true,
     }
 }
 
@@ -44,6 +57,28 @@ fn kept_files<'a, 't>(
         rest = omissions_behind;
     }
     Ok(kept)
+}
+
+/// Adds those that are left out, as such, in order.
+fn add_left_out<'a, 't>(
+    linked: &mut Vec<LinkFile<'a, 't>>,
+    files: &[LinkFile<'a, 't>],
+    omissions: &[Option<FileOmission>],
+) -> Made<()>
+    ensures { OnOk result (linked.new.items ≡ linked.old.items ++ map as_left_out (left_of omissions.now files.now)) }
+{
+    let (mut left, mut rest) = (files, omissions);
+    while let [omission, omissions_behind @ ..] = rest {
+        let [file, files_behind @ ..] = left else {
+            return Ok(());
+        };
+        if omission.is_some() {
+            linked.push(as_left_out(file))?;
+        }
+        left = files_behind;
+        rest = omissions_behind;
+    }
+    Ok(())
 }
 
 /// Whether a linker answers what scans tell.
@@ -84,9 +119,10 @@ fn are_omitted_as_scanned<'a>(
     requires omissions { AreOmissions files.now omissions.now }
 {
     kept_files_are_clear();
-    let kept = kept_files(alloc, files, omissions)?;
+    let mut linked = kept_files(alloc, files, omissions)?;
+    add_left_out(&mut linked, files, omissions)?;
     let scanned = omissions_of(alloc, files)?;
-    Ok(omissions == scanned.as_slice() && are_linked_as_scanned(alloc, kept.as_slice())?)
+    Ok(omissions == scanned.as_slice() && are_linked_as_scanned(alloc, linked.as_slice())?)
 }
 
 /// Whether scans tell which files are left out, and what linking answers to those that are kept.
@@ -95,4 +131,16 @@ pub(crate) fn are_kept_as_scanned<'a>(alloc: Global, files: &'a [LinkFile<'a, '_
 {
     let omissions = left_out(alloc, files)?;
     are_omitted_as_scanned(alloc, files, omissions.as_slice())
+}
+
+/// What linking answers to the files that are kept, with those that are left out.
+pub(crate) fn kept_answer<'a>(alloc: Global, files: &'a [LinkFile<'a, '_>]) -> Made<String>
+    requires { HaveOwnPaths files.now }
+{
+    kept_files_are_clear();
+    let omissions = left_out(alloc, files)?;
+    let mut linked = kept_files(alloc, files, omissions.as_slice())?;
+    add_left_out(&mut linked, files, omissions.as_slice())?;
+    let linker = Linker::of_kept(alloc, linked.as_slice())?;
+    listing_with_paths(alloc, &linker)
 }

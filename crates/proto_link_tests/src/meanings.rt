@@ -1,9 +1,9 @@
 //! What scans of all files tell, in the form of `answers`: what a use names is found by looking at each name
 //! that its file knows.
 
-use crate::answers::{add_fault, add_part, line_of};
+use crate::answers::{add_fault, add_part, line_of, mark_of};
 use crate::items::{Item, add_items_of};
-use crate::scans::{fault_of, seen_by};
+use crate::scans::{fault_of, is_source, seen_by};
 use proto_decl::{Component, DeclarationKind, Use};
 use proto_link::{FilePlace, LinkFault, LinkFile};
 use std::alloc::Global;
@@ -101,15 +101,20 @@ fn start_of(alloc: Global, known: &[Item], type_use: &Use) -> Made<Option<usize>
     innermost(alloc, known, scope, first, sought)
 }
 
+/// What a use may name.
+fn sought_by(type_use: &Use) -> Sought {
+    if type_use.is_extended {
+        Sought::Message
+    } else {
+        Sought::Type
+    }
+}
+
 /// The full name of the type that a use names.
 fn name_of(alloc: Global, known: &[Item], type_use: &Use) -> Made<Option<String>> {
     let scope = type_use.scope.as_str();
     let components = type_use.components.as_slice();
-    let sought = if type_use.is_extended {
-        Sought::Message
-    } else {
-        Sought::Type
-    };
+    let sought = sought_by(type_use);
     match start_of(alloc, known, type_use)? {
         Some(count) if is_known_in(alloc, known, scope, count, components, sought)? => {
             Ok(Some(name_in(alloc, scope, count, components)?))
@@ -118,54 +123,99 @@ fn name_of(alloc: Global, known: &[Item], type_use: &Use) -> Made<Option<String>
     }
 }
 
-/// Adds what a full name names: it is that of one declaration, or of packages, which count as one.
-fn add_entity(draft: &mut Draft, known: &[Item], name: &str) {
+/// The only file that has a name which is sought, if there is just one, and if it isn't left out.
+fn owner_of(files: &[LinkFile], known: &[Item], name: &str, sought: Sought) -> Option<usize> {
+    let mut owner = None;
     for item in known {
-        if item.full_name.as_str() == name {
+        if item.full_name.as_str() != name || !is_sought(item.kind, sought) {
+            continue;
+        }
+        if owner.is_some() && owner != Some(item.place.file) {
+            return None;
+        }
+        owner = Some(item.place.file);
+    }
+    match files.get(owner?) {
+        Some(file) if !file.left_out => owner,
+        _ => None,
+    }
+}
+
+/// Adds what a full name names in a file: it is that of one declaration, or of packages, which count as one.
+fn add_entity(draft: &mut Draft, known: &[Item], owner: usize, name: &str) {
+    for item in known {
+        if item.place.file == owner && item.full_name.as_str() == name {
             add_part(draft, item.entity);
             return;
         }
     }
 }
 
-/// Adds what the first words of a full name name, of which so many count.
-fn add_front(draft: &mut Draft, known: &[Item], name: &str, count: usize) -> Made<()> {
+/// Adds what the first words of a full name name in a file, of which so many count.
+fn add_front(
+    draft: &mut Draft,
+    known: &[Item],
+    owner: usize,
+    name: &str,
+    count: usize,
+) -> Made<()> {
     let front = name_in(draft.alloc(), name, count, &[])?;
-    add_entity(draft, known, front.as_str());
+    add_entity(draft, known, owner, front.as_str());
     Ok(())
 }
 
-/// Adds a full name, and what it names up to each of its last words, of which so many count.
-fn add_name(draft: &mut Draft, known: &[Item], name: &str, count: usize) -> Made<()> {
+/// Adds a full name, and what it names in a file up to each of its last words, of which so many count.
+fn add_name(draft: &mut Draft, known: &[Item], owner: usize, name: &str, count: usize) -> Made<()> {
     draft.add(name);
     let before = words_of(name).saturating_sub(count);
     for number in 0..count {
         let words = before.saturating_add(number).saturating_add(1);
-        add_front(draft, known, name, words)?;
+        add_front(draft, known, owner, name, words)?;
     }
     Ok(())
 }
 
+/// Adds that a use names nothing.
+fn add_unresolved(draft: &mut Draft, file: usize, type_use: &Use) {
+    let span = type_use.span;
+    add_fault(draft, LinkFault::Unresolved(FilePlace { file, span }));
+}
+
 /// Adds what a use names.
-fn add_use(draft: &mut Draft, known: &[Item], file: usize, type_use: &Use) -> Made<()> {
+fn add_use(
+    draft: &mut Draft,
+    files: &[LinkFile],
+    known: &[Item],
+    file: usize,
+    type_use: &Use,
+) -> Made<()> {
     draft.add("; ");
-    match name_of(draft.alloc(), known, type_use)? {
-        Some(name) => {
+    let Some(name) = name_of(draft.alloc(), known, type_use)? else {
+        add_unresolved(draft, file, type_use);
+        return Ok(());
+    };
+    match owner_of(files, known, name.as_str(), sought_by(type_use)) {
+        Some(owner) => {
             let count = type_use.components.as_slice().len();
-            add_name(draft, known, name.as_str(), count)
+            add_name(draft, known, owner, name.as_str(), count)
         }
         None => {
-            let span = type_use.span;
-            add_fault(draft, LinkFault::Unresolved(FilePlace { file, span }));
+            add_unresolved(draft, file, type_use);
             Ok(())
         }
     }
 }
 
 /// Adds what each of these uses names.
-fn add_uses(draft: &mut Draft, known: &[Item], file: usize, uses: &[Use]) -> Made<()> {
+fn add_uses(
+    draft: &mut Draft,
+    files: &[LinkFile],
+    known: &[Item],
+    file: usize,
+    uses: &[Use],
+) -> Made<()> {
     for type_use in uses {
-        add_use(draft, known, file, type_use)?;
+        add_use(draft, files, known, file, type_use)?;
     }
     Ok(())
 }
@@ -175,7 +225,7 @@ fn add_seeing(draft: &mut Draft, files: &[LinkFile], number: usize, seen: &[usiz
     let Some(file) = files.get(number) else {
         return Ok(());
     };
-    draft.add(if file.included { "+" } else { "" });
+    draft.add(mark_of(file));
     draft.add(file.path);
     draft.add(" ");
     for other in 0..files.len() {
@@ -184,7 +234,9 @@ fn add_seeing(draft: &mut Draft, files: &[LinkFile], number: usize, seen: &[usiz
     let mut known = Vec::new(draft.alloc());
     add_items_of(draft.alloc(), &mut known, files, seen)?;
     match file.facts {
-        Some(facts) if !file.included => add_uses(draft, known.as_slice(), number, facts.uses()),
+        Some(facts) if is_source(file) => {
+            add_uses(draft, files, known.as_slice(), number, facts.uses())
+        }
         _ => Ok(()),
     }
 }

@@ -1,6 +1,6 @@
 //! Worked trees.
 
-use crate::trees::see_tree;
+use crate::trees::{Due, see_tree};
 use std::alloc::Global;
 use std::test::Fail;
 use test_kit::{Draft, Made};
@@ -120,10 +120,61 @@ m.proto\nsyntax = \"proto3\";\nimport \"a\"\n\"b.proto\";\n|",
     },
 ];
 
+/// Trees of which files are left out, and what linking answers to the others: those that are left out stand last.
+///
+/// The first row reads: in `d.proto` the `T` is that of `b.proto`, which is left out for `Z`, and not that of `c.proto`;
+/// so it names nothing.
+static KEPT_ROWS: [Row; 5] = [
+    Row {
+        tree: "a.proto\nsyntax = \"proto3\";\npackage p;\nmessage Z {}\n|\
+b.proto\nsyntax = \"proto3\";\npackage p;\nmessage T {}\nmessage Z {}\n|\
+c.proto\nsyntax = \"proto3\";\nmessage T {}\n|\
+d.proto\nsyntax = \"proto3\";\npackage p;\nimport \"b.proto\";\nimport \"c.proto\";\nmessage M { T t = 1; .T u = 2; .p.T v = 3; }\n|",
+        answer: "a.proto 1000\nc.proto 0100\nd.proto 0111; ? 2 78..79; T 1/0; ? 2 97..101\n-b.proto 0001\n",
+    },
+    Row {
+        tree: "a.proto\nsyntax = \"proto3\";\npackage p.q;\nmessage Z {}\n|\
+b.proto\nsyntax = \"proto3\";\npackage p.q;\nmessage T {}\nmessage Z {}\n|\
+c.proto\nsyntax = \"proto3\";\npackage q;\nmessage T {}\nmessage U {}\n|\
+d.proto\nsyntax = \"proto3\";\npackage p;\nimport \"b.proto\";\nimport \"c.proto\";\nmessage M { q.U u = 1; .q.U v = 2; }\n|",
+        answer: "a.proto 1000\nc.proto 0100\nd.proto 0111; ? 2 78..81; q.U 1 1/1\n-b.proto 0001\n",
+    },
+    Row {
+        tree: "a.proto\nsyntax = \"proto3\";\npackage p;\nmessage M {}\n|\
+b.proto\nsyntax = \"proto3\";\npackage p;\nmessage M {}\n|\
+c.proto\nsyntax = \"proto3\";\npackage p;\nimport \"a.proto\";\nmessage C { M m = 1; }\n|\
+d.proto\nsyntax = \"proto3\";\npackage p;\nimport \"a.proto\";\nimport \"b.proto\";\nmessage D { M m = 1; }\n|",
+        answer: "a.proto 1000\nc.proto 1100; p.M 0/0\nd.proto 1011; ? 2 78..79\n-b.proto 0001\n",
+    },
+    Row {
+        tree: "a.proto\nsyntax = \"proto3\";\npackage p;\nmessage Z {}\n|\
+b.proto\nsyntax = \"proto3\";\nimport public \"c.proto\";\npackage p;\nmessage Z {}\n|\
+c.proto\nsyntax = \"proto3\";\npackage p;\nmessage T {}\n|\
+d.proto\nsyntax = \"proto3\";\npackage p;\nimport \"b.proto\";\nmessage D { T t = 1; }\n|",
+        answer: "a.proto 1000\nc.proto 0100\nd.proto 0111; p.T 1/0\n-b.proto 0101\n",
+    },
+    Row {
+        tree: "a.proto\nsyntax = \"proto3\";\npackage p;\nmessage Z {}\n|\
+b.proto\nsyntax = \"proto3\";\nimport \"x.proto\";\npackage p;\nmessage Z {}\n|\
+c.proto\nsyntax = \"proto3\";\nimport \"y.proto\";\npackage p;\nmessage C { Y y = 1; }\n|\
++x.proto\nsyntax = \"proto3\";\npackage p;\nmessage Y {}\n|\
++y.proto\nsyntax = \"proto3\";\npackage p;\nmessage Y {}\n|",
+        answer: "a.proto 10000\nc.proto 01010; p.Y 3/0\n+x.proto 00100\n+y.proto 00010\n-b.proto 00101\n",
+    },
+];
+
+#[test]
+fn worked_trees_of_kept_files(rt: HostRuntime) -> Result<(), Fail> {
+    for (number, row) in KEPT_ROWS.iter().enumerate() {
+        see_tree(&rt, rt.alloc(), number, row.tree, Due::Kept(row.answer))?;
+    }
+    Ok(())
+}
+
 #[test]
 fn worked_trees(rt: HostRuntime) -> Result<(), Fail> {
     for (number, row) in ROWS.iter().enumerate() {
-        see_tree(&rt, rt.alloc(), number, row.tree, Some(row.answer))?;
+        see_tree(&rt, rt.alloc(), number, row.tree, Due::Linked(row.answer))?;
     }
     Ok(())
 }
@@ -170,7 +221,7 @@ fn chains(rt: HostRuntime) -> Result<(), Fail> {
     for plain in [50, 100] {
         let chain = chain_of(rt.alloc(), plain)?;
         let sights = sights_of(rt.alloc(), plain)?;
-        let due = Some(sights.as_str());
+        let due = Due::Linked(sights.as_str());
         see_tree(&rt, rt.alloc(), plain, chain.as_str(), due)?;
     }
     Ok(())

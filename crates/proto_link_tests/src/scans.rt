@@ -68,15 +68,27 @@ pub(crate) fn seen_by(alloc: Global, files: &[LinkFile], numbers: &[usize]) -> M
     Ok(seen)
 }
 
-/// The files that some source sees.
-fn counted_of(alloc: Global, files: &[LinkFile]) -> Made<Vec<usize>> {
-    let mut sources = Vec::new(alloc);
+/// Whether a file is a source: neither included nor left out.
+pub(crate) fn is_source(file: &LinkFile) -> bool {
+    !file.included && !file.left_out
+}
+
+/// Those of these files that aren't left out.
+fn present_of(alloc: Global, files: &[LinkFile], numbers: &[usize]) -> Made<Vec<usize>> {
+    let mut present = Vec::new(alloc);
     for (number, file) in files.iter().enumerate() {
-        if !file.included {
-            sources.push(number)?;
+        if numbers.contains(&number) && !file.left_out {
+            present.push(number)?;
         }
     }
-    seen_by(alloc, files, sources.as_slice())
+    Ok(present)
+}
+
+/// The files that some source sees and that aren't left out.
+fn counted_of(alloc: Global, files: &[LinkFile]) -> Made<Vec<usize>> {
+    let sources = sources_of(alloc, files)?;
+    let seen = seen_by(alloc, files, sources.as_slice())?;
+    present_of(alloc, files, seen.as_slice())
 }
 
 /// The first file that counts and has no facts.
@@ -89,10 +101,10 @@ fn first_unread(files: &[LinkFile], reachable: &[usize]) -> Option<usize> {
     None
 }
 
-/// Whether a file has this path.
+/// Whether a file that isn't left out has this path.
 fn has_path(files: &[LinkFile], path: &str) -> bool {
     for file in files {
-        if file.path == path {
+        if file.path == path && !file.left_out {
             return true;
         }
     }
@@ -190,37 +202,60 @@ fn omission_of(
     }
 }
 
-/// Adds for each file why it is left out, if it is. These files count.
-fn add_omissions(
+/// Notes for each of these files why it is left out, if it is.
+fn note_omissions(
     alloc: Global,
     files: &[LinkFile],
-    reachable: &[usize],
+    taken: &[usize],
     kept: &mut Vec<usize>,
     omissions: &mut Vec<Option<FileOmission>>,
 ) -> Made<()> {
     for (number, file) in files.iter().enumerate() {
-        let omission = if reachable.contains(&number) {
-            omission_of(alloc, files, kept, number, file)?
-        } else {
-            None
-        };
-        omissions.push(omission)?;
+        if taken.contains(&number) {
+            let omission = omission_of(alloc, files, kept, number, file)?;
+            if let Some(noted) = omissions.get_mut(number) {
+                *noted = omission;
+            }
+        }
     }
     Ok(())
 }
 
-/// For each file why it is left out, if it is.
+/// The sources.
+fn sources_of(alloc: Global, files: &[LinkFile]) -> Made<Vec<usize>> {
+    let mut sources = Vec::new(alloc);
+    for (number, file) in files.iter().enumerate() {
+        if is_source(file) {
+            sources.push(number)?;
+        }
+    }
+    Ok(sources)
+}
+
+/// Those of these files that are no sources.
+fn others_of(alloc: Global, files: &[LinkFile], numbers: &[usize]) -> Made<Vec<usize>> {
+    let mut others = Vec::new(alloc);
+    for (number, file) in files.iter().enumerate() {
+        if numbers.contains(&number) && !is_source(file) {
+            others.push(number)?;
+        }
+    }
+    Ok(others)
+}
+
+/// For each file why it is left out, if it is: first sources are taken, then what the sources that are kept see.
 pub(crate) fn omissions_of(alloc: Global, files: &[LinkFile]) -> Made<Vec<Option<FileOmission>>> {
-    let reachable = counted_of(alloc, files)?;
-    let mut kept = Vec::new(alloc);
     let mut omissions = Vec::new(alloc);
-    add_omissions(
-        alloc,
-        files,
-        reachable.as_slice(),
-        &mut kept,
-        &mut omissions,
-    )?;
+    for _ in files {
+        omissions.push(None)?;
+    }
+    let mut kept = Vec::new(alloc);
+    let sources = sources_of(alloc, files)?;
+    note_omissions(alloc, files, sources.as_slice(), &mut kept, &mut omissions)?;
+    let seen = seen_by(alloc, files, kept.as_slice())?;
+    let present = present_of(alloc, files, seen.as_slice())?;
+    let others = others_of(alloc, files, present.as_slice())?;
+    note_omissions(alloc, files, others.as_slice(), &mut kept, &mut omissions)?;
     Ok(omissions)
 }
 

@@ -1,8 +1,10 @@
 //! Trees of sources as texts, in the form of `test_kit`, and the files that are linked.
 
+ghost use Rattle.proto_visibility.specs.Files.{HaveOwnPaths};
+
 use crate::answers::{answer_in_parts, answer_of};
 use crate::facts::facts_of;
-use crate::kept::are_kept_as_scanned;
+use crate::kept::{are_kept_as_scanned, kept_answer};
 use crate::meanings::scan_of;
 use proto_decl::FileFacts;
 use proto_link::{LinkFile, have_own_paths};
@@ -66,32 +68,66 @@ fn files_of<'a, 't>(
             path: source.path,
             facts: facts_at(facts, number),
             included: source.is_included,
+            left_out: source.is_left_out,
         })?;
     }
     Ok(files)
 }
 
+/// What is due of a tree, if that is told.
+#[derive(Clone, Copy)]
+pub(crate) enum Due<'a> {
+    /// Nothing is told.
+    Any,
+    /// What linking answers to all files.
+    Linked(&'a str),
+    /// What linking answers to the files that are kept, with those that are left out.
+    Kept(&'a str),
+}
+
+/// Whether an answer to all files is what is due of them.
+fn is_due(due: Due<'_>, answer: &str) -> bool {
+    match due {
+        Due::Linked(text) => text == answer,
+        Due::Any | Due::Kept(_) => true,
+    }
+}
+
+/// Whether what linking answers to the files that are kept is what is due of them.
+fn is_kept_due<'a>(alloc: Global, files: &'a [LinkFile<'a, '_>], due: Due<'_>) -> Made<bool>
+    requires { HaveOwnPaths files.now }
+{
+    match due {
+        Due::Kept(text) => {
+            let answer = kept_answer(alloc, files)?;
+            Ok(answer.as_str() == text)
+        }
+        Due::Any | Due::Linked(_) => Ok(true),
+    }
+}
+
 /// Whether scans tell this answer, and it is what is due.
-fn is_as_scanned(alloc: Global, files: &[LinkFile], answer: &str, due: Option<&str>) -> Made<bool> {
+fn is_as_scanned(alloc: Global, files: &[LinkFile], answer: &str, due: Due<'_>) -> Made<bool> {
     let scan = scan_of(alloc, files)?;
-    Ok(scan.as_str() == answer && (due.is_none() || due == Some(answer)))
+    Ok(scan.as_str() == answer && is_due(due, answer))
 }
 
 /// Whether linking answers to files what is due, be it in one or in two parts.
 fn are_files_answered<'a>(
     alloc: Global,
     files: &'a [LinkFile<'a, '_>],
-    due: Option<&str>,
+    due: Due<'_>,
 ) -> Made<bool> {
     if !have_own_paths(alloc, files)? {
-        return Ok(due == Some("a path twice\n"));
+        return Ok(is_due(due, "a path twice\n"));
     }
     let answer = answer_of(alloc, files)?;
     let in_parts = answer_in_parts(alloc, files)?;
     Ok(
         in_parts.as_str() == answer.as_str()
             && is_as_scanned(alloc, files, answer.as_str(), due)?
-            && are_kept_as_scanned(alloc, files)?,
+            && are_kept_as_scanned(alloc, files)?
+            && is_kept_due(alloc, files, due)?,
     )
 }
 
@@ -100,28 +136,28 @@ fn is_answered_with(
     alloc: Global,
     sources: &[FileText],
     facts: &[Option<FileFacts>],
-    due: Option<&str>,
+    due: Due<'_>,
 ) -> Made<bool> {
     let files = files_of(alloc, sources, facts)?;
     are_files_answered(alloc, files.as_slice(), due)
 }
 
 /// The same of sources.
-fn is_answered_of(alloc: Global, sources: &[FileText], due: Option<&str>) -> Made<bool> {
+fn is_answered_of(alloc: Global, sources: &[FileText], due: Due<'_>) -> Made<bool> {
     let mut facts = Vec::new(alloc);
     add_all_facts(alloc, &mut facts, sources)?;
     is_answered_with(alloc, sources, facts.as_slice(), due)
 }
 
 /// The same of a tree.
-fn is_answered_once(alloc: Global, tree: &str, due: Option<&str>) -> Made<bool> {
+fn is_answered_once(alloc: Global, tree: &str, due: Due<'_>) -> Made<bool> {
     let sources = sources_of(alloc, tree)?;
     is_answered_of(alloc, sources.as_slice(), due)
 }
 
 /// Whether linking answers to a tree what scans tell, and what is due, if that is told. After want of
 /// memory all of it is made again, and the second answer counts.
-fn is_answered(alloc: Global, tree: &str, due: Option<&str>) -> Made<bool> {
+fn is_answered(alloc: Global, tree: &str, due: Due<'_>) -> Made<bool> {
     match is_answered_once(alloc, tree, due) {
         Err(_) => is_answered_once(alloc, tree, due),
         answer => answer,
@@ -139,7 +175,7 @@ pub(crate) fn see_tree(
     alloc: Global,
     number: usize,
     tree: &str,
-    due: Option<&str>,
+    due: Due<'_>,
 ) -> Made<()> {
     see(rt, number, is_answered(alloc, tree, due)?);
     Ok(())

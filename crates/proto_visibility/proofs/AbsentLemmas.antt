@@ -6,7 +6,7 @@ use Rattle.std.specs.List.{Contains, AllPairs, slice_get, flat_map}
 use Rattle.std.specs.List.Sorted.{IsStrictlyIncreasing}
 use Rattle.std.specs.Option.{is_none}
 use Rattle.std.proofs.lemmas.Bool.{cases_lt, cases_Bool, false≢true, and_parts, or_cases}
-use Rattle.std.proofs.lemmas.Option.{slice_get_within, slice_get-get_or, slice_get-map, get_or_from_slice_get}
+use Rattle.std.proofs.lemmas.Option.{slice_get_within, slice_get-get_or}
 use Rattle.std.proofs.lemmas.List.{get_or_default, take_all, flat_map_more}
 use Rattle.std.proofs.lemmas.List.Elements.{Contains-get_or, Contains-append_left, Contains-append_right}
 use Rattle.std.proofs.lemmas.List.Elements.{Contains-append_cases}
@@ -18,7 +18,7 @@ use Rattle.proto_lex.specs.Lexed.{AreInOrder}
 use Rattle.proto_decl.specs.Facts.{Facts, ImportsInOrder}
 use Rattle.proto_decl.specs.declared.imports.Imported.{Imported}
 use Rattle.proto_visibility.specs.declared.files.FilePlace.{FilePlace}
-use Rattle.proto_visibility.specs.Files.{File, HasFacts, HasPath, is_public, HasPathAt}
+use Rattle.proto_visibility.specs.Files.{File, HasFacts, HasPath, IsPresent, is_public, HasPathAt}
 use Rattle.proto_visibility.specs.Sees.{IsReachable}
 use Rattle.proto_visibility.specs.Sees.IsReachable.{seen}
 use Rattle.proto_visibility.specs.Sees.SeesBy.{itself}
@@ -212,23 +212,9 @@ module _ (files : List File) (number : List ℕ → Option ℕ) (order : AllInOr
       inl (omega arith))
 
 module _ (files : List File) (number : List ℕ → Option ℕ)
-    (numbered : (path : List ℕ) (k : ℕ) → (number path ≡ Some k) ↔ HasPathAt files path k) where
+    (numbered : (path : List ℕ) (k : ℕ) → (number path ≡ Some k) ↔ (HasPathAt files path k × IsPresent files k)) where
   has_path : (path : List ℕ) → HasPath files path → is_none (number path) ≡ false
-  has_path path there =
-      let at : slice_get (map (λ file. file.path) files) there.0 ≡ Some path =
-      slice_get-get_or (map (λ file. file.path) files) there.0 path there.1 ∙ ap Some there.2 in
-      let file = file_with files there.0 path at in
-      let found = (numbered path there.0).1 file in
-      ap is_none found
-    where
-      file_with : (fs : List File) (k : ℕ) (p : List ℕ) → slice_get (map (λ file. file.path) fs) k ≡ Some p
-          → (file : File) × (slice_get fs k ≡ Some file) × (file.path ≡ p)
-      file_with [] k p e = absurd (cc)
-      file_with (f ∷ fs) zero p e = (f, refl, one f.path p e)
-        where
-          one : (x y : List ℕ) → Some x ≡ Some y → x ≡ y
-          one x y h = cc
-      file_with (f ∷ fs) (suc k) p e = file_with fs k p e
+  has_path path there = ap is_none ((numbered path there.0).1 (there.1, there.2))
 
   no_path : (path : List ℕ) → is_none (number path) ≡ true → HasPath files path → ⊥
   no_path path absent there = false≢true (sym (has_path path there) ∙ absent)
@@ -236,23 +222,12 @@ module _ (files : List File) (number : List ℕ → Option ℕ)
   path_if : (path : List ℕ) → is_none (number path) ≡ false → HasPath files path
   path_if path some = elim (cases (number path)) [
     | inl absent ↦ absurd (false≢true (sym some ∙ ap is_none absent))
-    | inr found ↦ (let there = (numbered path found.0).0 found.1 in path_at there.0 found.0 there.1 there.2)
+    | inr found ↦ (let there = (numbered path found.0).0 found.1 in (found.0, there.0, there.1))
   ]
     where
       cases : (o : Option ℕ) → (o ≡ None) ⊎ ((k : ℕ) × (o ≡ Some k))
       cases None = inl refl
       cases (Some k) = inr (k, refl)
-
-      path_at : (file : File) (k : ℕ) → slice_get files k ≡ Some file → file.path ≡ path → HasPath files path
-      path_at file k stands is =
-          let at : slice_get (map (λ f. f.path) files) k ≡ Some file.path =
-          slice_get-map (λ f. f.path) files k ∙ ap (option_map_path) stands in
-          let within = slice_get_within (map (λ f. f.path) files) k file.path at in
-          (k, within, get_or_from_slice_get (map (λ f. f.path) files) k file.path path at ∙ is)
-        where
-          option_map_path : Option File → Option (List ℕ)
-          option_map_path None = None
-          option_map_path (Some f) = Some f.path
 
   pub path_iff : (path : List ℕ) (found : Bool) → found ≡ not (is_none (number path)) → IsTrue found
       ↔ HasPath files path
@@ -271,14 +246,23 @@ module _ (files : List File) (number : List ℕ → Option ℕ)
       → (not file.is_included || is_public import.kind) ≡ true → IsNeeded files k import
   needed_from file k facts import is_reachable stands known listed needed =
       elim (or_cases (not file.is_included) (is_public import.kind) needed) [
-        | inl source ↦ of_source (record { file = file; numbered = stands; source = is_false file.is_included source })
-            (record { file = file; numbered = stands; known = known }) listed
+        | inl source ↦ of_source (record {
+          file = file;
+          numbered = stands;
+          source = is_false file.is_included source;
+          present = here_present is_reachable;
+        }) (record { file = file; numbered = stands; known = known }) listed
         | inr public ↦ of_included is_reachable (record { file = file; numbered = stands; known = known }) listed public
       ]
     where
       is_false : (b : Bool) → not b ≡ true → b ≡ false
       is_false true e = sym e
       is_false false e = refl
+
+      here_present : IsReachable files k → file.is_left_out ≡ false
+      here_present (seen is sees present) =
+          ap (λ (f : File). f.is_left_out) (same_Some file present.file (sym stands ∙ present.numbered))
+          ∙ present.present
 
   -- what a needed import says of the file that it stands in
   pub record Needs (k : ℕ) (import : Imported) : Type 0 where
@@ -294,7 +278,7 @@ module _ (files : List File) (number : List ℕ → Option ℕ)
       record {
         file = is.file;
         stands = is.numbered;
-        is_reachable = seen is itself;
+        is_reachable = seen is itself (record { file = is.file; numbered = is.numbered; present = is.present });
         listed = subst (λ f. Contains (imports_in f) import)
             (sym (ap (λ (f : File). f.facts) same ∙ known.known)) listed;
         needed = subst (λ b. (not b || is_public import.kind) ≡ true) (sym is.source) refl;

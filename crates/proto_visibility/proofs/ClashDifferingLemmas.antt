@@ -15,7 +15,7 @@ use Rattle.proto_decl.specs.declared.declaration.Declaration.{Declaration}
 use Rattle.proto_visibility.specs.Files.{File}
 use Rattle.proto_visibility.specs.Sees.{IsReachable}
 use Rattle.proto_visibility.specs.Clashes.{Before, Item, IsItem, NoClash}
-use Rattle.proto_visibility.specs.Clashes.IsItem.{declared, packaged}
+use Rattle.proto_visibility.specs.Clashes.IsItemBy.{declared, packaged}
 use Rattle.proto_visibility.specs.Tables.FileItems.{AreAllPrefixes, ArePrefixes, declared_item, package_name_in}
 use Rattle.proto_visibility.specs.Tables.GivenNames.{HasPrefixAt}
 use Rattle.proto_visibility.specs.Tables.ClashTables.{AreApart, declarations_in, declarations_of, has_number}
@@ -169,7 +169,7 @@ module _ {S : Type 0} (files : List File) (prefixes : List (List (List ℕ))) (r
   told item (declared {number = number} {facts = facts} {declaration = d} is_reachable has listed) =
       let at = (reachable number).1 is_reachable in
       let same : get_or row at.0 0 ≡ number = get_or_default row at.0 0 number at.1 ∙ at.2 in
-      let there = declared_to files row reachable number d facts.declarations listed in
+      let there = declared_to number d facts.declarations listed in
       let in_file = subst (λ o. Contains (map (declared_item number) (declarations_in o)) (declared_item number d))
       (sym has.known) there in
       inl (

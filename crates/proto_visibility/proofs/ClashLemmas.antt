@@ -8,42 +8,67 @@ use Rattle.std.proofs.lemmas.Bool.{cases_lt, cases_order, cases_Bool, false≢tr
 use Rattle.std.proofs.lemmas.Option.{slice_get_within, same_Some}
 use Rattle.std.proofs.lemmas.Slice.Eq.{bytes_eq-Decides}
 use Rattle.proto_visibility.specs.declared.files.FilePlace.{FilePlace}
-use Rattle.proto_visibility.specs.Clashes.{Before, Item, Excludes, ClashBy, NoClashBy}
-use Rattle.proto_visibility.specs.Tables.ClashTables.{AreInPlace, HasNone, IsFirstNamed, AreFirst, place_if_declared}
+use Rattle.proto_visibility.specs.Clashes.{Before, BeforeBy, Item, Excludes, ClashBy, NoClashBy}
+use Rattle.proto_visibility.specs.Tables.ClashTables.{AreInPlace, AreInPlaceBy, HasNone, IsFirstNamed, AreFirst}
+use Rattle.proto_visibility.specs.Tables.ClashTables.{place_if_declared}
 use Rattle.proto_visibility.specs.Tables.ClashTables.{clash_with, index_in}
 use Rattle.basics.proofs.FirstLemmas.{contained_at, contained}
 
 -- ---- places
 
-pub never_both : (a b : FilePlace) → Before a b → Before b a → ⊥
-never_both a b (inl h) (inl k) = omega arith
-never_both a b (inl h) (inr k) = omega (arith, k.0)
-never_both a b (inr h) (inl k) = omega (arith, h.0)
-never_both a b (inr h) (inr k) = omega (arith, h.1, k.1)
+-- of two numbers at most one comes before the other
+abbrev pub IsOneWay : (Earlier : ℕ → ℕ → Type 0) → Type 0
+IsOneWay Earlier = (number other : ℕ) → Earlier number other → Earlier other number → ⊥
 
-module _ (items : List Item) (placed : AreInPlace items) where
-  pub in_order : (j k : ℕ) (a b : Item) → slice_get items j ≡ Some a → slice_get items k ≡ Some b
-      → Before a.place b.place → j < k
-  in_order j k a b at there before = elim (cases_order j k) [
-    | inl same ↦ (
-        let equal : a ≡ b = same_Some a b (sym at ∙ (ap (slice_get items) same ∙ there)) in
-        let itself = subst (λ (x : Item). Before x.place b.place) equal before in
-        absurd (never_both b.place b.place itself itself))
-    | inr apart ↦ elim apart
-        [ inl less ↦ less | inr more ↦ absurd (never_both a.place b.place before (placed k j b a more there at)) ]
-  ]
+module _ (Earlier : ℕ → ℕ → Type 0) (one_way : IsOneWay Earlier) where
+  pub never_both_by : (a b : FilePlace) → BeforeBy Earlier a b → BeforeBy Earlier b a → ⊥
+  never_both_by a b (inl h) (inl k) = one_way a.file b.file h k
+  never_both_by a b (inl h) (inr k) =
+      let itself = subst (λ n. Earlier n b.file) (sym k.0) h in one_way b.file b.file itself itself
+  never_both_by a b (inr h) (inl k) =
+      let itself = subst (Earlier b.file) h.0 k in one_way b.file b.file itself itself
+  never_both_by a b (inr h) (inr k) = omega (arith, h.1, k.1)
 
-  pub one_index : (j k : ℕ) (a b : Item) → slice_get items j ≡ Some a → slice_get items k ≡ Some b → a.place ≡ b.place
-      → j ≡ k
-  one_index j k a b at there same = elim (cases_order j k) [
-    | inl is ↦ is
-    | inr apart ↦ elim apart [
-      | inl less ↦ (let before = subst (λ p. Before p b.place) same (placed j k a b less at there) in
-          absurd (never_both b.place b.place before before))
-      | inr more ↦ (let before = subst (λ p. Before b.place p) same (placed k j b a more there at) in
-          absurd (never_both b.place b.place before before))
+  module _ (items : List Item) (placed : AreInPlaceBy Earlier items) where
+    pub in_order_by : (j k : ℕ) (a b : Item) → slice_get items j ≡ Some a → slice_get items k ≡ Some b
+        → BeforeBy Earlier a.place b.place → j < k
+    in_order_by j k a b at there before = elim (cases_order j k) [
+      | inl same ↦ (
+          let equal : a ≡ b = same_Some a b (sym at ∙ (ap (slice_get items) same ∙ there)) in
+          let itself = subst (λ (x : Item). BeforeBy Earlier x.place b.place) equal before in
+          absurd (never_both_by b.place b.place itself itself))
+      | inr apart ↦ elim apart [
+        | inl less ↦ less
+        | inr more ↦ absurd (never_both_by a.place b.place before (placed k j b a more there at))
+      ]
     ]
-  ]
+
+    pub one_index_by : (j k : ℕ) (a b : Item) → slice_get items j ≡ Some a → slice_get items k ≡ Some b
+        → a.place ≡ b.place → j ≡ k
+    one_index_by j k a b at there same = elim (cases_order j k) [
+      | inl is ↦ is
+      | inr apart ↦ elim apart [
+        | inl less ↦ (let before = subst (λ p. BeforeBy Earlier p b.place) same (placed j k a b less at there) in
+            absurd (never_both_by b.place b.place before before))
+        | inr more ↦ (let before = subst (λ p. BeforeBy Earlier b.place p) same (placed k j b a more there at) in
+            absurd (never_both_by b.place b.place before before))
+      ]
+    ]
+
+-- in order of numbers
+less_one_way : IsOneWay (λ number other. number < other)
+less_one_way number other h k = omega arith
+
+pub never_both : (a b : FilePlace) → Before a b → Before b a → ⊥
+never_both a b = never_both_by (λ number other. number < other) less_one_way a b
+
+in_order : (items : List Item) → AreInPlace items → (j k : ℕ) (a b : Item) → slice_get items j ≡ Some a
+    → slice_get items k ≡ Some b → Before a.place b.place → j < k
+in_order items placed = in_order_by (λ number other. number < other) less_one_way items placed
+
+one_index : (items : List Item) → AreInPlace items → (j k : ℕ) (a b : Item) → slice_get items j ≡ Some a
+    → slice_get items k ≡ Some b → a.place ≡ b.place → j ≡ k
+one_index items placed = one_index_by (λ number other. number < other) less_one_way items placed
 
 -- ---- the pass
 
@@ -138,7 +163,8 @@ none_clash_more items count item first stands is missing so_far j k a b less wit
 pub is_clash : (items : List Item) (count : ℕ) (item : Item) (first : Option ℕ) (place : FilePlace) → AreInPlace items
     → slice_get items count ≡ Some item
     → MatchOption first (HasNone items count item.full_name) (IsFirstNamed items count item.full_name)
-    → clash_with items first item ≡ Some place → NoneClash items count → ClashBy (Contains items) place item.place
+    → clash_with items first item ≡ Some place → NoneClash items count
+    → ClashBy Before (Contains items) place item.place
 is_clash items count item first place placed stands is found so_far =
     let at = clash_at items first item place found in
     by_first at (subst (λ o. MatchOption o (HasNone items count item.full_name)
@@ -146,7 +172,7 @@ is_clash items count item first place placed stands is found so_far =
   where
     by_first : (at : (k : ℕ) × (a : Item) × (first ≡ Some k) × (slice_get items k ≡ Some a) × (a.place ≡ place)
         × ((a.is_declaration || item.is_declaration) ≡ true))
-        → IsFirstNamed items count item.full_name at.0 → ClashBy (Contains items) place item.place
+        → IsFirstNamed items count item.full_name at.0 → ClashBy Before (Contains items) place item.place
     by_first at f =
         let same : f.item ≡ at.1 = same_Some f.item at.1 (sym f.stands ∙ at.3) in
         record {
@@ -178,7 +204,7 @@ is_clash items count item first place placed stands is found so_far =
         }
 
 pub no_clash : (items : List Item) (count : ℕ) → AreInPlace items → length items ≤ count → NoneClash items count
-    → NoClashBy (Contains items)
+    → NoClashBy Before (Contains items)
 no_clash items count placed all so_far a b e =
     let ja = contained_at items a e.first_is in
     let jb = contained_at items b e.second_is in
@@ -289,7 +315,8 @@ kept_first old put back name index first was after again other = elim (cases_Boo
 
 -- ---- the same items by another word
 
-excludes_by : {I J : Item → Type 0} → ((item : Item) → I item → J item) → (a b : Item) → Excludes I a b → Excludes J a b
+pub excludes_by : {B : FilePlace → FilePlace → Type 0} {I J : Item → Type 0} → ((item : Item) → I item → J item)
+    → (a b : Item) → Excludes B I a b → Excludes B J a b
 excludes_by change a b e =
     record {
       first_is = change a e.first_is;
@@ -299,8 +326,8 @@ excludes_by change a b e =
       declares = e.declares;
     }
 
-pub clash_by : {I J : Item → Type 0} → ((item : Item) → I item ↔ J item) → (first second : FilePlace)
-    → ClashBy I first second → ClashBy J first second
+pub clash_by : {B : FilePlace → FilePlace → Type 0} {I J : Item → Type 0} → ((item : Item) → I item ↔ J item)
+    → (first second : FilePlace) → ClashBy B I first second → ClashBy B J first second
 clash_by same first second clash = record {
   earlier = clash.earlier;
   later = clash.later;
@@ -311,12 +338,13 @@ clash_by same first second clash = record {
   least_first = λ a b e. clash.least_first a b (excludes_by (λ item. (same item).1) a b e);
 }
 
-pub no_clash_by : {I J : Item → Type 0} → ((item : Item) → I item ↔ J item) → NoClashBy I → NoClashBy J
+pub no_clash_by : {B : FilePlace → FilePlace → Type 0} {I J : Item → Type 0} → ((item : Item) → I item ↔ J item)
+    → NoClashBy B I → NoClashBy B J
 no_clash_by same clear a b e = clear a b (excludes_by (λ item. (same item).1) a b e)
 
-pub clash_of_items : {I J : Item → Type 0} → ((item : Item) → I item ↔ J item)
+pub clash_of_items : (B : FilePlace → FilePlace → Type 0) {I J : Item → Type 0} → ((item : Item) → I item ↔ J item)
     → (clash : Option (FilePlace × FilePlace))
-    → MatchOption clash (NoClashBy I) (λ places. ClashBy I places.0 places.1)
-    → MatchOption clash (NoClashBy J) (λ places. ClashBy J places.0 places.1)
-clash_of_items same None clear = no_clash_by same clear
-clash_of_items same (Some places) clash = clash_by same places.0 places.1 clash
+    → MatchOption clash (NoClashBy B I) (λ places. ClashBy B I places.0 places.1)
+    → MatchOption clash (NoClashBy B J) (λ places. ClashBy B J places.0 places.1)
+clash_of_items B same None clear = no_clash_by same clear
+clash_of_items B same (Some places) clash = clash_by same places.0 places.1 clash

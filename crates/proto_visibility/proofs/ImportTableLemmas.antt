@@ -2,11 +2,11 @@
 use Rattle.std.proofs.Common.{◌≡◌, ◌↔◌, ◌⊎◌, inl, inr, ℕ, ◌+◌, ◌<◌, ◌≤◌, Bool, true, false, zero, suc, List, [], ◌∷◌}
 use Rattle.std.proofs.Common.{◌++◌, length, get_or, take, is_some, Option, Some, None, refl, ap, sym, ◌∙◌, subst, cond}
 use Rattle.std.proofs.Common.{arith}
-use Rattle.std.specs.List.{Contains, slice_get, filter_map}
+use Rattle.std.specs.List.{Contains, slice_get, filter_map, list_any}
 use Rattle.std.specs.Str.{bytes_eq}
 use Rattle.std.specs.HashMap.{HashMap}
 use denote.Ref.{Bor}
-use Rattle.std.proofs.lemmas.Bool.{cases_Bool, cases_lt, cond-true, cond-false, false≢true}
+use Rattle.std.proofs.lemmas.Bool.{cases_Bool, cases_lt, cond-true, cond-false, false≢true, or_parts}
 use Rattle.std.proofs.lemmas.Option.{slice_get-get_or, slice_get_within, same_Some}
 use Rattle.std.proofs.lemmas.Slice.Eq.{bytes_eq-Decides}
 use Rattle.std.proofs.lemmas.List.Elements.{Contains-append_right, Contains-append_cases}
@@ -18,9 +18,9 @@ use Rattle.proto_visibility.proofs.SeeingLemmas.{slice_get_prefix}
 use Rattle.proto_decl.specs.Facts.{Facts}
 use Rattle.proto_decl.specs.declared.imports.Imported.{Imported}
 use Rattle.proto_visibility.specs.declared.import_table.Steps.{Steps}
-use Rattle.proto_visibility.specs.Files.{File, Imports, HaveOwnPaths, is_public, HasPathAt}
+use Rattle.proto_visibility.specs.Files.{File, Imports, IsPresent, HaveOwnPaths, is_public, HasPathAt}
 use Rattle.proto_visibility.specs.Tables.ImportTables.{targets, HasStep, AreWithin, IsTableOf, number_in, AreNumbered}
-use Rattle.proto_visibility.specs.Tables.ImportTables.{imports_in, imports_of, target}
+use Rattle.proto_visibility.specs.Tables.ImportTables.{ArePaths, imports_in, imports_of, target}
 
 -- ---- what a filter keeps
 
@@ -237,6 +237,99 @@ numbered_all files numbers count all so_far path number = (
   λ found. ((so_far path number).0 found).0,
   λ there. (so_far path number).1 (there, omega (arith, slice_get_within files number there.0 there.1)),
 )
+
+-- ---- the paths of files that aren't left out
+
+-- the map has the numbers of those of so many files
+abbrev pub ArePathsUpTo : {S : Type 0} → List File → HashMap (Bor (List ℕ)) ℕ S → ℕ → Type 0
+ArePathsUpTo files paths count = (path : List ℕ) (number : ℕ) → (number_in paths path ≡ Some number)
+    ↔ ((HasPathAt files path number × IsPresent files number) × (number < count))
+
+pub paths_skip : {S : Type 0} (files : List File) (paths : HashMap (Bor (List ℕ)) ℕ S) (count : ℕ) (file : File)
+    → slice_get files count ≡ Some file → file.is_left_out ≡ true
+    → ArePathsUpTo files paths count → ArePathsUpTo files paths (count + 1)
+paths_skip files paths count file stands out so_far path number = (
+  λ found. (let before = (so_far path number).0 found in (before.0, omega (arith, before.1))),
+  λ there. elim (cases_lt number count) [
+    | inl before ↦ (so_far path number).1 (there.0, before)
+    | inr last ↦ absurd (left there.0.1 (omega (arith, there.1, last)))
+  ],
+)
+  where
+    left : IsPresent files number → number ≡ count → ⊥
+    left is here =
+        let same : is.file ≡ file = same_Some is.file file (sym is.numbered ∙ (ap (slice_get files) here ∙ stands)) in
+        false≢true (sym is.present ∙ (ap (λ (f : File). f.is_left_out) same ∙ out))
+
+pub paths_more : {S : Type 0} (files : List File) (old new : HashMap (Bor (List ℕ)) ℕ S) (count : ℕ) (file : File)
+    → HaveOwnPaths files → slice_get files count ≡ Some file → file.is_left_out ≡ false
+    → ((path : List ℕ) → number_in new path ≡ cond (bytes_eq file.path path) (Some count) (number_in old path))
+    → ArePathsUpTo files old count → ArePathsUpTo files new (count + 1)
+paths_more files old new count file own stands here after so_far path number =
+    elim (cases_Bool (bytes_eq file.path path)) [
+      | inl same ↦ (
+          let equal : file.path ≡ path = (bytes_eq-Decides file.path path).0 same in
+          let now : number_in new path ≡ Some count =
+          after path ∙ cond-true (bytes_eq file.path path) (Some count) (number_in old path) same in (
+            λ found. (
+                let is : count ≡ number = same_Some count number (sym now ∙ found) in (
+                  (
+                    subst (HasPathAt files path) is (file, stands, equal),
+                    subst (IsPresent files) is (record { file = file; numbered = stands; present = here }),
+                  ),
+                  omega arith,
+                )),
+            λ there. (
+                let at = there.0.0 in
+                let is : number ≡ count = own number count at.0 file at.1 stands (at.2 ∙ sym equal) in
+                now ∙ ap Some (sym is)),
+          ))
+      | inr apart ↦ (
+          let now : number_in new path ≡ number_in old path =
+          after path ∙ cond-false (bytes_eq file.path path) (Some count) (number_in old path) apart in (
+            λ found. (let before = (so_far path number).0 (sym now ∙ found) in (before.0, omega (arith, before.1))),
+            λ there. elim (cases_lt number count) [
+              | inl before ↦ now ∙ (so_far path number).1 (there.0, before)
+              | inr last ↦ (
+                  let at = there.0.0 in
+                  let is : number ≡ count = omega (arith, there.1) in
+                  let one : at.0 ≡ file = same_Some at.0 file (sym at.1 ∙ (ap (slice_get files) is ∙ stands)) in
+                  let equal : file.path ≡ path = ap (λ (f : File). f.path) (sym one) ∙ at.2 in
+                  absurd (false≢true (sym apart ∙ (bytes_eq-Decides file.path path).1 equal)))
+            ],
+          ))
+    ]
+
+pub paths_all : {S : Type 0} (files : List File) (paths : HashMap (Bor (List ℕ)) ℕ S) (count : ℕ)
+    → length files ≤ count → ArePathsUpTo files paths count → ArePaths files paths
+paths_all files paths count all so_far path number = (
+  λ found. ((so_far path number).0 found).0,
+  λ there. (so_far path number).1 (
+    there,
+    (let within = slice_get_within files number there.0.0 there.0.1 in omega (arith, within, all)),
+  ),
+)
+
+none_left_out : (files : List File) (k : ℕ) (file : File)
+    → list_any (λ (f : File). f.is_left_out) files ≡ false → slice_get files k ≡ Some file → file.is_left_out ≡ false
+none_left_out [] k file none at = absurd (cc)
+none_left_out (f ∷ fs) zero file none at =
+    ap (λ (x : File). x.is_left_out) (sym (same_Some f file at))
+    ∙ (or_parts f.is_left_out (list_any (λ (x : File). x.is_left_out) fs) none).0
+none_left_out (f ∷ fs) (suc k) file none at =
+    none_left_out fs k file (or_parts f.is_left_out (list_any (λ (x : File). x.is_left_out) fs) none).1 at
+
+-- where none is left out, those of all files
+pub paths_of_all : {S : Type 0} (files : List File) (numbers : HashMap (Bor (List ℕ)) ℕ S)
+    → list_any (λ (f : File). f.is_left_out) files ≡ false → AreNumbered files numbers → ArePaths files numbers
+paths_of_all files numbers none numbered path number = (
+  λ found. (
+      let at = (numbered path number).0 found in
+      (at, record { file = at.0; numbered = at.1; present = none_left_out files number at.0 none at.1 })),
+  λ there. (numbered path number).1 there.0,
+)
+
+-- ---- what is made of the first imports
 
 pub filter_map_step : {X Y : Type 0} (h : X → Option Y) (xs : List X) (i : ℕ) (x : X) (old new : List Y) → i < length xs
     → x ≡ get_or xs i x

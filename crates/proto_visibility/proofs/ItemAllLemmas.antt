@@ -1,4 +1,4 @@
--- The items of all reachable files, in order of place.
+-- The items of the files of a row, in order of place.
 use Rattle.std.proofs.Common.{◌≡◌, ◌↔◌, inl, inr, ℕ, ◌+◌, ◌-◌, ◌<◌, ◌≤◌, zero, List, [], ◌∷◌, ◌++◌, length, get_or, map}
 use Rattle.std.proofs.Common.{Some, refl, ap, sym, ◌∙◌, subst, arith}
 use Rattle.std.specs.List.{Contains, slice_get}
@@ -14,9 +14,9 @@ use Rattle.proto_decl.specs.Facts.{Facts}
 use Rattle.proto_decl.specs.declared.declaration.Declaration.{Declaration}
 use Rattle.proto_visibility.specs.Files.{File, HasFacts}
 use Rattle.proto_visibility.specs.Sees.{IsReachable}
-use Rattle.proto_visibility.specs.Clashes.{Item, IsItem, Before}
-use Rattle.proto_visibility.specs.Clashes.IsItem.{declared, packaged}
-use Rattle.proto_visibility.specs.Tables.ClashTables.{AreInPlace}
+use Rattle.proto_visibility.specs.Clashes.{Item, IsItem, IsItemBy, Before, BeforeBy}
+use Rattle.proto_visibility.specs.Clashes.IsItemBy.{declared, packaged}
+use Rattle.proto_visibility.specs.Tables.ClashTables.{AreInPlace, AreInPlaceBy}
 use Rattle.proto_visibility.specs.Tables.FileItems.{ArePrefixes, declared_item, IsItemOf, IsItemIn, package_name_of}
 use Rattle.proto_visibility.proofs.SeeingLemmas.{slice_get_prefix}
 use Rattle.proto_visibility.proofs.ItemLemmas.{file_of_item}
@@ -70,10 +70,11 @@ slice_get_behind xs ys k y h stands =
     ∙ ap Some (sym (get_or-append_right xs ys (length xs) k y refl h)
     ∙ get_or_from_slice_get (xs ++ ys) k y y stands)
 
--- two lists of which the second is of a later file
-pub in_place_both : (xs ys : List Item) → AreInPlace xs → AreInPlace ys
-    → ((a b : Item) → Contains xs a → Contains ys b → Before a.place b.place) → AreInPlace (xs ++ ys)
-in_place_both xs ys first second across j k a b less at there = elim (cases_lt k (length xs)) [
+-- two lists of which the second is of later files
+pub in_place_both : (Earlier : ℕ → ℕ → Type 0) (xs ys : List Item) → AreInPlaceBy Earlier xs → AreInPlaceBy Earlier ys
+    → ((a b : Item) → Contains xs a → Contains ys b → BeforeBy Earlier a.place b.place)
+    → AreInPlaceBy Earlier (xs ++ ys)
+in_place_both Earlier xs ys first second across j k a b less at there = elim (cases_lt k (length xs)) [
   | inl k_front ↦ first j k a b less (sym (slice_get_prefix xs ys j (omega arith)) ∙ at)
       (sym (slice_get_prefix xs ys k k_front) ∙ there)
   | inr k_behind ↦ (
@@ -88,6 +89,17 @@ in_place_both xs ys first second across j k a b less at there = elim (cases_lt k
 
 file_of : (number : ℕ) (file : File) (item : Item) → IsItemIn number file item → item.place.file ≡ number
 file_of number file item is = file_of_item number is.0 item is.2
+
+pub declared_to : (number : ℕ) (d : Declaration) (declarations : List Declaration) → Contains declarations d
+    → Contains (map (declared_item number) declarations) (declared_item number d)
+declared_to number d [] there = absurd (omega (arith, there.1))
+declared_to number d (e ∷ es) there = elim (Contains-append_cases (e ∷ []) es d there) [
+  | inl one ↦ subst (λ x. Contains (map (declared_item number) (e ∷ es)) (declared_item number x)) (only e d one)
+      (Contains-append_left (declared_item number e ∷ []) (map (declared_item number) es) (declared_item number e)
+      (zero, omega arith, refl))
+  | inr other ↦ Contains-append_right (declared_item number e ∷ []) (map (declared_item number) es)
+      (declared_item number d) (declared_to number d es other)
+]
 
 module _ (files : List File) (row : List ℕ) where
   -- the items of one more file of the row
@@ -123,81 +135,88 @@ module _ (files : List File) (row : List ℕ) where
       → ((item : Item) → Contains more item ↔ IsItemIn number file item) → AreItemsUpTo files row count items
       → AreInPlace items → AreInPlace more → AreInPlace (items ++ more)
   order_more count number file items more rises within is its so_far first second =
-      in_place_both items more first second (λ a b there here.
+      in_place_both (λ n other. n < other) items more first second (λ a b there here.
       let at = (so_far a).0 there in
       let a_file = file_of (get_or row at.0 0) at.1 a at.4 in
       let b_file = file_of number file b ((its b).0 here) in
       let below = below_from_sorted row at.0 count 0 (sorted_from_strictly_increasing row rises) at.2 within in
       inl (omega arith))
 
-  module _ (reachable : (number : ℕ) → Contains row number ↔ IsReachable files number) where
-    declared_from : (number : ℕ) (facts : Facts) (item : Item) → IsReachable files number → HasFacts files number facts
-        → (declarations : List Declaration)
-        → ((d : Declaration) → Contains declarations d → Contains facts.declarations d)
-        → Contains (map (declared_item number) declarations) item → IsItem files item
-    declared_from number facts item is_reachable has [] all there = absurd (omega (arith, there.1))
-    declared_from number facts item is_reachable has (d ∷ ds) all there =
-        elim (Contains-append_cases (declared_item number d ∷ []) (map (declared_item number) ds) item there) [
-          | inl one ↦ subst (IsItem files) (only (declared_item number d) item one)
-              (declared is_reachable has (all d (Contains-append_left (d ∷ []) ds d (zero, omega arith, refl))))
-          | inr other ↦ declared_from number facts item is_reachable has ds
-              (λ e h. all e (Contains-append_right (d ∷ []) ds e h)) other
-        ]
+  declared_from : (number : ℕ) (facts : Facts) (item : Item) → Contains row number → HasFacts files number facts
+      → (declarations : List Declaration) → ((d : Declaration) → Contains declarations d → Contains facts.declarations d)
+      → Contains (map (declared_item number) declarations) item → IsItemBy files (Contains row) item
+  declared_from number facts item counts has [] all there = absurd (omega (arith, there.1))
+  declared_from number facts item counts has (d ∷ ds) all there =
+      elim (Contains-append_cases (declared_item number d ∷ []) (map (declared_item number) ds) item there) [
+        | inl one ↦ subst (IsItemBy files (Contains row)) (only (declared_item number d) item one)
+            (declared counts has (all d (Contains-append_left (d ∷ []) ds d (zero, omega arith, refl))))
+        | inr other ↦ declared_from number facts item counts has ds
+            (λ e h. all e (Contains-append_right (d ∷ []) ds e h)) other
+      ]
 
-    pub declared_to : (number : ℕ) (d : Declaration) (declarations : List Declaration) → Contains declarations d
-        → Contains (map (declared_item number) declarations) (declared_item number d)
-    declared_to number d [] there = absurd (omega (arith, there.1))
-    declared_to number d (e ∷ es) there = elim (Contains-append_cases (e ∷ []) es d there) [
-      | inl one ↦ subst (λ x. Contains (map (declared_item number) (e ∷ es)) (declared_item number x)) (only e d one)
-          (Contains-append_left (declared_item number e ∷ []) (map (declared_item number) es) (declared_item number e)
-          (zero, omega arith, refl))
-      | inr other ↦ Contains-append_right (declared_item number e ∷ []) (map (declared_item number) es)
-          (declared_item number d) (declared_to number d es other)
-    ]
+  from_file : (number : ℕ) (facts : Facts) (item : Item) → Contains row number → HasFacts files number facts
+      → IsItemOf number facts item → IsItemBy files (Contains row) item
+  from_file number facts item counts has (inl there) =
+      declared_from number facts item counts has facts.declarations (λ d h. h) there
+  from_file number facts item counts has (inr its) =
+      subst (IsItemBy files (Contains row)) (sym its.4) (packaged its.0 counts has its.3)
 
-    from_file : (number : ℕ) (facts : Facts) (item : Item) → IsReachable files number → HasFacts files number facts
-        → IsItemOf number facts item → IsItem files item
-    from_file number facts item is_reachable has (inl there) =
-        declared_from number facts item is_reachable has facts.declarations (λ d h. h) there
-    from_file number facts item is_reachable has (inr its) =
-        subst (IsItem files) (sym its.4) (packaged its.0 is_reachable has its.3)
+  to_file : (item : Item) → IsItemBy files (Contains row) item
+      → (number : ℕ) × (facts : Facts) × Contains row number × HasFacts files number facts × IsItemOf number facts item
+  to_file item (declared {number = number} {facts = facts} {declaration = d} counts has listed) =
+      (number, facts, counts, has, inl (declared_to number d facts.declarations listed))
+  to_file item (packaged {number = number} {facts = facts} {component = component} index counts has stands) = (
+    number,
+    facts,
+    counts,
+    has,
+    inr (index, component, slice_get_within facts.package_name index component stands, stands, refl),
+  )
 
-    row_place : (number : ℕ) → IsReachable files number → (k : ℕ) × (k < length row) × (get_or row k 0 ≡ number)
-    row_place number is_reachable = let there = (reachable number).1 is_reachable in
-        (there.0, there.1, get_or_default row there.0 0 number there.1 ∙ there.2)
+  pub items_all : (count : ℕ) (items : List Item) → length row ≤ count → (count ≤ length row)
+      → AreItemsUpTo files row count items → (item : Item) → Contains items item ↔ IsItemBy files (Contains row) item
+  items_all count items all upto so_far item = (
+    λ there.
+        let at = (so_far item).0 there in
+        from_file (get_or row at.0 0) at.4.0 item (Contains-get_or row at.0 0 (omega (arith, at.2)))
+        (record { file = at.1; numbered = at.3; known = at.4.1 }) at.4.2,
+    λ is.
+        let f = to_file item is in
+        let same : get_or row f.2.0 0 ≡ f.0 = get_or_default row f.2.0 0 f.0 f.2.1 ∙ f.2.2 in
+        (so_far item).1 (
+          f.2.0,
+          f.3.file,
+          omega (arith, f.2.1),
+          ap (slice_get files) same ∙ f.3.numbered,
+          (f.1, f.3.known, subst (λ n. IsItemOf n f.1 item) (sym same) f.4),
+        ),
+  )
 
-    to_file : (item : Item) → IsItem files item
-        → (number : ℕ) × (facts : Facts) × IsReachable files number × HasFacts files number facts
-        × IsItemOf number facts item
-    to_file item (declared {number = number} {facts = facts} {declaration = d} is_reachable has listed) =
-        (number, facts, is_reachable, has, inl (declared_to number d facts.declarations listed))
-    to_file item (packaged {number = number} {facts = facts} {component = component} index is_reachable has stands) = (
-      number,
-      facts,
-      is_reachable,
-      has,
-      inr (index, component, slice_get_within facts.package_name index component stands, stands, refl),
-    )
+-- ---- the same items by another word
 
-    pub items_all : (count : ℕ) (items : List Item) → length row ≤ count → (count ≤ length row)
-        → AreItemsUpTo files row count items → (item : Item) → Contains items item ↔ IsItem files item
-    items_all count items all upto so_far item = (
-      λ there.
-          let at = (so_far item).0 there in
-          let is_reachable = (reachable (get_or row at.0 0)).0 (Contains-get_or row at.0 0 (omega (arith, at.2))) in
-          from_file (get_or row at.0 0) at.4.0 item is_reachable
-          (record { file = at.1; numbered = at.3; known = at.4.1 }) at.4.2,
-      λ is.
-          let f = to_file item is in
-          let k = row_place f.0 f.2 in
-          (so_far item).1 (
-            k.0,
-            f.3.file,
-            omega (arith, k.1),
-            ap (slice_get files) k.2 ∙ f.3.numbered,
-            (f.1, f.3.known, subst (λ n. IsItemOf n f.1 item) (sym k.2) f.4),
-          ),
-    )
+pub item_counts : {files : List File} {C D : ℕ → Type 0} (item : Item) → (C item.place.file → D item.place.file)
+    → IsItemBy files C item → IsItemBy files D item
+item_counts _ counts_too (declared counts has listed) = declared (counts_too counts) has listed
+item_counts _ counts_too (packaged index counts has stands) = packaged index (counts_too counts) has stands
+
+pub counts_of : {files : List File} {C : ℕ → Type 0} (item : Item) → IsItemBy files C item → C item.place.file
+counts_of _ (declared counts has listed) = counts
+counts_of _ (packaged index counts has stands) = counts
+
+pub file_within : {files : List File} {C : ℕ → Type 0} (item : Item) → IsItemBy files C item
+    → item.place.file < length files
+file_within {files} _ (declared {number = number} counts has listed) =
+    slice_get_within files number has.file has.numbered
+file_within {files} _ (packaged {number = number} index counts has stands) =
+    slice_get_within files number has.file has.numbered
+
+pub same_items : (files : List File) (row : List ℕ)
+    → ((number : ℕ) → Contains row number ↔ IsReachable files number)
+    → (item : Item) → IsItemBy files (Contains row) item ↔ IsItem files item
+same_items files row reachable item =
+    (item_counts item (reachable item.place.file).0, item_counts item (reachable item.place.file).1)
+
+-- ---- the items of one file
 
 pub in_file : (number : ℕ) (file : File) (facts : Facts) (items : List Item) → file.facts ≡ Some facts
     → ((item : Item) → Contains items item ↔ IsItemOf number facts item) → (item : Item) → Contains items item

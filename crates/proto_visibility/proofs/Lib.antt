@@ -13,12 +13,16 @@ pub mod FileOrderLemmas
 pub mod FileOriginLemmas
 -- Steps by the numbers of paths are imports
 pub mod ImportTableLemmas
--- The items of all reachable files, in order of place
+-- The items of the files of a row, in order of place
 pub mod ItemAllLemmas
 -- The items of one file, in order of place
 pub mod ItemLemmas
+-- The files that are linked, among all files
+pub mod KeptAmongLemmas
 -- The laws of what is kept
 pub mod KeptLemmas
+-- The order in which files are taken: sources first, and each kind by number
+pub mod KeptOrderLemmas
 -- Why files can't be linked, for functions that refuse them
 pub mod LinkedRefusalRules
 -- What a full name names in one file
@@ -29,7 +33,11 @@ pub mod LookupKnownLemmas
 pub mod LookupListedLemmas
 -- Tables of the names that files give
 pub mod NameLemmas
--- The pass over items that leaves out the files with a clash, and the files without facts
+-- The files without facts are left out; what kept sources see; and the order of all items
+pub mod OmissionLemmas
+-- What is left out of the sources, and then of the other files that kept ones see
+pub mod OmissionPassLemmas
+-- The pass over items that leaves out the files with a clash
 pub mod PassLemmas
 -- Rows of numbers that rise, and binary search in them
 pub mod RowRisingLemmas

@@ -1,11 +1,11 @@
 -- The files that give a name, by the tables.
-use Rattle.std.proofs.Common.{◌≡◌, ◌↔◌, inl, inr, ℕ, ◌+◌, ◌<◌, ◌≤◌, Bool, true, false, List, length, get_or, Option}
-use Rattle.std.proofs.Common.{Some, None, MatchOption, Result, refl, ap, sym, ◌∙◌, subst, arith, Decides}
+use Rattle.std.proofs.Common.{◌≡◌, ◌≢◌, ◌↔◌, ◌⊎◌, inl, inr, ℕ, ◌+◌, ◌<◌, ◌≤◌, Bool, true, false, List, length, get_or}
+use Rattle.std.proofs.Common.{Option, Some, None, MatchOption, Result, refl, ap, sym, ◌∙◌, subst, arith, Decides}
 use Rattle.std.specs.List.{Contains, slice_get}
 use Rattle.std.specs.List.Sorted.{IsNonDecreasing, IsBinarySearchResult}
 use Rattle.std.specs.Ordering.{nat_cmp}
 use Rattle.std.specs.Result.{is_ok}
-use Rattle.std.proofs.lemmas.Bool.{cases_lt, false≢true}
+use Rattle.std.proofs.lemmas.Bool.{cases_lt, cases_order, false≢true}
 use Rattle.std.proofs.lemmas.Option.{slice_get_within, same_Some}
 use Rattle.std.proofs.lemmas.List.{get_or_default}
 use Rattle.std.proofs.lemmas.List.Sorted.{searched}
@@ -21,7 +21,7 @@ use Rattle.proto_visibility.specs.Files.{File}
 use Rattle.proto_visibility.specs.Knows.{NameKind, is_aggregate, admits, DeclaresName, IsGiving}
 use Rattle.proto_visibility.specs.Knows.NameKind.{OfPackage, OfDeclaration}
 use Rattle.proto_visibility.specs.Knows.DeclaresName.{declared as gives_declared, packaged as gives_packaged}
-use Rattle.proto_visibility.specs.Tables.GivenNames.{owned_at, IsDeclaring, IsListed, HasPrefix, AreNames}
+use Rattle.proto_visibility.specs.Tables.GivenNames.{owned_at, IsAloneIn, IsDeclaring, IsListed, HasPrefix, AreNames}
 use Rattle.proto_visibility.proofs.RowRisingLemmas.{decides_found}
 use Rattle.basics.proofs.FirstLemmas.{contained, contained_at}
 
@@ -57,6 +57,70 @@ none_declares declared row admits count all so_far number there d =
 pub declares : (declared : List DeclaredAt) (admits : NameKind → Bool) (k : ℕ) (one : DeclaredAt)
     → slice_get declared k ≡ Some one → admits (OfDeclaration one.kind) ≡ true → IsDeclaring declared admits one.file
 declares declared admits k one stands admitted = (one, contained declared k one stands, refl, admitted)
+
+-- ---- the only file that declares
+
+-- none of the first so many declarations is admitted and of another file of the row than this one
+abbrev pub NoneElsewhereUpTo : List DeclaredAt → (row : List ℕ) → (NameKind → Bool) → (file count : ℕ) → Type 0
+NoneElsewhereUpTo declared row admits file count = (k : ℕ) (one : DeclaredAt) → k < count
+    → slice_get declared k ≡ Some one → (one.file ≡ file → ⊥) → admits (OfDeclaration one.kind) ≡ true
+    → Contains row one.file → ⊥
+
+pub none_elsewhere_more : (declared : List DeclaredAt) (row : List ℕ) (admits : NameKind → Bool) (file count : ℕ)
+    (one : DeclaredAt) → slice_get declared count ≡ Some one
+    → ((one.file ≡ file → ⊥) → admits (OfDeclaration one.kind) ≡ true → Contains row one.file → ⊥)
+    → NoneElsewhereUpTo declared row admits file count → NoneElsewhereUpTo declared row admits file (count + 1)
+none_elsewhere_more declared row admits file count one stands isnt so_far k other h at apart admitted there =
+    elim (cases_lt k count) [
+      | inl before ↦ so_far k other before at apart admitted there
+      | inr last ↦ (
+          let here : k ≡ count = omega arith in
+          let same : other ≡ one = same_Some other one (sym at ∙ (ap (slice_get declared) here ∙ stands)) in
+          isnt (λ its. apart (ap (λ (x : DeclaredAt). x.file) same ∙ its))
+          (ap (λ (x : DeclaredAt). admits (OfDeclaration x.kind)) (sym same) ∙ admitted)
+          (subst (λ (x : DeclaredAt). Contains row x.file) same there))
+    ]
+
+-- another file of the row declares
+abbrev pub IsElsewhere : (row : List ℕ) → List DeclaredAt → (NameKind → Bool) → (file : ℕ) → Type 0
+IsElsewhere row declared admits file =
+    (number : ℕ) × (number ≢ file) × Contains row number × IsDeclaring declared admits number
+
+pub none_elsewhere : (declared : List DeclaredAt) (row : List ℕ) (admits : NameKind → Bool) (file count : ℕ)
+    → length declared ≤ count → NoneElsewhereUpTo declared row admits file count
+    → IsElsewhere row declared admits file → ⊥
+none_elsewhere declared row admits file count all so_far is =
+    let d = is.3 in
+    let at = contained_at declared d.0 d.1 in
+    let within = slice_get_within declared at.0 d.0 at.1 in
+    so_far at.0 d.0 (omega arith) at.1 (λ its. is.1 (sym d.2 ∙ its)) d.3 (subst (Contains row) (sym d.2) is.2)
+
+pub elsewhere : (declared : List DeclaredAt) (row : List ℕ) (admits : NameKind → Bool) (file k : ℕ) (one : DeclaredAt)
+    → slice_get declared k ≡ Some one → (one.file ≡ file → ⊥) → admits (OfDeclaration one.kind) ≡ true
+    → Contains row one.file → IsElsewhere row declared admits file
+elsewhere declared row admits file k one stands apart admitted there =
+    (one.file, apart, there, declares declared admits k one stands admitted)
+
+module _ (row : List ℕ) (declared : List DeclaredAt) (admits : NameKind → Bool) where
+  pub not_alone : (first : ℕ) → Contains row first → IsDeclaring declared admits first
+      → IsElsewhere row declared admits first → (number : ℕ) → IsAloneIn row declared admits number → ⊥
+  not_alone first there declaring is number alone =
+      is.1 (alone.alone is.0 is.2 is.3 ∙ sym (alone.alone first there declaring))
+
+  pub is_alone : (first : ℕ) → Contains row first → IsDeclaring declared admits first
+      → (IsElsewhere row declared admits first → ⊥) → IsAloneIn row declared admits first
+  is_alone first there declaring isnt = record {
+    there = there;
+    declares = declaring;
+    alone = λ other among its. elim (cases_order other first) [
+      | inl same ↦ same
+      | inr apart ↦ absurd (isnt (other, differ other first apart, among, its))
+    ];
+  }
+    where
+      differ : (a b : ℕ) → (a < b) ⊎ (b < a) → a ≡ b → ⊥
+      differ a b (inl h) e = omega arith
+      differ a b (inr h) e = omega arith
 
 -- ---- numbers that two lists share
 

@@ -1,20 +1,26 @@
 -- Which files are reachable, by one search from all sources.
-use Rattle.std.proofs.Common.{◌≡◌, ◌↔◌, ◌⊎◌, inl, inr, ℕ, ◌+◌, ◌<◌, ◌≤◌, Bool, true, false, List, [], length, get_or}
-use Rattle.std.proofs.Common.{Some, None, ap, sym, ◌∙◌, subst, arith}
-use Rattle.std.specs.List.{Contains, slice_get}
+use Rattle.std.proofs.Common.{◌≡◌, ◌↔◌, ◌⊎◌, inl, inr, ℕ, ◌+◌, ◌<◌, ◌≤◌, Bool, true, false, List, [], ◌∷◌, ◌++◌, length}
+use Rattle.std.proofs.Common.{Option, Some, None, not, ◌&&◌, cond, eqb, get_or, take, refl, ap, sym, ◌∙◌, subst, arith}
+use Rattle.std.specs.List.{AllByRecursion, Contains, IsDistinct, filter, list_any, slice_get}
 use Rattle.std.specs.List.Sorted.{IsStrictlyIncreasing}
-use Rattle.std.proofs.lemmas.Bool.{cases_lt, false≢true}
+use Rattle.std.proofs.lemmas.Bool.{and_parts, cases_lt, cases_Bool, eqb-true, false≢true, not-true}
 use Rattle.std.proofs.lemmas.Option.{slice_get_within, same_Some}
-use Rattle.std.proofs.lemmas.List.{get_or_default}
-use Rattle.std.proofs.lemmas.List.Elements.{Contains-get_or}
-use Rattle.proto_visibility.specs.Files.{File, Imports}
+use Rattle.std.proofs.lemmas.List.{append-nil, get_or_default}
+use Rattle.std.proofs.lemmas.List.Elements.{Contains-get_or, Contains-append_left, Contains-push, Contains-push_cases}
+use Rattle.std.proofs.lemmas.List.Elements.{filter_more}
+use Rattle.std.proofs.lemmas.Cmp.{nat_eq_equiv}
+use Rattle.std.proofs.lemmas.Map.Keys.{IsDistinct-push}
+use Rattle.std.proofs.lemmas.Map.Views.{Contains-from_any}
+use Rattle.basics.proofs.ElementLemmas.{contained, from_contained, from_filter, in_filter}
+use Rattle.proto_visibility.specs.Files.{File, Imports, IsPresent, IsSource}
 use Rattle.proto_visibility.specs.Sees.{LeadsTo, Sees, IsReachable}
 use Rattle.proto_visibility.specs.Sees.LeadsTo.{at_once, through}
 use Rattle.proto_visibility.specs.Sees.SeesBy.{itself, import}
 use Rattle.proto_visibility.specs.Sees.IsReachable.{seen}
 use Rattle.proto_visibility.specs.Absences.{IsUnread, Broken, NoneBroken}
 use Rattle.proto_visibility.specs.declared.import_table.Steps.{Steps}
-use Rattle.proto_visibility.specs.Tables.ImportTables.{HasStep, IsTableOf, IsBegun, IsLedTo, IsBegunBySource}
+use Rattle.proto_visibility.specs.Tables.ImportTables.{HasStep, IsTableOf, IsBegun, IsLedTo, IsBegunBy}
+use Rattle.proto_visibility.specs.Tables.ImportTables.{is_present, is_present_at}
 use Rattle.proto_visibility.proofs.RowRisingLemmas.{not_falling}
 use Rattle.proto_visibility.proofs.SeeingLemmas.{sees_by, sees_begun, begun_of}
 
@@ -34,51 +40,150 @@ seen_within itself h = h
 seen_within (import step rest) h = leads_inside rest (imported_within step)
 
 pub reachable_within : (files : List File) (number : ℕ) → IsReachable files number → number < length files
-reachable_within files number (seen {source = source} is sees) =
-    seen_within sees (slice_get_within files source is.file is.numbered)
+reachable_within files number (seen is sees present) = slice_get_within files number present.file present.numbered
 
--- a file of the row of those that count
+-- a file of a row is one of the files
+pub row_at : (files : List File) (row items : List ℕ) (k : ℕ)
+    → ((number : ℕ) → Contains row number → number < length files) → items ≡ row → k < length items
+    → get_or items k 0 < length files
+row_at files row items k within are h =
+    within (get_or items k 0) (subst (λ xs. Contains xs (get_or items k 0)) are (Contains-get_or items k 0 h))
+
 pub reachable_at : (files : List File) (row items : List ℕ) (k : ℕ)
     → ((number : ℕ) → Contains row number → IsReachable files number) → items ≡ row → k < length items
     → get_or items k 0 < length files
 reachable_at files row items k is_reachable are h =
-    reachable_within files (get_or items k 0)
-    (is_reachable (get_or items k 0) (subst (λ xs. Contains xs (get_or items k 0)) are (Contains-get_or items k 0 h)))
+    row_at files row items k (λ number there. reachable_within files number (is_reachable number there)) are h
 
--- ---- one search from all sources
+-- ---- what isn't left out
+
+present_at : (files : List File) (number : ℕ) → is_present_at files number ≡ true → IsPresent files number
+present_at files number is = by (slice_get files number) refl is
+  where
+    by : (o : Option File) → slice_get files number ≡ o → is_present o ≡ true → IsPresent files number
+    by None none is = absurd (false≢true is)
+    by (Some file) some is = record { file = file; numbered = some; present = not-true file.is_left_out is }
+
+at_present : (files : List File) (number : ℕ) → IsPresent files number → is_present_at files number ≡ true
+at_present files number of = ap is_present of.numbered ∙ ap not of.present
+
+present_of : {files : List File} {number : ℕ} → IsReachable files number → IsPresent files number
+present_of (seen is sees present) = present
+
+-- ---- sources
+
+-- a file that is neither included nor left out is a source
+both_false : (file : File) → file.is_included ≡ false → file.is_left_out ≡ false
+    → (not file.is_included && not file.is_left_out) ≡ true
+both_false file source present = rw source (rw present refl)
+
+pub source_from : (files : List File) (number : ℕ) (file : File) → slice_get files number ≡ Some file
+    → (not file.is_included && not file.is_left_out) ≡ true → IsSource files number
+source_from files number file stands flags =
+    let parts = and_parts (not file.is_included) (not file.is_left_out) flags in
+    record {
+      file = file;
+      numbered = stands;
+      source = not-true file.is_included parts.0;
+      present = not-true file.is_left_out parts.1;
+    }
+
+pub no_source_from : (files : List File) (number : ℕ) (file : File) → slice_get files number ≡ Some file
+    → (not file.is_included && not file.is_left_out) ≡ false → IsSource files number → ⊥
+no_source_from files number file stands flags is =
+    let same : is.file ≡ file = same_Some is.file file (sym is.numbered ∙ stands) in
+    false≢true (sym flags ∙ (ap (λ (f : File). not f.is_included && not f.is_left_out) (sym same)
+    ∙ both_false is.file is.source is.present))
+
+-- the sources among the first so many files, each once
+pub record AreSourcesUpTo (files : List File) (count : ℕ) (numbers : List ℕ) : Type 0 where
+  pub distinct : IsDistinct eqb numbers
+  pub each : (number : ℕ) → Contains numbers number ↔ ((number < count) × IsSource files number)
+
+no_numbers : IsDistinct eqb []
+unfolding IsDistinct
+no_numbers = tt
+
+pub no_sources : (files : List File) → AreSourcesUpTo files 0 []
+no_sources files = record {
+  distinct = no_numbers;
+  each = λ number. (λ there. absurd (omega (arith, there.1)), λ is. absurd (omega (arith, is.0)));
+}
+
+pub sources_skip : (files : List File) (count : ℕ) (numbers : List ℕ) → (IsSource files count → ⊥)
+    → AreSourcesUpTo files count numbers → AreSourcesUpTo files (count + 1) numbers
+sources_skip files count numbers isnt so_far = record {
+  distinct = so_far.distinct;
+  each = λ number. (
+    λ there. (let is = (so_far.each number).0 there in (omega (arith, is.0), is.1)),
+    λ is. elim (cases_lt number count) [
+      | inl before ↦ (so_far.each number).1 (before, is.1)
+      | inr last ↦ (let here : number ≡ count = omega (arith, is.0) in
+          absurd (isnt (subst (IsSource files) here is.1)))
+    ],
+  );
+}
+
+pub sources_more : (files : List File) (count : ℕ) (numbers : List ℕ) → IsSource files count
+    → AreSourcesUpTo files count numbers → AreSourcesUpTo files (count + 1) (numbers ++ count ∷ [])
+sources_more files count numbers is so_far = record {
+  distinct = IsDistinct-push nat_eq_equiv numbers count so_far.distinct (elim (cases_Bool (list_any (eqb count) numbers)) [
+    | inl there ↦ (let early = ((so_far.each count).0 (Contains-from_any eqb-true count numbers there)).0 in
+        absurd (omega (arith, early)))
+    | inr absent ↦ absent
+  ]);
+  each = λ number. (
+    λ there. elim (Contains-push_cases numbers count number there) [
+      | inl before ↦ (let its = (so_far.each number).0 before in (omega (arith, its.0), its.1))
+      | inr last ↦ (let here : count ≡ number = last in (omega (arith, here), subst (IsSource files) here is))
+    ],
+    λ its. elim (cases_lt number count) [
+      | inl before ↦ Contains-append_left numbers (count ∷ []) number ((so_far.each number).1 (before, its.1))
+      | inr last ↦ (let here : count ≡ number = omega (arith, its.0) in
+          subst (Contains (numbers ++ count ∷ [])) here (Contains-push numbers count))
+    ],
+  );
+}
+
+pub sources_all : (files : List File) (count : ℕ) (numbers : List ℕ) → length files ≤ count
+    → AreSourcesUpTo files count numbers → (number : ℕ) → Contains numbers number ↔ IsSource files number
+sources_all files count numbers all so_far number = (
+  λ there. ((so_far.each number).0 there).1,
+  λ is. (so_far.each number).1 (
+    (let within = slice_get_within files number is.file is.numbered in omega (arith, within, all)),
+    is,
+  ),
+)
+
+-- ---- one search from all files that begin it
 
 -- what is found is where the search begins at the first so many files
-abbrev pub HasBegun : List File → List Steps → (count : ℕ) → (found : List ℕ) → Type 0
-HasBegun files table count found = (number : ℕ) → Contains found number ↔ IsBegunBySource files table count number
+abbrev pub HasBegun : (Begins : ℕ → Type 0) → List Steps → (count : ℕ) → (found : List ℕ) → Type 0
+HasBegun Begins table count found = (number : ℕ) → Contains found number ↔ IsBegunBy Begins table count number
 
-pub begun_none : (files : List File) (table : List Steps) (found : List ℕ) → found ≡ [] → HasBegun files table 0 found
-begun_none files table found empty number =
+pub begun_none : (Begins : ℕ → Type 0) (table : List Steps) (found : List ℕ) → found ≡ []
+    → HasBegun Begins table 0 found
+begun_none Begins table found empty number =
     let size = ap length empty in
     (λ there. absurd (omega (arith, there.1, size)), λ begun. absurd (omega (arith, begun.1)))
 
-pub begun_skip : (files : List File) (table : List Steps) (count : ℕ) (file : File) (found : List ℕ)
-    → slice_get files count ≡ Some file → file.is_included ≡ true → HasBegun files table count found
-    → HasBegun files table (count + 1) found
-begun_skip files table count file found stands included so_far number = (
+pub begun_skip : (Begins : ℕ → Type 0) (table : List Steps) (count : ℕ) (found : List ℕ) → (Begins count → ⊥)
+    → HasBegun Begins table count found → HasBegun Begins table (count + 1) found
+begun_skip Begins table count found isnt so_far number = (
   λ there. (let its = (so_far number).0 there in (its.0, omega (arith, its.1), its.2, its.3)),
   λ its. elim (cases_lt its.0 count) [
     | inl before ↦ (so_far number).1 (its.0, before, its.2, its.3)
-    | inr last ↦ (
-        let is : its.0 ≡ count = omega (arith, its.1, last) in
-        let same : its.2.file ≡ file =
-        same_Some its.2.file file (sym its.2.numbered ∙ (ap (slice_get files) is ∙ stands)) in
-        absurd (false≢true (sym its.2.source ∙ (ap (λ (f : File). f.is_included) same ∙ included))))
+    | inr last ↦ (let is : its.0 ≡ count = omega (arith, its.1, last) in absurd (isnt (subst Begins is its.2)))
   ],
 )
 
-pub begun_more : (files : List File) (table : List Steps) (count : ℕ) (file : File) (found more : List ℕ)
-    → slice_get files count ≡ Some file → file.is_included ≡ false
+pub begun_more : (Begins : ℕ → Type 0) (table : List Steps) (count : ℕ) (found more : List ℕ) → Begins count
     → ((other : ℕ) → Contains more other ↔ (Contains found other ⊎ IsBegun table count other))
-    → HasBegun files table count found → HasBegun files table (count + 1) more
-begun_more files table count file found more stands source adds so_far number = (
+    → HasBegun Begins table count found → HasBegun Begins table (count + 1) more
+begun_more Begins table count found more begins adds so_far number = (
   λ there. elim ((adds number).0 there) [
     | inl old ↦ (let its = (so_far number).0 old in (its.0, omega (arith, its.1), its.2, its.3))
-    | inr here ↦ (count, omega arith, record { file = file; numbered = stands; source = source }, here)
+    | inr here ↦ (count, omega arith, begins, here)
   ],
   λ its. elim (cases_lt its.0 count) [
     | inl before ↦ (adds number).1 (inl ((so_far number).1 (its.0, before, its.2, its.3)))
@@ -88,36 +193,105 @@ begun_more files table count file found more stands source adds so_far number = 
   ],
 )
 
--- beyond the last file there is no source
-pub begun_all : (files : List File) (table : List Steps) (count : ℕ) (found : List ℕ) → length files ≤ count
-    → HasBegun files table count found → HasBegun files table (length files) found
-begun_all files table count found all so_far number = (
-  λ there. (
-      let its = (so_far number).0 there in
-      (its.0, slice_get_within files its.0 its.2.file its.2.numbered, its.2, its.3)
-      ),
+-- beyond the last file none begins
+pub begun_all : (Begins : ℕ → Type 0) (files : List File) (table : List Steps) (count : ℕ) (found : List ℕ)
+    → ((number : ℕ) → Begins number → number < length files) → length files ≤ count
+    → HasBegun Begins table count found → HasBegun Begins table (length files) found
+begun_all Begins files table count found within all so_far number = (
+  λ there. (let its = (so_far number).0 there in (its.0, within its.0 its.2, its.2, its.3)),
   λ its. (so_far number).1 (its.0, omega (arith, its.1, all), its.2, its.3),
 )
 
-pub reachable_all : (files : List File) (table : List Steps) (starts numbers : List ℕ) → IsTableOf files table
-    → HasBegun files table (length files) starts
+pub source_within : (files : List File) (number : ℕ) → IsSource files number → number < length files
+source_within files number is = slice_get_within files number is.file is.numbered
+
+-- it finds what those see that begin it
+pub found_all : (Begins : ℕ → Type 0) (files : List File) (table : List Steps) (starts numbers : List ℕ)
+    → ((number : ℕ) → Begins number → number < length files)
+    → IsTableOf files table → HasBegun Begins table (length files) starts
     → ((other : ℕ) → Contains numbers other ↔ IsLedTo (HasStep table) starts other)
-    → (number : ℕ) → Contains numbers number ↔ IsReachable files number
-reachable_all files table starts numbers are begun led number = (
+    → (number : ℕ) → Contains numbers number ↔ ((start : ℕ) × Begins start × Sees files start number)
+found_all Begins files table starts numbers within are begun led number = (
   λ there. (
-      let its = (led number).0 there in
-      let from = (begun its.0).0 its.1 in
-      seen from.2 (sees_by (λ a b publicly. (are.steps a b publicly).0)
-      (sees_begun table from.0 its.0 number from.3 its.2))
-      ),
-  λ is_reachable. (led number).1 (begins is_reachable),
+      let way = (led number).0 there in
+      let from = (begun way.0).0 way.1 in (
+        from.0,
+        from.2,
+        sees_by (λ a b publicly. (are.steps a b publicly).0)
+            (sees_begun table from.0 way.0 number from.3 way.2),
+      )),
+  λ is. (
+      let its = begun_of table is.0 number (sees_by (λ a b publicly. (are.steps a b publicly).1) is.2) in
+      (led number).1 (its.0, (begun its.0).1 (is.0, within is.0 is.1, is.1, its.1), its.2)),
+)
+
+-- ---- what is left of what is found
+
+all_filter : {X : Type 0} (P : X → Type 0) (test : X → Bool) (xs : List X) → AllByRecursion P xs
+    → AllByRecursion P (filter test xs)
+all_filter P test [] all = tt
+all_filter P test (x ∷ xs) all = by (test x) (all_filter P test xs all.1)
+  where
+    by : (b : Bool) → AllByRecursion P (filter test xs) → AllByRecursion P (cond b (x ∷ filter test xs) (filter test xs))
+    by true others = (all.0, others)
+    by false others = others
+
+pub distinct_filter : (test : ℕ → Bool) (xs : List ℕ) → IsDistinct eqb xs → IsDistinct eqb (filter test xs)
+unfolding IsDistinct
+distinct_filter test [] distinct = distinct
+distinct_filter test (x ∷ xs) distinct = by (test x) (distinct_filter test xs distinct.1)
+  where
+    by : (b : Bool) → IsDistinct eqb (filter test xs) → IsDistinct eqb (cond b (x ∷ filter test xs) (filter test xs))
+    by true others = (all_filter (λ y. eqb x y ≡ false) test xs distinct.0, others)
+    by false others = others
+
+pub filtered : (test : ℕ → Bool) (numbers some : List ℕ) → some ≡ filter test numbers
+    → (number : ℕ) → Contains some number ↔ (Contains numbers number × (test number ≡ true))
+filtered test numbers some are number = (
+  λ there. (
+      let its = from_filter test number numbers
+      (from_contained (filter test numbers) number (subst (λ xs. Contains xs number) are there)) in
+      (contained numbers number its.0, its.1)),
+  λ its. subst (λ xs. Contains xs number) (sym are)
+      (contained (filter test numbers) number (in_filter test number its.1 numbers
+      (from_contained numbers number its.0))),
+)
+
+pub filter_skip : (test : ℕ → Bool) (xs : List ℕ) (k : ℕ) (some : List ℕ) → k < length xs
+    → test (get_or xs k 0) ≡ false → some ≡ filter test (take k xs) → some ≡ filter test (take (k + 1) xs)
+filter_skip test xs k some within fails so_far =
+    so_far ∙ sym (filter_more test xs k 0 within
+    ∙ (ap (λ b. filter test (take k xs) ++ cond b (get_or xs k 0 ∷ []) []) fails
+    ∙ append-nil (filter test (take k xs))))
+
+pub filter_next : (test : ℕ → Bool) (xs : List ℕ) (k : ℕ) (some more : List ℕ) → k < length xs
+    → test (get_or xs k 0) ≡ true → some ≡ filter test (take k xs) → more ≡ some ++ get_or xs k 0 ∷ []
+    → more ≡ filter test (take (k + 1) xs)
+filter_next test xs k some more within passes so_far is =
+    is ∙ (ap (λ ys. ys ++ get_or xs k 0 ∷ []) so_far
+    ∙ sym (filter_more test xs k 0 within
+    ∙ ap (λ b. filter test (take k xs) ++ cond b (get_or xs k 0 ∷ []) []) passes))
+
+-- those that sources see and that aren't left out are the reachable ones
+pub reachable_all : (files : List File) (table : List Steps) (starts numbers present : List ℕ)
+    → IsTableOf files table → HasBegun (IsSource files) table (length files) starts
+    → ((other : ℕ) → Contains numbers other ↔ IsLedTo (HasStep table) starts other)
+    → present ≡ filter (is_present_at files) numbers
+    → (number : ℕ) → Contains present number ↔ IsReachable files number
+reachable_all files table starts numbers present are begun led are_present number = (
+  λ there. (
+      let its = (filtered (is_present_at files) numbers present are_present number).0 there in
+      let from = (all number).0 its.0 in
+      seen from.1 from.2 (present_at files number its.1)),
+  λ is. (filtered (is_present_at files) numbers present are_present number).1
+      ((all number).1 (begins is), at_present files number (present_of is)),
 )
   where
-    begins : IsReachable files number → IsLedTo (HasStep table) starts number
-    begins (seen {source = source} is sees) =
-        let its = begun_of table source number (sees_by (λ a b publicly. (are.steps a b publicly).1) sees) in
-        let within = slice_get_within files source is.file is.numbered in
-        (its.0, (begun its.0).1 (source, within, is, its.1), its.2)
+    all : (n : ℕ) → Contains numbers n ↔ ((start : ℕ) × IsSource files start × Sees files start n)
+    all = found_all (IsSource files) files table starts numbers (source_within files) are begun led
+
+    begins : IsReachable files number → (start : ℕ) × IsSource files start × Sees files start number
+    begins (seen {source = source} is sees present) = (source, is, sees)
 
 -- ---- the least file without facts
 
@@ -129,7 +303,7 @@ module _ (files : List File) (row : List ℕ) (reachable : (number : ℕ) → Co
     ↔ IsReachable files number) where
   place_of : (number : ℕ) → IsUnread files number → (k : ℕ) × (k < length row) × (get_or row k 0 ≡ number)
   place_of number unread =
-      let there = (reachable number).1 unread.is_reachable in
+      let there = (reachable number).1 unread.counts in
       (there.0, there.1, get_or_default row there.0 0 number there.1 ∙ there.2)
 
   pub is_broken : (count : ℕ) (number : ℕ) (file : File) → IsStrictlyIncreasing row → count < length row
@@ -139,7 +313,7 @@ module _ (files : List File) (row : List ℕ) (reachable : (number : ℕ) → Co
       let there = Contains-get_or row count 0 within in
       let is_reachable = (reachable number).0 (subst (Contains row) (sym is) there) in
       record {
-        unread = record { file = file; is_reachable = is_reachable; numbered = stands; unread = unread };
+        unread = record { file = file; counts = is_reachable; numbered = stands; unread = unread };
         least = λ other its less.
             let at = place_of other its in
             elim (cases_lt at.0 count) [

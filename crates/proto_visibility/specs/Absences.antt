@@ -38,12 +38,16 @@ pub record Absent (files : List File) (place : FilePlace) : Type 0 where
 abbrev pub NoAbsent : List File → Type 0
 NoAbsent files = (place : FilePlace) → IsMissing files place → ⊥
 
--- a reachable file has no facts
-pub record IsUnread (files : List File) (number : ℕ) : Type 0 where
+-- a file that counts has no facts
+pub record IsUnreadBy (files : List File) (Counts : ℕ → Type 0) (number : ℕ) : Type 0 where
   pub file : File
-  pub is_reachable : IsReachable files number
+  pub counts : Counts number
   pub numbered : slice_get files number ≡ Some file
   pub unread : file.facts ≡ None
+
+-- a reachable one has none
+abbrev pub IsUnread : List File → (number : ℕ) → Type 0
+IsUnread files = IsUnreadBy files (IsReachable files)
 
 -- the least such file
 pub record Broken (files : List File) (number : ℕ) : Type 0 where

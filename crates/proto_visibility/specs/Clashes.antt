@@ -13,36 +13,44 @@ use Rattle.proto_visibility.specs.Sees.{IsReachable}
 -- ---- items
 
 -- the one place is in an earlier file, or in the same one and starts earlier
+abbrev pub BeforeBy : (Earlier : ℕ → ℕ → Type 0) → FilePlace → FilePlace → Type 0
+BeforeBy Earlier a b = Earlier a.file b.file ⊎ ((a.file ≡ b.file) × (a.span.start < b.span.start))
+
 abbrev pub Before : FilePlace → FilePlace → Type 0
-Before a b = (a.file < b.file) ⊎ ((a.file ≡ b.file) × (a.span.start < b.span.start))
+Before = BeforeBy (λ number other. number < other)
 
 pub record Item : Type 0 where
   pub place : FilePlace
   pub full_name : List ℕ
   pub is_declaration : Bool
 
--- Each declaration of a reachable file, at its name; and each component of its package statement, which names the
+-- Each declaration of a file that counts, at its name; and each component of its package statement, which names the
 -- package of the components up to it.
-pub data IsItem (files : List File) : Item → Type 0 where
+pub data IsItemBy (files : List File) (Counts : ℕ → Type 0) : Item → Type 0 where
   declared : {number : ℕ} {facts : Facts} {declaration : Declaration}
-      → IsReachable files number → HasFacts files number facts → Contains facts.declarations declaration
-      → IsItem files (record {
+      → Counts number → HasFacts files number facts → Contains facts.declarations declaration
+      → IsItemBy files Counts (record {
         place = record { file = number; span = declaration.name };
         full_name = declaration.full_name;
         is_declaration = true;
       })
   packaged : {number : ℕ} {facts : Facts} {component : Component} (index : ℕ)
-      → IsReachable files number → HasFacts files number facts → slice_get facts.package_name index ≡ Some component
-      → IsItem files (record {
+      → Counts number → HasFacts files number facts → slice_get facts.package_name index ≡ Some component
+      → IsItemBy files Counts (record {
         place = record { file = number; span = component.span };
         full_name = package_of facts.package_name (index + 1);
         is_declaration = false;
       })
 
+-- of the reachable files
+abbrev pub IsItem : List File → Item → Type 0
+IsItem files = IsItemBy files (IsReachable files)
+
 -- ---- clashes
 
--- two items in order of place, of which at least one is a declaration, have one full name
-pub record Excludes (IsItem : Item → Type 0) (first second : Item) : Type 0 where
+-- two items in this order, of which at least one is a declaration, have one full name
+pub record Excludes (Before : FilePlace → FilePlace → Type 0) (IsItem : Item → Type 0) (first second : Item)
+    : Type 0 where
   pub first_is : IsItem first
   pub second_is : IsItem second
   pub ordered : Before first.place second.place
@@ -51,21 +59,22 @@ pub record Excludes (IsItem : Item → Type 0) (first second : Item) : Type 0 wh
 
 -- Among the pairs of items that exclude one another, the places of that with the least second place, and then the
 -- least first.
-pub record ClashBy (IsItem : Item → Type 0) (first second : FilePlace) : Type 0 where
+pub record ClashBy (Before : FilePlace → FilePlace → Type 0) (IsItem : Item → Type 0) (first second : FilePlace)
+    : Type 0 where
   pub earlier : Item
   pub later : Item
-  pub exclude : Excludes IsItem earlier later
+  pub exclude : Excludes Before IsItem earlier later
   pub first_is : earlier.place ≡ first
   pub second_is : later.place ≡ second
-  pub least_second : (a b : Item) → Excludes IsItem a b → Before b.place second → ⊥
-  pub least_first : (a b : Item) → Excludes IsItem a b → b.place ≡ second → Before a.place first → ⊥
+  pub least_second : (a b : Item) → Excludes Before IsItem a b → Before b.place second → ⊥
+  pub least_first : (a b : Item) → Excludes Before IsItem a b → b.place ≡ second → Before a.place first → ⊥
 
-abbrev pub NoClashBy : (Item → Type 0) → Type 0
-NoClashBy IsItem = (a b : Item) → Excludes IsItem a b → ⊥
+abbrev pub NoClashBy : (FilePlace → FilePlace → Type 0) → (Item → Type 0) → Type 0
+NoClashBy Before IsItem = (a b : Item) → Excludes Before IsItem a b → ⊥
 
 -- over the items of the files
 abbrev pub Clash : List File → (first second : FilePlace) → Type 0
-Clash files = ClashBy (IsItem files)
+Clash files = ClashBy Before (IsItem files)
 
 abbrev pub NoClash : List File → Type 0
-NoClash files = NoClashBy (IsItem files)
+NoClash files = NoClashBy Before (IsItem files)

@@ -1,5 +1,5 @@
 -- The files that are linked, by their numbers, and what they import (proto3 specification, "Import statement").
-use Rattle.std.specs.Prelude.{◌≡◌, ℕ, Bool, true, false, Option, Some, List, map, Contains}
+use Rattle.std.specs.Prelude.{◌≡◌, ℕ, Bool, true, false, not, ◌&&◌, Option, Some, List, map, Contains}
 use Rattle.std.specs.List.{slice_get}
 use Rattle.proto_parse.specs.tree.ImportKind.{ImportKind}
 use Rattle.proto_parse.specs.tree.ImportKind.TheVariants.{Plain, Weak, Public}
@@ -7,11 +7,13 @@ use Rattle.proto_decl.specs.Facts.{Facts, AreOfSomeFile}
 use Rattle.proto_decl.specs.declared.imports.Imported.{Imported}
 
 -- A file: its path below its root, its facts unless it couldn't be read or parsed, and whether it is included: linked,
--- but not indexed.
+-- but not indexed. One that is left out has no part in what is linked, but those that import it see it, and the names
+-- that it gives are known where it is seen.
 pub record File : Type 0 where
   pub path : List ℕ
   pub facts : Option Facts
   pub is_included : Bool
+  pub is_left_out : Bool
 
 -- the file with this number has these facts
 pub record HasFacts (files : List File) (number : ℕ) (facts : Facts) : Type 0 where
@@ -23,24 +25,37 @@ pub record HasFacts (files : List File) (number : ℕ) (facts : Facts) : Type 0 
 abbrev pub HaveOrigins : List File → Type 0
 HaveOrigins files = (number : ℕ) (facts : Facts) → HasFacts files number facts → AreOfSomeFile facts
 
--- the file with this number is a source: it isn't included
+-- the file with this number isn't left out
+pub record IsPresent (files : List File) (number : ℕ) : Type 0 where
+  pub file : File
+  pub numbered : slice_get files number ≡ Some file
+  pub present : file.is_left_out ≡ false
+
+-- the file with this number is a source: it is neither included nor left out
 pub record IsSource (files : List File) (number : ℕ) : Type 0 where
   pub file : File
   pub numbered : slice_get files number ≡ Some file
   pub source : file.is_included ≡ false
+  pub present : file.is_left_out ≡ false
 
 -- whether the file with this number is included
 abbrev pub IsIncludedAt : List File → (number : ℕ) → Bool → Type 0
 IsIncludedAt files number included =
     (file : File) × (slice_get files number ≡ Some file) × (included ≡ file.is_included)
 
--- some file has this path
-abbrev pub HasPath : List File → List ℕ → Type 0
-HasPath files path = Contains (map (λ file. file.path) files) path
+-- whether the file with this number is a source
+abbrev pub IsSourceAt : List File → (number : ℕ) → Bool → Type 0
+IsSourceAt files number source =
+    (file : File) × (slice_get files number ≡ Some file)
+    × (source ≡ (not file.is_included && not file.is_left_out))
 
 -- the file with this number has this path
 abbrev pub HasPathAt : List File → (path : List ℕ) → (number : ℕ) → Type 0
 HasPathAt files path number = (file : File) × (slice_get files number ≡ Some file) × (file.path ≡ path)
+
+-- some file that isn't left out has this path
+abbrev pub HasPath : List File → List ℕ → Type 0
+HasPath files path = (number : ℕ) × HasPathAt files path number × IsPresent files number
 
 abbrev pub is_public : ImportKind → Bool
 is_public Plain = false

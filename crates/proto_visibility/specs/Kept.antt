@@ -1,11 +1,14 @@
 -- Which files of a tree with faults are left out, and which are kept.
-use Rattle.std.specs.Prelude.{◌≡◌, ◌<◌, ◌↔◌, ◌⊎◌, ℕ, zero, suc, Option, Some, None, List, [], ◌∷◌, length, All}
+use Rattle.std.specs.Prelude.{◌≡◌, ◌<◌, ◌↔◌, ◌⊎◌, ℕ, zero, suc, true, Option, Some, None, List, [], ◌∷◌, ◌++◌, length}
+use Rattle.std.specs.Prelude.{All, map}
 use Rattle.std.specs.List.{slice_get}
+use Rattle.proto_visibility.specs.declared.files.FilePlace.{FilePlace}
 use Rattle.proto_visibility.specs.declared.omissions.FileOmission.{FileOmission}
 use Rattle.proto_visibility.specs.declared.omissions.FileOmission.TheVariants.{Broken, Duplicate}
-use Rattle.proto_visibility.specs.Files.{File, HaveOwnPaths}
-use Rattle.proto_visibility.specs.Clashes.{Item, IsItem, ClashBy, NoClashBy}
-use Rattle.proto_visibility.specs.Absences.{IsUnread}
+use Rattle.proto_visibility.specs.Files.{File, HaveOwnPaths, IsPresent, IsSource}
+use Rattle.proto_visibility.specs.Sees.{Sees}
+use Rattle.proto_visibility.specs.Clashes.{BeforeBy, Item, IsItemBy, ClashBy, NoClashBy}
+use Rattle.proto_visibility.specs.Absences.{IsUnreadBy}
 use Rattle.proto_visibility.specs.Linked.{HaveClearNames}
 
 -- For each file, by its number, why it is left out; `None` for a file that is kept.
@@ -16,19 +19,46 @@ Omissions = List (Option FileOmission)
 abbrev pub IsKeptFile : Omissions → (number : ℕ) → Type 0
 IsKeptFile omissions number = slice_get omissions number ≡ Some None
 
--- An item that the file with this number meets: one of its own, or of a file before it that is kept.
-pub record IsMet (IsItem : Item → Type 0) (omissions : Omissions) (number : ℕ) (item : Item) : Type 0 where
-  pub is_item : IsItem item
-  pub meets : (item.place.file ≡ number) ⊎ ((item.place.file < number) × IsKeptFile omissions item.place.file)
+-- A file counts if it is a source, or if a source that is kept sees it and it isn't left out before.
+pub data IsCounted (files : List File) (omissions : Omissions) : (number : ℕ) → Type 0 where
+  is_source : {number : ℕ} → IsSource files number → IsCounted files omissions number
+  is_seen : {source number : ℕ} → IsSource files source → IsKeptFile omissions source → Sees files source number
+      → IsPresent files number → IsCounted files omissions number
 
--- Whether a file is left out, and why. Files are taken one by one, in order of their numbers. Left out is one that
--- is reachable and has no facts, and one of which an item clashes with another of its own, or with one of a file kept
--- before it: for the first such clash. Files that don't count give no items, so they are kept.
+-- The one file is taken before the other: sources come before other files, and each kind in order of numbers. So
+-- whether a source is left out has nothing to do with files that aren't sources.
+pub data IsTakenBefore (files : List File) : (number other : ℕ) → Type 0 where
+  of_sources : {number other : ℕ} → IsSource files number → IsSource files other → number < other
+      → IsTakenBefore files number other
+  source_first : {number other : ℕ} → IsSource files number → (IsSource files other → ⊥)
+      → IsTakenBefore files number other
+  of_others : {number other : ℕ} → (IsSource files number → ⊥) → (IsSource files other → ⊥) → number < other
+      → IsTakenBefore files number other
+
+abbrev pub Precedes : List File → (first second : FilePlace) → Type 0
+Precedes files = BeforeBy (IsTakenBefore files)
+
+-- An item that the file with this number meets: one of its own, or of an earlier file that is kept.
+pub record IsMetBy (IsItem : Item → Type 0) (Earlier : ℕ → ℕ → Type 0) (omissions : Omissions) (number : ℕ)
+    (item : Item) : Type 0 where
+  pub is_item : IsItem item
+  pub meets : (item.place.file ≡ number)
+      ⊎ (Earlier item.place.file number × IsKeptFile omissions item.place.file)
+
+-- of files that count, as they are taken
+abbrev pub IsMet : List File → Omissions → (number : ℕ) → Item → Type 0
+IsMet files omissions = IsMetBy (IsItemBy files (IsCounted files omissions)) (IsTakenBefore files) omissions
+
+-- Whether a file is left out, and why. Files are taken one by one. Left out is one that counts and has no facts, and
+-- one of which an item clashes with another of its own, or with one of a file that was kept before it: for the first
+-- such clash. Files that don't count give no items, so they are kept.
 abbrev pub IsOmission : List File → Omissions → (number : ℕ) → Option FileOmission → Type 0
-IsOmission files omissions number None = (IsUnread files number → ⊥) × NoClashBy (IsMet (IsItem files) omissions number)
-IsOmission files omissions number (Some Broken) = IsUnread files number
+IsOmission files omissions number None =
+    (IsUnreadBy files (IsCounted files omissions) number → ⊥)
+    × NoClashBy (Precedes files) (IsMet files omissions number)
+IsOmission files omissions number (Some Broken) = IsUnreadBy files (IsCounted files omissions) number
 IsOmission files omissions number (Some (Duplicate first second)) =
-    ClashBy (IsMet (IsItem files) omissions number) first second
+    ClashBy (Precedes files) (IsMet files omissions number) first second
 
 -- what is left out of the files
 pub record AreOmissions (files : List File) (omissions : Omissions) : Type 0 where
@@ -42,6 +72,22 @@ kept_of [] xs = []
 kept_of (omission ∷ omissions) [] = []
 kept_of (None ∷ omissions) (x ∷ xs) = x ∷ kept_of omissions xs
 kept_of (Some omission ∷ omissions) (x ∷ xs) = kept_of omissions xs
+
+-- what is left out of it
+abbrev pub left_of : {X : Type 0} → Omissions → List X → List X
+left_of [] xs = []
+left_of (omission ∷ omissions) [] = []
+left_of (None ∷ omissions) (x ∷ xs) = left_of omissions xs
+left_of (Some omission ∷ omissions) (x ∷ xs) = x ∷ left_of omissions xs
+
+-- the file, left out: of what it is there are only the names that it gives where it is seen
+abbrev pub as_left_out : File → File
+as_left_out file =
+    record { path = file.path; facts = file.facts; is_included = file.is_included; is_left_out = true }
+
+-- What is linked of files with faults: those that are kept, and behind them, as such, those that are left out.
+abbrev pub linked_of : Omissions → List File → List File
+linked_of omissions files = kept_of omissions files ++ map as_left_out (left_of omissions files)
 
 -- the number that the kept file with this number has among all files
 abbrev pub number_among_all : Omissions → (number : ℕ) → ℕ
@@ -64,8 +110,8 @@ abbrev pub NothingIsLeftOutOfGoodFiles : Type 0
 NothingIsLeftOutOfGoodFiles = (files : List File) (omissions : Omissions) → AreOmissions files omissions
     → AreAllKept omissions ↔ HaveClearNames files
 
--- The files that are kept can be linked together: they have paths of their own, those of them that count have facts,
--- and no names clash.
+-- The files that are kept can be linked, with those that are left out behind them: they have paths of their own, the
+-- reachable ones have facts, and no names clash.
 abbrev pub KeptFilesAreClear : Type 0
 KeptFilesAreClear = (files : List File) (omissions : Omissions) → AreOmissions files omissions → HaveOwnPaths files
-    → HaveOwnPaths (kept_of omissions files) × HaveClearNames (kept_of omissions files)
+    → HaveOwnPaths (linked_of omissions files) × HaveClearNames (linked_of omissions files)

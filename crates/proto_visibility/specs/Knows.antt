@@ -9,7 +9,7 @@ use Rattle.proto_decl.specs.declared.declaration.Declaration.{Declaration}
 use Rattle.proto_decl.specs.Names.{package_of}
 use Rattle.proto_decl.specs.Facts.{Facts}
 use Rattle.proto_decl.specs.declared.uses.Component.{Component}
-use Rattle.proto_visibility.specs.Files.{File, HasFacts}
+use Rattle.proto_visibility.specs.Files.{File, HasFacts, IsPresent}
 use Rattle.proto_visibility.specs.Sees.{Sees}
 use Rattle.proto_visibility.specs.declared.lookup.Role.{Role}
 use Rattle.proto_visibility.specs.declared.lookup.Role.TheVariants.{AsType, AsMessage, AsAggregate}
@@ -109,6 +109,13 @@ pub record SeesGiving (files : List File) (file : ℕ) (admits : NameKind → Bo
     (seen : ℕ) : Type 0 where
   pub sees : Sees files file seen
   pub giving : IsGiving files admits name seen
+
+-- Of the files that a file sees, the one that gives the name: no other one does, and it isn't left out.
+pub record IsOwner (files : List File) (file : ℕ) (admits : NameKind → Bool) (name : List ℕ)
+    (owner : ℕ) : Type 0 where
+  pub gives : SeesGiving files file admits name owner
+  pub present : IsPresent files owner
+  pub alone : (other : ℕ) → SeesGiving files file admits name other → other ≡ owner
 
 -- ---- what a full name names in one file
 

@@ -5,10 +5,10 @@ use denote.Ref.{Bor}
 use Rattle.proto_visibility.specs.declared.fault.LinkFault.{LinkFault}
 use Rattle.proto_visibility.specs.declared.fault.LinkFault.TheVariants.{Broken, Duplicate, MissingImport, Memory}
 use Rattle.proto_visibility.specs.declared.files.FilePlace.{FilePlace}
-use Rattle.proto_visibility.specs.Files.{File, Imports, HaveOrigins}
+use Rattle.proto_visibility.specs.Files.{File, Imports, HaveOrigins, HaveOwnPaths}
 use Rattle.proto_visibility.specs.Clashes.{Clash, NoClash}
 use Rattle.proto_visibility.specs.Absences as absences
-use Rattle.proto_visibility.specs.Tables.ImportTables.{AreRowsBy, AreNumbered}
+use Rattle.proto_visibility.specs.Tables.ImportTables.{AreRowsBy, ArePaths}
 use Rattle.proto_visibility.specs.declared.names.Names.{Names}
 use Rattle.proto_visibility.specs.Tables.GivenNames.{AreNames}
 
@@ -33,15 +33,16 @@ pub data MayRefuse (files : List File) : LinkFault → Type 0 where
   lacks_memory : MayRefuse files Memory
 
 -- what is kept of files that were checked
-pub record AreChecked {S : Type 0} (files : List File) (numbers : HashMap (Bor (List ℕ)) ℕ S) (rows : List (List ℕ))
+pub record AreChecked {S : Type 0} (files : List File) (paths : HashMap (Bor (List ℕ)) ℕ S) (rows : List (List ℕ))
     : Type 0 where
   pub clear_names : HaveClearNames files
   pub origins : HaveOrigins files
-  pub numbers_are : AreNumbered files numbers
+  pub own_paths : HaveOwnPaths files
+  pub paths_are : ArePaths files paths
   pub rows_are : AreRowsBy (Imports files) (length files) rows
 
 -- what a namespace keeps of its files
-pub record IsLinked {S : Type 0} (files : List File) (numbers : HashMap (Bor (List ℕ)) ℕ S) (rows : List (List ℕ))
+pub record IsLinked {S : Type 0} (files : List File) (paths : HashMap (Bor (List ℕ)) ℕ S) (rows : List (List ℕ))
     (names : Names) : Type 0 where
-  pub checked : AreChecked files numbers rows
+  pub checked : AreChecked files paths rows
   pub names_are : AreNames files names

@@ -7,7 +7,7 @@ ghost use Rattle.proto_decl.specs.Facts.{ImportsInOrder};
 ghost use Rattle.proto_visibility.specs.Sees.{IsReachable};
 ghost use Rattle.proto_visibility.specs.Absences.{Absent, NoAbsent, AreMissing};
 ghost use Rattle.proto_visibility.specs.Tables.ImportTables.{
-  AreNumbered,
+  ArePaths,
   imports_of,
   number_in,
   is_absent,
@@ -28,15 +28,15 @@ use std::collections::HashMap;
 /// The first import, in order of place, that has to be there and names no file.
 pub(crate) fn first_absent(
     files: &[LinkFile],
-    numbers: &HashMap<&str, usize>,
+    paths: &HashMap<&str, usize>,
     reachable: &FileRow,
 ) -> Option<FilePlace>
-    requires numbers { AreNumbered files.now numbers.now }
+    requires paths { ArePaths files.now paths.now }
     requires reachable { (number : ℕ) → Contains reachable.now number ↔ IsReachable files.now number }
     ensures { MatchOption result (NoAbsent files.now) (Absent files.now) }
 {
     for number in reachable.as_slice() {
-        if let Some(span) = absent_of(&files[*number], numbers) {
+        if let Some(span) = absent_of(&files[*number], paths) {
             return Some(FilePlace {
                 file: *number,
                 span,
@@ -47,9 +47,9 @@ pub(crate) fn first_absent(
 }
 
 /// The same for the imports of one file.
-fn absent_of(file: &LinkFile, numbers: &HashMap<&str, usize>) -> Option<Span>
-    ensures first { MatchOption result (NoneIsAbsent (number_in numbers.now) file.now.is_included (imports_of file.now))
-        (IsFirstAbsent (number_in numbers.now) file.now.is_included (imports_of file.now)) }
+fn absent_of(file: &LinkFile, paths: &HashMap<&str, usize>) -> Option<Span>
+    ensures first { MatchOption result (NoneIsAbsent (number_in paths.now) file.now.is_included (imports_of file.now))
+        (IsFirstAbsent (number_in paths.now) file.now.is_included (imports_of file.now)) }
     ensures in_order { ImportsInOrder (imports_of file.now) }
 {
     facts_in_order();
@@ -58,23 +58,19 @@ fn absent_of(file: &LinkFile, numbers: &HashMap<&str, usize>) -> Option<Span>
         Some(facts) => {
             // From here on it is known that the facts are those of some file.
             facts.origin();
-            absent_along(facts.imports(), included, numbers)
+            absent_along(facts.imports(), included, paths)
         }
         None => None,
     }
 }
 
 /// The first of these imports whose file is missing.
-fn absent_along(
-    imports: &[Imported],
-    included: bool,
-    numbers: &HashMap<&str, usize>,
-) -> Option<Span>
-    ensures { MatchOption result (NoneIsAbsent (number_in numbers.now) included imports.now)
-        (IsFirstAbsent (number_in numbers.now) included imports.now) }
+fn absent_along(imports: &[Imported], included: bool, paths: &HashMap<&str, usize>) -> Option<Span>
+    ensures { MatchOption result (NoneIsAbsent (number_in paths.now) included imports.now)
+        (IsFirstAbsent (number_in paths.now) included imports.now) }
 {
     for import in imports {
-        if is_absent(import, included, numbers) {
+        if is_absent(import, included, paths) {
             return Some(import.span);
         }
     }
@@ -82,31 +78,31 @@ fn absent_along(
 }
 
 /// Whether an import, of an included file or of a source, has to be there and names no file.
-fn is_absent(import: &Imported, included: bool, numbers: &HashMap<&str, usize>) -> bool
-    ensures { result ≡ is_absent (number_in numbers.now) included import.now }
+fn is_absent(import: &Imported, included: bool, paths: &HashMap<&str, usize>) -> bool
+    ensures { result ≡ is_absent (number_in paths.now) included import.now }
 {
     let public = match import.kind {
         ImportKind::Public => true,
         ImportKind::Plain | ImportKind::Weak => false,
     };
-    (!included || public) && numbers.get(import.path.as_str()).copied().is_none()
+    (!included || public) && paths.get(import.path.as_str()).copied().is_none()
 }
 
 /// Whether a file has the path.
-pub(crate) fn is_numbered(path: &str, numbers: &HashMap<&str, usize>) -> bool
-    ensures { result ≡ not (is_none (number_in numbers.now path.now)) }
+pub(crate) fn is_path_of_one(path: &str, paths: &HashMap<&str, usize>) -> bool
+    ensures { result ≡ not (is_none (number_in paths.now path.now)) }
 {
-    !numbers.get(path).copied().is_none()
+    !paths.get(path).copied().is_none()
 }
 
 /// The places of all imports that have to be there and name no file, in order.
 pub(crate) fn all_absent(
     alloc: Global,
     files: &[LinkFile],
-    numbers: &HashMap<&str, usize>,
+    paths: &HashMap<&str, usize>,
     reachable: &FileRow,
 ) -> Result<Vec<FilePlace>, AllocError>
-    requires numbers { AreNumbered files.now numbers.now }
+    requires paths { ArePaths files.now paths.now }
     requires reachable { (number : ℕ) → Contains reachable.now number ↔ IsReachable files.now number }
     ensures { IfOk result (λ places. AreMissing files.now places.items) }
 {
@@ -114,7 +110,7 @@ pub(crate) fn all_absent(
     facts_in_order();
     let mut places = Vec::new(alloc);
     for number in reachable.as_slice() {
-        add_absent(&mut places, *number, &files[*number], numbers)?;
+        add_absent(&mut places, *number, &files[*number], paths)?;
     }
     Ok(places)
 }
@@ -124,13 +120,13 @@ fn add_absent(
     places: &mut Vec<FilePlace>,
     number: usize,
     file: &LinkFile,
-    numbers: &HashMap<&str, usize>,
+    paths: &HashMap<&str, usize>,
 ) -> Result<(), AllocError>
     ensures { OnOk result
-        (places.new.items ≡ places.old.items ++ absents_of (number_in numbers.now) number (Some file.now)) }
+        (places.new.items ≡ places.old.items ++ absents_of (number_in paths.now) number (Some file.now)) }
 {
     match file.facts {
-        Some(facts) => add_along(places, number, file.is_included(), facts.imports(), numbers),
+        Some(facts) => add_along(places, number, file.is_included(), facts.imports(), paths),
         None => Ok(()),
     }
 }
@@ -141,13 +137,13 @@ fn add_along(
     number: usize,
     included: bool,
     imports: &[Imported],
-    numbers: &HashMap<&str, usize>,
+    paths: &HashMap<&str, usize>,
 ) -> Result<(), AllocError>
     ensures { OnOk result (places.new.items
-        ≡ places.old.items ++ flat_map (absent_at (number_in numbers.now) included number) imports.now) }
+        ≡ places.old.items ++ flat_map (absent_at (number_in paths.now) included number) imports.now) }
 {
     for import in imports {
-        add_if_absent(places, number, included, import, numbers)?;
+        add_if_absent(places, number, included, import, paths)?;
     }
     Ok(())
 }
@@ -158,12 +154,12 @@ fn add_if_absent(
     number: usize,
     included: bool,
     import: &Imported,
-    numbers: &HashMap<&str, usize>,
+    paths: &HashMap<&str, usize>,
 ) -> Result<(), AllocError>
     ensures { OnOk result (places.new.items
-        ≡ places.old.items ++ absent_at (number_in numbers.now) included number import.now) }
+        ≡ places.old.items ++ absent_at (number_in paths.now) included number import.now) }
 {
-    if is_absent(import, included, numbers) {
+    if is_absent(import, included, paths) {
         places.push(FilePlace {
             file: number,
             span: import.span,

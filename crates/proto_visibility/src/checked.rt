@@ -11,7 +11,7 @@ use crate::absent::first_absent;
 use crate::clash::{first_clash, numbers_differ};
 use crate::fault::LinkFault;
 use crate::files::{FilePlace, LinkFile, have_origins};
-use crate::import_table::{numbers_of, steps_of};
+use crate::import_table::{numbers_of, paths_of, steps_of};
 use crate::items::{all_items, all_prefixes};
 use crate::rows::FileRow;
 use crate::seeing::{SeenFiles, first_unread, reachable_files, seen_files};
@@ -26,7 +26,7 @@ use std::marker::Model;
 #[derive(Drop)]
 pub struct CheckedFiles<'a, 't> {
     pub(crate) files: &'a [LinkFile<'a, 't>],
-    pub(crate) numbers: HashMap<&'a str, usize>,
+    pub(crate) paths: HashMap<&'a str, usize>,
     pub(crate) seen: SeenFiles,
 }
 
@@ -39,7 +39,7 @@ impl<'a, 't> Model for CheckedFiles<'a, 't> {
 
     ghost view = { λ checked. checked.files.now };
 
-    ghost invariant = { λ checked. AreChecked checked.files.now checked.numbers checked.seen };
+    ghost invariant = { λ checked. AreChecked checked.files.now checked.paths checked.seen };
 }
 
 impl<'a, 't> CheckedFiles<'a, 't> {
@@ -82,16 +82,13 @@ impl<'a, 't> CheckedFiles<'a, 't> {
         if let Some((first, second)) = clash {
             return Err(LinkFault::Duplicate(first, second));
         }
-        if let Some(place) = first_absent(files, &numbers, &reachable) {
+        let paths = paths_of(alloc, files, numbers)?;
+        if let Some(place) = first_absent(files, &paths, &reachable) {
             return Err(LinkFault::MissingImport(place));
         }
         have_origins(files);
         let seen = seen_files(alloc, files, table.as_slice())?;
-        Ok(CheckedFiles {
-            files,
-            numbers,
-            seen,
-        })
+        Ok(CheckedFiles { files, paths, seen })
     }
 }
 

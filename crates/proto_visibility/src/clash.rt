@@ -4,7 +4,7 @@ ghost use Rattle.std.specs.Prelude.{List, ℕ, ◌≡◌, ◌<◌, IfOk, OnOk, I
 ghost use Rattle.std.specs.Prelude.{is_some, if◌then◌else◌, ◌↔◌, ◌++◌, IsTrue, map};
 ghost use Rattle.std.specs.Str.{bytes_eq};
 ghost use Rattle.std.specs.List.{list_any};
-ghost use Rattle.proto_visibility.specs.Clashes.{ClashBy, NoClashBy, NoClash, Item};
+ghost use Rattle.proto_visibility.specs.Clashes.{Before, ClashBy, NoClashBy, NoClash, Item};
 ghost use Rattle.proto_visibility.specs.Tables.ClashTables.{AreInPlace, clash_with, index_in};
 ghost use Rattle.proto_visibility.specs.Sees.{IsReachable};
 ghost use Rattle.proto_visibility.specs.Tables.FileItems.{AreAllPrefixes, declared_item};
@@ -46,8 +46,8 @@ pub(crate) fn first_clash(
     items: &[Item],
 ) -> Result<Option<(FilePlace, FilePlace)>, AllocError>
     requires { AreInPlace items.now }
-    ensures { IfOk result (λ clash. MatchOption clash (NoClashBy (Contains items.now))
-        (λ places. ClashBy (Contains items.now) places.0 places.1)) }
+    ensures { IfOk result (λ clash. MatchOption clash (NoClashBy Before (Contains items.now))
+        (λ places. ClashBy Before (Contains items.now) places.0 places.1)) }
 {
     let mut names = HashMap::with_capacity(alloc, items.len())?;
     for (index, item) in items.iter().enumerate() {

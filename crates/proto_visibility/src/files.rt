@@ -1,8 +1,9 @@
 //! Files to be linked, and places in them.
 
-ghost use Rattle.std.specs.Prelude.{◌≡◌, ◌↔◌, None, IsTrue, Some};
+ghost use Rattle.std.specs.Prelude.{ℕ, ◌≡◌, ◌<◌, ◌↔◌, not, ◌&&◌, true, None, IsTrue, Some, MatchOption, length};
+ghost use Rattle.std.specs.List.{slice_get};
 ghost use Rattle.proto_decl.specs.Facts.{Facts, AreOfSomeFile};
-ghost use Rattle.proto_visibility.specs.Files.{HaveOrigins};
+ghost use Rattle.proto_visibility.specs.Files.{File, HaveOrigins, IsPresent};
 
 use proto_decl::FileFacts;
 use proto_lex::Span;
@@ -11,7 +12,7 @@ use std::marker::Model;
 
 /// A file to be linked.
 ///
-/// Contracts see its path's bytes, its facts, and whether it is included.
+/// Contracts see its path's bytes, its facts, and whether it is included or left out.
 #[derive(Drop)]
 pub struct LinkFile<'a, 't> {
     /// Its path below its root.
@@ -20,6 +21,9 @@ pub struct LinkFile<'a, 't> {
     pub facts: Option<&'a FileFacts<'t>>,
     /// Whether it is included: linked, but not indexed.
     pub included: bool,
+    /// Whether it is left out of what is linked. The names that it gives are known where it is seen, so that no use
+    /// takes another one's for it; but nothing names what it declares.
+    pub left_out: bool,
 }
 
 impl<'a, 't> Model for LinkFile<'a, 't> {
@@ -32,6 +36,7 @@ impl<'a, 't> Model for LinkFile<'a, 't> {
       path = file.path.now;
       facts = option_map (λ facts. facts.now) file.facts;
       is_included = file.included;
+      is_left_out = file.left_out;
     } };
 }
 
@@ -41,6 +46,20 @@ impl LinkFile<'_, '_> {
         ensures { result ≡ self.now.is_included }
     {
         self.included
+    }
+
+    /// Whether it is left out.
+    pub(crate) fn is_left_out(&self) -> bool
+        ensures { result ≡ self.now.is_left_out }
+    {
+        self.left_out
+    }
+
+    /// Whether it is a source: neither included nor left out.
+    pub(crate) fn is_source(&self) -> bool
+        ensures { result ≡ (not self.now.is_included && not self.now.is_left_out) }
+    {
+        !self.included && !self.left_out
     }
 
     /// Whether it couldn't be read or parsed.
@@ -84,5 +103,20 @@ fn has_origin(file: &LinkFile)
     if let Some(facts) = file.facts {
         // From here on it is known that the facts are those of some file.
         facts.origin();
+    }
+}
+
+/// The number of a file, unless the file is left out.
+pub(crate) fn unless_left_out(files: &[LinkFile], number: usize) -> Option<usize>
+    requires { number < length files.now }
+    ensures { MatchOption result
+        ((file : File) → slice_get files.now number ≡ Some file → file.is_left_out ≡ true)
+        (λ found. (found ≡ number) × IsPresent files.now found) }
+{
+    let file = &files[number];
+    if file.is_left_out() {
+        None
+    } else {
+        Some(number)
     }
 }

@@ -17,10 +17,10 @@ ghost use Rattle.std.specs.Prelude.{
   IsTrue,
   if◌then◌else◌,
 };
-ghost use Rattle.std.specs.List.{filter_map};
+ghost use Rattle.std.specs.List.{filter_map, list_any};
 ghost use Rattle.std.specs.Str.{bytes_eq};
-ghost use Rattle.proto_visibility.specs.Files.{HaveOwnPaths, is_public};
-ghost use Rattle.proto_visibility.specs.Tables.ImportTables.{IsTableOf, AreNumbered, imports_of, number_in, target};
+ghost use Rattle.proto_visibility.specs.Files.{File, HaveOwnPaths, is_public};
+ghost use Rattle.proto_visibility.specs.Tables.ImportTables.{IsTableOf, AreNumbered, ArePaths, imports_of, number_in, target};
 
 use crate::files::LinkFile;
 use proto_decl::Imported;
@@ -98,6 +98,49 @@ pub(crate) fn numbers_of<'a>(
         numbers.insert(path, number)?;
     }
     Ok(numbers)
+}
+
+/// The same without the files that are left out, by the numbers of all.
+pub(crate) fn paths_of<'a>(
+    alloc: Global,
+    files: &[LinkFile<'a, '_>],
+    numbers: HashMap<&'a str, usize>,
+) -> Result<HashMap<&'a str, usize>, AllocError>
+    requires own { HaveOwnPaths files.now }
+    requires numbers { AreNumbered files.now numbers }
+    ensures { IfOk result (ArePaths files.now) }
+{
+    if has_left_out(files) {
+        present_paths(alloc, files)
+    } else {
+        Ok(numbers)
+    }
+}
+
+/// Whether one of the files is left out.
+fn has_left_out(files: &[LinkFile]) -> bool
+    ensures { result ≡ list_any (λ (file : File). file.is_left_out) files.now }
+{
+    files.iter().any(|file| file.is_left_out())
+}
+
+/// The same, by a map of their own.
+fn present_paths<'a>(
+    alloc: Global,
+    files: &[LinkFile<'a, '_>],
+) -> Result<HashMap<&'a str, usize>, AllocError>
+    requires { HaveOwnPaths files.now }
+    ensures { IfOk result (ArePaths files.now) }
+{
+    let mut paths = HashMap::with_capacity(alloc, files.len())?;
+    for (number, file) in files.iter().enumerate() {
+        if file.is_left_out() {
+            continue;
+        }
+        let path = file.path;
+        paths.insert(path, number)?;
+    }
+    Ok(paths)
 }
 
 /// The numbers of the files that one file imports.

@@ -1,13 +1,12 @@
 //! The items of files: their declarations and the components of their package statements.
 
-ghost use Rattle.std.specs.Prelude.{List, ℕ, ◌≡◌, ◌+◌, ◌∷◌, ◌↔◌, IfOk, OnOk, Some, Contains, length, map};
+ghost use Rattle.std.specs.Prelude.{List, ℕ, ◌≡◌, ◌<◌, ◌+◌, ◌∷◌, ◌↔◌, IfOk, OnOk, Some, Contains, length, map};
 ghost use Rattle.std.specs.List.{slice_get};
 ghost use Rattle.proto_decl.specs.Names.{dotted};
 ghost use Rattle.proto_visibility.specs.Tables.FileItems.{ArePrefixes, IsItemOf, declared_item, AreWithPackage};
 ghost use Rattle.proto_visibility.specs.Tables.FileItems.{AreAllPrefixes, IsItemIn, package_name_of};
-ghost use Rattle.proto_visibility.specs.Clashes.{Item, IsItem};
+ghost use Rattle.proto_visibility.specs.Clashes.{Item, IsItemBy};
 ghost use Rattle.proto_visibility.specs.Tables.ClashTables.{AreInPlace};
-ghost use Rattle.proto_visibility.specs.Sees.{IsReachable};
 
 use crate::clash::{Item, room_for};
 use crate::files::{FilePlace, LinkFile};
@@ -139,20 +138,21 @@ fn prefixes_of_file(alloc: Global, file: &LinkFile) -> Result<Sequence<OwnedText
     }
 }
 
-/// The items of the reachable files, in order of place.
+/// The items of the files of a row, in order of place.
 pub(crate) fn all_items<'a>(
     alloc: Global,
     files: &'a [LinkFile<'a, '_>],
     prefixes: &'a [Sequence<OwnedText>],
-    reachable: &FileRow,
+    row: &FileRow,
 ) -> Result<Vec<Item<'a>>, AllocError>
     requires prefixes { AreAllPrefixes files.now prefixes.now }
-    requires reachable { (number : ℕ) → Contains reachable.now number ↔ IsReachable files.now number }
+    requires within { (number : ℕ) → Contains row.now number → number < length files.now }
     ensures order { IfOk result (λ items. AreInPlace items.items) }
-    ensures items { IfOk result (λ items. (item : Item) → Contains items.items item ↔ IsItem files.now item) }
+    ensures items { IfOk result (λ items. (item : Item) → Contains items.items item
+        ↔ IsItemBy files.now (Contains row.now) item) }
 {
     let mut items = Vec::with_capacity(alloc, room_with_packages(files, prefixes))?;
-    for number in reachable.as_slice() {
+    for number in row.as_slice() {
         let file = &files[*number];
         let mut more = items_of_file(alloc, *number, file, prefixes[*number].as_slice())?;
         items.append(&mut more)?;

@@ -1,13 +1,13 @@
 //! Who gives a name, by the tables, and as what; and what it names in one file.
 
-ghost use Rattle.std.specs.Prelude.{◌≡◌, ℕ, List, ◌↔◌, IsTrue, MatchOption, Contains, position, bytes_eq};
+ghost use Rattle.std.specs.Prelude.{◌≡◌, ◌≢◌, ℕ, List, ◌↔◌, IsTrue, MatchOption, Contains, position, bytes_eq};
 ghost use Rattle.std.specs.List.Sorted.{IsNonDecreasing};
 ghost use Rattle.proto_decl.specs.declared.declaration.DeclarationKind.TheVariants.{Enum};
 ghost use Rattle.proto_decl.specs.Laws.{IsEntity};
 ghost use Rattle.proto_visibility.specs.Knows.NameKind.{OfPackage, OfDeclaration};
 ghost use Rattle.proto_visibility.specs.Knows.{admits, IsEntityOf};
 ghost use Rattle.proto_visibility.specs.declared.names.DeclaredAt.{DeclaredAt};
-ghost use Rattle.proto_visibility.specs.Tables.GivenNames.{owned_at, IsDeclaring, IsListed, AreNamesOf};
+ghost use Rattle.proto_visibility.specs.Tables.GivenNames.{owned_at, IsAloneIn, IsDeclaring, IsListed, AreNamesOf};
 
 use crate::names::{DeclaredAt, Names};
 use crate::rows::SeenRow;
@@ -91,6 +91,55 @@ fn first_declaring(declared: &[DeclaredAt], row: &SeenRow, role: Role) -> Option
         }
     }
     None
+}
+
+/// The only file of a row of which one of these declarations is admitted in this role, if there is just one.
+pub(crate) fn only_declaring(declared: &[DeclaredAt], row: &SeenRow, role: Role) -> Option<usize>
+    ensures { MatchOption result ((number : ℕ) → IsAloneIn row.now declared.now (admits role) number → ⊥)
+        (IsAloneIn row.now declared.now (admits role)) }
+{
+    match first_declaring(declared, row, role) {
+        Some(first) => unless_elsewhere(declared, row, role, first),
+        None => None,
+    }
+}
+
+/// A file of a row of which a declaration is admitted, unless one of another file of the row is, too.
+fn unless_elsewhere(
+    declared: &[DeclaredAt],
+    row: &SeenRow,
+    role: Role,
+    first: usize,
+) -> Option<usize>
+    requires there { Contains row.now first }
+    requires declares { IsDeclaring declared.now (admits role) first }
+    ensures { MatchOption result ((number : ℕ) → IsAloneIn row.now declared.now (admits role) number → ⊥)
+        (IsAloneIn row.now declared.now (admits role)) }
+{
+    if is_declared_elsewhere(declared, row, role, first) {
+        None
+    } else {
+        Some(first)
+    }
+}
+
+/// Whether one of these declarations is admitted in this role, and is of a file of a row, but not of this one.
+fn is_declared_elsewhere(declared: &[DeclaredAt], row: &SeenRow, role: Role, file: usize) -> bool
+    ensures { IsTrue result ↔ ((number : ℕ) × (number ≢ file) × Contains row.now number
+        × IsDeclaring declared.now (admits role) number) }
+{
+    for other in declared {
+        if other.file == file {
+            continue;
+        }
+        if !role.admits(other.kind) {
+            continue;
+        }
+        if row.has(other.file) {
+            return true;
+        }
+    }
+    false
 }
 
 /// A file that is among these numbers, which don't fall, and in a row. Each of the fewer is looked for in the other.

@@ -1,21 +1,23 @@
 //! Files whose names are one namespace.
 
-ghost use Rattle.std.specs.Prelude.{◌≡◌, ◌<◌, ◌↔◌, IsTrue, IfOk, IfErr, MatchOption, length};
+ghost use Rattle.std.specs.Prelude.{◌≡◌, ℕ, ◌<◌, ◌↔◌, false, IsTrue, IfOk, IfErr, MatchOption, length};
 ghost use Rattle.proto_decl.specs.Facts.{Facts};
 ghost use Rattle.proto_decl.specs.Laws.{IsEntity};
-ghost use Rattle.proto_visibility.specs.Knows.{IsEntityOf, KnowsAs, admits, SeesGiving};
-ghost use Rattle.proto_visibility.specs.Files.{HaveOwnPaths, HaveOrigins, HasFacts, HasPath, HasPathAt, IsIncludedAt};
+ghost use Rattle.proto_visibility.specs.Knows.NameKind.{OfPackage};
+ghost use Rattle.proto_visibility.specs.Knows.{IsEntityOf, IsOwner, KnowsAs, admits, SeesGiving};
+ghost use Rattle.proto_visibility.specs.Files.{HaveOwnPaths, HaveOrigins, HasFacts, HasPath, HasPathAt};
+ghost use Rattle.proto_visibility.specs.Files.{IsIncludedAt, IsSourceAt};
 ghost use Rattle.proto_visibility.specs.Sees.{Sees};
 ghost use Rattle.proto_visibility.specs.Absences.{AreMissing};
 ghost use Rattle.proto_visibility.specs.Linked.{HaveClearNames, CanBeLinked, MayRefuse};
 
-use crate::absent::{all_absent, is_numbered};
+use crate::absent::{all_absent, is_path_of_one};
 use crate::checked::CheckedFiles;
 use crate::fault::LinkFault;
-use crate::files::{FilePlace, LinkFile, have_origins};
-use crate::import_table::{numbers_of, steps_of};
+use crate::files::{FilePlace, LinkFile, have_origins, unless_left_out};
+use crate::import_table::{numbers_of, paths_of, steps_of};
 use crate::items::all_prefixes;
-use crate::lookup::{Entity, Role, entity_in, giving_in};
+use crate::lookup::{Entity, Role, entity_in, giving_in, only_declaring};
 use crate::names::{ListedNames, Names};
 use crate::seeing::{SeenFiles, reachable_files, seen_files};
 use proto_decl::FileFacts;
@@ -30,7 +32,7 @@ use std::marker::Model;
 #[derive(Drop)]
 pub struct Namespace<'a, 't> {
     files: &'a [LinkFile<'a, 't>],
-    numbers: HashMap<&'a str, usize>,
+    paths: HashMap<&'a str, usize>,
     seen: SeenFiles,
     names: Names,
 }
@@ -44,7 +46,7 @@ impl<'a, 't> Model for Namespace<'a, 't> {
 
     ghost view = { λ namespace. namespace.files.now };
 
-    ghost invariant = { λ namespace. IsLinked namespace.files.now namespace.numbers namespace.seen
+    ghost invariant = { λ namespace. IsLinked namespace.files.now namespace.paths namespace.seen
         namespace.names };
 }
 
@@ -72,14 +74,10 @@ impl<'a, 't> Namespace<'a, 't> {
         ensures { result ≡ checked.entry }
     {
         let names = listed.into_names();
-        let CheckedFiles {
-            files,
-            numbers,
-            seen,
-        } = checked;
+        let CheckedFiles { files, paths, seen } = checked;
         Namespace {
             files,
-            numbers,
+            paths,
             seen,
             names,
         }
@@ -100,9 +98,10 @@ impl<'a, 't> Namespace<'a, 't> {
         have_origins(files);
         let seen = seen_files(alloc, files, table.as_slice())?;
         let names = Names::of(alloc, files, prefixes.as_slice())?;
+        let paths = paths_of(alloc, files, numbers)?;
         Ok(Namespace {
             files,
-            numbers,
+            paths,
             seen,
             names,
         })
@@ -112,7 +111,7 @@ impl<'a, 't> Namespace<'a, 't> {
     pub fn has_path(&self, path: &str) -> bool
         ensures { IsTrue result ↔ HasPath self.now path.now }
     {
-        is_numbered(path, &self.numbers)
+        is_path_of_one(path, &self.paths)
     }
 
     /// The places of the imports that have to be there and name no file, in order: those of sources, and the public
@@ -120,9 +119,10 @@ impl<'a, 't> Namespace<'a, 't> {
     pub fn missing_imports(&self, alloc: Global) -> Result<Vec<FilePlace>, AllocError>
         ensures { IfOk result (λ places. AreMissing self.now places.items) }
     {
-        let table = steps_of(alloc, self.files, &self.numbers)?;
+        let numbers = numbers_of(alloc, self.files)?;
+        let table = steps_of(alloc, self.files, &numbers)?;
         let reachable = reachable_files(alloc, self.files, table.as_slice())?;
-        all_absent(alloc, self.files, &self.numbers, &reachable)
+        all_absent(alloc, self.files, &self.paths, &reachable)
     }
 
     /// Whether a file sees another: itself, what it imports, and what public imports lead to from
@@ -142,6 +142,20 @@ impl<'a, 't> Namespace<'a, 't> {
             (SeesGiving self.now file (admits role) name.now) }
     {
         giving_in(&self.names, &self.seen.row(file), name, role)
+    }
+
+    /// The file that declares a name which a file knows in a role that packages haven't: of the files that it sees only
+    /// this one declares it, and it isn't left out. Takes no memory.
+    pub fn owner_of(&self, file: usize, name: &str, role: Role) -> Option<usize>
+        requires file { file < length self.now }
+        requires declared { admits role OfPackage ≡ false }
+        ensures { MatchOption result ((owner : ℕ) → IsOwner self.now file (admits role) name.now owner → ⊥)
+            (IsOwner self.now file (admits role) name.now) }
+    {
+        match only_declaring(self.names.declaring(name), &self.seen.row(file), role) {
+            Some(owner) => unless_left_out(self.files, owner),
+            None => None,
+        }
     }
 
     /// The reachable files have facts, no names clash, and the facts of each file are those of some
@@ -189,6 +203,16 @@ impl<'a, 't> Namespace<'a, 't> {
         let files = self.files;
         let file = &files[number];
         file.is_included()
+    }
+
+    /// Whether a file is a source: neither included nor left out. Takes no memory.
+    pub fn is_source(&self, number: usize) -> bool
+        requires { number < length self.now }
+        ensures { IsSourceAt self.now number result }
+    {
+        let files = self.files;
+        let file = &files[number];
+        file.is_source()
     }
 
     /// The path of a file. Takes no memory.

@@ -6,6 +6,8 @@ ghost use Rattle.std.specs.Prelude.{
   ◌<◌,
   ◌+◌,
   ◌↔◌,
+  List,
+  [],
   None,
   Some,
   IsTrue,
@@ -13,22 +15,26 @@ ghost use Rattle.std.specs.Prelude.{
   OnOk,
   MatchOption,
   Contains,
+  All,
   length,
   slice_set,
 };
+ghost use Rattle.std.specs.List.{filter};
 ghost use Rattle.proto_visibility.specs.declared.omissions.FileOmission.TheVariants.{Broken, Duplicate};
-ghost use Rattle.proto_visibility.specs.Files.{HaveOwnPaths};
-ghost use Rattle.proto_visibility.specs.Sees.{IsReachable};
-ghost use Rattle.proto_visibility.specs.Kept.{Omissions, IsKeptFile, AreOmissions};
-ghost use Rattle.proto_visibility.specs.Tables.ClashTables.{AreInPlace, clash_with, index_in};
-ghost use Rattle.proto_visibility.specs.Tables.Passes.{AreUnreadOf, AreClashesOmitted, ArePassed, IsOpenAt};
+ghost use Rattle.proto_visibility.specs.Files.{File, HaveOwnPaths, IsSource};
+ghost use Rattle.proto_visibility.specs.Kept.{Omissions, IsKeptFile, AreAllKept, AreOmissions, IsCounted};
+ghost use Rattle.proto_visibility.specs.Kept.{IsTakenBefore};
+ghost use Rattle.proto_visibility.specs.Tables.ClashTables.{AreInPlaceBy, clash_with, index_in};
+ghost use Rattle.proto_visibility.specs.Tables.ImportTables.{IsTableOf, IsBegunBy, is_other, is_other_at};
+ghost use Rattle.proto_visibility.specs.Tables.Passes.{AreUnreadOmitted, ArePassed, IsKeptSource, IsOpenAt};
 
 use crate::clash::{Item, clash_with};
 use crate::files::{FilePlace, LinkFile};
-use crate::import_table::{numbers_of, steps_of};
+use crate::import_table::{Steps, numbers_of, steps_of};
 use crate::items::{all_items, all_prefixes};
 use crate::rows::FileRow;
-use crate::seeing::reachable_files;
+use crate::search::Search;
+use crate::seeing::{begin, follow, source_files};
 use proto_decl::FullName;
 use std::alloc::{AllocError, Global};
 use std::collections::HashMap;
@@ -44,63 +50,153 @@ pub enum FileOmission {
 }
 
 /// For each file, by its number, why it is left out of a tree with faults; `None` for a file that is kept. No two of
-/// the files have one path. Only reachable files are left out: sources, and what some source sees.
+/// the files have one path.
+///
+/// Only files that count are left out: sources, and what a source that is kept sees. Sources are taken first, then the
+/// other files, each by number.
 pub fn left_out(alloc: Global, files: &[LinkFile]) -> Result<Vec<Option<FileOmission>>, AllocError>
     requires { HaveOwnPaths files.now }
     ensures { IfOk result (λ omissions. AreOmissions files.now omissions.items) }
 {
     let numbers = numbers_of(alloc, files)?;
     let table = steps_of(alloc, files, &numbers)?;
-    let reachable = reachable_files(alloc, files, table.as_slice())?;
     let prefixes = all_prefixes(alloc, files)?;
-    let items = all_items(alloc, files, prefixes.as_slice(), &reachable)?;
-    let mut omissions = unread_files(alloc, files, &reachable)?;
-    omit_clashes(alloc, &mut omissions, items.as_slice())?;
+    let sources = source_files(alloc, files)?;
+    let mut omissions = none_left_out(alloc, files.len())?;
+    omit_unread(&mut omissions, files, &sources);
+    let mut items = all_items(alloc, files, prefixes.as_slice(), &sources)?;
+    let mut names = HashMap::new(alloc);
+    omit_clashes(&mut omissions, &mut names, items.as_slice(), 0)?;
+    let others = seen_by_kept(alloc, files, table.as_slice(), omissions.as_slice())?;
+    omit_unread(&mut omissions, files, &others);
+    let passed = items.len();
+    let mut more = all_items(alloc, files, prefixes.as_slice(), &others)?;
+    items.append(&mut more)?;
+    omit_clashes(&mut omissions, &mut names, items.as_slice(), passed)?;
     Ok(omissions)
 }
 
-/// For each file, whether it is left out because it has no facts.
-fn unread_files(
+/// Of so many files none is left out.
+fn none_left_out(alloc: Global, count: usize) -> Result<Vec<Option<FileOmission>>, AllocError>
+    ensures size { IfOk result (λ omissions. length omissions.items ≡ count) }
+    ensures none { IfOk result (λ omissions. AreAllKept omissions.items) }
+{
+    let mut omissions = Vec::with_capacity(alloc, count)?;
+    for _ in 0..count {
+        omissions.push_reserved(None);
+    }
+    Ok(omissions)
+}
+
+/// The other files that sources see which are kept so far.
+fn seen_by_kept(
     alloc: Global,
     files: &[LinkFile],
-    reachable: &FileRow,
-) -> Result<Vec<Option<FileOmission>>, AllocError>
-    requires { (number : ℕ) → Contains reachable.now number ↔ IsReachable files.now number }
-    ensures { IfOk result (λ omissions. AreUnreadOf files.now (length files.now) omissions.items) }
+    table: &[Steps],
+    omissions: &[Option<FileOmission>],
+) -> Result<FileRow, AllocError>
+    requires { IsTableOf files.now table.now }
+    ensures { IfOk result (λ row. (number : ℕ) → Contains row number
+        ↔ (IsCounted files.now omissions.now number × (IsSource files.now number → ⊥))) }
 {
-    let mut omissions = Vec::with_capacity(alloc, files.len())?;
-    for (number, file) in files.iter().enumerate() {
-        omissions.push_reserved(unread_at(number, file, reachable));
-    }
-    Ok(omissions)
+    let mut search = Search::new(alloc, table.len())?;
+    begin_kept(&mut search, files, table, omissions)?;
+    follow(&mut search, table)?;
+    let others = others_among(alloc, files, search.found())?;
+    let row = FileRow::of(alloc, others.as_slice())?;
+    Ok(row)
 }
 
-/// The same for one file.
-fn unread_at(number: usize, file: &LinkFile, reachable: &FileRow) -> Option<FileOmission>
-    ensures { MatchOption result
-        (file.now.facts ≡ None → Contains reachable.now number → ⊥)
-        (λ omission. (omission ≡ Broken) × (file.now.facts ≡ None) × Contains reachable.now number) }
-{
-    if file.is_unread() && reachable.has(number) {
-        Some(FileOmission::Broken)
-    } else {
-        None
-    }
-}
-
-/// Leaves out the files with a clash, by their items in order of place.
-#[tactic(auto, using(crate::proofs::PassLemmas::none_passed))]
-fn omit_clashes(
-    alloc: Global,
-    omissions: &mut Vec<Option<FileOmission>>,
-    items: &[Item],
+/// Finds the sources that are kept so far, and what they import, but not publicly.
+fn begin_kept(
+    search: &mut Search,
+    files: &[LinkFile],
+    table: &[Steps],
+    omissions: &[Option<FileOmission>],
 ) -> Result<(), AllocError>
-    requires { AreInPlace items.now }
-    ensures { OnOk result (AreClashesOmitted items.now omissions.old.items omissions.new.items) }
+    requires table { IsTableOf files.now table.now }
+    requires files { search.old.files ≡ length table.now }
+    requires none { search.old.numbers ≡ [] }
+    ensures files { OnOk result (search.new.files ≡ search.old.files) }
+    ensures begun { OnOk result ((number : ℕ) → Contains search.new.numbers number
+        ↔ IsBegunBy (IsKeptSource files.now omissions.now) table.now (length files.now) number) }
 {
-    let mut names = HashMap::new(alloc);
-    for index in 0..items.len() {
-        pass_item(omissions, &mut names, items, index)?;
+    for (number, file) in files.iter().enumerate() {
+        if !file.is_source() {
+            continue;
+        }
+        if !is_kept(omissions, number) {
+            continue;
+        }
+        begin(search, table, number)?;
+    }
+    Ok(())
+}
+
+/// Those of these files that are neither sources nor left out before, in order.
+fn others_among(
+    alloc: Global,
+    files: &[LinkFile],
+    numbers: &[usize],
+) -> Result<Vec<usize>, AllocError>
+    requires { All (λ number. number < length files.now) numbers.now }
+    ensures { IfOk result (λ others. others.items ≡ filter (is_other_at files.now) numbers.now) }
+{
+    let mut others = Vec::new(alloc);
+    for number in numbers {
+        if !is_other(&files[*number]) {
+            continue;
+        }
+        others.push(*number)?;
+    }
+    Ok(others)
+}
+
+/// Whether a file is neither a source nor left out before.
+fn is_other(file: &LinkFile) -> bool
+    ensures { result ≡ is_other (Some file.now) }
+{
+    !file.is_left_out() && file.is_included()
+}
+
+/// Leaves out those files of a row that have no facts.
+fn omit_unread(omissions: &mut Vec<Option<FileOmission>>, files: &[LinkFile], row: &FileRow)
+    requires one_each { length omissions.old.items ≡ length files.now }
+    requires within { (number : ℕ) → Contains row.now number → number < length files.now }
+    ensures { AreUnreadOmitted files.now row.now omissions.old.items omissions.new.items }
+{
+    for number in row.as_slice() {
+        omit_if_unread(omissions, *number, &files[*number]);
+    }
+}
+
+/// Leaves out the file with this number if it has no facts.
+fn omit_if_unread(omissions: &mut Vec<Option<FileOmission>>, number: usize, file: &LinkFile)
+    requires { number < length omissions.old.items }
+    ensures out { file.now.facts ≡ None → omissions.new.items
+        ≡ slice_set omissions.old.items number (Some Broken) }
+    ensures stays { (file.now.facts ≡ None → ⊥) → omissions.new.items ≡ omissions.old.items }
+{
+    if file.is_unread() {
+        omissions[number] = Some(FileOmission::Broken);
+    }
+}
+
+/// Leaves out the files with a clash, by their items from an index on, each before those behind it in the order in
+/// which files are taken.
+fn omit_clashes<'a>(
+    omissions: &mut Vec<Option<FileOmission>>,
+    names: &mut HashMap<FullName<'a>, usize>,
+    items: &[Item<'a>],
+    from: usize,
+) -> Result<(), AllocError>
+    ensures { OnOk result ((files : List File) → AreInPlaceBy (IsTakenBefore files) items.now
+        → (start : Omissions)
+        → ArePassed (IsTakenBefore files) items.now start from omissions.old.items names.old
+        → ArePassed (IsTakenBefore files) items.now start (length items.now) omissions.new.items names.new) }
+{
+    for index in from..items.len() {
+        pass_item(omissions, names, items, index)?;
     }
     Ok(())
 }
@@ -113,10 +209,11 @@ fn pass_item<'a>(
     items: &[Item<'a>],
     index: usize,
 ) -> Result<(), AllocError>
-    requires placed { AreInPlace items.now }
-    requires within { index < length items.now }
-    ensures { OnOk result ((start : Omissions) → ArePassed items.now start index omissions.old.items names.old
-        → ArePassed items.now start (index + 1) omissions.new.items names.new) }
+    requires { index < length items.now }
+    ensures { OnOk result ((files : List File) → AreInPlaceBy (IsTakenBefore files) items.now
+        → (start : Omissions)
+        → ArePassed (IsTakenBefore files) items.now start index omissions.old.items names.old
+        → ArePassed (IsTakenBefore files) items.now start (index + 1) omissions.new.items names.new) }
 {
     let item = &items[index];
     if !is_kept(omissions.as_slice(), item.place.file) {

@@ -23,7 +23,7 @@ ghost use Rattle.proto_visibility.specs.Tables.Rows.{files_at};
 ghost use Rattle.proto_visibility.specs.Tables.Visits.{visit, visit_all, IsNewAt};
 
 use crate::file_order::FileOrder;
-use crate::rows::{FileRow, Runs};
+use crate::rows::Runs;
 use std::alloc::{AllocError, Global};
 use std::marker::Model;
 
@@ -105,13 +105,6 @@ impl Search {
         ensures few { length self.now.numbers ≤ self.now.files }
     {
         self.numbers.get(index).copied()
-    }
-
-    /// The row of the files that are found.
-    pub(crate) fn to_row(&self, alloc: Global) -> Result<FileRow, AllocError>
-        ensures { IfOk result (λ row. (number : ℕ) → Contains row number ↔ Contains self.now.numbers number) }
-    {
-        FileRow::of(alloc, self.numbers.as_slice())
     }
 
     /// The files that are found, in order of first sight.

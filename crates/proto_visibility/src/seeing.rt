@@ -1,11 +1,12 @@
 //! The files that each file sees, by a search along imports, and the reachable ones: sources, and what they see.
 
 ghost use Rattle.std.specs.Prelude.{ℕ, ◌≡◌, ◌<◌, ◌↔◌, ◌⊎◌, Some, OnOk, IfOk, Contains, length, map, [], MatchOption};
-ghost use Rattle.std.specs.List.{slice_get};
-ghost use Rattle.proto_visibility.specs.Files.{Imports};
+ghost use Rattle.std.specs.Prelude.{All};
+ghost use Rattle.std.specs.List.{slice_get, filter};
+ghost use Rattle.proto_visibility.specs.Files.{Imports, IsSource};
 ghost use Rattle.proto_visibility.specs.Sees.{SeesBy, IsReachable};
 ghost use Rattle.proto_visibility.specs.Tables.ImportTables.{HasStep, AreWithin, AreRowsBy, IsTableOf, IsBegun};
-ghost use Rattle.proto_visibility.specs.Tables.ImportTables.{IsLedTo, IsBegunBySource};
+ghost use Rattle.proto_visibility.specs.Tables.ImportTables.{IsLedTo, IsBegunBy, is_present_at};
 ghost use Rattle.proto_visibility.specs.Tables.Rows.{files_at};
 ghost use Rattle.proto_visibility.specs.Absences.{Broken, NoneBroken};
 
@@ -93,7 +94,7 @@ fn search_from(search: &mut Search, table: &[Steps], file: usize) -> Result<(), 
 }
 
 /// Finds a file and what it imports, but not publicly.
-fn begin(search: &mut Search, table: &[Steps], file: usize) -> Result<(), AllocError>
+pub(crate) fn begin(search: &mut Search, table: &[Steps], file: usize) -> Result<(), AllocError>
     requires within { AreWithin table.now }
     requires files { search.old.files ≡ length table.now }
     requires file { file < length table.now }
@@ -107,7 +108,7 @@ fn begin(search: &mut Search, table: &[Steps], file: usize) -> Result<(), AllocE
 }
 
 /// Finds what public imports lead to from the files that are found.
-fn follow(search: &mut Search, table: &[Steps]) -> Result<(), AllocError>
+pub(crate) fn follow(search: &mut Search, table: &[Steps]) -> Result<(), AllocError>
     requires within { AreWithin table.now }
     requires files { search.old.files ≡ length table.now }
     ensures files { OnOk result (search.new.files ≡ search.old.files) }
@@ -122,7 +123,8 @@ fn follow(search: &mut Search, table: &[Steps]) -> Result<(), AllocError>
     Ok(())
 }
 
-/// The row of the reachable files, by the steps of all files: one search from all sources.
+/// The row of the reachable files, by the steps of all files: one search from all sources finds them, and those that are
+/// left out.
 pub(crate) fn reachable_files(
     alloc: Global,
     files: &[LinkFile],
@@ -134,8 +136,28 @@ pub(crate) fn reachable_files(
     let mut search = Search::new(alloc, table.len())?;
     begin_sources(&mut search, files, table)?;
     follow(&mut search, table)?;
-    let reachable = search.to_row(alloc)?;
+    let present = present_among(alloc, files, search.found())?;
+    let reachable = FileRow::of(alloc, present.as_slice())?;
     Ok(reachable)
+}
+
+/// Those of these files that aren't left out, in order.
+fn present_among(
+    alloc: Global,
+    files: &[LinkFile],
+    numbers: &[usize],
+) -> Result<Vec<usize>, AllocError>
+    requires { All (λ number. number < length files.now) numbers.now }
+    ensures { IfOk result (λ present. present.items ≡ filter (is_present_at files.now) numbers.now) }
+{
+    let mut present = Vec::new(alloc);
+    for number in numbers {
+        if files[*number].is_left_out() {
+            continue;
+        }
+        present.push(*number)?;
+    }
+    Ok(present)
 }
 
 /// Finds the sources, and what they import, but not publicly.
@@ -144,16 +166,31 @@ fn begin_sources(search: &mut Search, files: &[LinkFile], table: &[Steps]) -> Re
     requires files { search.old.files ≡ length table.now }
     requires none { search.old.numbers ≡ [] }
     ensures files { OnOk result (search.new.files ≡ search.old.files) }
-    ensures begun { OnOk result ((number : ℕ) → Contains search.new.numbers number ↔ IsBegunBySource files.now table.now
+    ensures begun { OnOk result ((number : ℕ) → Contains search.new.numbers number ↔ IsBegunBy (IsSource files.now) table.now
         (length files.now) number) }
 {
     for (number, file) in files.iter().enumerate() {
-        if file.is_included() {
+        if !file.is_source() {
             continue;
         }
         begin(search, table, number)?;
     }
     Ok(())
+}
+
+/// The row of the sources.
+pub(crate) fn source_files(alloc: Global, files: &[LinkFile]) -> Result<FileRow, AllocError>
+    ensures { IfOk result (λ sources. (number : ℕ) → Contains sources number ↔ IsSource files.now number) }
+{
+    let mut numbers = Vec::new(alloc);
+    for (number, file) in files.iter().enumerate() {
+        if !file.is_source() {
+            continue;
+        }
+        numbers.push(number)?;
+    }
+    let sources = FileRow::of(alloc, numbers.as_slice())?;
+    Ok(sources)
 }
 
 /// The least of the reachable files that have no facts.

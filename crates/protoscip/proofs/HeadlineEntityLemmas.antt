@@ -19,17 +19,14 @@ use Rattle.proto_decl.specs.declared.uses.Component.{Component}
 use Rattle.proto_visibility.specs.declared.lookup.Entity.{Entity as Part}
 use Rattle.proto_visibility.specs.declared.lookup.Entity.TheVariants as link
 use Rattle.proto_visibility.specs.Clashes.{NoClash}
-use Rattle.proto_visibility.specs.Files.{File, HasFacts, HaveOrigins, HasPath, IsSource}
-use Rattle.proto_visibility.specs.Knows.{NameKind, Knows}
-use Rattle.proto_visibility.specs.Knows.NameKind.{OfPackage as IsPackageKind}
-use Rattle.proto_visibility.specs.Knows.Knows.{declared as known_declared, packaged as known_packaged}
+use Rattle.proto_visibility.specs.Files.{File, HasFacts, HaveOrigins, HasPath, IsPresent, IsSource}
 use Rattle.proto_visibility.specs.Sees.{IsReachable}
 use Rattle.proto_visibility.specs.Sees.LeadsTo.{at_once}
 use Rattle.proto_visibility.specs.Sees.SeesBy.{import}
 use Rattle.proto_visibility.specs.Sees.IsReachable.{seen}
-use Rattle.basics.proofs.FirstLemmas.{contained, at_contained}
-use Rattle.proto_link.specs.Targets.{IsNamed}
-use Rattle.proto_link.specs.Targets.IsNamed.{packaged as named_package, declared as named_declared}
+use Rattle.basics.proofs.FirstLemmas.{contained}
+use Rattle.proto_visibility.specs.Knows.{IsEntityOf as IsNamed}
+use Rattle.proto_visibility.specs.Knows.IsEntityOf.{packaged as named_package, declared as named_declared}
 use Rattle.scip_symbol.specs.Package.{Package, IsPackage}
 use Rattle.scip_model.specs.Packages.{Packages, ArePackages, package_of_path, package_of_file, package_of_part}
 use Rattle.scip_symbol.specs.Entities.{Entity, OfFile, OfPackage, OfDeclaration, IsEntity}
@@ -48,7 +45,6 @@ use Rattle.scip_records.specs.declared.records.Occurrence.{Occurrence}
 use Rattle.protoscip.specs.NameLaws.{LawsOfNames}
 use Rattle.protoscip.specs.Headline.{IsEntityOf, of_file, of_package, of_declaration, entity_of, package_of_entity}
 use Rattle.protoscip.proofs.HeadlineDottedLemmas.{same_front}
-use Rattle.scip_build.proofs.LinkingLemmas.{mapped_at}
 
 -- what they say of identifiers
 spelled : LawsOfNames → AreIdentifiers
@@ -79,8 +75,8 @@ module _ (files : List File) (origins : HaveOrigins files) (laws : LawsOfNames) 
   imported_is source is facts imported has listed there = named there
     where
       counts : (number : ℕ) (file : File) → slice_get files number ≡ Some file → file.path ≡ imported.path
-          → IsReachable files number
-      counts number file at path =
+          → IsPresent files number → IsReachable files number
+      counts number file at path present =
           seen is (import (record {
             facts = facts;
             import = imported;
@@ -90,47 +86,38 @@ module _ (files : List File) (origins : HaveOrigins files) (laws : LawsOfNames) 
             kind = refl;
             numbered = at;
             path = path;
-          }) at_once)
+          }) at_once) present
 
       named : HasPath files imported.path → IsEntityOf files (OfFile imported.path)
       named there =
-          let at = mapped_at (λ (file : File). file.path) files there.0 imported.path
-          (at_contained (map (λ (file : File). file.path) files) imported.path there) in
+          let at = there.1 in
           let Is : List ℕ → Type 0 = λ path. IsEntityOf files (OfFile path) in
-          subst Is (sym at.2) (of_file (counts there.0 at.0 at.1 (sym at.2)) at.1)
+          subst Is at.2 (of_file (counts there.0 at.0 at.1 at.2 there.2) at.1)
 
-  -- a package that a source knows
-  known_package : (source : ℕ) → IsSource files source → (name : List ℕ) (kind : NameKind)
-      → Knows files source name kind → kind ≡ IsPackageKind
-      → (whole : List ℕ) (count : ℕ) → 0 < count → name ≡ prefix_of whole count
+  -- a package of the file that declares what a use names
+  named_package_is : {owner : ℕ} {facts : Facts} → IsReachable files owner → HasFacts files owner facts
+      → (whole : List ℕ) (number : ℕ) (part : Part) → 0 < number
+      → IsNamed owner facts (prefix_of whole number) number part → (count : ℕ) → part ≡ link.Package count
       → IsEntityOf files (OfPackage (take count (components_of whole)))
-  known_package source is _ _ (known_declared sees has listed) kind whole count one front = absurd (cc)
-  known_package source is _ _
-      (known_packaged {seen = number} {count = few} {facts = facts} sees has some within) kind whole count one front =
-      let same = same_front whole count few facts.package_name one some (omega (arith, some, within))
-      (laws.simple facts (origins number facts has)) front in
-      let Is : List (List ℕ) → Type 0 = λ parts. IsEntityOf files (OfPackage parts) in
-      subst Is (sym same) (of_package (seen is sees) has some within)
-
-  named_package_is : (source : ℕ) → IsSource files source → (name : List ℕ) (number : ℕ) (part : Part) → 0 < number
-      → IsNamed files source name number part → (count : ℕ) → part ≡ link.Package count
-      → IsEntityOf files (OfPackage (take count (components_of name)))
-  named_package_is source is name number _ one (named_package known) count same =
-      let Is : ℕ → Type 0 = λ n. IsEntityOf files (OfPackage (take n (components_of name))) in
-      subst Is (count_of number count same)
-      (known_package source is (prefix_of name number) IsPackageKind known refl name number one refl)
+  named_package_is {owner} {facts} counts has whole number _ one (named_package prefix) count same =
+      let Of : List (List ℕ) → Type 0 = λ parts. IsEntityOf files (OfPackage parts) in
+      let Is : ℕ → Type 0 = λ n. IsEntityOf files (OfPackage (take n (components_of whole))) in
+      let few = prefix.1 in
+      let within = prefix.2 in
+      let front = same_front whole number prefix.0 facts.package_name one few (omega (arith, few, within))
+      (laws.simple facts (origins owner facts has)) (sym prefix.3) in
+      subst Is (count_of number count same) (subst Of (sym front) (of_package counts has few within))
     where
       count_of : (a b : ℕ) → link.Package a ≡ link.Package b → a ≡ b
       count_of a b e = cc
-  named_package_is source is name number _ one (named_declared sees has at full) count same = absurd (cc)
+  named_package_is counts has whole number _ one (named_declared at full) count same = absurd (cc)
 
-  named_file_counts : (source : ℕ) → IsSource files source → (name : List ℕ) (number : ℕ) (part : Part)
-      → IsNamed files source name number part → (file index : ℕ) → part ≡ link.Declared file index
-      → IsReachable files file
-  named_file_counts source is name number _ (named_package known) file index same = absurd (cc)
-  named_file_counts source is name number _
-      (named_declared {seen = other} {index = its} sees has at full) file index same =
-      subst (IsReachable files) (file_of other its file index same) (seen is sees)
+  named_file_counts : {owner : ℕ} {facts : Facts} {name : List ℕ} {number : ℕ} (part : Part)
+      → IsReachable files owner → IsNamed owner facts name number part → (file index : ℕ)
+      → part ≡ link.Declared file index → IsReachable files file
+  named_file_counts _ counts (named_package prefix) file index same = absurd (cc)
+  named_file_counts {owner} _ counts (named_declared {index = its} at full) file index same =
+      subst (IsReachable files) (file_of owner its file index same) counts
     where
       file_of : (a b c d : ℕ) → link.Declared a b ≡ link.Declared c d → a ≡ c
       file_of a b c d e = cc
@@ -138,12 +125,18 @@ module _ (files : List File) (origins : HaveOrigins files) (laws : LawsOfNames) 
   component_is : (source : ℕ) → IsSource files source → (component : Component) (part : Part) (entity : Entity)
       → NamesIn files source component part entity → IsEntityOf files entity
   component_is source is component (link.Package count) entity names =
-      let named = names.is_target.named names.index (link.Package count) names.part_is in
+      let target = names.is_target in
+      let owned = target.names.owned in
+      let named = target.named names.index (link.Package count) names.part_is in
       subst (IsEntityOf files) (sym names.entity_is)
-      (named_package_is source is names.target.name _ (link.Package count) (omega arith) named count refl)
+      (named_package_is (seen is owned.gives.sees owned.present) target.known names.target.name _ (link.Package count)
+      (omega arith) named count refl)
   component_is source is component (link.Declared file index) entity names =
-      let named = names.is_target.named names.index (link.Declared file index) names.part_is in
-      let counts = named_file_counts source is names.target.name _ (link.Declared file index) named file index refl in
+      let target = names.is_target in
+      let owned = target.names.owned in
+      let named = target.named names.index (link.Declared file index) names.part_is in
+      let counts = named_file_counts (link.Declared file index) (seen is owned.gives.sees owned.present) named file index
+      refl in
       subst (IsEntityOf files) (sym names.entity_is.is) (of_declaration counts names.entity_is.has)
 
   module _ (chosen : Chosen) (ids : Packages) (encoding : Encoding) (source : ℕ) (text : List ℕ) where
@@ -351,9 +344,11 @@ module _ (files : List File) (origins : HaveOrigins files) (good : HaveGoodPaths
       part_home component (link.Package count) entity names is =
           sym (package_home (take count (components_of names.target.name)) entity is names.entity_is)
       part_home component (link.Declared number index) entity names is =
-          let named = names.is_target.named names.index (link.Declared number index) names.part_is in
-          let counts = named_file_counts files origins laws source is_source names.target.name _
-          (link.Declared number index) named number index refl in
+          let target = names.is_target in
+          let owned = target.names.owned in
+          let named = target.named names.index (link.Declared number index) names.part_is in
+          let counts = named_file_counts files origins laws (link.Declared number index)
+          (seen is_source owned.gives.sees owned.present) named number index refl in
           let of = names.entity_is in
           sym (declaration_home number index of.facts of.declaration counts of.has entity is of.is)
 

@@ -1,20 +1,20 @@
 -- The files that a fault of a build names are files of its tree.
-use Rattle.std.proofs.Common.{◌≡◌, ◌∙◌, inl, inr, ℕ, ◌<◌, List, length, Option, Some, None, sym, subst}
+use Rattle.std.proofs.Common.{◌≡◌, ◌∙◌, inl, inr, ℕ, ◌<◌, false, List, length, Option, Some, None, sym, subst}
 use Rattle.std.specs.List.{Contains, slice_get}
 use Rattle.std.proofs.lemmas.List.Elements.{All-contains_itself, All-weaker}
 use Rattle.std.proofs.lemmas.Option.{slice_get_within}
 use Rattle.std.proofs.lemmas.List.{length-map}
-use Rattle.proto_visibility.proofs.KeptLemmas.{file_of as of_item}
 use Rattle.comment_texts.specs.declared.form.CommentForm.{CommentForm}
 use Rattle.proto_parse.specs.dialect.Dialect.{Dialect}
 use Rattle.proto_decl.specs.Values.{Seen}
 use Rattle.proto_visibility.specs.declared.files.FilePlace.{FilePlace}
 use Rattle.proto_visibility.specs.declared.omissions.FileOmission.{FileOmission}
 use Rattle.proto_visibility.specs.declared.omissions.FileOmission.TheVariants as left_for
-use Rattle.proto_visibility.specs.Files.{File}
+use Rattle.proto_visibility.specs.Files.{File, IsPresent}
+use Rattle.proto_visibility.specs.Sees.IsReachable.{seen}
+use Rattle.proto_visibility.proofs.ItemAllLemmas.{file_within}
 use Rattle.proto_visibility.specs.Linked.MayRefuse.{clashing, absent_import}
-use Rattle.proto_visibility.specs.Kept.{Omissions, IsOmission, AreOmissions, kept_of, number_among_all}
-use Rattle.proto_visibility.specs.Clashes.{Item, IsItem, declared, packaged}
+use Rattle.proto_visibility.specs.Kept.{Omissions, IsOmission, AreOmissions, number_among_all}
 use Rattle.proto_visibility.specs.Absences.{IsNeeded, of_source, of_included}
 use Rattle.proto_decl.specs.declared.imports.Imported.{Imported}
 use Rattle.index_hooks.specs.declared.choice.Choice.{Choice}
@@ -23,6 +23,7 @@ use Rattle.scip_build.specs.Builds.{IsBuilt, IsBuildFault}
 use Rattle.scip_build.specs.Kept.{IsLeftFor, IsTold}
 use Rattle.scip_build.specs.Kept.IsTold.{of_file, of_import as told_import, of_use}
 use Rattle.scip_build.specs.Files.{ReadFile}
+use Rattle.scip_build.specs.Keeping.{linked_of}
 use Rattle.scip_build.specs.Linking.{linked_file, linked_files, HasFault}
 use Rattle.scip_build.specs.Linking.MayRefuseParsed.{is_unread, is_duplicate, is_missing}
 use Rattle.scip_build.specs.declared.faulty.Faulty.{Faulty}
@@ -38,7 +39,7 @@ use Rattle.scip_build.specs.declared.fault.FileFault.{FileFault}
 use Rattle.scip_build.specs.declared.fault.FileFault.TheVariants as file
 use Rattle.protoscip.specs.Faults.{fault_of_build, fault_of_omission}
 use Rattle.protoscip.specs.FaultLines.{HasFile, HasFilesOf, HaveFilesOf}
-use Rattle.protoscip.proofs.HeadlineLinkedLemmas.{at_all_linked}
+use Rattle.protoscip.proofs.HeadlineLinkedLemmas.{present_origin}
 
 -- and so does an import that has to be there
 of_import : (files : List File) (number : ℕ) (import : Imported) → IsNeeded files number import → number < length files
@@ -69,8 +70,8 @@ module _ (allows : Seen → Choice → Type 0) (faulty : Faulty) (dialect : Dial
       subst (λ (n : ℕ). number < n) are.one_each (slice_get_within parsed number has.parsed_file has.numbered)
   files_of_build workers (build.Duplicate first second) (refuse, (parsed, are, is_duplicate (clashing read clash))) =
       let files = linked_files parsed in
-      let earlier = of_item files clash.earlier clash.exclude.first_is in
-      let later = of_item files clash.later clash.exclude.second_is in
+      let earlier = file_within clash.earlier clash.exclude.first_is in
+      let later = file_within clash.later clash.exclude.second_is in
       let Within : FilePlace → Type 0 = λ place. place.file < length files in (
         in_tree Refuse parsed first.file are (subst Within clash.first_is earlier),
         in_tree Refuse parsed second.file are (subst Within clash.second_is later),
@@ -93,14 +94,15 @@ module _ (allows : Seen → Choice → Type 0) (faulty : Faulty) (dialect : Dial
   within : (number : ℕ) → number < length (linked_files all) → HasFile tree number
   within number = in_tree allows faulty dialect form tree faulty all number read
 
-  abbrev kept : List File
-  kept = linked_files (kept_of omissions all)
+  abbrev linked : List File
+  linked = linked_files (linked_of omissions all)
 
-  kept_within : (number : ℕ) (file : File) → slice_get kept number ≡ Some file
+  kept_within : (number : ℕ) (file : File) → slice_get linked number ≡ Some file → file.is_left_out ≡ false
       → HasFile tree (number_among_all omissions number)
-  kept_within number file at =
+  kept_within number file at present =
       let there = number_among_all omissions number in
-      within there (slice_get_within (linked_files all) there file (at_all_linked omissions all number file at))
+      within there (slice_get_within (linked_files all) there file
+      (present_origin omissions all number file at present))
 
   fault_within : (number : ℕ) (fault : FileFault) → HasFault all number fault
       → HasFilesOf tree (fault_of_omission (omitted.File number fault))
@@ -117,8 +119,8 @@ module _ (allows : Seen → Choice → Type 0) (faulty : Faulty) (dialect : Dial
       subst Has (sym left.2) (fault_within number left.0 left.1)
   of_left number (left_for.Duplicate first second) told out left =
       let files = linked_files all in
-      let earlier = of_item files out.earlier out.exclude.first_is.is_item in
-      let later = of_item files out.later out.exclude.second_is.is_item in
+      let earlier = file_within out.earlier out.exclude.first_is.is_item in
+      let later = file_within out.later out.exclude.second_is.is_item in
       let Within : FilePlace → Type 0 = λ place. place.file < length files in
       let Has : Omission → Type 0 = λ o. HasFilesOf tree (fault_of_omission o) in
       subst Has (sym left) (
@@ -126,16 +128,16 @@ module _ (allows : Seen → Choice → Type 0) (faulty : Faulty) (dialect : Dial
         within second.file (subst Within out.second_is later),
       )
 
-  needed_at : (number : ℕ) (import : Imported) → IsNeeded kept number import
-      → (file : File) × (slice_get kept number ≡ Some file)
-  needed_at number import (of_source source has listed) = (has.file, has.numbered)
-  needed_at number import (of_included counts has listed public) = (has.file, has.numbered)
+  needed_at : (number : ℕ) (import : Imported) → IsNeeded linked number import → IsPresent linked number
+  needed_at number import (of_source is has listed) =
+      record { file = is.file; numbered = is.numbered; present = is.present }
+  needed_at number import (of_included (seen is sees present) has listed public) = present
 
   file_of_told : (told : Omission) → IsTold all omissions told → HasFilesOf tree (fault_of_omission told)
   file_of_told told (of_file n o at left) = of_left n o told (are.each n (Some o) at) left
   file_of_told _ (told_import p missing) =
-      let at = needed_at p.file missing.import missing.needed in kept_within p.file at.0 at.1
-  file_of_told _ (of_use p is) = kept_within p.file is.source.file is.source.numbered
+      let at = needed_at p.file missing.import missing.needed in kept_within p.file at.file at.numbered at.present
+  file_of_told _ (of_use p is) = kept_within p.file is.source.file is.source.numbered is.source.present
 
   pub files_of_told : (told : List Omission)
       → ((omission : Omission) → Contains told omission → IsTold all omissions omission)

@@ -9,11 +9,13 @@ use Rattle.proto_decl.specs.Values.{Seen}
 use Rattle.proto_decl.specs.Facts.{Facts}
 use Rattle.proto_decl.specs.declared.uses.Use.{Use}
 use Rattle.proto_visibility.specs.Files.{File, HasFacts, IsSource, HaveOrigins}
-use Rattle.proto_visibility.specs.Kept.{Omissions, kept_of, number_among_all}
+use Rattle.proto_visibility.specs.Kept.{Omissions}
+use Rattle.proto_visibility.proofs.KeptAmongLemmas.{origin}
 use Rattle.basics.proofs.FirstLemmas.{contained}
 use Rattle.index_hooks.specs.declared.choice.Choice.{Choice}
 use Rattle.source_tree.specs.Files.{TreeFile}
 use Rattle.scip_symbol.specs.Package.{Package}
+use Rattle.scip_symbol.specs.Path.{IsGoodPath}
 use Rattle.scip_model.specs.Packages.{Packages, ArePackages}
 use Rattle.scip_symbol.specs.Entities.{Entity}
 use Rattle.scip_model.specs.Chosen.{Chosen}
@@ -31,6 +33,7 @@ use Rattle.scip_query.specs.Sites.{Site, Numbered}
 use Rattle.scip_build.specs.Builds.{IsBuilt}
 use Rattle.scip_build.specs.Documents.{texts_of}
 use Rattle.scip_build.specs.Files.{ReadFile}
+use Rattle.scip_build.specs.Keeping.{linked_of}
 use Rattle.scip_build.specs.Linking.{linked_files}
 use Rattle.scip_build.specs.declared.built.Built.{Built}
 use Rattle.scip_build.specs.declared.faulty.Faulty.{Faulty}
@@ -41,7 +44,7 @@ use Rattle.protoscip.specs.Headline.{IsSiteOf, IsDefinitionOf}
 use Rattle.protoscip.specs.Headline.{IsAt, Answers, AnswersNames, Headline, linked}
 use Rattle.protoscip.specs.NameLaws.{LawsOfNames}
 use Rattle.protoscip.proofs.HeadlineEntityLemmas.{entity_is, symbol_is, one_entity, one_symbol, own_entity}
-use Rattle.protoscip.proofs.HeadlineLinkedLemmas.{at_all_linked, have_origins, good_paths}
+use Rattle.protoscip.proofs.HeadlineLinkedLemmas.{linked_origin, have_origins, good_paths}
 use Rattle.protoscip.proofs.UseLawLemmas.{component_names}
 use Rattle.protoscip.proofs.HeadlineSiteLemmas.{IsAsked, asked, of_symbol, defining, just}
 
@@ -85,20 +88,22 @@ resolves {settings = settings} built source facts type_use is has listed named =
         let Resolve : List ReadFile → Type 0 = λ rs. AllResolve (linked_files rs) in
         subst Resolve (sym good.all_kept) good.resolved source facts type_use is has listed
 
--- what holds of all files holds of those that are kept
+-- what holds of all files holds of them as they are linked
 kept_origins : (omissions : Omissions) (all : List ReadFile) → HaveOrigins (linked_files all)
-    → HaveOrigins (linked_files (kept_of omissions all))
+    → HaveOrigins (linked_files (linked_of omissions all))
 kept_origins omissions all origins number facts has =
-    origins (number_among_all omissions number) facts (record {
-      file = has.file;
-      numbered = at_all_linked omissions all number has.file has.numbered;
-      known = has.known;
+    let o = linked_origin omissions all number has.file has.numbered in
+    origins (origin (linked_files all) omissions number) facts (record {
+      file = o.original;
+      numbered = o.numbered;
+      known = o.facts ∙ has.known;
     })
 
 kept_paths : (omissions : Omissions) (all : List ReadFile) → HaveGoodPaths (linked_files all)
-    → HaveGoodPaths (linked_files (kept_of omissions all))
+    → HaveGoodPaths (linked_files (linked_of omissions all))
 kept_paths omissions all good number file at =
-    good (number_among_all omissions number) file (at_all_linked omissions all number file at)
+    let o = linked_origin omissions all number file at in
+    subst IsGoodPath o.path (good (origin (linked_files all) omissions number) o.original o.numbered)
 
 module _ {allows : Seen → Choice → Type 0} {settings : Settings} {tree : List TreeFile} {result : Built}
     (built : IsBuilt allows settings tree result)
@@ -114,7 +119,12 @@ module _ {allows : Seen → Choice → Type 0} {settings : Settings} {tree : Lis
       (has : HasDocument (linked built)
       (texts_of built.of_files.parsed) result.choices settings.package settings.encoding document)
       → IsSource (linked built) has.source
-  source_of document has = record { file = has.is.file; numbered = has.is.numbered; source = has.is.is_source }
+  source_of document has = record {
+    file = has.is.file;
+    numbered = has.is.numbered;
+    source = has.is.is_source;
+    present = has.is.present;
+  }
 
   of_files : (entity : Entity) (document : Document) (o : Occurrence) → IsOf built entity document o
       → IsEntityOf (linked built) entity

@@ -1,7 +1,5 @@
 -- Files that were read are linked with facts of their texts, and under the tree's paths.
-use Rattle.std.proofs.Common.{◌≡◌, ◌∙◌, ℕ, ◌<◌, List, [], ◌∷◌, length, Some, None, Result, Ok, Err, ap}
-use Rattle.std.proofs.Common.{sym}
-use Rattle.std.proofs.Common.{refl, subst}
+use Rattle.std.proofs.Common.{◌≡◌, ◌∙◌, ℕ, ◌<◌, false, List, length, Some, None, Result, Ok, Err, ap, sym, refl, subst}
 use Rattle.std.specs.Prelude.{All}
 use Rattle.std.specs.List.{slice_get}
 use Rattle.std.proofs.lemmas.Option.{same_Some, none-some, slice_get_within}
@@ -13,8 +11,8 @@ use Rattle.proto_decl.specs.Facts.{Facts, AreFactsOf, AreOfSomeFile}
 use Rattle.proto_decl.specs.Values.{Seen}
 use Rattle.index_hooks.specs.declared.choice.Choice.{Choice}
 use Rattle.proto_visibility.specs.Files.{File, HaveOrigins}
-use Rattle.proto_visibility.specs.Kept.{Omissions, kept_of, number_among_all}
-use Rattle.proto_visibility.proofs.KeptLemmas.{at_all}
+use Rattle.proto_visibility.specs.Kept.{Omissions, number_among_all}
+use Rattle.proto_visibility.proofs.KeptAmongLemmas.{IsOrigin, at_all, origin, original, present_kept}
 use Rattle.basics.proofs.FirstLemmas.{contained}
 use Rattle.scip_symbol.specs.Path.{IsGoodPath}
 use Rattle.scip_model.specs.Conditions.{HaveGoodPaths}
@@ -24,24 +22,27 @@ use Rattle.scip_build.specs.Parsed.{AreFactsIn}
 use Rattle.scip_build.specs.Files.{FileContents, ReadFile}
 use Rattle.scip_build.specs.declared.faulty.Faulty.{Faulty}
 use Rattle.scip_build.specs.ParsedFiles.{HasContents, IsParsedFile, AreParsedFiles}
+use Rattle.scip_build.specs.Keeping.{linked_of}
 use Rattle.scip_build.specs.Linking.{facts_in, linked_file, linked_files}
+use Rattle.scip_build.proofs.KeptTreeLemmas.{linked_is}
 use Rattle.scip_build.proofs.LinkingLemmas.{mapped_at}
 
--- the files that are kept, among all
-linked_kept : (omissions : Omissions) (all : List ReadFile)
-    → linked_files (kept_of omissions all) ≡ kept_of omissions (linked_files all)
-linked_kept [] all = refl
-linked_kept (None ∷ omissions) [] = refl
-linked_kept (Some fault ∷ omissions) [] = refl
-linked_kept (None ∷ omissions) (parsed_file ∷ all) = ap (λ fs. linked_file parsed_file ∷ fs) (linked_kept omissions all)
-linked_kept (Some fault ∷ omissions) (parsed_file ∷ all) = linked_kept omissions all
+-- a file as it is linked, among all
+pub linked_origin : (omissions : Omissions) (all : List ReadFile) (number : ℕ) (file : File)
+    → slice_get (linked_files (linked_of omissions all)) number ≡ Some file
+    → IsOrigin (linked_files all) omissions (origin (linked_files all) omissions number) file
+linked_origin omissions all number file at =
+    original (linked_files all) omissions number file
+    (subst (λ fs. slice_get fs number ≡ Some file) (linked_is omissions all) at)
 
-pub at_all_linked : (omissions : Omissions) (all : List ReadFile) (number : ℕ) (file : File)
-    → slice_get (linked_files (kept_of omissions all)) number ≡ Some file
+-- one that isn't left out is kept
+pub present_origin : (omissions : Omissions) (all : List ReadFile) (number : ℕ) (file : File)
+    → slice_get (linked_files (linked_of omissions all)) number ≡ Some file → file.is_left_out ≡ false
     → slice_get (linked_files all) (number_among_all omissions number) ≡ Some file
-at_all_linked omissions all number file at =
+present_origin omissions all number file at present =
     at_all omissions (linked_files all) number file
-    (subst (λ fs. slice_get fs number ≡ Some file) (linked_kept omissions all) at)
+    (present_kept (linked_files all) omissions number file
+    (subst (λ fs. slice_get fs number ≡ Some file) (linked_is omissions all) at) present)
 
 module _ (faulty : Faulty) (dialect : Dialect) (form : CommentForm) (allows : Seen → Choice → Type 0)
     (tree : List TreeFile) (parsed : List ReadFile)

@@ -10,6 +10,7 @@ use Rattle.scip_build.specs.Builds.{IsBuilt}
 use Rattle.scip_build.specs.declared.built.Built.{Built}
 use Rattle.scip_build.specs.declared.settings.Settings.{Settings}
 use Rattle.scip_query.specs.declared.answer_fault.AnswerFault.{AnswerFault}
+use Rattle.scip_query.specs.declared.manner.Manner.{Manner}
 use Rattle.scip_query.specs.declared.answer_fault.AnswerFault.TheVariants as answer
 use Rattle.scip_wire.specs.Spelling.{spelling_of}
 use Rattle.protoscip.specs.Faults.{fault_of_answering}
@@ -21,22 +22,22 @@ use Rattle.protoscip.specs.Conversing.Converses.{first_lacks_memory, has_too_man
 use Rattle.protoscip.specs.Sessions.{AreAnswered, MayAnswer, IsServed, Serves}
 use Rattle.protoscip.specs.declared.fault.Fault.{Fault}
 
-module _ {R W : Type 0} (commands : Reader R) (answers : Writer W) where
+module _ {R W : Type 0} (manner : Manner) (commands : Reader R) (answers : Writer W) where
   -- commands are answered from an index that was read back
   module _ (index read : Index) (spelled : IsSpelled index (spelling_of index)) (same : read ≡ index) where
     pub conversed : (answered : Result (Unit {0}) AnswerFault)
-        → AreAnswered commands answers read answered
-        → AreAnsweredFrom commands answers index
+        → AreAnswered manner commands answers read answered
+        → AreAnsweredFrom manner commands answers index
         answered
     conversed answered are =
         record {
           spelled = spelled;
-          are = subst (λ (i : Index). AreAnswered commands answers i answered) same are;
+          are = subst (λ (i : Index). AreAnswered manner commands answers i answered) same are;
         }
 
     pub stopped : (e : AnswerFault)
-        → MayAnswer commands answers read (Err e)
-        → Converses commands answers index
+        → MayAnswer manner commands answers read (Err e)
+        → Converses manner commands answers index
         (Err (fault_of_answering e))
     stopped answer.Read are = reading_stops (conversed (Err answer.Read) are)
     stopped (answer.Write count) are = writing_stops (conversed (Err (answer.Write count)) are)
@@ -44,8 +45,8 @@ module _ {R W : Type 0} (commands : Reader R) (answers : Writer W) where
     stopped answer.Memory (inr are) = answer_lacks_memory (conversed (Err answer.Memory) are)
 
   pub may_answer : (index : Index) (answered : Result (Unit {0}) AnswerFault)
-      → AreAnswered commands answers index answered
-      → MayAnswer commands answers index answered
+      → AreAnswered manner commands answers index answered
+      → MayAnswer manner commands answers index answered
   may_answer index (Ok done) are = are
   may_answer index (Err answer.Read) are = are
   may_answer index (Err (answer.Write count)) are = are
@@ -55,9 +56,9 @@ module _ {R W : Type 0} (commands : Reader R) (answers : Writer W) where
   module _ (allows : Seen → Choice → Type 0) (settings : Settings) (tree : List TreeFile) (workers : ℕ) (built : Built)
       (is : IsBuilt allows settings tree built) where
     served : (answered : Result (Unit {0}) AnswerFault)
-        → AreAnsweredFrom commands answers built.index
+        → AreAnsweredFrom manner commands answers built.index
         answered
-        → IsServed commands answers allows settings tree (recorded_of built.choices built.told) answered
+        → IsServed manner commands answers allows settings tree (recorded_of built.choices built.told) answered
     served answered from = record {
       bytes = spelling_of built.index;
       indexed = record { index = built.index; built = is; spelled = from.spelled };
@@ -65,9 +66,9 @@ module _ {R W : Type 0} (commands : Reader R) (answers : Writer W) where
     }
 
     pub unserved : (e : Fault)
-        → Converses commands answers built.index
+        → Converses manner commands answers built.index
         (Err e)
-        → Serves commands answers allows settings tree workers (Err e)
+        → Serves manner commands answers allows settings tree workers (Err e)
     unserved _ (reading_stops from) = (recorded_of built.choices built.told, served _ from)
     unserved _ (writing_stops from) = (recorded_of built.choices built.told, served _ from)
     unserved _ (answer_lacks_memory from) = inr (recorded_of built.choices built.told, served _ from)
@@ -75,14 +76,14 @@ module _ {R W : Type 0} (commands : Reader R) (answers : Writer W) where
     unserved _ (has_too_many_bytes large untouched) = ((built, is, large), untouched)
 
     pub all_served : (done : Unit {0})
-        → Converses commands answers built.index
+        → Converses manner commands answers built.index
         (Ok done)
-        → Serves commands answers allows settings tree workers (Ok (recorded_of built.choices built.told))
+        → Serves manner commands answers allows settings tree workers (Ok (recorded_of built.choices built.told))
     all_served done (all_are_answered from) = served (Ok tt) from
 
   -- it has no fault of a file
   pub no_files : (tree : List TreeFile) (index : Index) (e : Fault)
-      → Converses commands answers index (Err e)
+      → Converses manner commands answers index (Err e)
       → HasFilesOf tree e
   no_files tree index _ (reading_stops from) = tt
   no_files tree index _ (writing_stops from) = tt

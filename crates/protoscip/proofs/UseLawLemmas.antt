@@ -1,5 +1,5 @@
 -- A use that names a type has a target, so each component of a use of a source names an entity.
-use Rattle.std.proofs.Common.{◌≡◌, ◌+◌, ◌-◌, ◌<◌, ◌≤◌, ℕ, zero, suc, true, List, [], ◌∷◌, length, take, Some, ap, refl}
+use Rattle.std.proofs.Common.{◌≡◌, ◌+◌, ◌-◌, ◌<◌, ◌≤◌, ℕ, zero, suc, true, List, [], ◌∷◌, length, take, Some, ap, sym, refl}
 use Rattle.std.proofs.Common.{subst, arith}
 use Rattle.std.specs.Prelude.{Contains}
 use Rattle.std.specs.List.{slice_get}
@@ -17,14 +17,11 @@ use Rattle.proto_decl.specs.declared.uses.Use.{Use}
 use Rattle.proto_visibility.specs.declared.lookup.Entity.{Entity as Part}
 use Rattle.proto_visibility.specs.declared.lookup.Entity.TheVariants as link
 use Rattle.proto_visibility.specs.Files.{File, HasFacts, HaveOrigins, IsSource}
-use Rattle.proto_visibility.specs.Sees.{Sees}
-use Rattle.proto_visibility.specs.Knows.{NameKind, Knows, is_type}
-use Rattle.proto_visibility.specs.Knows.NameKind.{OfPackage as IsPackageKind}
-use Rattle.proto_visibility.specs.Knows.Knows.{declared as known_declared, packaged as known_packaged}
+use Rattle.proto_visibility.specs.Knows.{NameKind, DeclaresName, IsEntityOf as IsNamed, is_type}
+use Rattle.proto_visibility.specs.Knows.DeclaresName.{declared as gives_declared, packaged as gives_packaged}
+use Rattle.proto_visibility.specs.Knows.IsEntityOf.{packaged as named_package, declared as named_declared}
 use Rattle.basics.proofs.FirstLemmas.{at_contained}
-use Rattle.proto_link.specs.Targets.{IsNamed}
-use Rattle.proto_link.specs.Targets.IsNamed.{packaged as named_package, declared as named_declared}
-use Rattle.proto_link.proofs.TargetLemmas.{used_fit, resolved_type}
+use Rattle.proto_link.proofs.TargetLemmas.{gives_type, used_fit}
 use Rattle.scip_symbol.specs.Entities.{Entity, OfPackage}
 use Rattle.scip_model.specs.Conditions.{IsResolved}
 use Rattle.scip_model.specs.Named.{NamesIn, IsNamedAs, declaration_at}
@@ -55,42 +52,45 @@ are_each P (suc n) at =
 
 -- ---- what the first components of a type's name name
 
-module _ (files : List File) (file : ℕ) where
-  -- a file that is seen names it, so that it is known
-  entity_named : (seen : ℕ) (facts : Facts) → Sees files file seen → HasFacts files seen facts
-      → (name : List ℕ) (count : ℕ) (front : List ℕ) → IsEntity facts front → front ≡ prefix_of name count
-      → (part : Part) × IsNamed files file name count part
-  entity_named seen facts sees has name count _ (entity_packaged some few) same =
-      let Is : List ℕ → Type 0 = λ front. Knows files file front IsPackageKind in
-      (link.Package count, named_package (subst Is same (known_packaged sees has some few)))
-  entity_named seen facts sees has name count _ (entity_declared {declaration = declared} there) same =
-      (link.Declared seen there.0, named_declared sees has (at_contained facts.declarations declared there) same)
+-- in the file that declares it
+entity_named : (owner : ℕ) (facts : Facts) (name : List ℕ) (count : ℕ) (front : List ℕ) → IsEntity facts front
+    → front ≡ prefix_of name count → (part : Part) × IsNamed owner facts (prefix_of name count) count part
+entity_named owner facts name count _ (entity_packaged {count = few} some within) same =
+    (link.Package count, named_package (few, some, within, sym same))
+entity_named owner facts name count _ (entity_declared {declaration = declared} there) same =
+    (link.Declared owner there.0, named_declared (at_contained facts.declarations declared there) same)
 
-  module _ (fronts : (facts : Facts) → AreOfSomeFile facts → PrefixesAreEntities facts)
-      (origins : HaveOrigins files) where
-    front_named : (name : List ℕ) (kind : NameKind) → Knows files file name kind → is_type kind ≡ true → (count : ℕ)
-        → 0 < count → count ≤ length (components_of name)
-        → (part : Part) × IsNamed files file name count part
-    front_named _ _ (known_declared {seen = seen} {facts = facts} {declaration = declared} sees has listed) admitted
-        count some few =
-        let Fronts : Declaration → Type 0 = λ d. (n : ℕ) → 0 < n → n ≤ length (components_of d.full_name)
-        → IsEntity facts (prefix_of d.full_name n) in
-        let is = All-contains Fronts facts.declarations declared
-        (fronts facts (origins seen facts has)) listed count some few in
-        entity_named seen facts sees has declared.full_name count (prefix_of declared.full_name count) is refl
-    front_named _ _ (known_packaged sees has some few) admitted count one many = absurd (false≢true admitted)
+module _ (fronts : (facts : Facts) → AreOfSomeFile facts → PrefixesAreEntities facts) where
+  front_named : (owner : ℕ) (facts : Facts) → AreOfSomeFile facts → (name : List ℕ) (kind : NameKind)
+      → DeclaresName facts name kind → is_type kind ≡ true → (count : ℕ) → 0 < count
+      → count ≤ length (components_of name)
+      → (part : Part) × IsNamed owner facts (prefix_of name count) count part
+  front_named owner facts origin _ _ (gives_declared {declaration = declared} listed) admitted count some few =
+      let Fronts : Declaration → Type 0 = λ d. (n : ℕ) → 0 < n → n ≤ length (components_of d.full_name)
+      → IsEntity facts (prefix_of d.full_name n) in
+      let is = All-contains Fronts facts.declarations declared (fronts facts origin) listed count some few in
+      entity_named owner facts declared.full_name count (prefix_of declared.full_name count) is refl
+  front_named owner facts origin _ _ (gives_packaged prefix) admitted count one many = absurd (false≢true admitted)
 
 pub each_use_has_a_target : ((facts : Facts) → AreOfSomeFile facts → PrefixesAreEntities facts) → EachUseHasATarget
-each_use_has_a_target fronts files origins file type_use name resolves =
-    let is = resolved_type files file type_use name resolves in
-    let few = used_fit files file type_use name resolves in
+each_use_has_a_target fronts files origins file type_use name owner names =
+    let few = used_fit files file type_use name names.resolves in
     let skipped = length (components_of name) - length type_use.components in
-    let parts = are_each (λ j part. IsNamed files file name (skipped + j + 1) part) (length type_use.components)
-    (λ j within. front_named files file fronts origins name is.kind is.known is.admitted (skipped + j + 1) (omega arith)
-    (omega (arith, within, few))) in (
+    let giving = gives_type files type_use.is_extended name owner names.owned.gives.giving in
+    let has : HasFacts files owner giving.gives.facts =
+    record { file = giving.file; numbered = giving.numbered; known = giving.gives.known } in
+    let facts = giving.gives.facts in
+    let is = giving.gives.gives in
+    let parts = are_each (λ j part. IsNamed owner facts (prefix_of name (skipped + j + 1)) (skipped + j + 1) part)
+    (length type_use.components)
+    (λ j within. front_named fronts owner facts (origins owner facts has) name is.kind is.gives is.admitted
+    (skipped + j + 1) (omega arith) (omega (arith, within, few))) in (
       record { name = name; parts = parts.list },
       record {
-        resolves = resolves;
+        owner = owner;
+        facts = facts;
+        names = names;
+        known = has;
         skipped = skipped;
         split = omega (arith, few);
         one_each = parts.one_each;
@@ -102,10 +102,11 @@ each_use_has_a_target fronts files origins file type_use name resolves =
 
 module _ (files : List File) (source : ℕ) where
   -- what is named has a symbol
-  named_as : (name : List ℕ) (count : ℕ) (part : Part) → IsNamed files source name count part
-      → (entity : Entity) × IsNamedAs files name part entity
-  named_as name count _ (named_package known) = (OfPackage (take count (components_of name)), refl)
-  named_as name count _ (named_declared {facts = facts} {declaration = declared} sees has at full) = (
+  named_as : (owner : ℕ) (facts : Facts) → HasFacts files owner facts → (name front : List ℕ) (count : ℕ)
+      (part : Part) → IsNamed owner facts front count part → (entity : Entity) × IsNamedAs files name part entity
+  named_as owner facts has name front count _ (named_package prefix) =
+      (OfPackage (take count (components_of name)), refl)
+  named_as owner facts has name front count _ (named_declared {declaration = declared} at full) = (
     declaration_at facts declared,
     record { facts = facts; declaration = declared; has = record { has_facts = has; numbered = at }; is = refl },
   )
@@ -115,9 +116,10 @@ module _ (files : List File) (source : ℕ) where
       → Contains facts.uses type_use → Contains type_use.components component → IsResolved files source type_use
       → (part : Part) × (entity : Entity) × NamesIn files source component part entity
   component_names targets origins facts type_use component is has listed among type_name =
-      let target = targets files origins source type_use type_name.0 type_name.1 in
+      let target = targets files origins source type_use type_name.0 type_name.1 type_name.2 in
       let part = item_at target.0.parts among.0 (omega (arith, among.1, target.1.one_each)) in
-      let entity = named_as target.0.name _ part.0 (target.1.named among.0 part.0 part.1) in (
+      let entity = named_as target.1.owner target.1.facts target.1.known target.0.name _ _ part.0
+      (target.1.named among.0 part.0 part.1) in (
         part.0,
         entity.0,
         record {

@@ -7,7 +7,8 @@ use Rattle.streams.specs.Readers.{Reader, IsReadBriefly, IsUnread}
 use Rattle.streams.specs.Writers.{Writer, IsUntouched}
 use Rattle.scip_records.specs.declared.records.Index.{Index}
 use Rattle.scip_build.specs.declared.settings.Settings.{Settings}
-use Rattle.scip_query.specs.Conversing.{IsConversed, LeavesFeed}
+use Rattle.scip_query.specs.Conversing.{IsConversedIn, LeavesFeed}
+use Rattle.scip_query.specs.declared.manner.Manner.{Manner}
 use Rattle.scip_query.specs.declared.answer_fault.AnswerFault.{AnswerFault}
 use Rattle.scip_query.specs.declared.answer_fault.AnswerFault.TheVariants as answer
 use Rattle.protoscip.specs.Indexes.{IsIndexed, IsRefused}
@@ -20,11 +21,11 @@ pub record AreUntouched {R W : Type 0} (commands : Reader R) (answers : Writer W
   pub unread : IsUnread commands
   pub unwritten : IsUntouched answers
 
-module _ {R W : Type 0} (commands : Reader R) (answers : Writer W) where
-  -- commands are read and answered from an index: what is due to them goes out, or that part of it which the fault
-  -- leaves
+module _ {R W : Type 0} (manner : Manner) (commands : Reader R) (answers : Writer W) where
+  -- commands are read and answered from an index, in a manner: what is due to them goes out, or that part of it which
+  -- the fault leaves
   pub record AreAnswered (index : Index) (answered : Result (Unit {0}) AnswerFault) : Type 0 where
-    pub conversed : IsConversed index commands answers answered
+    pub conversed : IsConversedIn (record { index = index; manner = manner }) commands answers answered
     pub feed : LeavesFeed commands answered
     pub briefly : IsReadBriefly commands
 

@@ -1,6 +1,6 @@
 //! From a tree to the bytes of its index.
 
-ghost use Rattle.std.specs.Prelude.{Ok, Err, IfErr, IfOk, MatchResult, map, string_bytes};
+ghost use Rattle.std.specs.Prelude.{Ok, Err, IfErr, IfOk, MatchResult, string_bytes};
 ghost use Rattle.std.specs.Option.{option_map};
 ghost use Rattle.streams.specs.Writers.{IsWritten, writer};
 ghost use Rattle.scip_records.specs.declared.records.Index.{Index};
@@ -9,7 +9,7 @@ ghost use Rattle.protoscip.specs.Explanations.{explain_in};
 ghost use Rattle.protoscip.specs.FaultLines.{HasFilesOf, HaveFilesOf};
 ghost use Rattle.protoscip.specs.Headline.{IsNavigable};
 ghost use Rattle.protoscip.specs.Indexes.{Indexes, recorded_of};
-ghost use Rattle.protoscip.specs.ToldLines.{IsTextOfAllOmissions, IsTextOfOmissions};
+ghost use Rattle.protoscip.specs.ToldLines.{IsTextOfOmissions};
 ghost use Rattle.protoscip.specs.Writing.{IsRecordOf, WritesIndex};
 
 use crate::as_bytes::AsBytes;
@@ -17,7 +17,7 @@ use crate::explaining::explain_in;
 use crate::fault::Fault;
 use crate::laws::headline_of_tree;
 use crate::recorded::Recorded;
-use crate::telling::{Telling, text_of_omissions};
+use crate::telling::{Telling, Tells};
 use index_hooks::Chooses;
 use index_pool::Gate;
 use scip_build::{BuiltParts, Parts, Run, Settings, build_in_form};
@@ -61,12 +61,12 @@ pub struct KeptIndex<'a> {
 
 /// Builds the index of a tree and writes its bytes, as `index_tree` does, and hands out all that it made. The report
 /// of what the index lacks, told so, is made before the first write. From then on only a write can fail.
-pub fn index_and_tell<'a, R: Threads + Wait, C: Chooses + Sync, G: Gate, W: Sink>(
+pub fn index_and_tell<'a, R: Threads + Wait, C: Chooses + Sync, G: Gate, T: Tells, W: Sink>(
     run: &Run<'_, R, G>,
     tree: &'a Tree,
     chooser: &C,
     settings: &Settings,
-    telling: &Telling<'_>,
+    telling: &T,
     out: &mut W,
 ) -> Result<KeptIndex<'a>, Fault>
     ensures indexed { MatchResult result
@@ -79,12 +79,12 @@ pub fn index_and_tell<'a, R: Threads + Wait, C: Chooses + Sync, G: Gate, W: Sink
         (recorded_of kept.built.choices kept.built.told)) }
     ensures files { IfErr result (HasFilesOf tree.now) }
     ensures told { IfOk result (λ kept. HaveFilesOf tree.now kept.built.told) }
-    ensures said { IfOk result (λ kept. IsTextOfAllOmissions telling.now.explain tree.now (map string_bytes
-        telling.now.unread.now) kept.built.told (option_map string_bytes kept.text)) }
+    ensures said { IfOk result (λ kept. T.tells telling.now tree.now kept.built.told
+        (option_map string_bytes kept.text)) }
 {
     headline_of_tree(chooser, tree, settings);
     let built = build_in_form(run, tree, chooser, settings, &AsBytes)?;
-    let text = text_of_omissions(run.alloc, tree, built.told.as_slice(), telling)?;
+    let text = telling.text(run.alloc, tree, built.told.as_slice())?;
     write_spelled(&built.parts, out)?;
     Ok(KeptIndex { built, text })
 }

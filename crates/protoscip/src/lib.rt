@@ -38,7 +38,7 @@ mod told_lines;
 mod told_trees;
 mod unread;
 
-pub use answering::answer_commands;
+pub use answering::{answer_commands, answer_commands_in};
 pub use dumping::{SOURCE_PATH, dump, dump_and_keep, dump_tree, dump_with};
 pub use explaining::{explain_in, fault_text};
 pub use fault::Fault;
@@ -55,11 +55,11 @@ pub use laws::{
 pub use lines::{path_line, placed_line, plain_line};
 pub use output::write_text;
 pub use recorded::Recorded;
-pub use sessions::session;
+pub use sessions::{Talk, session, session_in};
 pub use statuses::{MEMORY_STATUS, SOURCES_STATUS, STREAM_STATUS};
 pub use telling::{
-    Telling, count_imports, count_left_out, count_skipped, count_skipped_sources, count_uses,
-    omits_nothing, told_text, told_text_with,
+    Telling, Tells, count_imports, count_left_out, count_skipped, count_skipped_sources,
+    count_uses, omits_nothing, told_text, told_text_with,
 };
 pub use told_lines::told_line;
 pub use told_trees::told_of_tree;
@@ -72,6 +72,7 @@ pub use proto_lex::Encoding;
 pub use proto_parse::{CustomOptions, Dialect};
 pub use scip_build::{Built, Faulty, Run, Settings, build};
 pub use scip_model::{Choices, FilePackages, RootPackage};
+pub use scip_query::Manner;
 pub use scip_symbol::{BadPart, PackageId};
 pub use source_tree::{Source, Tree, TreeFault, is_good_path};
 

@@ -7,8 +7,9 @@ ghost use Rattle.protoscip.specs.FaultLines.{HasFilesOf, HaveFilesOf};
 ghost use Rattle.protoscip.specs.Conversing.{Converses};
 ghost use Rattle.protoscip.specs.Headline.{IsNavigable};
 ghost use Rattle.protoscip.specs.Sessions.{AreAnswered, Serves};
+ghost use Rattle.scip_query.specs.declared.manner.Manner.TheVariants.{Plain};
 
-use crate::answering::answer_commands;
+use crate::answering::answer_commands_in;
 use crate::fault::Fault;
 use crate::laws::headline_of_tree;
 use crate::reading_back::read_back;
@@ -16,6 +17,7 @@ use crate::recorded::Recorded;
 use index_hooks::Chooses;
 use index_pool::Gate;
 use scip_build::{Built, Run, Settings, build};
+use scip_query::Manner;
 use scip_records::Index;
 use source_tree::Tree;
 use std::alloc::Global;
@@ -27,15 +29,27 @@ use streams::{Feed, Sink};
 #[tactic(auto, using(crate::proofs::ConversingRules::of_unread))]
 fn converse<F: Feed, W: Sink>(
     alloc: Global,
+    manner: Manner,
     index: Index,
     commands: &mut F,
     answers: &mut W,
 ) -> Result<(), Fault>
-    ensures { Converses (reader F.Feed commands) (writer W.Sink answers) index result }
+    ensures { Converses manner (reader F.Feed commands) (writer W.Sink answers) index result }
 {
     let read = read_back(alloc, index)?;
-    answer_commands(alloc, read, commands, answers)?;
+    answer_commands_in(alloc, manner, read, commands, answers)?;
     Ok(())
+}
+
+/// What a session is about: what is chosen for each declaration, how the tree is indexed, and how commands are taken.
+#[derive(Drop)]
+pub struct Talk<'a, C> {
+    /// What is chosen for each declaration.
+    pub chooser: &'a C,
+    /// How the tree is indexed.
+    pub settings: &'a Settings,
+    /// How commands are taken and answered.
+    pub manner: Manner,
 }
 
 /// Builds the index of a tree, as `index_tree` does, and answers commands about it, one a line, as
@@ -53,20 +67,45 @@ pub fn session<R: Threads + Wait, C: Chooses + Sync, G: Gate, F: Feed, W: Sink>(
     commands: &mut F,
     answers: &mut W,
 ) -> Result<Recorded, Fault>
-    ensures served { Serves (reader F.Feed commands) (writer W.Sink answers) (C.allows chooser.now)
+    ensures served { Serves Plain (reader F.Feed commands) (writer W.Sink answers) (C.allows chooser.now)
         settings.now tree.now run.now.workers result }
     ensures navigable { IfOk result (λ recorded. IsNavigable
-        (λ _ index. AreAnswered (reader F.Feed commands) (writer W.Sink answers) index (Ok tt)) (C.allows chooser.now)
-        settings.now tree.now recorded) }
+        (λ _ index. AreAnswered Plain (reader F.Feed commands) (writer W.Sink answers) index (Ok tt))
+        (C.allows chooser.now) settings.now tree.now recorded) }
     ensures files { IfErr result (HasFilesOf tree.now) }
     ensures told { IfOk result (λ recorded. HaveFilesOf tree.now recorded.told) }
 {
+    let talk = Talk {
+        chooser,
+        settings,
+        manner: Manner::Plain,
+    };
+    session_in(run, tree, &talk, commands, answers)
+}
+
+/// The same in a manner, as `Queries::answer_all_in` does.
+pub fn session_in<R: Threads + Wait, C: Chooses + Sync, G: Gate, F: Feed, W: Sink>(
+    run: &Run<'_, R, G>,
+    tree: &Tree,
+    talk: &Talk<'_, C>,
+    commands: &mut F,
+    answers: &mut W,
+) -> Result<Recorded, Fault>
+    ensures served { Serves talk.now.manner (reader F.Feed commands) (writer W.Sink answers)
+        (C.allows talk.now.chooser.now) talk.now.settings.now tree.now run.now.workers result }
+    ensures navigable { IfOk result (λ recorded. IsNavigable
+        (λ _ index. AreAnswered talk.now.manner (reader F.Feed commands) (writer W.Sink answers) index (Ok tt))
+        (C.allows talk.now.chooser.now) talk.now.settings.now tree.now recorded) }
+    ensures files { IfErr result (HasFilesOf tree.now) }
+    ensures told { IfOk result (λ recorded. HaveFilesOf tree.now recorded.told) }
+{
+    let (chooser, settings) = (talk.chooser, talk.settings);
     headline_of_tree(chooser, tree, settings);
     let Built {
         index,
         choices,
         told,
     } = build(run, tree, chooser, settings)?;
-    converse(run.alloc, index, commands, answers)?;
+    converse(run.alloc, talk.manner, index, commands, answers)?;
     Ok(Recorded { choices, told })
 }

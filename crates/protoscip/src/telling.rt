@@ -1,6 +1,6 @@
 //! The report of what an index lacks.
 
-ghost use Rattle.std.specs.Prelude.{◌≡◌, ◌==◌, ◌&&◌, ◌++◌, ℕ, List, IfOk, OnOk, length, map, string_bytes};
+ghost use Rattle.std.specs.Prelude.{◌≡◌, ◌==◌, ◌&&◌, ◌++◌, ℕ, List, Option, IfOk, OnOk, length, map, string_bytes};
 ghost use Rattle.std.specs.List.{count_by};
 ghost use Rattle.std.specs.Option.{option_map};
 ghost use Rattle.source_tree.specs.Trees.{IsSourceCount};
@@ -231,19 +231,43 @@ pub fn omits_nothing(unread: &[String], told: &[Omission]) -> bool
     unread.is_empty() && told.is_empty()
 }
 
-/// The report of an index that lacks something; for one that lacks nothing there is nothing to report.
-pub(crate) fn text_of_omissions(
-    alloc: Global,
-    tree: &Tree,
-    told: &[Omission],
-    telling: &Telling<'_>,
-) -> Result<Option<String>, AllocError>
-    requires { HaveFilesOf tree.now told.now }
-    ensures { IfOk result (λ text. IsTextOfAllOmissions telling.now.explain tree.now (map string_bytes
-        telling.now.unread.now) told.now (option_map string_bytes text)) }
-{
-    if omits_nothing(telling.unread, told) {
-        return Ok(None);
+/// What says what an index lacks, once it is made and before its bytes are written.
+pub trait Tells {
+    ghost use Rattle.source_tree.specs.Files.{TreeFile};
+    ghost use Rattle.scip_build.specs.declared.omission.Omission.{Omission};
+
+    // What may be said of an index of a tree that lacks this.
+    ghost tells: { Self → List TreeFile → List Omission → Option (List ℕ) → Type 0 };
+
+    /// What is said of an index of the tree that lacks this; nothing, if there is nothing to say.
+    ///
+    /// The file numbers in what is told have to be below the tree's `file_count`, as `told_line` asks it. An error means
+    /// that memory was refused.
+    fn text(
+        &self,
+        alloc: Global,
+        tree: &Tree,
+        told: &[Omission],
+    ) -> Result<Option<String>, AllocError>
+        requires { HaveFilesOf tree.now told.now }
+        ensures { IfOk result (λ text. tells self.now tree.now told.now (option_map string_bytes text)) };
+}
+
+impl Tells for Telling<'_> {
+    // The report of an index that lacks something; for one that lacks nothing there is nothing to report.
+    ghost tells = { λ telling tree told text. IsTextOfAllOmissions telling.explain tree
+        (map string_bytes telling.unread.now) told text };
+
+    /// The report of an index that lacks something; for one that lacks nothing there is nothing to report.
+    fn text(
+        &self,
+        alloc: Global,
+        tree: &Tree,
+        told: &[Omission],
+    ) -> Result<Option<String>, AllocError> {
+        if omits_nothing(self.unread, told) {
+            return Ok(None);
+        }
+        Ok(Some(told_text_with(alloc, tree, told, self)?))
     }
-    Ok(Some(told_text_with(alloc, tree, told, telling)?))
 }

@@ -3,8 +3,8 @@
 
 use command_line::{Request, request_of_process};
 use programs::{
-    Host, Places, explain_failure, links_followed, out_path, report_path, run, variable,
-    with_well_known,
+    Host, Places, Prompting, explain_failure, links_followed, manner_of, out_path, report_path,
+    run, takes_commands, variable, with_well_known,
 };
 use source_files::{OutFile, SystemFiles, SystemStream, WithWellKnown};
 use std::alloc::AllocError;
@@ -63,13 +63,15 @@ fn main(rt: HostRuntime) -> ExitCode {
         file: OutFile::following(&rt, out_path(&asked), follows),
         report: OutFile::following(&rt, report_path(&asked), follows),
     };
-    let mut input = Std::new(rt.stdin());
+    let is_typed = takes_commands(&asked) && rt.stdin().is_terminal();
+    let mut input = Prompting::new(Std::new(rt.stdin()), &rt, is_typed);
     let mut out = SystemStream::new(rt.stdout());
     let host = Host {
         rt: &rt,
         alloc: rt.alloc(),
         files: &files,
         is_watched: rt.stderr().is_terminal(),
+        manner: manner_of(&asked, is_typed),
     };
     let status = run(
         &host,

@@ -4,7 +4,7 @@ use crate::calls::{COUNTS, Desk, Due, Given, Told, dues_of, is_due, paced_writer
 use crate::faulty_streams::{Dripping, drip, resting};
 use index_hooks::{DocAlways, DocChoice, Registry};
 use proto_lex::Encoding;
-use protoscip::{Fault, session};
+use protoscip::{Fault, Manner, Talk as Held, session, session_in};
 use scip_build::Faulty;
 use std::alloc::{AllocError, Global};
 use std::process::Abort;
@@ -17,6 +17,7 @@ use test_kit::Draft;
 /// What a session is held over, and what is due of it.
 #[derive(Clone, Copy, Drop)]
 struct Talk<'a> {
+    manner: Manner,
     commands: Dripping<'a>,
     due: Due<'a>,
 }
@@ -28,8 +29,16 @@ impl<'a, R: Threads + Wait + Abort> Desk<'a, R> {
         let (tree, registry, settings) = (&given.tree, given.registry, &given.settings);
         let mut input = Std::new(talk.commands);
         let mut output = paced_writer(self.alloc, talk.due.room, talk.due.pace)?;
-        let answer = session(&run, tree, registry, settings, &mut input, &mut output).err();
-        Ok(is_due(answer, output, &talk.due))
+        let held = Held {
+            chooser: registry,
+            settings,
+            manner: talk.manner,
+        };
+        let answer = match talk.manner {
+            Manner::Plain => session(&run, tree, registry, settings, &mut input, &mut output),
+            _ => session_in(&run, tree, &held, &mut input, &mut output),
+        };
+        Ok(is_due(answer.err(), output, &talk.due))
     }
 
     /// Sees that it does. After want of memory or of a thread it is held again, and the second answers count.
@@ -93,7 +102,19 @@ impl<'a, R: Threads + Wait + Abort> Desk<'a, R> {
 
     /// Sees that the commands of a row are answered as is due, by each of these counts of workers.
     fn see_row(&self, registry: &Registry, row: &Row, by: &[usize]) -> Result<(), AllocError> {
+        self.see_row_in(registry, Manner::Plain, row, by)
+    }
+
+    /// The same in a manner.
+    fn see_row_in(
+        &self,
+        registry: &Registry,
+        manner: Manner,
+        row: &Row,
+        by: &[usize],
+    ) -> Result<(), AllocError> {
         let talk = Talk {
+            manner,
             commands: drip(row.commands.as_bytes(), 1, usize::MAX),
             due: whole(row.answers.as_bytes()),
         };
@@ -114,6 +135,28 @@ impl<'a, R: Threads + Wait + Abort> Desk<'a, R> {
 fn answers_to_commands(rt: HostRuntime) -> Result<(), Fail> {
     let registry = Registry::new(rt.alloc());
     Ok(Desk::new(&rt, rt.alloc()).see_rows(&registry)?)
+}
+
+// A package is around its messages, and a message around its fields; no kind and no signature is known.
+static MORE: Row<'static> = Row {
+    files: FIELDS,
+    commands: "out a.proto\nfind M.x\nsig 3 8 a.proto\npos a.proto:4:9\ndef 9 9 a.proto\n",
+    answers: "0 0 - scip-protobuf . . . `a.proto`/\n1 8 - scip-protobuf . . . p/\n  2 8 - scip-protobuf . . . p/Foo#\n  3 8 - scip-protobuf . . . p/M#\n    3 19 - scip-protobuf . . . p/M#Foo.\n    3 32 - scip-protobuf . . . p/M#x.\n= 6\n3 32 3 33 1 a.proto\nscip-protobuf . . . p/M#x.\n= 1\n= 0\n3 8 3 9 1 a.proto\n= 1\n? nothing there\n",
+};
+
+static SPOKEN: Row<'static> = Row {
+    files: FIELDS,
+    commands: "def 9 9 a.proto\npos a.proto:4:9\n",
+    answers: "There is no symbol at this place.\n3 8 3 9 1 a.proto\n= 1\n",
+};
+
+#[test]
+fn answers_in_other_manners(rt: HostRuntime) -> Result<(), Fail> {
+    let registry = Registry::new(rt.alloc());
+    let desk = Desk::new(&rt, rt.alloc());
+    desk.see_row_in(&registry, Manner::More, &MORE, &[1])?;
+    desk.see_row_in(&registry, Manner::Spoken, &SPOKEN, &[1])?;
+    Ok(())
 }
 
 static COMPOUND_NAME: Row<'static> = Row {
@@ -233,6 +276,7 @@ fn read_until(most: usize, to_end: usize, calls: usize) -> Talk<'static> {
         None
     };
     Talk {
+        manner: Manner::Plain,
         commands: drip(COMMANDS, most, calls),
         due: Due {
             fault,
@@ -249,6 +293,7 @@ fn rested(most: usize) -> Talk<'static> {
         BOTH_ANSWERS
     };
     Talk {
+        manner: Manner::Plain,
         commands: resting(COMMANDS, most),
         due: whole(answers),
     }
@@ -259,6 +304,7 @@ impl<'a, R: Threads + Wait + Abort> Desk<'a, R> {
     fn see_writers(&self, given: &Given, dues: &[Due<'_>]) -> Result<(), AllocError> {
         for due in dues {
             let talk = Talk {
+                manner: Manner::Plain,
                 commands: drip(b"def 3 28 a.proto", usize::MAX, usize::MAX),
                 due: *due,
             };

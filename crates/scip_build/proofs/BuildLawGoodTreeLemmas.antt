@@ -10,11 +10,11 @@ use Rattle.basics.proofs.ListLemmas.{in_front, in_nothing}
 use Rattle.proto_visibility.specs.declared.omissions.FileOmission.{FileOmission}
 use Rattle.proto_visibility.specs.declared.omissions.FileOmission.TheVariants as left_for
 use Rattle.proto_visibility.specs.Files.{File}
-use Rattle.proto_visibility.specs.Absences.{IsUnread}
+use Rattle.proto_visibility.specs.Absences.{IsUnreadBy}
 use Rattle.proto_visibility.specs.Linked.{CanBeLinked, HaveClearNames}
-use Rattle.proto_visibility.specs.Kept.{Omissions, IsOmission, AreOmissions, kept_of, AreAllKept}
+use Rattle.proto_visibility.specs.Kept.{Omissions, IsOmission, AreOmissions, AreAllKept}
 use Rattle.proto_visibility.specs.Kept.{NothingIsLeftOutOfGoodFiles}
-use Rattle.proto_visibility.proofs.KeptLemmas.{excludes_as}
+use Rattle.proto_visibility.proofs.KeptLemmas.{clear_pairs, clear_read}
 use Rattle.proto_lex.specs.declared.position.Encoding.{Encoding}
 use Rattle.comment_texts.specs.declared.form.CommentForm.{CommentForm}
 use Rattle.proto_decl.specs.Values.{Seen}
@@ -37,10 +37,11 @@ use Rattle.scip_build.specs.Parsed.{IsUnreadable}
 use Rattle.scip_build.specs.ParsedFiles.{AreContentsOf, may_be_unread, HasContents, AreParsedFiles}
 use Rattle.scip_build.specs.Documents.{texts_of, AllAreDecided}
 use Rattle.scip_build.specs.BuildLaws.{SetTheSame, BuiltWhereNothingIsTold}
+use Rattle.scip_build.specs.Keeping.{linked_of}
 use Rattle.scip_build.specs.Kept.{IsTold, NothingIsToldOfAGoodTree}
 use Rattle.scip_build.specs.Kept.IsTold.{of_file, of_import, of_use}
 use Rattle.scip_build.proofs.LinkingLemmas.{mapped_at}
-use Rattle.scip_build.proofs.KeptTreeLemmas.{all_of}
+use Rattle.scip_build.proofs.KeptTreeLemmas.{all_linked}
 
 -- ---- where nothing is left out
 
@@ -68,8 +69,8 @@ good_files_are_kept files good = record {
     by number omission is =
         let Is : Option FileOmission → Type 0 = λ o. IsOmission files (all_kept files) number o in
         let kept : Is None = (
-          good.read number,
-          λ a b e. good.clear a b (excludes_as a b (λ m. m.is_item) (λ m. m.is_item) e),
+          clear_read files (all_kept files) good number,
+          clear_pairs files (all_kept files) good number,
         ) in
         subst Is is kept
 
@@ -81,7 +82,7 @@ are_all_kept files k d within =
     sym (same_Some None (get_or (all_kept files) k d) (sym there ∙ at))
   where
     file : File
-    file = record { path = []; facts = None; is_included = false }
+    file = record { path = []; facts = None; is_included = false; is_left_out = false }
 
 -- ---- what is told where nothing is left out
 
@@ -92,8 +93,8 @@ module _ (all : List ReadFile) (omissions : Omissions) (one_each : length omissi
       let within = slice_get_within omissions number omission at in
       sym (get_or_from_slice_get omissions number omission omission at) ∙ none number omission within
 
-  all_are : kept_of omissions all ≡ all
-  all_are = all_of omissions all one_each none
+  all_are : linked_of omissions all ≡ all
+  all_are = all_linked omissions all one_each none
 
   pub none_told : CanBeLinked (linked_files all) → AllResolve (linked_files all) → (told : Omission)
       → IsTold all omissions told → ⊥
@@ -104,7 +105,7 @@ module _ (all : List ReadFile) (omissions : Omissions) (one_each : length omissi
   none_told can resolve _ (of_use p is) =
       let Resolve : List ReadFile → Type 0 = λ rs. AllResolve (linked_files rs) in
       let named = subst Resolve (sym all_are) resolve p.file is.facts is.type_use is.source is.known is.listed in
-      is.unresolved named.0 named.1
+      is.unresolved named.0 named.1 named.2
 
 none_listed : (told : List Omission) → ((fault : Omission) → Contains told fault → ⊥) → told ≡ []
 none_listed [] none = refl
@@ -113,7 +114,7 @@ none_listed (x ∷ xs) none = absurd (none x (in_front x xs))
 -- ---- where nothing is told
 
 -- a file without facts has a fault
-pub fault_of : (all : List ReadFile) (number : ℕ) → IsUnread (linked_files all) number
+pub fault_of : {C : ℕ → Type 0} (all : List ReadFile) (number : ℕ) → IsUnreadBy (linked_files all) C number
     → (fault : FileFault) × HasFault all number fault
 fault_of all number unread =
     let of = mapped_at linked_file all number unread.file unread.numbered in
@@ -189,8 +190,8 @@ module _ (good : NothingIsLeftOutOfGoodFiles) where
                 | inr told_ ↦ absurd (none_is told_.0 told_.1)
               ]
 
-          all_are : kept_of kept.omissions all ≡ all
-          all_are = all_of kept.omissions all one_each all_kept
+          all_are : linked_of kept.omissions all ≡ all
+          all_are = all_linked kept.omissions all one_each all_kept
 
           clear : HaveClearNames (linked_files all)
           clear = (good (linked_files all) kept.omissions kept.left_out).0 all_kept
@@ -231,10 +232,13 @@ module _ (good : NothingIsLeftOutOfGoodFiles) where
         included : (b : Bool) → file.is_included ≡ b → may_be_unread another.faulty file.is_included ≡ true
         included true e = ap (may_be_unread another.faulty) e ∙ may_be another.faulty
         included false e =
-            let source : linked.is_included ≡ false = (read.each number file parsed_file at there).is_included ∙ e in
+            let its = read.each number file parsed_file at there in
+            let source : linked.is_included ≡ false = its.is_included ∙ e in
+            let present : linked.is_left_out ≡ false = its.present in
             absurd (clear.read number (record {
               file = linked;
-              is_reachable = seen (record { file = linked; numbered = numbered; source = source }) itself;
+              counts = seen (record { file = linked; numbered = numbered; source = source; present = present }) itself
+                  (record { file = linked; numbered = numbered; present = present });
               numbered = numbered;
               unread = ap facts_in is;
             }))
@@ -247,6 +251,7 @@ module _ (good : NothingIsLeftOutOfGoodFiles) where
           record {
             path = is.path;
             is_included = is.is_included;
+            present = is.present;
             contents = read_so number file parsed_file at there parsed_file.contents refl is.contents;
           };
     }
@@ -274,7 +279,7 @@ module _ (good : NothingIsLeftOutOfGoodFiles) where
       all_are : is.of_files.parsed ≡ is.all
       all_are =
           let kept = is.of_files.kept in
-          kept.kept ∙ all_of kept.omissions is.all (kept.left_out.one_each ∙ length-map is.all linked_file)
+          kept.kept ∙ all_linked kept.omissions is.all (kept.left_out.one_each ∙ length-map is.all linked_file)
           ((good (linked_files is.all) kept.omissions kept.left_out).1
           (record { read = can.read; clear = can.clear }))
 

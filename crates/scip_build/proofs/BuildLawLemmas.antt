@@ -71,7 +71,7 @@ module _ (files : List File) where
       let Has : List Use → Type 0 = λ uses. Contains uses first.type_use in
       let named = all first.facts first.type_use first.known
       (subst Has (sym first.split) (in_middle first.before first.type_use first.behind)) in
-      first.unresolved named.0 named.1
+      first.unresolved named.0 named.1 named.2
 
   all_resolve : AllResolve files → (place : FilePlace) → IsLeastUnresolved files place → ⊥
   all_resolve all place least =
@@ -87,7 +87,7 @@ module _ (files : List File) where
       let lists = sym first.split ∙ (ap (λ (f : Facts). f.uses) facts ∙ second.split) in
       let uses = one_first (IsResolved files file) first.before first.type_use first.behind second.before
       second.type_use second.behind first.resolved second.resolved
-      (λ named. first.unresolved named.0 named.1) (λ named. second.unresolved named.0 named.1) lists in
+      (λ named. first.unresolved named.0 named.1 named.2) (λ named. second.unresolved named.0 named.1 named.2) lists in
       sym first.place ∙ (ap (λ (u : Use). u.span) uses ∙ second.place)
 
   not_before : (place other : FilePlace) → IsLeastUnresolved files place → IsLeastUnresolved files other

@@ -1,5 +1,5 @@
 -- What is built by the same choices is one, and where one choice alone may come for what is seen, the choices are.
-use Rattle.std.proofs.Common.{◌≡◌, ◌∙◌, ℕ, ◌<◌, List, [], ◌∷◌, length, map, Option, Some, None, Result, Ok, Err, ap}
+use Rattle.std.proofs.Common.{◌≡◌, ◌∙◌, ℕ, ◌<◌, List, [], ◌∷◌, ◌++◌, length, map, Option, Some, None, Result, Ok, Err, ap}
 use Rattle.std.proofs.Common.{sym}
 use Rattle.std.proofs.Common.{refl, subst}
 use Rattle.std.specs.declared.cmp.Ordering.{Ordering}
@@ -8,7 +8,7 @@ use Rattle.std.specs.Ordering.{on}
 use Rattle.std.specs.List.{AllByRecursion, Contains, slice_get}
 use Rattle.std.specs.List.Sorted.{IsStrictlySortedBy}
 use Rattle.std.specs.Option.{option_map}
-use Rattle.std.proofs.lemmas.List.{length-map, map-id}
+use Rattle.std.proofs.lemmas.List.{length-map, map-append, map-id}
 use Rattle.std.proofs.lemmas.Option.{same_Some, slice_get-map, slice_get_within}
 use Rattle.basics.proofs.ListLemmas.{contains_map, item_at}
 use Rattle.comment_texts.specs.declared.form.CommentForm.{CommentForm}
@@ -21,7 +21,8 @@ use Rattle.proto_visibility.specs.declared.omissions.FileOmission.{FileOmission}
 use Rattle.proto_visibility.specs.declared.omissions.FileOmission.TheVariants as left_for
 use Rattle.proto_visibility.specs.Files.{File}
 use Rattle.proto_visibility.specs.Absences.{IsUnread, IsMissing}
-use Rattle.proto_visibility.specs.Kept.{Omissions, IsOmission, AreOmissions, kept_of}
+use Rattle.proto_visibility.specs.Kept.{Omissions, IsOmission, AreOmissions, kept_of, left_of}
+use Rattle.proto_visibility.specs.Kept as link
 use Rattle.basics.proofs.FirstLemmas.{contained}
 use Rattle.proto_link.specs.Laws.{OneOmissionList}
 use Rattle.scip_model.specs.Packages.{Packages}
@@ -42,6 +43,7 @@ use Rattle.scip_build.specs.Files.{FileContents, ReadFile}
 use Rattle.scip_build.specs.ParsedFiles.{seen_of, AreChosen, AreContentsOf, HasContents, AreParsedFiles}
 use Rattle.scip_build.specs.Linking.{linked_file, linked_files, choices_in, choices_of, HasFault}
 use Rattle.scip_build.specs.Documents.{text_in, text_of, texts_of, IsUnresolvedAt}
+use Rattle.scip_build.specs.Keeping.{as_left_out, linked_of}
 use Rattle.scip_build.specs.Kept.{IsLeftFor, place_among_all, IsTold, Key, told_key, key_cmp}
 use Rattle.scip_build.specs.Kept.IsTold.{of_file, of_import, of_use}
 use Rattle.scip_build.specs.Builds.{IsBuilt}
@@ -50,7 +52,7 @@ use Rattle.scip_build.specs.BuildLaws.{SetTheSame, AllowOne, OneBuiltOfChoices, 
 use Rattle.scip_model.proofs.IndexSortLemmas.{one-ascending}
 use Rattle.scip_build.proofs.LinkingLemmas.{same_mapped, one_linking}
 use Rattle.scip_build.proofs.ReadyLemmas.{whole_at, have_origins}
-use Rattle.scip_build.proofs.KeptTreeLemmas.{map_kept}
+use Rattle.scip_build.proofs.KeptTreeLemmas.{map_kept, map_left}
 use Rattle.scip_build.proofs.KeptToldLemmas.{key_total, of_same, one_told}
 use Rattle.scip_build.proofs.BuildLawGoodTreeLemmas.{fault_of}
 
@@ -131,14 +133,34 @@ module _ (apart : NoFactsWhereUnreadable) (allows others : Seen → Choice → T
         (λ k a b at and. let has = contents_at k a b at and in
         same_in choices_in k has.0 (chosen_alike one agree k has.0) (λ x y. refl) a.contents b.contents has.1 has.2)
 
--- what is the same of all is of those that are kept
-kept_same : {Y : Type 0} (f : ReadFile → Y) (all again parsed others : List ReadFile) (a b : Omissions)
-    → parsed ≡ kept_of a all → others ≡ kept_of b again → a ≡ b → map f all ≡ map f again
-    → map f parsed ≡ map f others
-kept_same f all again parsed others a b first second omissions whole =
-    ap (map f) first ∙ (map_kept f a all
-    ∙ (ap (kept_of a) whole ∙ (ap (λ o. kept_of o (map f again)) omissions
-    ∙ (sym (map_kept f b again) ∙ ap (map f) (sym second)))))
+-- what is said of files that are left out is said of them as they were
+abbrev IsSaidOfLeft : {Y : Type 0} → (ReadFile → Y) → (Y → Y) → Type 0
+IsSaidOfLeft f g = (parsed_file : ReadFile) → f (as_left_out parsed_file) ≡ g (f parsed_file)
+
+abbrev said_of : {Y : Type 0} → (Y → Y) → Omissions → List Y → List Y
+said_of g omissions ys = kept_of omissions ys ++ map g (left_of omissions ys)
+
+said_of_linked : {Y : Type 0} (f : ReadFile → Y) (g : Y → Y) → IsSaidOfLeft f g → (omissions : Omissions)
+    (all : List ReadFile) → map f (linked_of omissions all) ≡ said_of g omissions (map f all)
+said_of_linked {Y} f g said omissions all =
+    let left = map as_left_out (left_of omissions all) in
+    map-append f (kept_of omissions all) left
+    ∙ (ap (λ ys. ys ++ map f left) (map_kept f omissions all)
+    ∙ ap (λ ys. kept_of omissions (map f all) ++ ys)
+    (each (left_of omissions all) ∙ ap (map g) (map_left f omissions all)))
+  where
+    each : (xs : List ReadFile) → map f (map as_left_out xs) ≡ map g (map f xs)
+    each [] = refl
+    each (x ∷ xs) = ap (λ y. y ∷ map f (map as_left_out xs)) (said x) ∙ ap (λ ys. g (f x) ∷ ys) (each xs)
+
+-- what is the same of all is of those that are linked
+kept_same : {Y : Type 0} (f : ReadFile → Y) (g : Y → Y) → IsSaidOfLeft f g
+    → (all again parsed others : List ReadFile) (a b : Omissions) → parsed ≡ linked_of a all
+    → others ≡ linked_of b again → a ≡ b → map f all ≡ map f again → map f parsed ≡ map f others
+kept_same f g said all again parsed others a b first second omissions whole =
+    ap (map f) first ∙ (said_of_linked f g said a all
+    ∙ (ap (said_of g a) whole ∙ (ap (λ o. said_of g o (map f again)) omissions
+    ∙ (sym (said_of_linked f g said b again) ∙ ap (map f) (sym second)))))
 
 module _ (one : OneListOfFacts) (apart : NoFactsWhereUnreadable) (one_fault : OneFileFault) (one_list : OneOmissionList)
     (one_index : OneIndex) (allows others : Seen → Choice → Type 0)
@@ -175,21 +197,21 @@ module _ (one : OneListOfFacts) (apart : NoFactsWhereUnreadable) (one_fault : On
       (have_origins all (whole_at settings.faulty settings.dialect settings.comments allows tree all is.read)) a b
       is.of_files.kept.left_out (subst Are (sym all_linked) also.of_files.kept.left_out)
 
-  kept_alike : {Y : Type 0} (f : ReadFile → Y) → map f all ≡ map f again
+  kept_alike : {Y : Type 0} (f : ReadFile → Y) (g : Y → Y) → IsSaidOfLeft f g → map f all ≡ map f again
       → map f is.of_files.parsed ≡ map f also.of_files.parsed
-  kept_alike f = kept_same f all again is.of_files.parsed also.of_files.parsed a b is.of_files.kept.kept
-      also.of_files.kept.kept same_omissions
+  kept_alike f g said = kept_same f g said all again is.of_files.parsed also.of_files.parsed a b
+      is.of_files.kept.kept also.of_files.kept.kept same_omissions
 
   same_files : linked_files is.of_files.parsed ≡ linked_files also.of_files.parsed
-  same_files = kept_alike linked_file all_linked
+  same_files = kept_alike linked_file link.as_left_out (λ parsed_file. refl) all_linked
 
   choices_are : AllowOne allows others → built.choices ≡ other.choices
-  choices_are agree = is.of_files.choices ∙ (kept_alike choices_of
+  choices_are agree = is.of_files.choices ∙ (kept_alike choices_of (λ choices. choices) (λ parsed_file. refl)
       (same_lists apart allows others settings.faulty another.faulty settings.dialect settings.comments tree all again
       is.read read_again one agree) ∙ sym also.of_files.choices)
 
   texts_are : texts_of is.of_files.parsed ≡ texts_of also.of_files.parsed
-  texts_are = kept_alike text_of
+  texts_are = kept_alike text_of (λ text. text) (λ parsed_file. refl)
       (same_texts apart allows others settings.faulty another.faulty settings.dialect settings.comments tree all again
       is.read read_again)
 
@@ -236,8 +258,9 @@ module _ (one : OneListOfFacts) (apart : NoFactsWhereUnreadable) (one_fault : On
   of_left number (left_for.Duplicate first second) told at out left =
       of_file number (left_for.Duplicate first second) at left
 
-  kept_files : linked_files (kept_of a all) ≡ linked_files (kept_of b again)
-  kept_files = kept_same linked_file all again (kept_of a all) (kept_of b again) a b refl refl same_omissions all_linked
+  kept_files : linked_files (linked_of a all) ≡ linked_files (linked_of b again)
+  kept_files = kept_same linked_file link.as_left_out (λ parsed_file. refl) all again (linked_of a all)
+      (linked_of b again) a b refl refl same_omissions all_linked
 
   -- what is told of one is told of the other
   told_too : (told : Omission) → IsTold all a told → IsTold again b told

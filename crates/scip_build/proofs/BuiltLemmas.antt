@@ -9,7 +9,7 @@ use Rattle.proto_visibility.specs.declared.files.FilePlace.{FilePlace}
 use Rattle.proto_visibility.specs.Files.{HaveOwnPaths}
 use Rattle.proto_visibility.specs.Absences.{AreMissing}
 use Rattle.proto_visibility.specs.Linked.{HaveClearNames}
-use Rattle.proto_visibility.specs.Kept.{Omissions, AreOmissions, kept_of, KeptFilesAreClear}
+use Rattle.proto_visibility.specs.Kept.{Omissions, AreOmissions, KeptFilesAreClear}
 use Rattle.proto_decl.specs.Values.{Seen}
 use Rattle.index_hooks.specs.declared.choice.Choice.{Choice}
 use Rattle.scip_records.specs.declared.records.Document.{Document}
@@ -23,13 +23,14 @@ use Rattle.scip_build.specs.declared.omission.Omission.{Omission}
 use Rattle.scip_build.specs.Files.{ReadFile}
 use Rattle.scip_build.specs.Linking.{linked_file, linked_files}
 use Rattle.scip_build.specs.ParsedFiles.{AreParsedFiles}
-use Rattle.scip_build.specs.Ready.{AreOfTree}
+use Rattle.scip_build.specs.Keeping.{linked_of}
+use Rattle.scip_build.specs.Ready.{AreOfTree, ArePresent}
 use Rattle.scip_build.specs.Documents.{IsUnresolvedAt}
 use Rattle.scip_build.specs.Kept.{told_cmp, AreKept}
 use Rattle.scip_build.specs.Telling.{AreInOrder, all_told, AreKeptFiles}
 use Rattle.scip_build.specs.Forms.{IsMadeOf, IsLinkedAndMade, IsBuiltOfInForm, IsBuiltInForm}
 use Rattle.scip_build.proofs.BuildsRefusalLemmas.{not_both}
-use Rattle.scip_build.proofs.KeptTreeLemmas.{map_kept, kept_tree, all_of}
+use Rattle.scip_build.proofs.KeptTreeLemmas.{linked_is, linked_tree, all_linked}
 use Rattle.scip_build.proofs.KeptToldLemmas.{is_told, told_is, own_keys}
 use Rattle.scip_build.proofs.BuildLawGoodTreeLemmas.{all_kept, good_files_are_kept, are_all_kept, none_told}
 
@@ -54,7 +55,7 @@ whole_built {Out} Is all settings made told refuse none of =
     let kept : AreKept all all [] = record {
       omissions = omissions;
       left_out = good_files_are_kept files clear;
-      kept = sym (all_of omissions all one_each (are_all_kept files));
+      kept = sym (all_linked omissions all one_each (are_all_kept files));
       decided = in_form.made.decided;
       told_is = record {
         exact = λ fault. (λ there. absurd (in_nothing fault there), λ is. absurd (nothing fault is));
@@ -76,19 +77,19 @@ whole_built {Out} Is all settings made told refuse none of =
 
 -- ---- where they are skipped
 
--- the files that are kept are those that are linked, of a tree and without a clash
+-- the files that are linked are those of a tree, without a clash
 pub record AreKeptOf (all parsed : List ReadFile) : Type 0 where
   pub tree : AreOfTree parsed
   pub clear : HaveClearNames (linked_files parsed)
 
 pub kept_ready : KeptFilesAreClear → (all parsed : List ReadFile) (omissions : Omissions) → AreOfTree all
-    → AreOmissions (linked_files all) omissions → parsed ≡ kept_of omissions all → AreKeptOf all parsed
-kept_ready kept_clear all parsed omissions tree are kept =
+    → ArePresent all → AreOmissions (linked_files all) omissions → parsed ≡ linked_of omissions all
+    → AreKeptOf all parsed
+kept_ready kept_clear all parsed omissions tree present are kept =
     let (own, clear) = kept_clear (linked_files all) omissions are tree.own in
-    let files : linked_files (kept_of omissions all) ≡ kept_of omissions (linked_files all) =
-    map_kept linked_file omissions all in
-    let of : AreKeptOf all (kept_of omissions all) = record {
-      tree = kept_tree all omissions tree (subst HaveOwnPaths (sym files) own);
+    let files = linked_is omissions all in
+    let of : AreKeptOf all (linked_of omissions all) = record {
+      tree = linked_tree all omissions tree present (subst HaveOwnPaths (sym files) own);
       clear = subst HaveClearNames (sym files) clear;
     } in
     subst (AreKeptOf all) (sym kept) of

@@ -81,7 +81,7 @@ module _ (parsed : List ReadFile) (files : List File) (chosen : Chosen) (setting
         → Contains documents document
     only document has =
         let source : IsSource files has.source =
-        record { file = has.is.file; numbered = has.is.numbered; source = has.is.is_source } in
+        record { file = has.is.file; numbered = has.is.numbered; source = has.is.is_source; present = has.is.present } in
         let here = made_at has.source source in
         let of = here.2 in
         let text : of.text ≡ has.text =

@@ -1,5 +1,5 @@
 -- What is told of a tree: just what is left out and what has no target, each once.
-use Rattle.std.proofs.Common.{◌≡◌, ◌∙◌, ◌↔◌, inl, inr, ℕ, ◌+◌, ◌++◌, Bool, true, false, List, []}
+use Rattle.std.proofs.Common.{◌≡◌, ◌∙◌, ◌↔◌, inl, inr, ℕ, ◌+◌, ◌-◌, ◌<◌, ◌++◌, Bool, true, false, true≢false, List, []}
 use Rattle.std.proofs.Common.{length, map, Option, Some, None, Result, Err, ap, sym, refl, subst, arith}
 use Rattle.std.specs.List.{Contains, slice_get}
 use Rattle.std.specs.declared.cmp.Ordering.TheVariants.{Equal}
@@ -8,6 +8,7 @@ use Rattle.std.specs.Cmp.{IsTotalOrder, IsStrictWeakOrder, bool_cmp_total}
 use Rattle.std.proofs.lemmas.Cmp.{on_total, then_total, nat_cmp_total}
 use Rattle.std.proofs.lemmas.List.Sorted.{ranks_by}
 use Rattle.std.proofs.lemmas.Map.Lookups.{exact_unsigned}
+use Rattle.std.proofs.lemmas.Bool.{cases_lt}
 use Rattle.std.proofs.lemmas.Option.{same_Some, slice_get_within}
 use Rattle.std.proofs.lemmas.List.Elements.{Contains-append_right, Contains-append_left, Contains-append_cases}
 use Rattle.basics.proofs.ListLemmas.{contains_map, in_nothing}
@@ -15,11 +16,16 @@ use Rattle.proto_visibility.specs.declared.files.FilePlace.{FilePlace}
 use Rattle.proto_visibility.specs.declared.omissions.FileOmission.{FileOmission}
 use Rattle.proto_visibility.specs.declared.omissions.FileOmission.TheVariants as left_for
 use Rattle.proto_visibility.specs.Files as files
-use Rattle.proto_visibility.specs.Clashes.{IsItem, ClashBy}
+use Rattle.proto_visibility.specs.Clashes.{ClashBy}
+use Rattle.proto_visibility.specs.Sees.IsReachable.{seen}
 use Rattle.proto_visibility.specs.Absences.{IsNeeded, IsMissing, AreMissing}
 use Rattle.proto_visibility.specs.Absences.IsNeeded.{of_source, of_included}
-use Rattle.proto_visibility.specs.Kept.{Omissions, IsMet, IsOmission, AreOmissions, kept_of, number_among_all}
-use Rattle.proto_visibility.proofs.KeptLemmas.{is_kept, excludes_as}
+use Rattle.proto_visibility.specs.Kept.{Omissions, IsMet, IsOmission, AreOmissions, IsTakenBefore, Precedes, kept_of}
+use Rattle.proto_visibility.specs.Kept.{left_of as behind_of, number_among_all}
+use Rattle.proto_visibility.proofs.KeptAmongLemmas.{behind, from_mapped, is_kept}
+use Rattle.proto_visibility.proofs.KeptLemmas.{excludes_as}
+use Rattle.proto_visibility.proofs.KeptOrderLemmas.{taken_one_way}
+use Rattle.proto_visibility.proofs.SeeingLemmas.{slice_get_prefix}
 use Rattle.scip_build.specs.declared.fault.FileFault.{FileFault}
 use Rattle.scip_build.specs.declared.omission.Omission.{Omission}
 use Rattle.scip_build.specs.declared.omission.Omission.TheVariants.{File, Duplicate, MissingImport, Unresolved}
@@ -28,7 +34,7 @@ use Rattle.scip_build.specs.Linking.{linked_file, linked_files, HasFault}
 use Rattle.scip_build.specs.Documents.{IsUnresolvedAt}
 use Rattle.scip_build.specs.Kept.{IsLeftFor, place_among_all, IsTold, Key, told_key, key_cmp, told_cmp}
 use Rattle.scip_build.specs.Kept.IsTold.{of_file, of_import, of_use}
-use Rattle.scip_build.specs.Keeping.{kept_numbers}
+use Rattle.scip_build.specs.Keeping.{kept_numbers, as_left_out, linked_of}
 use Rattle.scip_build.specs.Telling.{Adds, FromFront, IsLeftIf, place_by, told_import, told_use, HaveOwnKeys}
 use Rattle.scip_build.proofs.LinkingLemmas.{mapped_at}
 use Rattle.scip_build.proofs.KeptTreeLemmas.{number_of}
@@ -104,27 +110,29 @@ one_left all number left_for.Broken a b first second =
 one_left all number (left_for.Duplicate p q) a b first second = first ∙ sym second
 
 module _ (all : List ReadFile) (omissions : Omissions) (are : AreOmissions (linked_files all) omissions) where
-  abbrev kept : List files.File
-  kept = linked_files (kept_of omissions all)
+  abbrev linked : List files.File
+  linked = linked_files (linked_of omissions all)
 
   -- the later place of a clash is one of the file that is left out for it
   second_in : (number : ℕ) (first second : FilePlace)
-      → ClashBy (IsMet (IsItem (linked_files all)) omissions number) first second → second.file ≡ number
+      → ClashBy (Precedes (linked_files all)) (IsMet (linked_files all) omissions number) first second
+      → second.file ≡ number
   second_in number first second clash = elim clash.exclude.second_is.meets [
     | inl own ↦ sym (ap (λ (p : FilePlace). p.file) clash.second_is) ∙ own
     | inr before ↦ (
         let there = clash.later.place.file in
-        let met : IsMet (IsItem (linked_files all)) omissions there clash.earlier = record {
+        let met : IsMet (linked_files all) omissions there clash.earlier = record {
           is_item = clash.exclude.first_is.is_item;
           meets = elim clash.exclude.ordered [
-            | inl less ↦ elim clash.exclude.first_is.meets [
-              | inl own ↦ absurd (let n = before.0 in omega (arith, own, less, n))
-              | inr is ↦ inr (less, is.1)
+            | inl taken ↦ elim clash.exclude.first_is.meets [
+              | inl own ↦ absurd (taken_one_way (linked_files all) number there
+                  (subst (λ n. IsTakenBefore (linked_files all) n there) own taken) before.0)
+              | inr is ↦ inr (taken, is.1)
             ]
             | inr same ↦ inl same.0
           ];
         } in
-        let itself : IsMet (IsItem (linked_files all)) omissions there clash.later =
+        let itself : IsMet (linked_files all) omissions there clash.later =
         record { is_item = clash.exclude.second_is.is_item; meets = inl refl } in
         absurd ((are.each there None before.1).1 clash.earlier clash.later
         (excludes_as clash.earlier clash.later (λ _. met) (λ _. itself) clash.exclude)))
@@ -148,22 +156,34 @@ module _ (all : List ReadFile) (omissions : Omissions) (are : AreOmissions (link
       some_is : ◌≡◌ {A = Option FileOmission} (Some omission) None → ⊥
       some_is e = cc
 
-  parsed_file_at : (k : ℕ) (file : files.File) → slice_get kept k ≡ Some file
+  -- a file that isn't left out is one that is kept
+  parsed_file_at : (k : ℕ) (file : files.File) → slice_get linked k ≡ Some file → file.is_left_out ≡ false
       → (parsed_file : ReadFile) × (slice_get (kept_of omissions all) k ≡ Some parsed_file)
-  parsed_file_at k file at = let of = mapped_at linked_file (kept_of omissions all) k file at in (of.0, of.1)
+  parsed_file_at k file at present =
+      let of = mapped_at linked_file (linked_of omissions all) k file at in
+      let back = map as_left_out (behind_of omissions all) in
+      elim (cases_lt k (length (kept_of omissions all))) [
+        | inl front ↦ (of.0, sym (slice_get_prefix (kept_of omissions all) back k front) ∙ of.1)
+        | inr later ↦ (
+            let its = from_mapped as_left_out (behind_of omissions all) (k - length (kept_of omissions all)) of.0
+            (sym (behind (kept_of omissions all) back k later) ∙ of.1) in
+            absurd (true≢false (ap (λ (r : ReadFile). r.is_left_out) its.2
+            ∙ (sym (ap (λ (f : files.File). f.is_left_out) of.2) ∙ present))))
+      ]
 
-  pub import_at : (place : FilePlace) → IsMissing kept place
+  pub import_at : (place : FilePlace) → IsMissing linked place
       → (parsed_file : ReadFile) × (slice_get (kept_of omissions all) place.file ≡ Some parsed_file)
   import_at place missing = by place.file missing.needed
     where
-      by : (number : ℕ) → IsNeeded kept number missing.import
+      by : (number : ℕ) → IsNeeded linked number missing.import
           → (parsed_file : ReadFile) × (slice_get (kept_of omissions all) number ≡ Some parsed_file)
-      by number (of_source is has listed) = parsed_file_at number has.file has.numbered
-      by number (of_included is_reachable has listed public) = parsed_file_at number has.file has.numbered
+      by number (of_source is has listed) = parsed_file_at number is.file is.numbered is.present
+      by number (of_included (seen is sees present) has listed public) =
+          parsed_file_at number present.file present.numbered present.present
 
-  pub use_at : (place : FilePlace) → IsUnresolvedAt kept place
+  pub use_at : (place : FilePlace) → IsUnresolvedAt linked place
       → (parsed_file : ReadFile) × (slice_get (kept_of omissions all) place.file ≡ Some parsed_file)
-  use_at place is = parsed_file_at place.file is.source.file is.source.numbered
+  use_at place is = parsed_file_at place.file is.source.file is.source.numbered is.source.present
 
   -- ---- no two are told at one key
 
@@ -222,8 +242,8 @@ module _ (all : List ReadFile) (omissions : Omissions) (are : AreOmissions (link
 
   module _ (left : List Omission) (missing unresolved_uses : List FilePlace)
       (left_are : Adds (FromFront (IsLeftIf all) omissions (length omissions)) [] left)
-      (missing_are : AreMissing kept missing)
-      (unresolved_are : (place : FilePlace) → Contains unresolved_uses place ↔ IsUnresolvedAt kept place) where
+      (missing_are : AreMissing linked missing)
+      (unresolved_are : (place : FilePlace) → Contains unresolved_uses place ↔ IsUnresolvedAt linked place) where
     abbrev imports : List Omission
     imports = map (told_import (kept_numbers 0 omissions)) missing
 

@@ -17,9 +17,9 @@ mod DocumentLemmas
 mod KeptLemmas
 -- What is told of a tree: just what is left out and what has no target, each once
 mod KeptToldLemmas
--- What holds of the files of a tree holds of those that are kept
-mod KeptTreeLemmas
--- A use that names nothing of a file that is left out names among the kept files what it names among all
+-- What holds of the files of a tree holds of those that are linked
+pub mod KeptTreeLemmas
+-- A use of a kept file names, as files are linked, what it names in the whole tree
 mod KeptUseLemmas
 -- Proofs of the laws
 mod LawLemmas

@@ -1,5 +1,5 @@
 -- Files that were read are ready for their documents.
-use Rattle.std.proofs.Common.{◌≡◌, ◌∙◌, ℕ, ◌+◌, ◌<◌, ◌≤◌, zero, suc, Bool, false, true, not, true≢false, List, [], ◌∷◌}
+use Rattle.std.proofs.Common.{◌≡◌, ◌∙◌, ℕ, ◌+◌, ◌<◌, ◌≤◌, zero, suc, Bool, false, true, not, ◌&&◌, List, [], ◌∷◌}
 use Rattle.std.proofs.Common.{length}
 use Rattle.std.proofs.Common.{map, Some, Result, Ok, Err, ap, sym, refl, subst, arith}
 use Rattle.std.specs.List.{slice_get, prefix_len}
@@ -9,7 +9,7 @@ use Rattle.std.specs.Ordering.{nat_cmp, bool_cmp, ordering_then}
 use Rattle.std.specs.Cmp.Lexicographic.{slice_cmp}
 use Rattle.std.proofs.lemmas.List.{length-map}
 use Rattle.std.proofs.lemmas.Option.{same_Some, none-some, slice_get-map, slice_get_within, get_or_from_slice_get}
-use Rattle.std.proofs.lemmas.Bool.{not-true}
+use Rattle.std.proofs.lemmas.Bool.{and_parts, not-true}
 use Rattle.basics.proofs.ListLemmas.{item_at}
 use Rattle.comment_texts.specs.declared.form.CommentForm.{CommentForm}
 use Rattle.proto_parse.specs.dialect.Dialect.{Dialect}
@@ -32,7 +32,7 @@ use Rattle.scip_build.specs.Parsed.{AreFactsIn}
 use Rattle.scip_build.specs.Files.{FileContents, ReadFile}
 use Rattle.scip_build.specs.ParsedFiles.{seen_of, HasContents, IsParsedFile, AreParsedFiles}
 use Rattle.scip_build.specs.Linking.{facts_in, linked_file, linked_files, choices_in, choices_of}
-use Rattle.scip_build.specs.Ready.{AreWhole, AreWholeIfRead, parsed_file_cmp, AreOfTree}
+use Rattle.scip_build.specs.Ready.{AreWhole, AreWholeIfRead, parsed_file_cmp, AreOfTree, ArePresent}
 use Rattle.scip_build.specs.Keeping.{is_source}
 use Rattle.scip_build.specs.Documents.{text_of, HasReadText, IsRead, AreReady}
 use Rattle.scip_build.proofs.LinkingLemmas.{mapped_at, own_paths}
@@ -95,6 +95,9 @@ module _ (faulty : Faulty) (dialect : Dialect) (form : CommentForm) (allows : Se
       let read = read_at number parsed_file at in
       whole faulty dialect form allows number read.file parsed_file.contents read.is.contents
 
+  pub present_at : ArePresent parsed
+  present_at number parsed_file at = (read_at number parsed_file at).is.present
+
   module _ (is_tree : IsTree tree) where
     good_at : (number : ℕ) (parsed_file : ReadFile) → slice_get parsed number ≡ Some parsed_file
         → IsGoodPath parsed_file.path
@@ -115,12 +118,18 @@ module _ (faulty : Faulty) (dialect : Dialect) (form : CommentForm) (allows : Se
         second.numbered in
         let There : List ℕ → List ℕ → Bool → Bool → Type 0 =
         λ p q x y. ordering_then (bool_cmp x y) (slice_cmp nat_cmp p q) ≡ Less in
+        let Marked : Bool → Bool → Type 0 =
+        λ x y. ordering_then (bool_cmp x y) (ordering_then (bool_cmp a.is_included b.is_included)
+        (slice_cmp nat_cmp a.path b.path)) ≡ Less in
         let by_x = subst (λ x. There first.file.path second.file.path x second.file.is_included)
         (sym first.is.is_included) up in
         let by_y = subst (λ y. There first.file.path second.file.path a.is_included y) (sym second.is.is_included) by_x
         in
         let by_p = subst (λ p. There p second.file.path a.is_included b.is_included) (sym first.is.path) by_y in
-        subst (λ q. There a.path q a.is_included b.is_included) (sym second.is.path) by_p
+        let both : Marked false false =
+        subst (λ q. There a.path q a.is_included b.is_included) (sym second.is.path) by_p in
+        subst (Marked a.is_left_out) (sym second.is.present)
+        (subst (λ x. Marked x false) (sym first.is.present) both)
 
     pub of_tree : AreOfTree parsed
     of_tree = record {
@@ -202,10 +211,6 @@ module _ (parsed : List ReadFile)
 
 -- ---- the sources in front
 
-not_false : (b : Bool) → b ≡ false → not b ≡ true
-not_false false e = refl
-not_false true e = absurd (true≢false e)
-
 module _ {X : Type 0} (p : X → Bool) where
   chosen_length : (x : X) (xs : List X) → p x ≡ true → prefix_len p (x ∷ xs) ≡ 1 + prefix_len p xs
   chosen_length x xs e = rw e refl
@@ -259,26 +264,56 @@ module _ {X : Type 0} (p : X → Bool) where
 
 -- ---- they are ready
 
--- the order of two files of which the later one is a source
-source_first : (a b : ReadFile) → parsed_file_cmp a b ≡ Less → b.is_included ≡ false → a.is_included ≡ false
-source_first a b less source = by a.is_included refl
+-- neither included nor left out
+record IsFront (parsed_file : ReadFile) : Type 0 where
+  source : parsed_file.is_included ≡ false
+  present : parsed_file.is_left_out ≡ false
+
+passes_front : (parsed_file : ReadFile) → IsFront parsed_file → is_source parsed_file ≡ true
+passes_front parsed_file of = rw of.source (rw of.present refl)
+
+front_if : (parsed_file : ReadFile) → is_source parsed_file ≡ true → IsFront parsed_file
+front_if parsed_file passes =
+    let parts = and_parts (not parsed_file.is_included) (not parsed_file.is_left_out) passes in
+    record {
+      source = not-true parsed_file.is_included parts.0;
+      present = not-true parsed_file.is_left_out parts.1;
+    }
+
+-- the order of two files by these marks
+abbrev There : (a b : ReadFile) → (x y u v : Bool) → Type 0
+There a b x y u v =
+    ordering_then (bool_cmp x y) (ordering_then (bool_cmp u v) (slice_cmp nat_cmp a.path b.path)) ≡ Less
+
+-- of two files of which the later one is a source
+source_first : (a b : ReadFile) → parsed_file_cmp a b ≡ Less → IsFront b → IsFront a
+source_first a b less of = by a.is_left_out a.is_included refl refl
   where
-    There : Bool → Bool → Type 0
-    There x y = ordering_then (bool_cmp x y) (slice_cmp nat_cmp a.path b.path) ≡ Less
+    moved : (x u : Bool) → a.is_left_out ≡ x → a.is_included ≡ u → There a b x false u false
+    moved x u e f =
+        let one = subst (λ z. There a b z b.is_left_out a.is_included b.is_included) e less in
+        let two = subst (λ z. There a b x z a.is_included b.is_included) of.present one in
+        let three = subst (λ z. There a b x false z b.is_included) f two in
+        subst (λ z. There a b x false u z) of.source three
 
-    by : (x : Bool) → a.is_included ≡ x → x ≡ false
-    by false e = refl
-    by true e =
-        let half : There true b.is_included = subst (λ x. There x b.is_included) e less in
-        let all : There true false = subst (λ y. There true y) source half in
-        cc
+    never_left : (u : Bool) → There a b true false u false → ⊥
+    never_left u there = cc
 
-by_path : (a b : ReadFile) → a.is_included ≡ false → b.is_included ≡ false → parsed_file_cmp a b ≡ Less
+    never_included : There a b false false true false → ⊥
+    never_included there = cc
+
+    by : (x u : Bool) → a.is_left_out ≡ x → a.is_included ≡ u → IsFront a
+    by false false e f = record { source = f; present = e }
+    by false true e f = absurd (never_included (moved false true e f))
+    by true u e f = absurd (never_left u (moved true u e f))
+
+by_path : (a b : ReadFile) → IsFront a → IsFront b → parsed_file_cmp a b ≡ Less
     → slice_cmp nat_cmp a.path b.path ≡ Less
 by_path a b first second less =
-    let There : Bool → Bool → Type 0 = λ x y. ordering_then (bool_cmp x y) (slice_cmp nat_cmp a.path b.path) ≡ Less in
-    let half : There false b.is_included = subst (λ x. There x b.is_included) first less in
-    subst (λ y. There false y) second half
+    let one = subst (λ z. There a b z b.is_left_out a.is_included b.is_included) first.present less in
+    let two = subst (λ z. There a b false z a.is_included b.is_included) second.present one in
+    let three = subst (λ z. There a b false false z b.is_included) first.source two in
+    subst (λ z. There a b false false false z) second.source three
 
 module _ (parsed : List ReadFile) (tree : AreOfTree parsed) (clear : HaveClearNames (linked_files parsed)) where
   abbrev count : ℕ
@@ -287,19 +322,22 @@ module _ (parsed : List ReadFile) (tree : AreOfTree parsed) (clear : HaveClearNa
   is_below : (number : ℕ) → IsSource (linked_files parsed) number → number < count
   is_below number is =
       let read = mapped_at linked_file parsed number is.file is.numbered in
-      let source : read.0.is_included ≡ false = sym (ap (λ (f : File). f.is_included) read.2) ∙ is.source in
+      let front : IsFront read.0 = record {
+        source = sym (ap (λ (f : File). f.is_included) read.2) ∙ is.source;
+        present = sym (ap (λ (f : File). f.is_left_out) read.2) ∙ is.present;
+      } in
       in_front is_source parsed
-      (λ i j a b less at and passes. not_false a.is_included
-      (source_first a b (tree.rising i j a b less at and) (not-true b.is_included passes)))
-      number read.0 read.1 (not_false read.0.is_included source)
+      (λ i j a b less at and passes. passes_front a
+      (source_first a b (tree.rising i j a b less at and) (front_if b passes)))
+      number read.0 read.1 (passes_front read.0 front)
 
   source_at : (number : ℕ) → number < count
-      → (parsed_file : ReadFile) × (slice_get parsed number ≡ Some parsed_file) × (parsed_file.is_included ≡ false)
+      → (parsed_file : ReadFile) × (slice_get parsed number ≡ Some parsed_file) × IsFront parsed_file
   source_at number below =
       let there = item_at parsed number (front_within is_source parsed number below) in (
         there.0,
         there.1,
-        not-true there.0.is_included (front_passes is_source parsed number there.0 there.1 below),
+        front_if there.0 (front_passes is_source parsed number there.0 there.1 below),
       )
 
   is_source_at : (number : ℕ) → number < count → IsSource (linked_files parsed) number
@@ -308,13 +346,14 @@ module _ (parsed : List ReadFile) (tree : AreOfTree parsed) (clear : HaveClearNa
       record {
         file = linked_file there.0;
         numbered = mapped linked_file parsed number there.0 there.1;
-        source = there.2;
+        source = there.2.source;
+        present = there.2.present;
       }
 
   read_in : (number : ℕ) (parsed_file : ReadFile) → slice_get parsed number ≡ Some parsed_file
-      → (parsed_file.is_included ≡ false) → (contents : Result FileContents FileFault) → parsed_file.contents ≡ contents
+      → IsFront parsed_file → (contents : Result FileContents FileFault) → parsed_file.contents ≡ contents
       → IsRead parsed number
-  read_in number parsed_file at source (Ok contents) is = (
+  read_in number parsed_file at front (Ok contents) is = (
     contents.text,
     record {
       parsed_file = parsed_file;
@@ -324,12 +363,13 @@ module _ (parsed : List ReadFile) (tree : AreOfTree parsed) (clear : HaveClearNa
       text_is = refl;
     },
   )
-  read_in number parsed_file at source (Err fault) is =
+  read_in number parsed_file at front (Err fault) is =
       let file = linked_file parsed_file in
       let numbered = mapped linked_file parsed number parsed_file at in
       absurd (clear.read number (record {
         file = file;
-        is_reachable = seen (record { file = file; numbered = numbered; source = source }) itself;
+        counts = seen (record { file = file; numbered = numbered; source = front.source; present = front.present })
+            itself (record { file = file; numbered = numbered; present = front.present });
         numbered = numbered;
         unread = ap facts_in is;
       }))
@@ -344,10 +384,9 @@ module _ (parsed : List ReadFile) (tree : AreOfTree parsed) (clear : HaveClearNa
   ascends lesser number a b less below at and =
       let first = mapped_at linked_file parsed lesser a at in
       let second = mapped_at linked_file parsed number b and in
-      let source = not-true second.0.is_included
-      (front_passes is_source parsed number second.0 second.1 below) in
+      let front = front_if second.0 (front_passes is_source parsed number second.0 second.1 below) in
       let up = tree.rising lesser number first.0 second.0 less first.1 second.1 in
-      rw (first.2, second.2) (by_path first.0 second.0 (source_first first.0 second.0 up source) source up)
+      rw (first.2, second.2) (by_path first.0 second.0 (source_first first.0 second.0 up front) front up)
 
   good_paths : HaveGoodPaths (linked_files parsed)
   good_paths number file at =

@@ -114,7 +114,7 @@ module _ (files : List File) (source : ℕ) (spans : List Span)
       → IsUnresolved files source type_use → Contains spans type_use.span
   unresolved_listed facts type_use known listed unresolved =
       listed_at (IsResolved files source) (IsUnresolved files source) span_of_use
-      (λ u resolved un. un resolved.0 resolved.1) unresolved_uses.facts.uses spans unresolved_uses.uses_are
+      (λ u resolved un. un resolved.0 resolved.1 resolved.2) unresolved_uses.facts.uses spans unresolved_uses.uses_are
       type_use (listed_in facts type_use known listed) unresolved
 
 -- ---- of all

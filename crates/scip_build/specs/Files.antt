@@ -10,8 +10,9 @@ pub record FileContents : Type 0 where
   pub facts : Facts
   pub choices : List Choice
 
--- A file after it was read: its contents, or why it has none.
+-- A file after it was read: its contents, or why it has none, and whether it is left out of what is linked.
 pub record ReadFile : Type 0 where
   pub path : List ℕ
   pub is_included : Bool
+  pub is_left_out : Bool
   pub contents : Result FileContents FileFault

@@ -8,13 +8,14 @@ use Rattle.proto_visibility.specs.declared.omissions.FileOmission.{FileOmission}
 use Rattle.proto_visibility.specs.declared.omissions.FileOmission.TheVariants as left_for
 use Rattle.proto_visibility.specs.Absences.{IsMissing}
 use Rattle.proto_visibility.specs.Linked.{CanBeLinked}
-use Rattle.proto_visibility.specs.Kept.{Omissions, AreOmissions, kept_of, number_among_all}
+use Rattle.proto_visibility.specs.Kept.{Omissions, AreOmissions, number_among_all}
 use Rattle.scip_model.specs.Conditions.{AllResolve}
 use Rattle.scip_model.specs.Indexes.{IsAscendingListOf}
 use Rattle.scip_build.specs.declared.fault.FileFault.{FileFault}
 use Rattle.scip_build.specs.declared.omission.Omission.{Omission}
 use Rattle.scip_build.specs.declared.omission.Omission.TheVariants.{File, Duplicate, MissingImport, Unresolved}
 use Rattle.scip_build.specs.Files.{ReadFile}
+use Rattle.scip_build.specs.Keeping.{linked_of}
 use Rattle.scip_build.specs.Linking.{linked_files, HasFault}
 use Rattle.scip_build.specs.Documents.{AllAreDecided, IsUnresolvedAt}
 
@@ -36,10 +37,10 @@ pub data IsTold (all : List ReadFile) (omissions : Omissions) : Omission → Typ
       → slice_get omissions number ≡ Some (Some omission) → IsLeftFor all number omission told
       → IsTold all omissions told
   -- an import that has to be there names no file that is kept;
-  of_import : (place : FilePlace) → IsMissing (linked_files (kept_of omissions all)) place
+  of_import : (place : FilePlace) → IsMissing (linked_files (linked_of omissions all)) place
       → IsTold all omissions (MissingImport (place_among_all omissions place))
-  -- a use of a source that is kept names no type.
-  of_use : (place : FilePlace) → IsUnresolvedAt (linked_files (kept_of omissions all)) place
+  -- a use of a source that is kept names nothing, or what a file that is left out declares.
+  of_use : (place : FilePlace) → IsUnresolvedAt (linked_files (linked_of omissions all)) place
       → IsTold all omissions (Unresolved (place_among_all omissions place))
 
 -- Where it is told: the file, the place's start and end, and whether it is a use. Of a file that is left out nothing
@@ -61,11 +62,11 @@ key_cmp x y = ordering_then (ordering_then (nat_cmp x.0.0 y.0.0) (nat_cmp x.0.1 
 abbrev pub told_cmp : Omission → Omission → Ordering
 told_cmp = on told_key key_cmp
 
--- Of all that was read this is kept, and this is told of the rest, each once, in order of file and place.
+-- Of all that was read this is linked, and this is told of what is left out, each once, in order of file and place.
 pub record AreKept (all parsed : List ReadFile) (told : List Omission) : Type 0 where
   pub omissions : Omissions
   pub left_out : AreOmissions (linked_files all) omissions
-  pub kept : parsed ≡ kept_of omissions all
+  pub kept : parsed ≡ linked_of omissions all
   pub decided : AllAreDecided (linked_files parsed)
   pub told_is : IsAscendingListOf told_cmp (IsTold all omissions) told
 

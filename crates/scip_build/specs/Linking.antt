@@ -1,11 +1,11 @@
 -- What is linked of files that were read, and why they can't be.
-use Rattle.std.specs.Prelude.{◌≡◌, ℕ, Option, Some, None, Result, Ok, Err, List, [], map}
+use Rattle.std.specs.Prelude.{◌≡◌, ℕ, ⊤, Option, Some, None, Result, Ok, Err, List, [], map}
 use Rattle.std.specs.List.{slice_get}
 use Rattle.proto_decl.specs.Facts.{Facts}
 use Rattle.proto_visibility.specs.declared.fault.LinkFault.TheVariants as link
 use Rattle.proto_visibility.specs.declared.files.FilePlace.{FilePlace}
 use Rattle.proto_visibility.specs.Files.{File}
-use Rattle.proto_visibility.specs.Absences.{Broken}
+use Rattle.proto_visibility.specs.Absences.{Broken, IsUnreadBy}
 use Rattle.proto_visibility.specs.Linked.{CanBeLinked, MayRefuse}
 use Rattle.index_hooks.specs.declared.choice.Choice.{Choice}
 use Rattle.scip_build.specs.declared.fault.FileFault.{FileFault}
@@ -20,8 +20,12 @@ facts_in (Err fault) = None
 
 -- a file as it is linked
 abbrev pub linked_file : ReadFile → File
-linked_file parsed_file = record
-    { path = parsed_file.path; facts = facts_in parsed_file.contents; is_included = parsed_file.is_included }
+linked_file parsed_file = record {
+  path = parsed_file.path;
+  facts = facts_in parsed_file.contents;
+  is_included = parsed_file.is_included;
+  is_left_out = parsed_file.is_left_out;
+}
 
 abbrev pub linked_files : List ReadFile → List File
 linked_files parsed = map linked_file parsed
@@ -33,6 +37,10 @@ choices_in (Err fault) = []
 
 abbrev pub choices_of : ReadFile → List Choice
 choices_of parsed_file = choices_in parsed_file.contents
+
+-- the file with this number has no facts
+abbrev pub IsUnreadAt : List ReadFile → (number : ℕ) → Type 0
+IsUnreadAt parsed = IsUnreadBy (linked_files parsed) (λ number. ⊤)
 
 -- the file with this number has no contents, for this fault
 pub record HasFault (parsed : List ReadFile) (number : ℕ) (fault : FileFault) : Type 0 where

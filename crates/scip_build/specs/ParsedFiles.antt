@@ -65,6 +65,7 @@ pub record IsParsedFile (faulty : Faulty) (dialect : Dialect) (form : CommentFor
     (number : ℕ) (file : TreeFile) (parsed_file : ReadFile) : Type 0 where
   pub path : parsed_file.path ≡ file.path
   pub is_included : parsed_file.is_included ≡ file.is_included
+  pub present : parsed_file.is_left_out ≡ false
   pub contents : HasContents faulty dialect form allows number file parsed_file.contents
 
 -- the files after they were read, each under its number

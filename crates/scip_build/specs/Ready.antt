@@ -1,5 +1,5 @@
 -- What holds of files that were read from a tree, and so of those of them that are kept.
-use Rattle.std.specs.Prelude.{◌≡◌, ◌<◌, ◌≤◌, ℕ, ⊤, Result, Ok, Err, Some, List, length}
+use Rattle.std.specs.Prelude.{◌≡◌, ◌<◌, ◌≤◌, ℕ, false, ⊤, Result, Ok, Err, Some, List, length}
 use Rattle.std.specs.declared.cmp.Ordering.{Ordering}
 use Rattle.std.specs.declared.cmp.Ordering.TheVariants.{Less}
 use Rattle.std.specs.Ordering.{nat_cmp, bool_cmp, ordering_then}
@@ -29,9 +29,15 @@ pub record IsOfTree (parsed_file : ReadFile) : Type 0 where
   pub good : IsGoodPath parsed_file.path
   pub contents : AreWholeIfRead parsed_file.contents
 
--- sources before included files, and each of these by path
+-- sources before included files, behind these those that are left out, and each of these by path
 abbrev pub parsed_file_cmp : ReadFile → ReadFile → Ordering
-parsed_file_cmp a b = ordering_then (bool_cmp a.is_included b.is_included) (slice_cmp nat_cmp a.path b.path)
+parsed_file_cmp a b = ordering_then (bool_cmp a.is_left_out b.is_left_out)
+    (ordering_then (bool_cmp a.is_included b.is_included) (slice_cmp nat_cmp a.path b.path))
+
+-- none of the files is left out
+abbrev pub ArePresent : List ReadFile → Type 0
+ArePresent parsed = (number : ℕ) (parsed_file : ReadFile) → slice_get parsed number ≡ Some parsed_file
+    → parsed_file.is_left_out ≡ false
 
 pub record AreOfTree (parsed : List ReadFile) : Type 0 where
   pub few : length parsed ≤ MAX_INPUTS

@@ -7,13 +7,13 @@ use Rattle.std.specs.Option.{unwrap_or}
 use Rattle.proto_visibility.specs.declared.files.FilePlace.{FilePlace}
 use Rattle.proto_visibility.specs.declared.omissions.FileOmission.{FileOmission}
 use Rattle.proto_visibility.specs.Files.{File}
-use Rattle.proto_visibility.specs.Kept.{Omissions, IsOmission, AreOmissions, kept_of}
+use Rattle.proto_visibility.specs.Kept.{Omissions, IsOmission, AreOmissions}
 use Rattle.scip_build.specs.declared.omission.Omission.{Omission}
 use Rattle.scip_build.specs.declared.omission.Omission.TheVariants.{MissingImport, Unresolved}
 use Rattle.scip_build.specs.Files.{ReadFile}
 use Rattle.scip_build.specs.Linking.{linked_files}
 use Rattle.scip_build.specs.Kept.{IsLeftFor, told_cmp}
-use Rattle.scip_build.specs.Keeping.{kept_numbers}
+use Rattle.scip_build.specs.Keeping.{kept_numbers, linked_of}
 
 -- the list has what it had, and besides just these
 abbrev pub Adds : (Omission → Type 0) → (old new : List Omission) → Type 0
@@ -66,6 +66,6 @@ all_told left numbers imports uses =
 pub record AreKeptFiles (all parsed : List ReadFile) (numbers : List ℕ) (left : List Omission) : Type 0 where
   pub omissions : Omissions
   pub left_out : AreOmissions (linked_files all) omissions
-  pub kept : parsed ≡ kept_of omissions all
+  pub kept : parsed ≡ linked_of omissions all
   pub numbers_are : numbers ≡ kept_numbers 0 omissions
   pub left_are : Adds (FromFront (IsLeftIf all) omissions (length omissions)) [] left

@@ -8,7 +8,7 @@ ghost use Rattle.scip_model.specs.Indexes.{metadata_of};
 ghost use Rattle.scip_build.specs.declared.faulty.Faulty.TheVariants.{Refuse, Skip};
 ghost use Rattle.scip_build.specs.Linking.{linked_files};
 ghost use Rattle.scip_build.specs.Documents.{MayRefuseDocuments};
-ghost use Rattle.scip_build.specs.Ready.{AreOfTree};
+ghost use Rattle.scip_build.specs.Ready.{AreOfTree, ArePresent};
 ghost use Rattle.scip_build.specs.Making.{MayRefuseMaking, MayRefuseSkipping};
 ghost use Rattle.scip_build.specs.Forms.{index_of, IsMadeOf, IsLinkedAndMade, IsBuiltOfInForm};
 ghost use Rattle.scip_build.specs.Forms.{IsBuiltInForm};
@@ -200,6 +200,7 @@ fn build_kept<'a, R: Threads + Wait, G: Gate, F: DocumentForm + Sync>(
     form: &F,
 ) -> Result<BuiltParts<'a, F::Kept>, BuildFault>
     requires tree { AreOfTree all.items }
+    requires present { ArePresent all.items }
     requires skip { settings.now.faulty ≡ Skip }
     ensures { MatchResult result
         (λ built. IsBuiltOfInForm F.is_kept all.entry.items settings.now built.choices built.told built.parts)

@@ -132,6 +132,7 @@ fn read_parts<'a, C: Chooses>(
         Ok(contents) => Ok(ParsedFile {
             path,
             is_included,
+            is_left_out: false,
             contents: Ok(contents),
         }),
         Err(NoContents::Unreadable(fault)) => {
@@ -139,6 +140,7 @@ fn read_parts<'a, C: Chooses>(
                 Ok(ParsedFile {
                     path,
                     is_included,
+                    is_left_out: false,
                     contents: Err(fault),
                 })
             } else {

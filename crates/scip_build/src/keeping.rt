@@ -3,9 +3,9 @@
 ghost use Rattle.std.specs.Prelude.{◌≡◌, IfOk, length};
 ghost use Rattle.std.specs.List.{prefix_len};
 ghost use Rattle.proto_visibility.specs.Files.{HaveOwnPaths};
-ghost use Rattle.proto_visibility.specs.Kept.{AreOmissions, kept_of};
+ghost use Rattle.proto_visibility.specs.Kept.{AreOmissions};
 ghost use Rattle.scip_build.specs.Linking.{linked_files};
-ghost use Rattle.scip_build.specs.Keeping.{kept_numbers, is_source};
+ghost use Rattle.scip_build.specs.Keeping.{kept_numbers, is_source, linked_of};
 ghost use Rattle.scip_build.specs.Telling.{AreKeptFiles};
 
 use crate::linking::linked_files;
@@ -40,29 +40,34 @@ fn kept_numbers(alloc: Global, omissions: &[Option<FileOmission>]) -> Result<Vec
     Ok(numbers)
 }
 
-/// The parsed files of the files that are kept, in order.
-fn kept_parsed<'a>(
+/// The parsed files as they are linked: those that are kept, in order, and behind them those that are left out.
+fn linked_parsed<'a>(
     alloc: Global,
     all: Vec<ParsedFile<'a>>,
     omissions: Vec<Option<FileOmission>>,
 ) -> Result<Vec<ParsedFile<'a>>, AllocError>
     requires { length omissions.items ≡ length all.items }
-    ensures { IfOk result (λ parsed. parsed.items ≡ kept_of omissions.items all.entry.items) }
+    ensures { IfOk result (λ parsed. parsed.items ≡ linked_of omissions.items all.entry.items) }
 {
     let mut parsed = Vec::with_capacity(alloc, all.len())?;
+    let mut left = Vec::new(alloc);
     for (parsed_file, omission) in all.into_iter().zip(omissions) {
         if omission.is_none() {
             parsed.push_reserved(parsed_file);
+        } else {
+            left.push(parsed_file.into_left_out())?;
         }
     }
+    parsed.append(&mut left)?;
     Ok(parsed)
 }
 
-/// The files of a tree that are kept, by their number among these, and what is told of the others.
+/// The files of a tree as they are linked, of which those that are kept come first, and what is told of those that are
+/// left out.
 #[derive(Drop)]
 pub(crate) struct KeptFiles<'a> {
     pub(crate) parsed: Vec<ParsedFile<'a>>,
-    /// The number that each has among all files.
+    /// The number that each kept one has among all files.
     pub(crate) numbers: Vec<usize>,
     pub(crate) told: Vec<Omission>,
 }
@@ -80,7 +85,7 @@ pub(crate) fn keep_files<'a>(
     let omissions = omissions_of(alloc, all.as_slice())?;
     push_omissions(&mut told, all.as_slice(), omissions.as_slice())?;
     let numbers = kept_numbers(alloc, omissions.as_slice())?;
-    let parsed = kept_parsed(alloc, all, omissions)?;
+    let parsed = linked_parsed(alloc, all, omissions)?;
     Ok(KeptFiles {
         parsed,
         numbers,
@@ -88,12 +93,12 @@ pub(crate) fn keep_files<'a>(
     })
 }
 
-/// How many files are in front of the first that is included.
+/// How many files are in front of the first that is no source.
 pub(crate) fn sources_among(parsed: &[ParsedFile<'_>]) -> usize
     ensures { result ≡ prefix_len is_source parsed.now }
 {
     parsed
         .iter()
-        .take_while(|parsed_file| !parsed_file.is_included)
+        .take_while(|parsed_file| parsed_file.is_source())
         .count()
 }

@@ -100,7 +100,8 @@ pub fn nothing_is_left_out_of_a_good_tree<C: Chooses>(chooser: &C)
     nothing_is_left_out_of_good_files();
 }
 
-/// A use of a kept file that names nothing of a file that is left out names what it named among all files.
+/// Though files are left out, a use of a kept file that names something names what it names in the whole tree; and what it
+/// names there it names, if the file that declares that is kept.
 pub fn kept_resolves_alike()
     ensures { KeptResolvesAlike }
 {}

@@ -2,9 +2,8 @@
 
 ghost use Rattle.std.specs.Prelude.{◌≡◌, IfOk, IfErr, MatchResult};
 ghost use Rattle.proto_visibility.specs.Files.{HaveOwnPaths};
-ghost use Rattle.proto_visibility.specs.Absences.{IsUnread};
 ghost use Rattle.proto_visibility.specs.Linked.{CanBeLinked, MayRefuse};
-ghost use Rattle.scip_build.specs.Linking.{linked_file, linked_files, HasFault, MayRefuseParsed, AreLinked};
+ghost use Rattle.scip_build.specs.Linking.{linked_file, linked_files, IsUnreadAt, HasFault, MayRefuseParsed, AreLinked};
 
 use crate::fault::{BuildFault, FileFault};
 use crate::parsed_file::ParsedFile;
@@ -26,6 +25,7 @@ fn linked_file<'a, 'r>(parsed_file: &'a ParsedFile<'r>) -> LinkFile<'a, 'r>
         path: parsed_file.path,
         facts,
         included: parsed_file.is_included,
+        left_out: parsed_file.is_left_out,
     }
 }
 
@@ -45,7 +45,7 @@ pub fn linked_files<'a, 'r>(
 
 /// Why a file has no contents.
 pub(crate) fn fault_at(parsed: &[ParsedFile<'_>], number: usize) -> FileFault
-    requires unread { IsUnread (linked_files parsed.now) number }
+    requires unread { IsUnreadAt parsed.now number }
     ensures { HasFault parsed.now number result }
 {
     let parsed_file = &parsed[number];

@@ -18,6 +18,6 @@ pub enum Omission {
     Duplicate(FilePlace, FilePlace),
     /// An import of a path that no file has that is kept, by its literal's place.
     MissingImport(FilePlace),
-    /// A use that names no type in the files that are kept, by the place of the whole use.
+    /// A use that names no type, or one that a file that is left out declares, by the place of the whole use.
     Unresolved(FilePlace),
 }

@@ -1,5 +1,8 @@
 //! What is known of a file after it was read.
 
+ghost use Rattle.std.specs.Prelude.{◌≡◌};
+ghost use Rattle.scip_build.specs.Keeping.{as_left_out, is_source};
+
 use crate::fault::FileFault;
 use basics::Sequence;
 use index_hooks::Choice;
@@ -30,13 +33,15 @@ impl<'a> Model for Contents<'a> {
 
 /// A file after it was read: its contents, or why it has none; a source is without only if such are skipped.
 ///
-/// Contracts see its path's bytes, whether it is included, and the contents or the fault.
+/// Contracts see its path's bytes, whether it is included or left out, and the contents or the fault.
 #[derive(Drop)]
 pub struct ParsedFile<'a> {
     /// Its path below its root.
     pub path: &'a str,
     /// Whether it is included: linked, but not indexed.
     pub is_included: bool,
+    /// Whether it is left out of what is linked: the names that it gives are known where it is seen, and nothing else.
+    pub is_left_out: bool,
     /// Its contents, or why it can't be read.
     pub contents: Result<Contents<'a>, FileFault>,
 }
@@ -50,7 +55,29 @@ impl<'a> Model for ParsedFile<'a> {
         record {
           path = parsed_file.path.now;
           is_included = parsed_file.is_included;
+          is_left_out = parsed_file.is_left_out;
           contents
               = parsed_file.contents;
         } };
+}
+
+impl<'a> ParsedFile<'a> {
+    /// The file, left out.
+    pub(crate) fn into_left_out(self) -> ParsedFile<'a>
+        ensures { result ≡ as_left_out self.entry }
+    {
+        ParsedFile {
+            path: self.path,
+            is_included: self.is_included,
+            is_left_out: true,
+            contents: self.contents,
+        }
+    }
+
+    /// Whether it is a source: neither included nor left out.
+    pub(crate) fn is_source(&self) -> bool
+        ensures { result ≡ is_source self.now }
+    {
+        !self.is_included && !self.is_left_out
+    }
 }

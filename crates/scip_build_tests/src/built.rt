@@ -23,6 +23,11 @@ pub(crate) fn see(rt: &impl Abort, holds: bool, case: &str) {
     assert!(rt; holds, "{case}");
 }
 
+/// A symbol without the scheme and the empty package.
+fn short(symbol: &str) -> &str {
+    symbol.strip_prefix("scip-protobuf . . . ").unwrap_or("?")
+}
+
 /// Adds a number, and a space behind it.
 fn add_field(draft: &mut Draft, number: i64) {
     draft.add_number(number);
@@ -38,8 +43,7 @@ fn add_occurrence(draft: &mut Draft, occurrence: &Occurrence) {
     add_field(draft, i64::from(range.end_line()));
     add_field(draft, i64::from(range.end_column()));
     add_field(draft, i64::from(occurrence.symbol_roles));
-    let symbol = occurrence.symbol.as_str();
-    draft.add(symbol.strip_prefix("scip-protobuf . . . ").unwrap_or("?"));
+    draft.add(short(occurrence.symbol.as_str()));
     draft.add("\n");
 }
 
@@ -61,7 +65,7 @@ fn add_omission(draft: &mut Draft, omission: &Omission) {
     draft.add("\n");
 }
 
-/// A line for each thing that is told, and then the documents.
+/// A line for each thing that is told, then the documents, and a line for each external symbol.
 fn listing_of(alloc: Global, built: &Built) -> Result<String, AllocError> {
     let mut draft = Draft::new(alloc);
     for omission in built.told.as_slice() {
@@ -69,6 +73,11 @@ fn listing_of(alloc: Global, built: &Built) -> Result<String, AllocError> {
     }
     for document in built.index.documents.as_slice() {
         add_document(&mut draft, document);
+    }
+    for entry in built.index.external_symbols.as_slice() {
+        draft.add("external ");
+        draft.add(short(entry.symbol.as_str()));
+        draft.add("\n");
     }
     draft.finish()
 }

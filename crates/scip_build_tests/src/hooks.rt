@@ -109,8 +109,9 @@ fn a_filter_by_kind(rt: HostRuntime) -> Result<(), Fail> {
 }
 
 // The first row reads: besides the one declaration of the source, two of an included file that nobody sees are asked
-// about. A file with a fault is lexed whole, and nobody is asked about what is in front of the fault.
-static ASKED: [Row; 3] = [
+// about. A file with a fault is lexed whole, and nobody is asked about what is in front of the fault. A file that is
+// left out for a clash is asked about; but what it alone uses has no external entry.
+static ASKED: [Row; 4] = [
     Row {
         files: "a.proto\nsyntax = \"proto3\";\nmessage A {}\n|\
 +s.proto\nsyntax = \"proto3\";\nmessage S { message T {} }\n|\
@@ -130,6 +131,27 @@ static ASKED: [Row; 3] = [
         faulty: Faulty::Skip,
         due: "File(0, Lex(BadByte(34)))\n",
         asked: 0,
+    },
+    Row {
+        files: "a.proto\nsyntax = \"proto3\";\nmessage Z {}\n|\
+b.proto\nsyntax = \"proto3\";\nimport \"s.proto\";\nmessage Z { S s = 1; }\n|\
+c.proto\nsyntax = \"proto3\";\nimport \"s.proto\";\nmessage C { T t = 1; }\n|\
++s.proto\nsyntax = \"proto3\";\nmessage S {}\nmessage T {}\n",
+        faulty: Faulty::Skip,
+        due: "Duplicate(FilePlace { file: 0, span: Span { start: 27, end: 28 } }, \
+FilePlace { file: 1, span: Span { start: 45, end: 46 } })
+a.proto
+0 0 0 0 1 `a.proto`/
+1 8 1 9 1 Z#
+c.proto
+0 0 0 0 1 `c.proto`/
+1 7 1 16 2 `s.proto`/
+2 8 2 9 1 C#
+2 12 2 13 0 T#
+2 14 2 15 1 C#t.
+external T#
+",
+        asked: 7,
     },
 ];
 

@@ -1,11 +1,12 @@
 -- What the facts of a source give to the functions that list its occurrences.
 use Rattle.std.proofs.Common.{◌≡◌, ◌↔◌, sym, refl, subst, ℕ, zero, suc, ◌<◌, Bool, true, false, IsTrue, Some, List, []}
-use Rattle.std.proofs.Common.{◌∷◌, ◌++◌, length, map, ⊎_elim}
+use Rattle.std.proofs.Common.{◌∷◌, ◌++◌, ◌∙◌, ◌&&◌, not, inl, inr, ap, length, map}
 use Rattle.std.specs.List.{All, slice_get}
-use Rattle.std.proofs.lemmas.Bool.{false_from_ne_true, false≢true}
-use Rattle.std.proofs.lemmas.Cmp.{nat_list_eq_equiv}
+use Rattle.std.specs.Str.{bytes_eq}
+use Rattle.std.proofs.lemmas.Bool.{and_parts, false_from_ne_true, false≢true, not-true, or_cases}
+use Rattle.std.proofs.lemmas.Option.{get_or_from_slice_get, same_Some, slice_get_within}
+use Rattle.std.proofs.lemmas.List.Folds.{list_any_at}
 use Rattle.std.proofs.lemmas.Slice.Eq.{bytes_eq-Decides}
-use Rattle.std.proofs.lemmas.Map.Views.{list_any-from_Contains, Contains-from_any}
 use Rattle.std.proofs.lemmas.List.Elements.{All-nil, All-cons, All-head, All-tail}
 use Rattle.basics.proofs.ListLemmas.{item_at}
 use Rattle.proto_lex.specs.Lexed.{IsPart}
@@ -21,7 +22,6 @@ use Rattle.scip_records.specs.declared.records.Occurrence.{Occurrence}
 use Rattle.scip_model.specs.OccurrenceOrder.{occurrence_cmp}
 use Rattle.scip_model.specs.Tables.Listing.{has_path}
 use Rattle.scip_model.specs.Tables.Merges.{IsMerged, AreUntied}
-use Rattle.scip_model.proofs.MergeLemmas.{head_or_tail, not_in_none}
 
 pub all_of_map : {X Y : Type 0} (P : Y → Type 0) (f : X → Y) (xs : List X) → All P (map f xs) → All (λ x. P (f x)) xs
 all_of_map P f [] all = All-nil (λ x. P (f x))
@@ -65,11 +65,40 @@ choices_there files chosen source facts have known index within =
 -- paths of files
 
 pub path_from : (files : List File) (path : List ℕ) → has_path files path ≡ true → HasPath files path
-path_from files path e =
-    Contains-from_any (λ x y. (bytes_eq-Decides x y).0) path (map (λ (file : File). file.path) files) e
+path_from [] path e = absurd (false≢true e)
+path_from (f ∷ fs) path e = elim (or_cases (bytes_eq path f.path && not f.is_left_out) (has_path fs path) e) [
+  | inl here ↦ (
+      let parts = and_parts (bytes_eq path f.path) (not f.is_left_out) here in
+      let present = not-true f.is_left_out parts.1 in (
+        zero,
+        (f, refl, sym ((bytes_eq-Decides path f.path).0 parts.0)),
+        record { file = f; numbered = refl; present = present },
+      ))
+  | inr later ↦ (
+      let there = path_from fs path later in (
+        suc there.0,
+        there.1,
+        record { file = there.2.file; numbered = there.2.numbered; present = there.2.present },
+      ))
+]
 
 pub path_to : (files : List File) (path : List ℕ) → HasPath files path → has_path files path ≡ true
-path_to files path there = list_any-from_Contains nat_list_eq_equiv path (map (λ (file : File). file.path) files) there
+path_to files path there =
+    let at = there.1.1 in
+    list_any_at passes files there.0 there.1.0 (slice_get_within files there.0 there.1.0 at)
+    (ap passes (get_or_from_slice_get files there.0 there.1.0 there.1.0 at)
+    ∙ both (bytes_eq path there.1.0.path) (not there.1.0.is_left_out)
+    ((bytes_eq-Decides path there.1.0.path).1 (sym there.1.2))
+    (ap (λ (f : File). not f.is_left_out) (same_Some there.1.0 there.2.file (sym at ∙ there.2.numbered))
+    ∙ ap not there.2.present))
+  where
+    passes : File → Bool
+    passes file = bytes_eq path file.path && not file.is_left_out
+
+    both : (a b : Bool) → a ≡ true → b ≡ true → (a && b) ≡ true
+    both true true e f = refl
+    both true false e f = f
+    both false b e f = e
 
 -- what says whether the path is there is the test
 pub found_is : (files : List File) (path : List ℕ) (found : Bool) → IsTrue found ↔ HasPath files path
@@ -78,23 +107,8 @@ found_is files path true is = sym (path_to files path (is.0 refl))
 found_is files path false is =
     sym (false_from_ne_true (has_path files path) (λ e. false≢true (is.1 (path_from files path e))))
 
-record IsAtPath (files : List File) (p : List ℕ) : Type 0 where
-  number : ℕ
-  file : File
-  numbered : slice_get files number ≡ Some file
-  path : file.path ≡ p
-
-at_path : (files : List File) (p : List ℕ) → HasPath files p → IsAtPath files p
-at_path [] p h = absurd (not_in_none p h)
-at_path (f ∷ fs) p h = ⊎_elim (λ same. record { number = zero; file = f; numbered = refl; path = same })
-    (λ others. next (at_path fs p others)) (head_or_tail p f.path (map (λ (file : File). file.path) fs) h)
-  where
-    next : IsAtPath fs p → IsAtPath (f ∷ fs) p
-    next r = record { number = suc r.number; file = r.file; numbered = r.numbered; path = r.path }
-
 pub good_path : (files : List File) (path : List ℕ) → HaveGoodPaths files → HasPath files path → IsGoodPath path
-good_path files path good there = let r = at_path files path there in
-    subst IsGoodPath r.path (good r.number r.file r.numbered)
+good_path files path good there = subst IsGoodPath there.1.2 (good there.0 there.1.0 there.1.1)
 
 -- what is merged where nothing is tied is so by other names of the lists
 abbrev pub Merges : (first second both : List Occurrence) → Type 0

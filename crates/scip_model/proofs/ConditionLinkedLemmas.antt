@@ -1,15 +1,30 @@
 -- Sources of files that can be linked: they count, and have facts.
-use Rattle.std.proofs.Common.{◌≡◌, ℕ, Option, Some, None, List, refl}
+use Rattle.std.proofs.Common.{◌≡◌, ◌∙◌, ℕ, Bool, true, false, not, Option, Some, None, List, refl, sym}
+use Rattle.std.proofs.lemmas.Bool.{and_parts, not-true}
 use Rattle.std.specs.List.{slice_get}
 use Rattle.proto_decl.specs.Facts.{Facts}
-use Rattle.proto_visibility.specs.Files.{File, HasFacts, IsSource}
+use Rattle.proto_visibility.specs.Files.{File, HasFacts, IsSource, IsSourceAt, IsPresent}
 use Rattle.proto_visibility.specs.Sees.{IsReachable}
 use Rattle.proto_visibility.specs.Sees.SeesBy.{itself}
 use Rattle.proto_visibility.specs.Sees.IsReachable.{seen}
 use Rattle.proto_visibility.specs.Absences.{NoneBroken}
 
 pub source-counts : (files : List File) (source : ℕ) → IsSource files source → IsReachable files source
-source-counts files source is = seen is itself
+source-counts files source is =
+    seen is itself (record { file = is.file; numbered = is.numbered; present = is.present })
+
+-- what is said to be a source is one
+pub source-at : (files : List File) (number : ℕ) (source : Bool) → IsSourceAt files number source → source ≡ true
+    → IsSource files number
+source-at files number source of is =
+    let file = of.0 in
+    let parts = and_parts (not file.is_included) (not file.is_left_out) (sym of.2 ∙ is) in
+    record {
+      file = file;
+      numbered = of.1;
+      source = not-true file.is_included parts.0;
+      present = not-true file.is_left_out parts.1;
+    }
 
 -- a file that counts has facts
 pub counted-facts : (files : List File) (number : ℕ) (file : File) → NoneBroken files → IsReachable files number
@@ -19,7 +34,7 @@ counted-facts files number file read is_reachable at = by file.facts refl
     by : (o : Option Facts) → file.facts ≡ o → (facts : Facts) × HasFacts files number facts
     by None none = absurd (read number (record {
       file = file;
-      is_reachable = is_reachable;
+      counts = is_reachable;
       numbered = at;
       unread = none;
     }))

@@ -80,7 +80,7 @@ module _ (files : List File) (source : ℕ) where
       (unless_found (found_at o) type_use.span ++ rest)) (sym at) (lacks is more)
   one_more found index type_use others rest (Some target) at is more =
       subst (λ (o : Option (Option Target)). UsesUnresolved (type_use ∷ others)
-      (unless_found (found_at o) type_use.span ++ rest)) (sym at) (has (target.name, is.resolves) more)
+      (unless_found (found_at o) type_use.span ++ rest)) (sym at) (has (target.name, is.owner, is.names) more)
 
   unresolved_behind : (found : List (Option Target)) (index : ℕ) (uses : List Use)
       → ((k : ℕ) (type_use : Use) → slice_get uses k ≡ Some type_use → HasFound found (index + k) type_use)

@@ -17,8 +17,8 @@ use Rattle.proto_visibility.specs.Sees.{IsReachable}
 use Rattle.proto_visibility.specs.Sees.IsReachable.{seen}
 use Rattle.proto_visibility.specs.Clashes.{NoClash}
 use Rattle.proto_link.specs.Laws.{OneDeclarationAName}
-use Rattle.proto_link.specs.Targets.{IsNamed}
-use Rattle.proto_link.specs.Targets.IsNamed.{packaged, declared}
+use Rattle.proto_visibility.specs.Knows.{IsEntityOf}
+use Rattle.proto_visibility.specs.Knows.IsEntityOf.{packaged, declared}
 use Rattle.proto_visibility.specs.declared.lookup.Entity.{Entity}
 use Rattle.proto_visibility.specs.declared.lookup.Entity.TheVariants as link
 use Rattle.proto_visibility.proofs.FileFactLemmas.{one_list_of_facts}
@@ -76,19 +76,19 @@ pub record IsThere (files : List File) (file index : ℕ) : Type 0 where
   pub has : HasDeclaration files file index facts declaration
   pub is_reachable : IsReachable files file
 
-named-there : (files : List File) {source count : ℕ} {name : List ℕ} {part : Entity} (file index : ℕ)
-    → IsSource files source → IsNamed files source name count part
+named-there : (files : List File) {owner count : ℕ} {facts : Facts} {name : List ℕ} {part : Entity} (file index : ℕ)
+    → IsReachable files owner → HasFacts files owner facts → IsEntityOf owner facts name count part
     → part ≡ link.Declared file index → IsThere files file index
-named-there files file index is (packaged known) same = cc
-named-there files file index is
-    (declared {seen = there} {index = its} {facts = facts} {declaration = declaration} sees has at full) same =
+named-there files file index reachable has (packaged prefix) same = cc
+named-there files {owner} {count} {facts} file index reachable has
+    (declared {index = its} {declaration = declaration} at full) same =
     subst (λ n. IsThere files n index) (ap file-of same)
-    (subst (λ n. IsThere files there n) (ap index-of same)
+    (subst (λ n. IsThere files owner n) (ap index-of same)
     (record {
       facts = facts;
       declaration = declaration;
       has = record { has_facts = has; numbered = at };
-      is_reachable = seen is sees;
+      is_reachable = reachable;
     }))
 
 module _ (files : List File) (chosen : Chosen) where
@@ -96,7 +96,8 @@ module _ (files : List File) (chosen : Chosen) where
   external-there count x is =
       let used = is.of_source.of_uses.is in
       let part = used.of_parts in
-      named-there files x.0 x.1 is.of_source.is_source
+      let owned = used.is_target.names.owned in
+      named-there files x.0 x.1 (seen is.of_source.is_source owned.gives.sees owned.present) used.is_target.known
       (used.is_target.named part.index part.element part.stands) part.is.is
 
   pub external-chosen : (count : ℕ) (x : Pair) → HaveChoices files chosen → IsExternal files chosen count x

@@ -9,8 +9,9 @@ use Rattle.proto_decl.specs.declared.uses.Use.{Use}
 use Rattle.proto_visibility.specs.Files.{File, HasFacts, IsSource, HaveOrigins}
 use Rattle.proto_visibility.specs.Clashes.{NoClash}
 use Rattle.proto_link.specs.Laws.{OneTargetAUse}
-use Rattle.proto_link.specs.Targets.{IsNamed, IsTarget}
-use Rattle.proto_link.specs.Targets.IsNamed.{packaged, declared}
+use Rattle.proto_link.specs.Targets.{IsTarget}
+use Rattle.proto_visibility.specs.Knows.{IsEntityOf}
+use Rattle.proto_visibility.specs.Knows.IsEntityOf.{packaged, declared}
 use Rattle.proto_visibility.specs.declared.lookup.Entity.{Entity}
 use Rattle.proto_link.specs.declared.target.Target.{Target}
 use Rattle.proto_visibility.proofs.FileFactLemmas.{one_list_of_facts}
@@ -95,19 +96,19 @@ adds-same P Q old new there back adds = λ x. (
 )
 
 module _ (files : List File) (chosen : Chosen) where
-  known-part : {file : ℕ} {name : List ℕ} {count : ℕ} {part : Entity} → HaveChoices files chosen
-      → IsNamed files file name count part → IsKnownPart files chosen part
-  known-part choices (packaged known) = tt
-  known-part choices (declared {seen = seen} {index = index} {facts = facts} {declaration = declaration} sees has at
-      full) = (
-        slice_get_within files seen has.file has.numbered,
-        choices seen index facts declaration (record { has_facts = has; numbered = at }),
-      )
+  known-part : {owner : ℕ} {facts : Facts} {name : List ℕ} {count : ℕ} {part : Entity} → HasFacts files owner facts
+      → HaveChoices files chosen → IsEntityOf owner facts name count part → IsKnownPart files chosen part
+  known-part has choices (packaged prefix) = tt
+  known-part {owner} {facts} has choices (declared {index = index} {declaration = declaration} at full) = (
+    slice_get_within files owner has.file has.numbered,
+    choices owner index facts declaration (record { has_facts = has; numbered = at }),
+  )
 
   pub known-parts : (file : ℕ) (type_use : Use) (target : Target) → HaveChoices files chosen
       → IsTarget files file type_use target → All (IsKnownPart files chosen) target.parts
   known-parts file type_use target choices is =
-      λ k d within. known-part choices (is.named k (get_or target.parts k d) (slice_get-get_or target.parts k d within))
+      λ k d within. known-part is.known choices
+      (is.named k (get_or target.parts k d) (slice_get-get_or target.parts k d within))
 
   -- by the use's only target
   pub of-use : (one : OneTargetAUse) (origins : HaveOrigins files) (clear : NoClash files) (source : ℕ) (type_use : Use)
@@ -131,7 +132,7 @@ module _ (files : List File) (chosen : Chosen) where
   of-found one origins clear source type_use None old new is_source unresolved =
       adds-same (FromFront (IsOfPart files chosen) [] 0) (IsOfUse files chosen source type_use) old new
       (λ x front. absurd (omega (arith, front.within)))
-      (λ x used. absurd (unresolved used.target.name used.is_target.resolves))
+      (λ x used. absurd (unresolved used.target.name used.is_target.owner used.is_target.names))
   of-found one origins clear source type_use (Some target) old new is_source is =
       of-use one origins clear source type_use target old new is_source is
 

@@ -24,14 +24,14 @@ use Rattle.proto_decl.specs.declared.declaration.Declaration.{Declaration}
 use Rattle.proto_decl.specs.declared.uses.Use.{Use}
 use Rattle.basics.proofs.BoolLemmas.{never}
 use Rattle.scip_symbol.specs.Entities.{IsIdentifier}
-use Rattle.proto_visibility.specs.Files.{File, HaveOrigins}
-use Rattle.proto_visibility.specs.Knows.{NameKind, Knows, KnowsAs, is_type}
+use Rattle.proto_visibility.specs.Files.{File, HasFacts, HaveOrigins}
+use Rattle.proto_visibility.specs.Knows.{NameKind, Knows, KnowsAs, IsEntityOf, is_type}
 use Rattle.proto_visibility.specs.Knows.Knows.{declared as known_declared, packaged as known_packaged}
 use Rattle.proto_link.specs.Resolves.{Innermost, ResolvesIn}
 use Rattle.proto_link.specs.Resolves.Innermost.{here, farther}
 use Rattle.proto_link.specs.Resolves.ResolvesIn.{absolute, single, compound}
-use Rattle.proto_link.specs.Targets.{IsNamed, IsTarget}
-use Rattle.proto_link.specs.Targets.IsNamed.{packaged as named_package, declared as named_declared}
+use Rattle.proto_link.specs.Targets.{IsTarget}
+use Rattle.proto_visibility.specs.Knows.IsEntityOf.{packaged as named_package, declared as named_declared}
 use Rattle.proto_link.specs.declared.target.Target.{Target}
 use Rattle.proto_visibility.specs.declared.lookup.Entity.{Entity}
 use Rattle.scip_model.specs.Tables.Listing.{IsNameable, AreNameable}
@@ -149,19 +149,19 @@ take_some zero xs one some = absurd (omega (arith, one))
 take_some (suc count) [] one some = absurd (omega (arith, some))
 take_some (suc count) (x ∷ xs) one some = λ e. cc
 
-part_nameable : (files : List File) (source : ℕ) (name : List ℕ) (count : ℕ) (part : Entity)
-    → All IsIdentifier (components_of name) → 0 < count → IsNamed files source name count part
-    → IsNameable files name part
-part_nameable files source name count part all one (named_package known) = (
+part_nameable : (files : List File) (owner : ℕ) (facts : Facts) (name text : List ℕ) (count : ℕ) (part : Entity)
+    → HasFacts files owner facts → All IsIdentifier (components_of name) → 0 < count
+    → IsEntityOf owner facts text count part → IsNameable files name part
+part_nameable files owner facts name text count part has all one (named_package prefix) = (
   take_some count (components_of name) one (omega (arith, length-slice_split is_dot name)),
   All-take IsIdentifier count (components_of name) all,
 )
-part_nameable files source name count part all one (named_declared {facts = facts} {declaration = d} sees has at full) =
+part_nameable files owner facts name text count part has all one (named_declared {declaration = d} at full) =
     (facts, d, record { has_facts = has; numbered = at })
 
 pub target_nameable : (files : List File) (source : ℕ) → HaveOrigins files → AreIdentifiers
     → (type_use : Use) (target : Target) → IsTarget files source type_use target → AreNameable files target
 target_nameable files source origins spelled type_use target is = λ index part e.
-    let known = resolved_known is.resolves in
-    part_nameable files source target.name _ part (known_all origins spelled known.known known.admitted) (omega arith)
-    (is.named index part e)
+    let known = resolved_known is.names.resolves in
+    part_nameable files is.owner is.facts target.name _ _ part is.known
+    (known_all origins spelled known.known known.admitted) (omega arith) (is.named index part e)

@@ -265,7 +265,7 @@ module _ (files : List File) (chosen : Chosen) (ids : Packages) (encoding : Enco
 
     is_found : (type_use : Use) (target : Target) → IsTarget files source type_use target → (its : Option Target)
         → IsFound files source type_use its → its ≡ Some target
-    is_found type_use target is None unresolved = absurd (unresolved target.name is.resolves)
+    is_found type_use target is None unresolved = absurd (unresolved target.name is.owner is.names)
     is_found type_use target is (Some other) too = ap Some (one_target type_use other target too is)
 
     component_listed : (component : Component) (part : Entity) (entity : symbols.Entity)

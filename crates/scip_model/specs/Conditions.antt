@@ -9,8 +9,7 @@ use Rattle.proto_visibility.specs.Files.{File, HasFacts, IsSource}
 use Rattle.proto_visibility.specs.declared.fault.LinkFault.{LinkFault}
 use Rattle.proto_visibility.specs.declared.fault.LinkFault.TheVariants.{Broken, Duplicate, MissingImport, Unresolved}
 use Rattle.proto_visibility.specs.declared.fault.LinkFault.TheVariants.{Memory}
-use Rattle.proto_link.specs.Resolves.{Resolves}
-use Rattle.proto_link.specs.Targets.{IsUnresolved, IsTarget}
+use Rattle.proto_link.specs.Targets.{Names, IsUnresolved, IsTarget}
 use Rattle.proto_link.specs.declared.target.Target.{Target}
 use Rattle.scip_symbol.specs.Path.{IsGoodPath}
 
@@ -20,7 +19,7 @@ HaveGoodPaths files = (number : ℕ) (file : File) → slice_get files number �
 
 -- the use names a type
 abbrev pub IsResolved : List File → (file : ℕ) → Use → Type 0
-IsResolved files file type_use = (name : List ℕ) × Resolves files file type_use name
+IsResolved files file type_use = (name : List ℕ) × (owner : ℕ) × Names files file type_use name owner
 
 -- each use of each source does
 abbrev pub AllResolve : List File → Type 0

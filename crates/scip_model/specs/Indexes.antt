@@ -40,6 +40,7 @@ pub record IsDocumentOf (files : List File) (chosen : Chosen) (ids : Packages) (
   pub file : File
   pub numbered : slice_get files source ≡ Some file
   pub is_source : file.is_included ≡ false
+  pub present : file.is_left_out ≡ false
   pub relative_path : document.relative_path ≡ file.path
   pub occurrences : IsAscendingListOf occurrence_cmp (Occurs files chosen ids encoding source text) document.occurrences
   pub symbols : IsAscendingListOf info_cmp (HasEntry files chosen ids source) document.symbols

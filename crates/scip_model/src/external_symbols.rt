@@ -136,7 +136,7 @@ fn push_source(
 {
     // From here on it is known that no names of the files clash, and that their facts are those of texts.
     linker.linked();
-    if linker.is_included(source) {
+    if !linker.is_source(source) {
         return Ok(());
     }
     let facts = linker.facts_of(source).unwrap();

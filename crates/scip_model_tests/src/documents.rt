@@ -157,6 +157,7 @@ fn is_linked_right(
         path: "a.proto",
         facts: Some(facts),
         included: false,
+        left_out: false,
     }];
     let linker = link(alloc, &files)?;
     is_listed(alloc, &linker, text, choices, package, listed)

@@ -21,13 +21,13 @@ use Rattle.scip_query.specs.CommandReading.{ask_of, command_of}
 use Rattle.scip_query.proofs.CommandLemmas.{bind_some, parts_found, parts_exact}
 use Rattle.scip_query.proofs.CommandLemmas.{number_written, number_unwritten}
 
-same_bytes : (xs ys : List ℕ) → bytes_eq xs ys ≡ true → xs ≡ ys
+pub same_bytes : (xs ys : List ℕ) → bytes_eq xs ys ≡ true → xs ≡ ys
 same_bytes xs ys e = (bytes_eq-Decides xs ys).0 e
 
 no_digit : (b : ℕ) → is_digit b ≡ true → (b == 32) ≡ false
 no_digit b e = grind (arith, nat_tests)
 
-no_space : (word : List ℕ) → list_all is_digit word ≡ true → list_all (λ b. not (b == 32)) word ≡ true
+pub no_space : (word : List ℕ) → list_all is_digit word ≡ true → list_all (λ b. not (b == 32)) word ≡ true
 no_space [] e = refl
 no_space (b ∷ word) e =
     let parts = and_parts (is_digit b) (list_all is_digit word) e in
@@ -35,7 +35,7 @@ no_space (b ∷ word) e =
 
 -- ---- numbers and paths
 
-number_found : (word : List ℕ) (n : ℕ) → number_of word ≡ Some n → IsNumber word n
+pub number_found : (word : List ℕ) (n : ℕ) → number_of word ≡ Some n → IsNumber word n
 number_found word n e = by (is_written word) refl where
   within : is_written word ≡ true → (t : Bool) → nat_le (value_of word) max_number ≡ t
       → cond t (Some (value_of word)) None ≡ Some n → IsNumber word n
@@ -57,7 +57,7 @@ number_found word n e = by (is_written word) refl where
   by true written = within written (nat_le (value_of word) max_number) refl (sym (number_written word written) ∙ e)
   by false unwritten = let none : None ≡ Some n = sym (number_unwritten word unwritten) ∙ e in absurd cc
 
-number_exact : (word : List ℕ) (n : ℕ) → IsNumber word n → number_of word ≡ Some n
+pub number_exact : (word : List ℕ) (n : ℕ) → IsNumber word n → number_of word ≡ Some n
 number_exact word n is =
     let digits : list_all is_digit word ≡ true = list_all-from_AllPass is_digit word is.digits in
     let written : is_written word ≡ true =
@@ -67,7 +67,7 @@ number_exact word n is =
     number_written word written ∙ ap at_most is.value
     ∙ ap (λ b. cond b (Some n) None) (le-leb n max_number is.small)
 
-path_found : (bytes path : List ℕ) → path_of bytes ≡ Some path → (bytes ≡ path) × IsPath bytes
+pub path_found : (bytes path : List ℕ) → path_of bytes ≡ Some path → (bytes ≡ path) × IsPath bytes
 unfolding path_of
 path_found bytes path e = by (nat_lt 0 (length bytes)) refl (is_utf8 bytes) refl e where
   by : (a : Bool) → nat_lt 0 (length bytes) ≡ a → (b : Bool) → is_utf8 bytes ≡ b
@@ -77,7 +77,7 @@ path_found bytes path e = by (nat_lt 0 (length bytes)) refl (is_utf8 bytes) refl
   by true some false text f = absurd cc
   by false some b text f = absurd cc
 
-path_exact : (path : List ℕ) → IsPath path → path_of path ≡ Some path
+pub path_exact : (path : List ℕ) → IsPath path → path_of path ≡ Some path
 unfolding path_of
 path_exact path is =
     ap (λ b. cond (b && is_utf8 path) (Some path) None) (lt-ltb 0 (length path) is.some)
@@ -101,10 +101,10 @@ question_found word question e =
           same_bytes word (codes "doc") is ∙ ap word_of same
       by false not_a false not_b false not_c f = absurd cc
 
-regroup : (l c path : List ℕ) → l ++ space ++ c ++ space ++ path ≡ l ++ 32 ∷ (c ++ 32 ∷ path)
+pub regroup : (l c path : List ℕ) → l ++ space ++ c ++ space ++ path ≡ l ++ 32 ∷ (c ++ 32 ∷ path)
 regroup l c path = simp append_assoc
 
-behind_word : (word l c path : List ℕ)
+pub behind_word : (word l c path : List ℕ)
     → word ++ space ++ l ++ space ++ c ++ space ++ path ≡ word ++ 32 ∷ (l ++ 32 ∷ (c ++ 32 ∷ path))
 behind_word word l c path = simp append_assoc
 

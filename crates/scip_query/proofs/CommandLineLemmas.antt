@@ -6,10 +6,13 @@ use Rattle.std.specs.List.{count_by, onto_first}
 use Rattle.std.proofs.lemmas.List.{take_all, take-append-le, length-take, length-append}
 use Rattle.std.proofs.lemmas.List.Sums.{sum_by-cons}
 use Rattle.std.proofs.lemmas.Bool.Decides.{nat_tests}
-use Rattle.scip_records.specs.declared.records.Index.{Index}
 use Rattle.scip_query.specs.Commands.{command_lines, max_command_length}
 use Rattle.scip_query.specs.CommandReading.{command_of}
-use Rattle.scip_query.specs.AnswerText.{answer_or_refusal, answer_to}
+use Rattle.scip_query.specs.MoreCommandReading.{more_command_of}
+use Rattle.scip_query.specs.AnswerText.{answer_or_refusal}
+use Rattle.scip_query.specs.MoreAnswers.{Asked, more_or_refusal, spoken, reply_in, reply_to}
+use Rattle.scip_query.specs.declared.manner.Manner.{Manner}
+use Rattle.scip_query.specs.declared.manner.Manner.TheVariants.{Plain, More, Spoken}
 use Rattle.scip_query.specs.Conversing.{is_line_end}
 use Rattle.scip_query.specs.Tables.ConversingSteps.{kept_line, kept_with}
 
@@ -111,8 +114,14 @@ kept_enough m line f none = by (nat_le (length line) m) refl where
       let too_many : nat_le (length (take (m + 1) line)) m ≡ false = grind (arith, nat_tests) in
       ap (λ t. cond t (f (take (m + 1) line)) none) too_many ∙ sym (ap (λ t. cond t (f line) none) is)
 
-pub kept_answer : (index : Index) (line : List ℕ) → answer_to index (kept_line line) ≡ answer_to index line
-kept_answer index line = ap (answer_or_refusal index) (kept_enough max_command_length line command_of None)
+pub kept_answer : (asked : Asked) (line : List ℕ) → reply_to asked (kept_line line) ≡ reply_to asked line
+kept_answer asked line = by asked.manner where
+  by : (manner : Manner) → reply_in manner asked.index (kept_line line) ≡ reply_in manner asked.index line
+  by Plain = ap (answer_or_refusal asked.index) (kept_enough max_command_length line command_of None)
+  by More = ap (more_or_refusal asked.index) (kept_enough max_command_length line more_command_of None)
+  by Spoken =
+      ap (λ command. spoken (more_or_refusal asked.index command))
+      (kept_enough max_command_length line more_command_of None)
 
 -- nothing is kept of the empty line alone
 kept_some : (m b : ℕ) (line : List ℕ) → take (m + 1) (b ∷ line) ≡ [] → ⊥

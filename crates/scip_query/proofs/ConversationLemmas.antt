@@ -10,11 +10,10 @@ use Rattle.std.proofs.lemmas.Grind.{flat_map-append}
 use Rattle.streams.specs.Streams.{last_count, more_by}
 use Rattle.streams.specs.Readers.{Reader, IsReadThrough, IsUnfailed}
 use Rattle.streams.specs.Writers.{SinkOf, writing, IsWritten, IsCutOff}
-use Rattle.scip_records.specs.declared.records.Index.{Index}
 use Rattle.streams.proofs.WholeWriteLemmas.{IsWritten-nil, IsWritten-trans, IsCutOff-after}
 use Rattle.scip_query.specs.Commands.{command_lines}
-use Rattle.scip_query.specs.AnswerText.{answer_to, answer_text}
-use Rattle.scip_query.specs.Conversing.{is_line_end, ended_lines, Replies, IsDue, LeavesFeed, AreAnswersTo}
+use Rattle.scip_query.specs.MoreAnswers.{Asked, reply_to, replies_to}
+use Rattle.scip_query.specs.Conversing.{is_line_end, ended_lines, Replies, LeavesFeed, AreAnswersTo}
 use Rattle.scip_query.specs.Tables.ConversingSteps.{kept_line, kept_with, Stands, IsCutShort, IsHalted, Goes}
 use Rattle.scip_query.specs.Tables.ConversingSteps.{AnswersNext, Concludes}
 use Rattle.scip_query.specs.declared.answer_fault.AnswerFault.{AnswerFault}
@@ -57,51 +56,51 @@ module _ {W : Type 0} (sink : SinkOf W) where
         failed = p.failed;
       }
 
-  module _ (index : Index) (first : W) where
+  module _ (asked : Asked) (first : W) where
     -- ---- the answers to some lines, and to one more
 
     due_more : (ended : List (List ℕ)) (line : List ℕ)
-        → flat_map (answer_to index) ended ++ answer_to index (kept_line line)
-        ≡ flat_map (answer_to index) (ended ++ line ∷ [])
+        → flat_map (reply_to asked) ended ++ reply_to asked (kept_line line)
+        ≡ flat_map (reply_to asked) (ended ++ line ∷ [])
     due_more ended line =
-        ap (λ l. flat_map (answer_to index) ended ++ l)
-        (kept_answer index line ∙ sym (append-nil (answer_to index line)))
-        ∙ sym (flat_map-append (answer_to index) ended (line ∷ []))
+        ap (λ l. flat_map (reply_to asked) ended ++ l)
+        (kept_answer asked line ∙ sym (append-nil (reply_to asked line)))
+        ∙ sym (flat_map-append (reply_to asked) ended (line ∷ []))
 
     -- where the answer to the line that is begun went out
     line_written : (read : List ℕ) (talk : Conversation) (before after : W)
-        (s : Stands sink index first read talk before)
-        → IsWritten (writing sink before after) (answer_to index talk.line.items)
-        → IsWritten (writing sink first after) (flat_map (answer_to index) (s.ended ++ s.begun ∷ []))
+        (s : Stands sink asked first read talk before)
+        → IsWritten (writing sink before after) (reply_to asked talk.line.items)
+        → IsWritten (writing sink first after) (flat_map (reply_to asked) (s.ended ++ s.begun ∷ []))
     line_written read talk before after s p =
         subst (IsWritten (writing sink first after)) (due_more s.ended s.begun)
         (IsWritten-trans sink first before after _ _ s.answered
-        (subst (λ l. IsWritten (writing sink before after) (answer_to index l)) s.kept p))
+        (subst (λ l. IsWritten (writing sink before after) (reply_to asked l)) s.kept p))
 
     line_cut_off : (read : List ℕ) (talk : Conversation) (before after : W) (n : ℕ)
-        (s : Stands sink index first read talk before)
-        → IsCutOff (writing sink before after) (answer_to index talk.line.items) n
-        → IsCutOff (writing sink first after) (flat_map (answer_to index) (s.ended ++ s.begun ∷ []))
-        (length (flat_map (answer_to index) s.ended) + n)
+        (s : Stands sink asked first read talk before)
+        → IsCutOff (writing sink before after) (reply_to asked talk.line.items) n
+        → IsCutOff (writing sink first after) (flat_map (reply_to asked) (s.ended ++ s.begun ∷ []))
+        (length (flat_map (reply_to asked) s.ended) + n)
     line_cut_off read talk before after n s p =
-        subst (λ l. IsCutOff (writing sink first after) l (length (flat_map (answer_to index) s.ended) + n))
+        subst (λ l. IsCutOff (writing sink first after) l (length (flat_map (reply_to asked) s.ended) + n))
         (due_more s.ended s.begun)
         (IsCutOff-after sink first before after _ _ n s.answered
-        (subst (λ l. IsCutOff (writing sink before after) (answer_to index l) n) s.kept p))
+        (subst (λ l. IsCutOff (writing sink before after) (reply_to asked l) n) s.kept p))
 
     length_more : (read : List ℕ) (talk : Conversation) (now : W)
-        (s : Stands sink index first read talk now)
-        → length (flat_map (answer_to index) s.ended) + length (answer_to index talk.line.items)
-        ≡ length (flat_map (answer_to index) (s.ended ++ s.begun ∷ []))
+        (s : Stands sink asked first read talk now)
+        → length (flat_map (reply_to asked) s.ended) + length (reply_to asked talk.line.items)
+        ≡ length (flat_map (reply_to asked) (s.ended ++ s.begun ∷ []))
     length_more read talk now s =
-        ap (λ l. length (flat_map (answer_to index) s.ended) + length (answer_to index l)) s.kept
-        ∙ sym (length-append (flat_map (answer_to index) s.ended) (answer_to index (kept_line s.begun)))
+        ap (λ l. length (flat_map (reply_to asked) s.ended) + length (reply_to asked l)) s.kept
+        ∙ sym (length-append (flat_map (reply_to asked) s.ended) (reply_to asked (kept_line s.begun)))
         ∙ ap length (due_more s.ended s.begun)
 
     -- ---- before the first byte
 
     pub starts : (talk : Conversation) → talk.line.items ≡ [] → talk.written ≡ 0
-        → Stands sink index first [] talk first
+        → Stands sink asked first [] talk first
     starts talk line written = record {
       ended = [];
       begun = [];
@@ -116,9 +115,9 @@ module _ {W : Type 0} (sink : SinkOf W) where
     -- ---- one byte
 
     pub byte_kept : (read : List ℕ) (b : ℕ) (talk next : Conversation) (now : W) → (b == 10) ≡ false
-        → Stands sink index first read talk now
+        → Stands sink asked first read talk now
         → next.line.items ≡ kept_with talk.line.items b → next.written ≡ talk.written
-        → Stands sink index first (read ++ b ∷ []) next now
+        → Stands sink asked first (read ++ b ∷ []) next now
     byte_kept read b talk next now inside s line written = record {
       ended = s.ended;
       begun = s.begun ++ b ∷ [];
@@ -134,8 +133,8 @@ module _ {W : Type 0} (sink : SinkOf W) where
     }
 
     pub byte_refused : (read : List ℕ) (b : ℕ) (talk : Conversation) (now : W)
-        → Stands sink index first read talk now
-        → IsHalted sink index first (read ++ b ∷ []) now
+        → Stands sink asked first read talk now
+        → IsHalted sink asked first (read ++ b ∷ []) now
     byte_refused read b talk now s = record {
       ended = s.ended;
       lines = λ behind.
@@ -150,7 +149,7 @@ module _ {W : Type 0} (sink : SinkOf W) where
 
     -- the lines where a `\n` ends the one that is begun
     one_line_more : (read : List ℕ) (talk : Conversation) (now : W)
-        (s : Stands sink index first read talk now) (behind : List ℕ)
+        (s : Stands sink asked first read talk now) (behind : List ℕ)
         → command_lines ((read ++ 10 ∷ []) ++ behind) ≡ s.ended ++ s.begun ∷ command_lines behind
     one_line_more read talk now s behind =
         ap command_lines (further read 10 behind) ∙ s.lines (10 ∷ behind)
@@ -158,9 +157,9 @@ module _ {W : Type 0} (sink : SinkOf W) where
 
     pub line_goes : (read : List ℕ) (talk next : Conversation) (before after : W)
         (result : Result (Unit {0}) AnswerFault)
-        → Stands sink index first read talk before
-        → AnswersNext (writing sink before after) talk next (answer_to index talk.line.items) result
-        → Goes sink index first (read ++ 10 ∷ []) next after result
+        → Stands sink asked first read talk before
+        → AnswersNext (writing sink before after) talk next (reply_to asked talk.line.items) result
+        → Goes sink asked first (read ++ 10 ∷ []) next after result
     line_goes read talk next before after (Ok done) s p = record {
       ended = s.ended ++ s.begun ∷ [];
       begun = [];
@@ -170,20 +169,20 @@ module _ {W : Type 0} (sink : SinkOf W) where
       unended = refl;
       kept = p.1;
       answered = line_written read talk before after s p.0;
-      written = p.2 ∙ counted (length (flat_map (answer_to index) s.ended))
-          (length (answer_to index talk.line.items)) talk.written s.written
+      written = p.2 ∙ counted (length (flat_map (reply_to asked) s.ended))
+          (length (reply_to asked talk.line.items)) talk.written s.written
           ∙ ap (λ n. min n last_count) (length_more read talk before s);
     }
     line_goes read talk next before after (Err Read) s p = absurd p
     line_goes read talk next before after (Err (Write count)) s p = record {
       ended = s.ended ++ s.begun ∷ [];
-      sent = length (flat_map (answer_to index) s.ended) + p.0;
+      sent = length (flat_map (reply_to asked) s.ended) + p.0;
       lines = λ behind. (
         command_lines behind,
         one_line_more read talk before s behind ∙ sym (append_assoc s.ended (s.begun ∷ []) (command_lines behind)),
       );
       cut_off = line_cut_off read talk before after p.0 s p.1;
-      counted = p.2 ∙ counted (length (flat_map (answer_to index) s.ended)) p.0 talk.written s.written;
+      counted = p.2 ∙ counted (length (flat_map (reply_to asked) s.ended)) p.0 talk.written s.written;
     }
     line_goes read talk next before after (Err Memory) s p = record {
       ended = s.ended;
@@ -193,8 +192,8 @@ module _ {W : Type 0} (sink : SinkOf W) where
 
     -- what a refusal leaves stays so where more was read
     pub refused_further : (read more : List ℕ) (talk next : Conversation) (now : W) (fault : AnswerFault)
-        → Goes sink index first read talk now (Err fault)
-        → Goes sink index first (read ++ more) next now (Err fault)
+        → Goes sink asked first read talk now (Err fault)
+        → Goes sink asked first (read ++ more) next now (Err fault)
     refused_further read more talk next now Read p = absurd p
     refused_further read more talk next now (Write count) p = record {
       ended = p.ended;
@@ -216,19 +215,19 @@ module _ {W : Type 0} (sink : SinkOf W) where
     -- ---- the end of the bytes
 
     lines_read : (read : List ℕ) (talk : Conversation) (now : W)
-        (s : Stands sink index first read talk now) → command_lines read ≡ s.ended ++ command_lines s.begun
+        (s : Stands sink asked first read talk now) → command_lines read ≡ s.ended ++ command_lines s.begun
     lines_read read talk now s =
         ap command_lines (sym (append-nil read)) ∙ s.lines [] ∙ ap (λ l. s.ended ++ command_lines l)
         (append-nil s.begun)
 
     pub nothing_begun : (read : List ℕ) (talk : Conversation) (now : W)
-        → Stands sink index first read talk now → talk.line.items ≡ []
-        → IsWritten (writing sink first now) (answer_text index read)
+        → Stands sink asked first read talk now → talk.line.items ≡ []
+        → IsWritten (writing sink first now) (replies_to asked read)
     nothing_begun read talk now s e =
         let none : s.begun ≡ [] = kept_nothing s.begun (sym s.kept ∙ e) in
         let lines : command_lines read ≡ s.ended =
         lines_read read talk now s ∙ ap (λ l. s.ended ++ command_lines l) none ∙ append-nil s.ended in
-        subst (λ l. IsWritten (writing sink first now) (flat_map (answer_to index) l)) (sym lines) s.answered
+        subst (λ l. IsWritten (writing sink first now) (flat_map (reply_to asked) l)) (sym lines) s.answered
 
     begun_line : (begun : List ℕ) → (begun ≡ [] → ⊥) → count_by is_line_end begun ≡ 0 → command_lines begun ≡ begun ∷ []
     begun_line [] some none = absurd (some refl)
@@ -241,24 +240,24 @@ module _ {W : Type 0} (sink : SinkOf W) where
 
     pub last_concludes : (read : List ℕ) (talk next : Conversation) (before after : W)
         (result : Result (Unit {0}) AnswerFault)
-        → Stands sink index first read talk before → (talk.line.items ≡ [] → ⊥)
-        → AnswersNext (writing sink before after) talk next (answer_to index talk.line.items) result
-        → Concludes sink index first read after result
+        → Stands sink asked first read talk before → (talk.line.items ≡ [] → ⊥)
+        → AnswersNext (writing sink before after) talk next (reply_to asked talk.line.items) result
+        → Concludes sink asked first read after result
     last_concludes read talk next before after (Ok done) s some p =
         let lines : command_lines read ≡ s.ended ++ s.begun ∷ [] =
         lines_read read talk before s
         ∙ ap (λ l. s.ended ++ l) (begun_line s.begun (λ e. some (s.kept ∙ ap kept_line e)) s.unended) in
-        subst (λ l. IsWritten (writing sink first after) (flat_map (answer_to index) l)) (sym lines)
+        subst (λ l. IsWritten (writing sink first after) (flat_map (reply_to asked) l)) (sym lines)
         (line_written read talk before after s p.0)
     last_concludes read talk next before after (Err Read) s some p = absurd p
     last_concludes read talk next before after (Err (Write count)) s some p =
         let lines : command_lines read ≡ s.ended ++ s.begun ∷ [] =
         lines_read read talk before s
         ∙ ap (λ l. s.ended ++ l) (begun_line s.begun (λ e. some (s.kept ∙ ap kept_line e)) s.unended) in
-        let sent = length (flat_map (answer_to index) s.ended) + p.0 in (
+        let sent = length (flat_map (reply_to asked) s.ended) + p.0 in (
           sent,
-          p.2 ∙ counted (length (flat_map (answer_to index) s.ended)) p.0 talk.written s.written,
-          subst (λ l. IsCutOff (writing sink first after) (flat_map (answer_to index) l) sent) (sym lines)
+          p.2 ∙ counted (length (flat_map (reply_to asked) s.ended)) p.0 talk.written s.written,
+          subst (λ l. IsCutOff (writing sink first after) (flat_map (reply_to asked) l) sent) (sym lines)
               (line_cut_off read talk before after p.0 s p.1),
         )
     last_concludes read talk next before after (Err Memory) s some p = record {
@@ -274,39 +273,39 @@ module _ {W : Type 0} (sink : SinkOf W) where
     halted_due : (all : List ℕ) (ended others : List (List ℕ)) (next : List ℕ) → command_lines all ≡ ended
         ++ next ∷ others
         → (k : ℕ) × (k < length (command_lines all))
-        × (flat_map (answer_to index) ended ≡ flat_map (answer_to index) (take k (command_lines all)))
+        × (flat_map (reply_to asked) ended ≡ flat_map (reply_to asked) (take k (command_lines all)))
     halted_due all ended others next e = (
       length ended,
       rw e (omega (arith, length-append ended (next ∷ others))),
-      ap (flat_map (answer_to index)) (sym (ap (take (length ended)) e ∙ take-append_seam ended (next ∷ others))),
+      ap (flat_map (reply_to asked)) (sym (ap (take (length ended)) e ∙ take-append_seam ended (next ∷ others))),
     )
 
     -- at the end of the bytes
     pub concluded_due : (known left : Option (List ℕ)) (read : List ℕ) (now : W)
         (result : Result (Unit {0}) AnswerFault)
-        → ((all : List ℕ) → known ≡ Some all → all ≡ read) → Concludes sink index first read now result
-        → AreAnswersTo index known left (writing sink first now) result
+        → ((all : List ℕ) → known ≡ Some all → all ≡ read) → Concludes sink asked first read now result
+        → AreAnswersTo asked known left (writing sink first now) result
     concluded_due known left read now (Ok done) is p =
         record {
-          due = answer_text index read;
+          due = replies_to asked read;
           replies = p;
           some = (read, None, refl);
-          told = λ all e. ap (answer_text index) (sym (is all e));
+          told = λ all e. ap (replies_to asked) (sym (is all e));
         }
     concluded_due known left read now (Err Read) is p = absurd p
     concluded_due known left read now (Err (Write count)) is p =
         record {
-          due = answer_text index read;
+          due = replies_to asked read;
           replies = p;
           some = (read, None, refl);
-          told = λ all e. ap (answer_text index) (sym (is all e));
+          told = λ all e. ap (replies_to asked) (sym (is all e));
         }
     concluded_due known left read now (Err Memory) is p =
         let found = p.lines [] in
         let of = λ (all : List ℕ) (e : all ≡ read). halted_due all p.ended found.1 found.0
         (ap command_lines (e ∙ sym (append-nil read)) ∙ found.2) in
         record {
-          due = flat_map (answer_to index) p.ended;
+          due = flat_map (reply_to asked) p.ended;
           replies = p.answered;
           some = (read, None, of read refl);
           told = λ all e. of all (is all e);
@@ -316,24 +315,24 @@ module _ {W : Type 0} (sink : SinkOf W) where
     record AreCutOff (all : List ℕ) (now : W) (count : ℕ) : Type 0 where
       due : List ℕ
       replies : Replies (writing sink first now) due (Err (Write count))
-      is : due ≡ answer_text index all
+      is : due ≡ replies_to asked all
 
-    all_due : (read rest : List ℕ) (now : W) (count : ℕ) → IsCutShort sink index first read now count
+    all_due : (read rest : List ℕ) (now : W) (count : ℕ) → IsCutShort sink asked first read now count
         → AreCutOff (read ++ rest) now count
     all_due read rest now count p =
         let found = p.lines rest in
         record {
-          due = flat_map (answer_to index) p.ended ++ flat_map (answer_to index) found.0;
-          replies = (p.sent, p.counted, cut_off_more first now _ (flat_map (answer_to index) found.0) p.sent p.cut_off);
-          is = sym (flat_map-append (answer_to index) p.ended found.0) ∙ ap (flat_map (answer_to index)) (sym found.1);
+          due = flat_map (reply_to asked) p.ended ++ flat_map (reply_to asked) found.0;
+          replies = (p.sent, p.counted, cut_off_more first now _ (flat_map (reply_to asked) found.0) p.sent p.cut_off);
+          is = sym (flat_map-append (reply_to asked) p.ended found.0) ∙ ap (flat_map (reply_to asked)) (sym found.1);
         }
 
     -- on the way
     pub halted_on_the_way : (known left : Option (List ℕ)) (read : List ℕ) (talk : Conversation) (now : W)
         (fault : AnswerFault)
         → ((all : List ℕ) → known ≡ Some all → (rest : List ℕ) × (all ≡ read ++ rest))
-        → Goes sink index first read talk now (Err fault)
-        → AreAnswersTo index known left (writing sink first now) (Err fault)
+        → Goes sink asked first read talk now (Err fault)
+        → AreAnswersTo asked known left (writing sink first now) (Err fault)
     halted_on_the_way known left read talk now Read is p = absurd p
     halted_on_the_way None left read talk now (Write count) is p =
         let whole = all_due read [] now count p in
@@ -346,19 +345,19 @@ module _ {W : Type 0} (sink : SinkOf W) where
     halted_on_the_way (Some known) left read talk now (Write count) is p =
         let behind = is known refl in
         let whole = all_due read behind.0 now count p in
-        let due : whole.due ≡ answer_text index known = whole.is ∙ ap (answer_text index) (sym behind.1) in
+        let due : whole.due ≡ replies_to asked known = whole.is ∙ ap (replies_to asked) (sym behind.1) in
         record {
           due = whole.due;
           replies = whole.replies;
           some = (known, None, due);
-          told = λ all e. let same : known ≡ all = cc in due ∙ ap (answer_text index) same;
+          told = λ all e. let same : known ≡ all = cc in due ∙ ap (replies_to asked) same;
         }
     halted_on_the_way known left read talk now Memory is p =
         let of = λ (all rest : List ℕ) (e : all ≡ read ++ rest).
         let found = p.lines rest in
         halted_due all p.ended found.1 found.0 (ap command_lines e ∙ found.2) in
         record {
-          due = flat_map (answer_to index) p.ended;
+          due = flat_map (reply_to asked) p.ended;
           replies = p.answered;
           some = (read ++ [], None, of (read ++ []) [] refl);
           told = λ all e. let behind = is all e in of all behind.0 behind.1;
@@ -367,16 +366,16 @@ module _ {W : Type 0} (sink : SinkOf W) where
     -- where the bytes aren't read to their end
     pub unread_due : (known left : Option (List ℕ)) (read : List ℕ) (talk : Conversation) (now : W)
         → ((all : List ℕ) → known ≡ Some all → (rest : List ℕ) × (left ≡ Some rest) × (all ≡ read ++ rest))
-        → Stands sink index first read talk now
-        → AreAnswersTo index known left (writing sink first now) (Err Read)
+        → Stands sink asked first read talk now
+        → AreAnswersTo asked known left (writing sink first now) (Err Read)
     unread_due known left read talk now is s =
         let ended : ended_lines read ≡ s.ended =
         ap (take (count_by is_line_end read)) (lines_read read talk now s)
         ∙ ap (λ n. take n (s.ended ++ command_lines s.begun)) s.ends
         ∙ take-append_seam s.ended (command_lines s.begun) in
-        let due = ap (flat_map (answer_to index)) (sym ended) in
+        let due = ap (flat_map (reply_to asked)) (sym ended) in
         record {
-          due = flat_map (answer_to index) s.ended;
+          due = flat_map (reply_to asked) s.ended;
           replies = s.answered;
           some = (read, Some [], (read, [], refl, sym (append-nil read), due));
           told = λ all e. let behind = is all e in (read, behind.0, behind.1, behind.2, due);
@@ -386,7 +385,7 @@ module _ {W : Type 0} (sink : SinkOf W) where
 
     pub concluded_feed : {R : Type 0} (commands : Reader R) (read : List ℕ) (now : W)
         (result : Result (Unit {0}) AnswerFault)
-        → Concludes sink index first read now result → IsReadThrough commands
+        → Concludes sink asked first read now result → IsReadThrough commands
         → LeavesFeed commands result
     concluded_feed commands read now (Ok done) p through = through
     concluded_feed commands read now (Err Read) p through = absurd p
@@ -395,7 +394,7 @@ module _ {W : Type 0} (sink : SinkOf W) where
 
     pub halted_feed : {R : Type 0} (commands : Reader R) (read : List ℕ) (talk : Conversation) (now : W)
         (fault : AnswerFault)
-        → Goes sink index first read talk now (Err fault) → IsUnfailed commands
+        → Goes sink asked first read talk now (Err fault) → IsUnfailed commands
         → LeavesFeed commands (Err fault)
     halted_feed commands read talk now Read p same = absurd p
     halted_feed commands read talk now (Write count) p same = same

@@ -11,14 +11,26 @@ mod CommandLineLemmas
 mod ConversationLemmas
 -- The first in a table that passes a test is, of those that pass, the first listed than which none is less
 mod InnermostLemmas
+-- Outlines: the order, the symbols that a document defines, and symbols around one
+mod OutlineLemmas
 -- What is answered where nothing is found
 mod OutcomeLemmas
 -- A run of a table: what compares as equal, which stands together where the table rises
 mod RunLemmas
 -- Symbol entries and their places
 mod SearchEntryLemmas
+-- What a text finds: the order, and the documents one after another
+mod FindingLemmas
+-- Texts of outlines, and of one text or none
+mod MoreAnswerLemmas
+-- The grammar of more commands
+mod MoreCommandLemmas
+-- The longest end of a text in which a byte occurs at most so often
+mod NameLemmas
 -- Places and the sites that they stand for
 mod SiteLemmas
+-- A list has one sorted order that keeps the order of what compares as equal
+mod SortingLemmas
 -- The orders of tables, and lists of numbers and of tables one longer
 pub mod TableLemmas
 -- Two lists of which each element of one stands for the element of the other: what tests keep and find in them

@@ -56,7 +56,7 @@ pub map_numbers_more : {X : Type 0} (f : ℕ → X) (n : ℕ) → map f (numbers
 map_numbers_more f n = map-range_with_len_more f 0 n n (omega arith)
 
 -- what is left of a list begins with the next one
-left_at : {X : Type 0} (xs : List X) (i : ℕ) (x : X) → i < length xs → x ≡ get_or xs i x
+pub left_at : {X : Type 0} (xs : List X) (i : ℕ) (x : X) → i < length xs → x ≡ get_or xs i x
     → drop i xs ≡ x ∷ drop (i + 1) xs
 left_at xs i x within is = drop_more xs i x within ∙ ap (λ y. y ∷ drop (i + 1) xs) (sym is)
 

@@ -8,13 +8,23 @@ pub mod OccurrenceAt
 pub mod References
 pub mod Documentation
 pub mod BySymbol
+pub mod Sorting
+pub mod Entries
+pub mod Kinds
+pub mod Outline
+pub mod Names
+pub mod Finding
 pub mod Outcomes
 -- commands
 pub mod Commands
 pub mod CommandReading
 pub mod CommandViews
+pub mod MoreCommands
+pub mod MoreCommandReading
 -- their answers
 pub mod AnswerText
+pub mod MoreAnswers
+pub mod MoreViews
 pub mod Answering
 pub mod AnswerFaults
 pub mod Conversing

@@ -53,7 +53,7 @@ fn short_command_of(line: &[u8]) -> Option<Command<'_>>
 }
 
 /// Appends `= N`.
-fn push_count(text: &mut String, count: usize) -> Result<(), AllocError>
+pub(crate) fn push_count(text: &mut String, count: usize) -> Result<(), AllocError>
     ensures { OnOk result (string_bytes text.new ≡ string_bytes text.old ++ count_line count) }
 {
     writeln!(text, "= {count}")
@@ -123,7 +123,11 @@ fn push_lines(text: &mut String, lines: &[&str]) -> Result<(), AllocError>
 }
 
 /// Appends a text, each of its lines after `| `.
-fn push_quoted(alloc: Global, text: &mut String, quoted_text: &str) -> Result<(), AllocError>
+pub(crate) fn push_quoted(
+    alloc: Global,
+    text: &mut String,
+    quoted_text: &str,
+) -> Result<(), AllocError>
     ensures { OnOk result (string_bytes text.new ≡ string_bytes text.old ++ quoted quoted_text.now) }
 {
     let lines = lines_in(alloc, quoted_text)?;
@@ -155,7 +159,7 @@ fn push_symbols(text: &mut String, entries: &[&SymbolInformation]) -> Result<(),
 }
 
 /// Appends why nothing is found. At `Memory` nothing is appended.
-fn push_fault(text: &mut String, fault: QueryFault) -> Result<(), AllocError>
+pub(crate) fn push_fault(text: &mut String, fault: QueryFault) -> Result<(), AllocError>
     ensures { OnOk result ((miss : Miss) × (fault ≡ fault_of miss) × (string_bytes text.new ≡ string_bytes text.old
         ++ miss_text miss)) }
 {
@@ -167,7 +171,7 @@ fn push_fault(text: &mut String, fault: QueryFault) -> Result<(), AllocError>
 }
 
 /// Appends the line of a refused question.
-fn push_miss(text: &mut String, miss: Miss) -> Result<(), AllocError>
+pub(crate) fn push_miss(text: &mut String, miss: Miss) -> Result<(), AllocError>
     ensures { OnOk result (string_bytes text.new ≡ string_bytes text.old ++ miss_text miss) }
 {
     match miss {
@@ -240,7 +244,7 @@ impl Queries {
     }
 
     /// Appends the answer to a command.
-    fn push_answer(
+    pub(crate) fn push_answer(
         &self,
         alloc: Global,
         text: &mut String,

@@ -41,7 +41,7 @@ pub(crate) enum Command<'a> {
 }
 
 /// What comes before the first space, and after it.
-fn parts_of(line: &[u8]) -> Option<(&[u8], &[u8])>
+pub(crate) fn parts_of(line: &[u8]) -> Option<(&[u8], &[u8])>
     ensures { option_map parts_view result ≡ parts_of line.now }
 {
     for (at, byte) in line.iter().enumerate() {
@@ -96,7 +96,7 @@ fn at_most(value: u64) -> Option<u32>
 }
 
 /// A line or column, of one to ten digits and at most the greatest SCIP int32.
-fn number_of(word: &[u8]) -> Option<u32>
+pub(crate) fn number_of(word: &[u8]) -> Option<u32>
     ensures { result ≡ number_of word.now }
 {
     if is_written(word) {
@@ -108,7 +108,7 @@ fn number_of(word: &[u8]) -> Option<u32>
 
 /// A path: any text but the empty one.
 #[tactic(auto, unfolding(crate::specs::CommandReading::path_of))]
-fn path_of(path: &[u8]) -> Option<&str>
+pub(crate) fn path_of(path: &[u8]) -> Option<&str>
     ensures { option_map text_of result ≡ path_of path.now }
 {
     if path.is_empty() {

@@ -1,16 +1,18 @@
 //! Answers to commands that are read.
 
 ghost use Rattle.std.specs.Prelude.{◌≡◌, ◌++◌, ◌∷◌, [], List, ℕ, OnOk};
-ghost use Rattle.scip_query.specs.AnswerText.{answer_to};
-ghost use Rattle.scip_query.specs.Conversing.{IsConversed, LeavesFeed};
+ghost use Rattle.scip_query.specs.MoreAnswers.{reply_to};
+ghost use Rattle.scip_query.specs.Conversing.{IsConversed, IsConversedIn, LeavesFeed};
 ghost use Rattle.scip_query.specs.Tables.ConversingSteps.{kept_with, Stands, Goes, AnswersNext, Concludes};
 ghost use Rattle.streams.specs.Readers.{IsReadBriefly, reader};
 ghost use Rattle.streams.specs.Writers.{writer};
 
 use crate::answer_fault::AnswerFault;
 use crate::command::MAX_COMMAND_LENGTH;
+use crate::manner::Manner;
 use crate::queries::Queries;
 use std::alloc::{AllocError, Global};
+use std::marker::Model;
 use streams::{Failed, Feed, MAX_READS, Sink, write_all};
 
 /// How many bytes are read at a time, at most.
@@ -35,7 +37,22 @@ fn keep(line: &mut Vec<u8>, byte: u8) -> Result<(), AllocError>
     Ok(())
 }
 
-impl Queries {
+/// Queries, and the manner in which commands about them are answered. Contracts see the index, and the manner.
+#[derive(Drop)]
+struct Answering<'a> {
+    queries: &'a Queries,
+    manner: Manner,
+}
+
+impl<'a> Model for Answering<'a> {
+    ghost use Rattle.scip_query.specs.MoreAnswers.{Asked};
+
+    ghost Value = { Asked };
+
+    ghost view = { λ a. record { index = a.queries.now; manner = a.manner } };
+}
+
+impl<'a> Answering<'a> {
     /// Answers the line, and begins the next.
     fn reply<W: Sink>(
         &self,
@@ -44,9 +61,11 @@ impl Queries {
         answers: &mut W,
     ) -> Result<(), AnswerFault>
         ensures { AnswersNext (writer W.Sink answers) conversation.old conversation.new
-            (answer_to self.now conversation.old.line.items) result }
+            (reply_to self.now conversation.old.line.items) result }
     {
-        let text = self.answer_to(alloc, conversation.line.as_slice())?;
+        let text = self
+            .queries
+            .reply_in(alloc, self.manner, conversation.line.as_slice())?;
         let written = conversation.written;
         match write_all(answers, text.as_bytes()) {
             Ok(()) => {
@@ -114,20 +133,14 @@ impl Queries {
         }
     }
 
-    /// Reads commands, one a line, to their end, and writes the answer to each as soon as its line has ended, in as
-    /// many writes as the sink takes. A last line without `\n` is a command if it isn't empty. A line of more than
-    /// `MAX_COMMAND_LENGTH` bytes is a bad command, and isn't kept whole.
-    ///
-    /// - `Read`: a read failed, or `MAX_READS` reads gave no end. The lines that had ended are answered.
-    /// - `Write(count)`: a write failed after so many bytes of the answers.
-    /// - `Memory`: the commands before are answered, and nothing of this one's answer was written.
-    pub fn answer_all<R: Feed, W: Sink>(
+    /// Reads commands to their end, and answers each.
+    fn answer_all<R: Feed, W: Sink>(
         &self,
         alloc: Global,
         commands: &mut R,
         answers: &mut W,
     ) -> Result<(), AnswerFault>
-        ensures replies { IsConversed self.now (reader R.Feed commands) (writer W.Sink answers) result }
+        ensures replies { IsConversedIn self.now (reader R.Feed commands) (writer W.Sink answers) result }
         ensures feed { LeavesFeed (reader R.Feed commands) result }
         ensures briefly { IsReadBriefly (reader R.Feed commands) }
     {
@@ -147,5 +160,47 @@ impl Queries {
             self.take_in_all(alloc, &mut conversation, &buffer[..count], answers)?;
         }
         Err(AnswerFault::Read)
+    }
+}
+
+impl Queries {
+    /// Reads commands, one a line, to their end, and writes the answer to each as soon as its line has ended, in as
+    /// many writes as the sink takes. A last line without `\n` is a command if it isn't empty. A line of more than
+    /// `MAX_COMMAND_LENGTH` bytes is a bad command, and isn't kept whole.
+    ///
+    /// - `Read`: a read failed, or `MAX_READS` reads gave no end. The lines that had ended are answered.
+    /// - `Write(count)`: a write failed after so many bytes of the answers.
+    /// - `Memory`: the commands before are answered, and nothing of this one's answer was written.
+    pub fn answer_all<R: Feed, W: Sink>(
+        &self,
+        alloc: Global,
+        commands: &mut R,
+        answers: &mut W,
+    ) -> Result<(), AnswerFault>
+        ensures replies { IsConversed self.now (reader R.Feed commands) (writer W.Sink answers) result }
+        ensures feed { LeavesFeed (reader R.Feed commands) result }
+        ensures briefly { IsReadBriefly (reader R.Feed commands) }
+    {
+        self.answer_all_in(alloc, Manner::Plain, commands, answers)
+    }
+
+    /// The same in a manner, which says what commands there are and how they are answered.
+    pub fn answer_all_in<R: Feed, W: Sink>(
+        &self,
+        alloc: Global,
+        manner: Manner,
+        commands: &mut R,
+        answers: &mut W,
+    ) -> Result<(), AnswerFault>
+        ensures replies { IsConversedIn (record { index = self.now; manner = manner }) (reader R.Feed commands)
+            (writer W.Sink answers) result }
+        ensures feed { LeavesFeed (reader R.Feed commands) result }
+        ensures briefly { IsReadBriefly (reader R.Feed commands) }
+    {
+        let answering = Answering {
+            queries: self,
+            manner,
+        };
+        answering.answer_all(alloc, commands, answers)
     }
 }

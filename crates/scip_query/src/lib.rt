@@ -18,11 +18,21 @@ mod tables;
 mod lookups;
 mod position;
 
+// What else is asked: outlines, and definitions by their names.
+mod entries;
+mod finding;
+mod names;
+mod outline;
+
 // Commands and their answers.
 mod answer;
 mod answer_fault;
 mod command;
 mod conversation;
+mod kinds;
+mod manner;
+mod more_answer;
+mod more_command;
 
 // The laws.
 mod laws;
@@ -30,7 +40,10 @@ mod laws;
 pub use answer::push_line;
 pub use answer_fault::AnswerFault;
 pub use command::MAX_COMMAND_LENGTH;
-pub use laws::commands_follow_the_grammar;
+pub use finding::{Found, MAX_FOUND};
+pub use laws::{commands_follow_the_grammar, more_commands_follow_the_grammar};
+pub use manner::Manner;
+pub use outline::Outlined;
 pub use place::Place;
 pub use queries::Queries;
 pub use query_fault::QueryFault;

@@ -29,7 +29,7 @@ use scip_records::{Document, SymbolInformation};
 use std::alloc::{AllocError, Global};
 
 /// The role of a definition (`scip.proto`, `SymbolRole`).
-const DEFINITION: i32 = 1;
+pub(crate) const DEFINITION: i32 = 1;
 
 /// Whether the occurrence at a place is a definition.
 fn defines_listed(documents: &[Document], place: Place) -> bool
@@ -123,7 +123,7 @@ impl Queries {
 
     /// The entry in which a subject's documentation is: the first with its symbol, in the documents in their order
     /// and then among the external symbols; a local symbol is looked for only in its document.
-    fn entry_of(&self, subject: &Subject<'_>) -> Option<&SymbolInformation>
+    pub(crate) fn entry_of(&self, subject: &Subject<'_>) -> Option<&SymbolInformation>
         requires { slice_get self.now.documents subject.now.asked.number ≡ Some subject.now.asked.document.now }
         ensures { option_copied result ≡ find (λ (entry : SymbolInformation). bytes_eq entry.symbol
             subject.now.symbol.now) (entries_for self.now (subject_view subject.now)) }

@@ -41,6 +41,13 @@ fn compare_positions(a: Position, b: Position) -> Ordering
     a.line.cmp(&b.line).then(a.column.cmp(&b.column))
 }
 
+/// By where two occurrences begin.
+pub(crate) fn compare_starts(a: &Occurrence, b: &Occurrence) -> Ordering
+    ensures { result ≡ position_cmp (start_of a.now.range) (start_of b.now.range) }
+{
+    compare_positions(start_of(a.range), start_of(b.range))
+}
+
 /// How the start of an occurrence's range compares with a position.
 pub(crate) fn compare_start(occurrence: &Occurrence, position: Position) -> Ordering
     ensures { result ≡ position_cmp (start_of occurrence.now.range) position }

@@ -1,6 +1,6 @@
 //! Calls that are made again after `Memory`, where the second answer counts.
 
-use scip_query::{AnswerFault, Place, Queries, QueryFault};
+use scip_query::{AnswerFault, Manner, Place, Queries, QueryFault};
 use scip_records::{Index, SymbolInformation};
 use scip_wire::{WireFault, read_index};
 use std::alloc::{AllocError, Global};
@@ -135,5 +135,65 @@ pub fn see_answered(
     let (room, _) = room.split_at_mut(due.len().min(256));
     let (answer, count) = answered(alloc, asked, commands.as_bytes(), are_read, room);
     see(rt, answer == Ok(()), "answered");
+    see(rt, count == due.len() && *room == *due.as_bytes(), due);
+}
+
+/// What `answer_all_in` gives to commands that are read, and how many bytes the writer then has.
+fn replied_once(
+    alloc: Global,
+    asked: &Queries,
+    manner: Manner,
+    commands: &[u8],
+    room: &mut [u8],
+) -> (Result<(), AnswerFault>, usize) {
+    let size = room.len();
+    let mut sink = Std::new(room);
+    let answer = asked.answer_all_in(alloc, manner, &mut Std::new(commands), &mut sink);
+    let left = sink.into_inner().len();
+    (answer, size.saturating_sub(left))
+}
+
+/// What `answer_in` gives to a command, and how many bytes the writer then has.
+fn one_replied(
+    alloc: Global,
+    asked: &Queries,
+    manner: Manner,
+    command: &[u8],
+    room: &mut [u8],
+) -> (Result<(), AnswerFault>, usize) {
+    let size = room.len();
+    let mut sink = Std::new(room);
+    let answer = asked.answer_in(alloc, manner, command, &mut sink);
+    let left = sink.into_inner().len();
+    (answer, size.saturating_sub(left))
+}
+
+/// Sees what is written, of 640 bytes at most, as the answers in a manner to commands that are read, and to a single
+/// one without its line end too. After `Memory` they are asked again.
+pub fn see_replied(
+    rt: &impl Abort,
+    alloc: Global,
+    asked: &Queries,
+    manner: Manner,
+    commands: &str,
+    due: &str,
+) {
+    let mut room = [0u8; 640];
+    let (room, _) = room.split_at_mut(due.len().min(640));
+    let bytes = commands.as_bytes();
+    let (mut answer, mut count) = replied_once(alloc, asked, manner, bytes, room);
+    if answer == Err(AnswerFault::Memory) {
+        (answer, count) = replied_once(alloc, asked, manner, bytes, room);
+    }
+    see(rt, answer == Ok(()), "replied");
+    see(rt, count == due.len() && *room == *due.as_bytes(), due);
+    if commands.split_once('\n').is_some() {
+        return;
+    }
+    (answer, count) = one_replied(alloc, asked, manner, bytes, room);
+    if answer == Err(AnswerFault::Memory) {
+        (answer, count) = one_replied(alloc, asked, manner, bytes, room);
+    }
+    see(rt, answer == Ok(()), "replied to one");
     see(rt, count == due.len() && *room == *due.as_bytes(), due);
 }

@@ -10,4 +10,6 @@ mod indexes;
 #[cfg(test)]
 mod lookups;
 #[cfg(test)]
+mod more_rows;
+#[cfg(test)]
 mod rows;

@@ -95,6 +95,7 @@ fn is_made(
         path: "a.proto",
         facts: Some(facts),
         included: false,
+        left_out: false,
     }];
     let linker = link(alloc, &files)?;
     let named = externals(alloc, &linker, choices, package)?;

@@ -116,6 +116,7 @@ fn add_file<'a, 't>(
         path,
         facts: Some(facts),
         included: false,
+        left_out: false,
     })?;
     Ok(())
 }

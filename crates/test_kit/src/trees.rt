@@ -1,5 +1,6 @@
-//! Trees of files as texts. Each file has a line with its path, which has a `+` in front where the file is included,
-//! and then its text; behind each file, but that the last may lack it, stands `|`.
+//! Trees of files as texts. Each file has a line with its path, which has a `+` in front where the file is included, and
+//! a `-` where it is left out of what is linked, and then its text; behind each file, but that the last may lack it,
+//! stands `|`.
 
 use source_tree::{Source, Tree, TreeFault};
 use std::alloc::{AllocError, Global};
@@ -13,15 +14,19 @@ pub struct FileText<'a> {
     pub text: &'a str,
     /// Whether it is included, and not a source.
     pub is_included: bool,
+    /// Whether it is left out of what is linked.
+    pub is_left_out: bool,
 }
 
 /// The file of a text without the `|`.
 pub fn file_text(file: &str) -> FileText<'_> {
     let (path, text) = file.split_once('\n').unwrap_or((file, ""));
+    let bare = path.strip_prefix('+').unwrap_or(path);
     FileText {
-        path: path.strip_prefix('+').unwrap_or(path),
+        path: bare.strip_prefix('-').unwrap_or(bare),
         text,
         is_included: path.starts_with('+'),
+        is_left_out: path.starts_with('-'),
     }
 }
 

@@ -1,9 +1,10 @@
 -- What a lookup finds.
 use Rattle.std.specs.Prelude.{◌≡◌, ℕ, Bool, List}
 use Rattle.proto_decl.specs.Names.{qualified}
+use Rattle.proto_decl.specs.declared.uses.Use.{Use}
 use Rattle.proto_visibility.specs.Files.{File}
 use Rattle.proto_visibility.specs.Knows.{is_type, is_aggregate, KnowsAs}
-use Rattle.proto_link.specs.Resolves.{Innermost, wanted}
+use Rattle.proto_link.specs.Resolves.{Innermost, Resolves, wanted}
 
 -- the full name of the word in the innermost scope in which it is a type
 pub record IsSingle (files : List File) (file : ℕ) (word from name : List ℕ) : Type 0 where
@@ -18,3 +19,7 @@ pub record IsCompound (files : List File) (file : ℕ) (is_extended : Bool) (fir
   pub innermost : Innermost files file is_aggregate first from start
   pub name_is : name ≡ qualified start words
   pub known : KnowsAs files file (wanted is_extended) name
+
+-- the use resolves to no full name
+abbrev pub HasNoName : List File → ℕ → Use → Type 0
+HasNoName files file type_use = (name : List ℕ) → Resolves files file type_use name → ⊥

@@ -10,13 +10,17 @@ use Rattle.proto_decl.specs.Names.{hash64}
 use Rattle.proto_decl.specs.Facts.{Facts}
 use Rattle.proto_decl.specs.declared.declaration.Declaration.{Declaration}
 use Rattle.proto_visibility.specs.declared.files.FilePlace.{FilePlace}
-use Rattle.proto_visibility.specs.Clashes.{Before, Item, NoClashBy}
+use Rattle.proto_visibility.specs.Clashes.{Before, BeforeBy, Item, NoClashBy}
 use Rattle.proto_visibility.specs.Files.{File}
 
--- each item comes before those after it
+-- each item comes before those after it, where files come in some order
+abbrev pub AreInPlaceBy : (Earlier : ℕ → ℕ → Type 0) → List Item → Type 0
+AreInPlaceBy Earlier items = (j k : ℕ) (a b : Item) → j < k → slice_get items j ≡ Some a → slice_get items k ≡ Some b
+    → BeforeBy Earlier a.place b.place
+
+-- in order of their numbers
 abbrev pub AreInPlace : List Item → Type 0
-AreInPlace items = (j k : ℕ) (a b : Item) → j < k → slice_get items j ≡ Some a → slice_get items k ≡ Some b
-    → Before a.place b.place
+AreInPlace = AreInPlaceBy (λ number other. number < other)
 
 -- none of the first so many items has the name
 abbrev pub HasNone : List Item → (count : ℕ) → (name : List ℕ) → Type 0
@@ -57,7 +61,7 @@ has_number numbers name = contains nat_eq numbers (hash64 name)
 
 -- no two of the items clash, and the set has the number of each one's full name
 pub record AreApart {S : Type 0} (items : List Item) (numbers : HashSet ℕ S) : Type 0 where
-  pub clear : NoClashBy (Contains items)
+  pub clear : NoClashBy Before (Contains items)
   pub numbered : (item : Item) → Contains items item → has_number numbers item.full_name ≡ true
 
 -- the declarations of a file; none of a file without facts

@@ -65,6 +65,13 @@ abbrev pub IsDeclaring : List DeclaredAt → (NameKind → Bool) → (number : �
 IsDeclaring declared admits number =
     (one : DeclaredAt) × Contains declared one × (one.file ≡ number) × (admits (OfDeclaration one.kind) ≡ true)
 
+-- of the files of a row, the only one of which a declaration is admitted
+pub record IsAloneIn (row : List ℕ) (declared : List DeclaredAt) (admits : NameKind → Bool)
+    (number : ℕ) : Type 0 where
+  pub there : Contains row number
+  pub declares : IsDeclaring declared admits number
+  pub alone : (other : ℕ) → Contains row other → IsDeclaring declared admits other → other ≡ number
+
 -- the file with this number gives the name in this role, by the tables
 abbrev pub IsListed : Names → (NameKind → Bool) → (name : List ℕ) → (number : ℕ) → Type 0
 IsListed names admits name number =

@@ -11,7 +11,7 @@ use Rattle.proto_decl.specs.Facts.{Facts}
 use Rattle.proto_decl.specs.declared.imports.Imported.{Imported}
 use Rattle.proto_visibility.specs.declared.import_table.Steps.{Steps}
 use Rattle.proto_visibility.specs.declared.files.FilePlace.{FilePlace}
-use Rattle.proto_visibility.specs.Files.{File, HasPathAt, IsSource, Imports, is_public}
+use Rattle.proto_visibility.specs.Files.{File, HasPathAt, IsPresent, Imports, is_public}
 use Rattle.proto_visibility.specs.Sees.{LeadsTo, SeesBy}
 
 -- the files that a file imports, publicly or not
@@ -45,10 +45,10 @@ IsBegun table file other = (other ≡ file) ⊎ HasStep table file false other
 abbrev pub IsLedTo : (Imports : ℕ → Bool → ℕ → Type 0) → (starts : List ℕ) → ℕ → Type 0
 IsLedTo Imports starts last = (start : ℕ) × Contains starts start × LeadsTo Imports start last
 
--- from one of the first so many files, which is a source, the search begins there
-abbrev pub IsBegunBySource : List File → (table : List Steps) → (count : ℕ) → ℕ → Type 0
-IsBegunBySource files table count number =
-    (source : ℕ) × (source < count) × IsSource files source × IsBegun table source number
+-- from one of the first so many files, of those that begin it, the search begins there
+abbrev pub IsBegunBy : (Begins : ℕ → Type 0) → (table : List Steps) → (count : ℕ) → ℕ → Type 0
+IsBegunBy Begins table count number =
+    (start : ℕ) × (start < count) × Begins start × IsBegun table start number
 
 -- a row for each file, which has the files that it sees by these imports
 pub record AreRowsBy (Imports : ℕ → Bool → ℕ → Type 0) (files : ℕ) (rows : List (List ℕ)) : Type 0 where
@@ -59,6 +59,27 @@ pub record AreRowsBy (Imports : ℕ → Bool → ℕ → Type 0) (files : ℕ) (
 -- the number that is in a map at a path
 abbrev pub number_in : {S : Type 0} → HashMap (Bor (List ℕ)) ℕ S → (path : List ℕ) → Option ℕ
 number_in numbers path = get_by (λ key. bytes_eq path key.now) numbers
+
+-- whether the file with this number isn't left out
+abbrev pub is_present : Option File → Bool
+is_present None = false
+is_present (Some file) = not file.is_left_out
+
+abbrev pub is_present_at : List File → (number : ℕ) → Bool
+is_present_at files number = is_present (slice_get files number)
+
+-- whether it is neither a source nor left out
+abbrev pub is_other : Option File → Bool
+is_other None = false
+is_other (Some file) = not file.is_left_out && file.is_included
+
+abbrev pub is_other_at : List File → (number : ℕ) → Bool
+is_other_at files number = is_other (slice_get files number)
+
+-- the map has the number of each path of a file that isn't left out
+abbrev pub ArePaths : {S : Type 0} → List File → HashMap (Bor (List ℕ)) ℕ S → Type 0
+ArePaths files paths = (path : List ℕ) (number : ℕ) → (number_in paths path ≡ Some number)
+    ↔ (HasPathAt files path number × IsPresent files number)
 
 -- the map has the number of each path
 abbrev pub AreNumbered : {S : Type 0} → List File → HashMap (Bor (List ℕ)) ℕ S → Type 0

@@ -1,6 +1,6 @@
 -- The occurrences of a document, list by list: each list is in order of place.
 use Rattle.std.specs.Prelude.{◌≡◌, ℕ, ◌+◌, Bool, true, false, if◌then◌else◌, Option, Some, None, List, [], ◌∷◌, ◌++◌}
-use Rattle.std.specs.Prelude.{map, take, Result, Ok, Err, IsErr}
+use Rattle.std.specs.Prelude.{map, take, not, ◌&&◌, Result, Ok, Err, IsErr}
 use Rattle.std.specs.List.{slice_get, list_any}
 use Rattle.std.specs.Str.{bytes_eq}
 use Rattle.std.specs.Option.{option_and_then, option_map}
@@ -39,9 +39,9 @@ abbrev pub found_at : Option (Option Target) → Option Target
 found_at None = None
 found_at (Some found) = found
 
--- whether some file has this path
+-- whether some file that isn't left out has this path
 abbrev pub has_path : List File → List ℕ → Bool
-has_path files path = list_any (bytes_eq path) (map (λ file. file.path) files)
+has_path files path = list_any (λ file. bytes_eq path file.path && not file.is_left_out) files
 
 -- What is found by the linker's answer: nothing if the use names no type. Only want of memory stays a fault.
 abbrev pub Finds : Result Target LinkFault → Result (Option Target) AllocError → Type 0

@@ -1,6 +1,6 @@
 -- The tables by which an index is searched, and what their numbers and places stand for.
-use Rattle.std.specs.Prelude.{ℕ, ◌+◌, Bool, true, false, List, [], ◌∷◌, ◌++◌, length, map, Option, None, Some}
-use Rattle.std.specs.List.{slice_get, AllZip}
+use Rattle.std.specs.Prelude.{ℕ, ◌+◌, Bool, true, false, List, [], ◌∷◌, ◌++◌, length, map, drop, Option, None, Some}
+use Rattle.std.specs.List.{slice_get, AllZip, enumerate_from}
 use Rattle.std.specs.Option.{option_map, option_cmp}
 use Rattle.std.specs.declared.cmp.Ordering.{Ordering}
 use Rattle.std.specs.Ordering.{nat_cmp, on, is_gt}
@@ -23,6 +23,11 @@ use Rattle.scip_query.specs.declared.place.EntryPlace.{EntryPlace}
 abbrev pub numbered_listed : List Document → ℕ → Option Numbered
 numbered_listed documents number =
     option_map (λ (d : Document). record { number = number; document = d }) (slice_get documents number)
+
+-- the documents from a number on, each with its number
+abbrev pub numbered_from : ℕ → List Document → List Numbered
+numbered_from number documents =
+    map (λ (d : ℕ × Document). record { number = d.0; document = d.1 }) (enumerate_from number (drop number documents))
 
 abbrev pub site_or_none : Place → Option Document → Option Site
 site_or_none place None = None

@@ -5,9 +5,8 @@ use Rattle.std.specs.String.{string_bytes}
 use Rattle.streams.specs.Writers.{writing}
 use Rattle.proto_parse.specs.dialect.Dialect.{Dialect}
 use Rattle.protoscip.specs.Explanations.{explain_in}
-use Rattle.protoscip.specs.FaultLines.{HasFilesOf, HaveFilesOf}
+use Rattle.protoscip.specs.FaultLines.{HasFilesOf}
 use Rattle.protoscip.specs.Indexes.{Indexes, recorded_of}
-use Rattle.protoscip.specs.ToldLines.{IsTextOfAllOmissions}
 use Rattle.protoscip.specs.declared.fault.Fault.{Fault}
 use Rattle.protoscip.specs.declared.indexing.KeptIndex.{KeptIndex}
 use Rattle.protoscip.specs.declared.recorded.Recorded.{Recorded}
@@ -17,7 +16,7 @@ use Rattle.programs.specs.Limits.{Breaks}
 use Rattle.programs.specs.Messages.{SaysOfSuccess}
 use Rattle.programs.specs.Placing.{place}
 use Rattle.programs.specs.Reporting.{Reports, ran_of, told_by}
-use Rattle.programs.specs.TreeRuns.{Ends}
+use Rattle.programs.specs.TreeRuns.{Ends, IsWholeTextIfAny}
 use Rattle.programs.proofs.TreeRunOmissionLemmas.{is_success}
 use Rattle.programs.proofs.PlacingLemmas.{fills, forgoes}
 use Rattle.programs.proofs.ReportingLemmas.{finished_files, finished_said, reported_by, reported_files, settled_files}
@@ -146,8 +145,8 @@ end-status-requires-clause-said g c =
     let there = place g.P.OutPlace g.P.Part.Sink c.args.places.now.file c.finish-done.new.out in
     let ran = c.index_and_tell-ran.result in
     let SaysWith : List _ → KeptIndex → Type 0 = λ unread kept.
-    IsTextOfAllOmissions c.explain_in.result run.tree (map string_bytes unread) kept.built.told
-    (option_map string_bytes kept.text) in
+    IsWholeTextIfAny c.explain_in.result c.args.request.now.options.is_real run.tree (map string_bytes unread)
+    kept.built.told (option_map string_bytes kept.text) in
     let Says : KeptIndex → Type 0 = SaysWith run.unread.items in
     let Said : List _ → Type 0 = λ unread. IfOk ran (SaysWith unread) in
     let Settled : Result KeptIndex Fault → Type 0 = λ r. IfOk r Says in
@@ -156,17 +155,3 @@ end-status-requires-clause-said g c =
     (subst Settled (sym c.settle-done.ensures)
     (settled_said Says ran c.report_run-reported.result
     (subst Said c.as_slice.ensures.value c.index_and_tell-ran.ensures.said)))
-
--- what is told names files of the tree
-
-pub end-status-requires-clause-told : goal.end-status-requires-clause-told
-end-status-requires-clause-told g c =
-    let run = c.args.run.now in
-    let there = place g.P.OutPlace g.P.Part.Sink c.args.places.now.file c.finish-done.new.out in
-    let ran = c.index_and_tell-ran.result in
-    let Says : KeptIndex → Type 0 = λ kept. HaveFilesOf run.tree kept.built.told in
-    let Settled : Result KeptIndex Fault → Type 0 = λ r. IfOk r Says in
-    finished_said there c.index_and_tell-ran.new.out Says c.settle-done.result c.broken_limit-broken.result
-    c.finish-done.result c.finish-done.ensures
-    (subst Settled (sym c.settle-done.ensures)
-    (settled_said Says ran c.report_run-reported.result c.index_and_tell-ran.ensures.told))

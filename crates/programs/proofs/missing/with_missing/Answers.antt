@@ -1,19 +1,20 @@
 use Rattle.std.proofs.Common.{◌∙◌, ◌++◌, ℕ, List, ap, codes, string_bytes, subst, sym}
-use Rattle.programs.specs.Missing.{IsWithMissing, alone, with_line}
+use Rattle.std.proofs.lemmas.Result.{IfOk-weaker}
+use Rattle.programs.specs.Missing.{IsWithMissing, unwanted, nothing, with_line}
 use Rattle.programs.proofs.missing.with_missing.Goals as goal
 
-pub returns-in-Ok-Some : goal.returns-in-Ok-Some
-returns-in-Ok-Some c =
-    let longer = rw c.in-Ok-Some.field-0-is at c.in-Ok-Some.ensures in
-    subst (IsWithMissing c.args.wanted c.args.tree.now c.args.told.now (string_bytes c.args.text))
-    (sym (longer.2 ∙ ap (λ (text : List ℕ). text ++ codes "\n" ++ longer.0) c.as_str.ensures.value))
-    (with_line c.if-wanted.true longer.1)
+pub returns-then-not-wanted : goal.returns-then-not-wanted
+returns-then-not-wanted c = unwanted c.if-not-wanted.true
 
-pub returns-in-Ok-None : goal.returns-in-Ok-None
-returns-in-Ok-None c = alone
+pub returns-in-Some : goal.returns-in-Some
+returns-in-Some c =
+    let wanted = c.args.wanted in
+    let text = string_bytes c.args.text in
+    let is = rw c.in-Some.is at c.in_ok-line.ensures in
+    IfOk-weaker c.with_line.result _ _ (λ all same.
+    subst (IsWithMissing wanted c.args.tree.now c.args.told.now text)
+    (sym (same ∙ ap (λ (line : List ℕ). text ++ codes "\n" ++ line) c.as_str.ensures.value))
+    (with_line c.if-not-wanted.false is)) c.with_line.ensures
 
-pub returns-in-Ok-None-2 : goal.returns-in-Ok-None-2
-returns-in-Ok-None-2 c = alone
-
-pub returns-else-wanted : goal.returns-else-wanted
-returns-else-wanted c = alone
+pub returns-in-None : goal.returns-in-None
+returns-in-None c = nothing c.if-not-wanted.false (rw c.in-None.is at c.in_ok-line.ensures)

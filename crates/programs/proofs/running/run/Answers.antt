@@ -5,11 +5,12 @@ use Rattle.std.specs.declared.alloc.AllocError.{AllocError}
 use Rattle.streams.specs.Readers.{reading}
 use Rattle.streams.specs.Writers.{writing}
 use Rattle.source_files.specs.Makers.{making}
-use Rattle.command_line.specs.Requests.{index_request, pages_options, printed_text, refused_text, shell_options}
-use Rattle.command_line.specs.Requests.{snapshot_options}
+use Rattle.command_line.specs.Requests.{index_request, join_options, pages_options, printed_text, refused_text}
+use Rattle.command_line.specs.Requests.{shell_options, snapshot_options}
 use Rattle.command_line.specs.declared.options.IndexRequest.{IndexRequest}
 use Rattle.command_line.specs.declared.request.Request.{Request}
 use Rattle.programs.specs.Indexing.{Indexed, WritesNavigable}
+use Rattle.programs.specs.Joining.{RunsJoin}
 use Rattle.programs.specs.Messages.{memory_line}
 use Rattle.programs.specs.NoSources.{NoneFoundBy}
 use Rattle.programs.specs.Paging.{RunsPages, folder_places}
@@ -29,7 +30,7 @@ returns-in-Print-clause-printed g c =
     let Here : Request → Type 0 = λ request. IfSome (printed_text request) (λ text. Printed text
     × (c.args.input.now ≡ c.args.input.now) × (c.args.places.now ≡ c.args.places.now)) in
     subst (λ (asked : Result Request AllocError). IfOk asked Here) (sym c.in-Ok.is)
-    (subst Here (sym c.in-Print.is) (subst Printed c.as_str-in-Print.ensures.value c.print.ensures, refl, refl))
+    (subst Here (sym c.in-Print.is) (subst Printed c.as_str.ensures.value c.print.ensures, refl, refl))
 
 pub returns-in-Refuse-clause-refused : goal.returns-in-Refuse-clause-refused
 returns-in-Refuse-clause-refused g c =
@@ -64,7 +65,7 @@ returns-in-Index-clause-indexed g c =
 pub returns-in-Shell-clause-served : goal.returns-in-Shell-clause-served
 returns-in-Shell-clause-served g c =
     let Here : Request → Type 0 = λ request. IfSome (shell_options request) (λ options.
-    Served (searched_by options (g.F.ReadFiles.lists c.args.host.now.files.now))
+    Served c.args.host.now.manner (searched_by options (g.F.ReadFiles.lists c.args.host.now.files.now))
     (g.F.ReadFiles.gives c.args.host.now.files.now)
     (blamed_by options (g.F.LookAgain.blames c.args.host.now.files.now))
     (NoneFoundBy (g.F.LookAgain.passes c.args.host.now.files.now) c.args.host.now.is_watched options)
@@ -85,7 +86,8 @@ returns-in-Index-clause-navigable g c =
     IfSome (index_request request) (λ given. WritesNavigable (searched_by given.options lists) gives given.options
     (place g.O.OutPlace g.O.Part.Sink c.args.places.now.file c.index_searched.new.places.file)
     c.index_searched.result)
-    × IfSome (shell_options request) (λ options. AnswersNavigable (searched_by options lists) gives options
+    × IfSome (shell_options request) (λ options. AnswersNavigable c.args.host.now.manner
+    (searched_by options lists) gives options
     (reading g.I.Feed c.args.input.now c.args.input.now)
     (writing g.W.Sink c.args.out.now c.args.out.now) c.index_searched.result) in
     subst (λ (asked : Result Request AllocError). IfOk asked Here) (sym c.in-Ok.is)
@@ -99,7 +101,8 @@ returns-in-Shell-clause-navigable g c =
     IfSome (index_request request) (λ given. WritesNavigable (searched_by given.options lists) gives given.options
     (place g.O.OutPlace g.O.Part.Sink c.args.places.now.file c.args.places.now.file)
     c.shell_searched.result)
-    × IfSome (shell_options request) (λ options. AnswersNavigable (searched_by options lists) gives options
+    × IfSome (shell_options request) (λ options. AnswersNavigable c.args.host.now.manner
+    (searched_by options lists) gives options
     (reading g.I.Feed c.args.input.now c.shell_searched.new.commands)
     (writing g.W.Sink c.args.out.now c.shell_searched.new.answers) c.shell_searched.result) in
     subst (λ (asked : Result Request AllocError). IfOk asked Here) (sym c.in-Ok.is)
@@ -128,6 +131,17 @@ returns-in-Pages-clause-paged g c =
     × (c.args.places.now.report ≡ c.args.places.now.report)) in
     subst (λ (asked : Result Request AllocError). IfOk asked Here) (sym c.in-Ok.is)
     (subst Here (sym c.in-Pages.is) (c.pages.ensures, refl, refl, refl))
+
+pub returns-in-Join-clause-joined : goal.returns-in-Join-clause-joined
+returns-in-Join-clause-joined g c =
+    let Here : Request → Type 0 = λ request. IfSome (join_options request) (λ options.
+    RunsJoin (g.F.ReadFiles.gives c.args.host.now.files.now) (g.F.LookAgain.blames c.args.host.now.files.now [] [])
+    options (place g.O.OutPlace g.O.Part.Sink c.args.places.now.file c.join.new.at)
+    (writing g.M.Sink c.args.messages.now c.join.new.messages) c.join.result
+    × (c.args.input.now ≡ c.args.input.now) × (c.args.out.now ≡ c.args.out.now)
+    × (c.args.places.now.report ≡ c.args.places.now.report)) in
+    subst (λ (asked : Result Request AllocError). IfOk asked Here) (sym c.in-Ok.is)
+    (subst Here (sym c.in-Join.is) (c.join.ensures, refl, refl, refl))
 
 pub returns-in-Err-clause-unknown : goal.returns-in-Err-clause-unknown
 returns-in-Err-clause-unknown g c =

@@ -51,11 +51,12 @@ returns-clause-served g c =
     let options = c.args.options.now in
     let unread = map string_bytes run.unread.items in
     let report = place g.Q.OutPlace g.Q.Part.Sink c.args.report.now c.report_run-reported.new.at in
-    let ran = c.session-ran.result in
+    let ran = c.session_in-ran.result in
     let reported = c.report_run-reported.result in
     let By : Option (List ℕ) → Option DocChoice → Settings → ℕ → Type 0 = λ only doc settings workers.
-    Serves (reading g.I.Feed c.args.commands.now c.session-ran.new.commands) (writing g.W.Sink c.args.answers.now
-    c.session-ran.new.answers) (IsChosenBy only doc) settings run.tree workers ran in
+    Serves c.args.host.now.manner (reading g.I.Feed c.args.commands.now c.session_in-ran.new.commands)
+    (writing g.W.Sink c.args.answers.now
+    c.session_in-ran.new.answers) (IsChosenBy only doc) settings run.tree workers ran in
     let Told : Option (List ℕ) → Option DocChoice → Settings → ℕ → Type 0 = λ only doc settings workers.
     Reports report c.args.options.now.report no_limits (IsChosenBy only doc) settings workers run.tree unread
     (told_by ran) reported in
@@ -66,7 +67,7 @@ returns-clause-served g c =
     over_tree run.tree unread run.settings.package ran reported c.in-Ok.ensures.named c.in-Ok.ensures.folders
     c.in-Ok-see_report.ensures.apart
     (moved4 By c.in-Ok.ensures.only c.in-Ok.ensures.doc c.in-Ok.ensures.settings
-    (c.over-work.ensures ∙ c.in-Ok.ensures.workers) c.session-ran.ensures.served)
+    (c.over-work.ensures ∙ c.in-Ok.ensures.workers) c.session_in-ran.ensures.served)
     (moved4 Told c.in-Ok.ensures.only c.in-Ok.ensures.doc c.in-Ok.ensures.settings c.in-Ok.ensures.workers
     (reported_of ran _ _ (λ told_is. Reports report c.args.options.now.report no_limits
     (IsChosenBy (option_map (λ f. string_bytes f.promise.0) run.choices.filter)
@@ -85,7 +86,8 @@ returns-clause-served g c =
 
 pub returns-in-Err-clause-navigable : goal.returns-in-Err-clause-navigable
 returns-in-Err-clause-navigable g c =
-    answers (g.F.ReadFiles.lists c.args.host.now.files.now) (g.F.ReadFiles.gives c.args.host.now.files.now)
+    answers c.args.host.now.manner (g.F.ReadFiles.lists c.args.host.now.files.now)
+    (g.F.ReadFiles.gives c.args.host.now.files.now)
     c.args.options.now c.headline_of_options.ensures.files
     (blamed_by c.args.options.now (g.F.LookAgain.blames c.args.host.now.files.now))
     (NoneFoundBy (g.F.LookAgain.passes c.args.host.now.files.now) c.args.host.now.is_watched
@@ -98,7 +100,8 @@ returns-in-Err-clause-navigable g c =
 
 pub returns-in-Err-see_report-clause-navigable : goal.returns-in-Err-see_report-clause-navigable
 returns-in-Err-see_report-clause-navigable g c =
-    answers (g.F.ReadFiles.lists c.args.host.now.files.now) (g.F.ReadFiles.gives c.args.host.now.files.now)
+    answers c.args.host.now.manner (g.F.ReadFiles.lists c.args.host.now.files.now)
+    (g.F.ReadFiles.gives c.args.host.now.files.now)
     c.args.options.now c.headline_of_options.ensures.files
     (blamed_by c.args.options.now (g.F.LookAgain.blames c.args.host.now.files.now))
     (NoneFoundBy (g.F.LookAgain.passes c.args.host.now.files.now) c.args.host.now.is_watched
@@ -111,14 +114,15 @@ returns-in-Err-see_report-clause-navigable g c =
 
 pub returns-clause-navigable : goal.returns-clause-navigable
 returns-clause-navigable g c =
-    answers (g.F.ReadFiles.lists c.args.host.now.files.now) (g.F.ReadFiles.gives c.args.host.now.files.now)
+    answers c.args.host.now.manner (g.F.ReadFiles.lists c.args.host.now.files.now)
+    (g.F.ReadFiles.gives c.args.host.now.files.now)
     c.args.options.now c.headline_of_options.ensures.files
     (blamed_by c.args.options.now (g.F.LookAgain.blames c.args.host.now.files.now))
     (NoneFoundBy (g.F.LookAgain.passes c.args.host.now.files.now) c.args.host.now.is_watched
     c.args.options.now) (g.Q.OutPlace.suspects c.args.report.now)
     (place g.Q.OutPlace g.Q.Part.Sink c.args.report.now c.report_run-reported.new.at)
-    (reading g.I.Feed c.args.commands.now c.session-ran.new.commands)
-    (writing g.W.Sink c.args.answers.now c.session-ran.new.answers)
+    (reading g.I.Feed c.args.commands.now c.session_in-ran.new.commands)
+    (writing g.W.Sink c.args.answers.now c.session_in-ran.new.answers)
     (writing g.M.Sink c.args.messages.now c.end.new.messages) c.end.result
     (returns-clause-served g c)
 
@@ -132,7 +136,7 @@ end-requires-clause-files g c =
     (option_map (λ r. r.promise.0) run.choices.rule) in
     let reported = c.report_run-reported.result in
     subst (λ (r : Result Recorded Fault). IfErr r (HasFilesOf run.tree)) (sym c.settle-done.ensures)
-    (settled_files run.tree c.session-ran.result reported c.session-ran.ensures.files
+    (settled_files run.tree c.session_in-ran.result reported c.session_in-ran.ensures.files
     (reported_files report c.args.options.now.report no_limits allows run.settings run.workers run.tree
     (map string_bytes run.unread.items) (ran_of c.told_in.result.now c.fault_in.result) reported
     c.report_run-reported.ensures))

@@ -13,7 +13,8 @@ returns-clause-served g c =
     let files = c.args.host.now.files.now in
     let options = c.args.options.now in
     let report : Place _ _ = place g.Q.OutPlace g.Q.Part.Sink c.args.report.now c.shell.new.report in
-    subst (λ (patterns : List (List ℕ)). Served (ListsWithout (g.F.ReadFiles.lists files) patterns)
+    subst (λ (patterns : List (List ℕ)). Served c.args.host.now.manner
+    (ListsWithout (g.F.ReadFiles.lists files) patterns)
     (g.F.ReadFiles.gives files) (blamed_by options (g.F.LookAgain.blames files))
     (NoneFoundBy (g.F.LookAgain.passes files) c.args.host.now.is_watched options)
     (g.Q.OutPlace.suspects c.args.report.now) options report
@@ -25,7 +26,8 @@ returns-clause-served g c =
 pub returns-clause-navigable : goal.returns-clause-navigable
 returns-clause-navigable g c =
     let files = c.args.host.now.files.now in
-    subst (λ (patterns : List (List ℕ)). AnswersNavigable (ListsWithout (g.F.ReadFiles.lists files) patterns)
+    subst (λ (patterns : List (List ℕ)). AnswersNavigable c.args.host.now.manner
+    (ListsWithout (g.F.ReadFiles.lists files) patterns)
     (g.F.ReadFiles.gives files) c.args.options.now
     (reading g.I.Feed c.args.commands.now c.shell.new.commands)
     (writing g.W.Sink c.args.answers.now c.shell.new.answers) c.shell.result)

@@ -6,4 +6,4 @@ use Rattle.proto_visibility.proofs.absent.add_along.Given as goal
 abbrev pub invariant-loop-import : goal.invariant-loop-import
 invariant-loop-import l =
     l.places.items ≡ l.fn.places.items
-    ++ flat_map (absent_at (number_in l.numbers) l.included l.number) (take l.import-index l.imports)
+    ++ flat_map (absent_at (number_in l.paths) l.included l.number) (take l.import-index l.imports)

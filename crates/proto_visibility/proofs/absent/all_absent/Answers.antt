@@ -23,7 +23,7 @@ pub loop-number-preserved : goal.loop-number-preserved
 loop-number-preserved c =
     let files = c.args.files.now in
     let row = c.args.reachable.now in
-    let names = number_in c.args.numbers.now in
+    let names = number_in c.args.paths.now in
     let items = c.as_slice-number-items.result.now in
     let index = c.loop-number.number-index in
     let file = c.index-files-number.result in
@@ -43,7 +43,7 @@ loop-number-preserved c =
 pub returns : goal.returns
 returns c =
     all_missing c.args.files.now
-    (number_in c.args.numbers.now) c.requires.numbers c.args.reachable.now c.requires.reachable
+    (number_in c.args.paths.now) c.requires.paths c.args.reachable.now c.requires.reachable
     c.as_slice-number-items.ensures.rising
     (all_in_order c.args.files.now
     (λ k facts has. c.facts_in_order.ensures.imports facts (c.have_origins.ensures k facts has)))

@@ -5,4 +5,4 @@ use Rattle.proto_visibility.proofs.absent.all_absent.Given as goal
 
 abbrev pub invariant-loop-number : goal.invariant-loop-number
 invariant-loop-number l =
-    l.places.items ≡ flat_map (absents_at l.files (number_in l.numbers)) (take l.number-index l.reachable)
+    l.places.items ≡ flat_map (absents_at l.files (number_in l.paths)) (take l.number-index l.reachable)

@@ -28,7 +28,7 @@ returns-in-Some c =
     let within = reachable_at files row items index (λ n. (c.requires.reachable n).0) are (omega arith) in
     let stands : slice_get files (get_or items index 0) ≡ Some file =
     slice_get_read files (length files) (get_or items index 0) file refl within c.index-files-number.is in
-    is_absent_place files (number_in c.args.numbers.now) c.requires.numbers row c.requires.reachable index file
+    is_absent_place files (number_in c.args.paths.now) c.requires.paths row c.requires.reachable index file
     (get_or items index 0) c.in-Some.span c.as_slice-number-items.ensures.rising
     (subst (λ xs. index < length xs) are (omega arith))
     (ap (λ xs. get_or xs index 0) are) stands c.loop-number.invariant c.in-Some.ensures.in_order
@@ -45,13 +45,13 @@ loop-number-preserved c =
     let within = reachable_at files row items index (λ n. (c.requires.reachable n).0) are (omega arith) in
     let stands : slice_get files (get_or items index 0) ≡ Some file =
     slice_get_read files (length files) (get_or items index 0) file refl within c.index-files-number.is in
-    none_more files (number_in c.args.numbers.now) c.requires.numbers row c.requires.reachable index file
+    none_more files (number_in c.args.paths.now) c.requires.paths row c.requires.reachable index file
     (get_or items index 0) (ap (λ xs. get_or xs index 0) are) stands c.in_default.ensures.first
     c.loop-number.invariant
 
 pub returns : goal.returns
 returns c = none_absent c.args.files.now
-    (number_in c.args.numbers.now) c.requires.numbers c.args.reachable.now c.requires.reachable
+    (number_in c.args.paths.now) c.requires.paths c.args.reachable.now c.requires.reachable
     c.loop-number.number-index
     (subst (λ xs. length xs ≤ c.loop-number.number-index) c.as_slice-number-items.ensures.value (omega arith))
     c.loop-number.invariant

@@ -3,4 +3,4 @@ use Rattle.proto_visibility.proofs.AbsentLemmas.{NoneUpTo}
 use Rattle.proto_visibility.proofs.absent.first_absent.Given as goal
 
 abbrev pub invariant-loop-number : goal.invariant-loop-number
-invariant-loop-number l = NoneUpTo l.files (number_in l.numbers) l.reachable l.number-index
+invariant-loop-number l = NoneUpTo l.files (number_in l.paths) l.reachable l.number-index

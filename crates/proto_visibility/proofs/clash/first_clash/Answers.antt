@@ -3,7 +3,7 @@ use Rattle.std.proofs.Common.{subst, arith}
 use Rattle.std.specs.List.{Contains, slice_get}
 use Rattle.std.specs.Str.{bytes_eq}
 use Rattle.std.proofs.lemmas.Option.{slice_get_read}
-use Rattle.proto_visibility.specs.Clashes.{Item, ClashBy}
+use Rattle.proto_visibility.specs.Clashes.{Before, Item, ClashBy}
 use Rattle.proto_visibility.specs.Tables.ClashTables.{HasNone, IsFirstNamed, index_in}
 use Rattle.proto_visibility.proofs.ClashLemmas.{none_clash_more, is_clash, no_clash, first_more}
 use Rattle.proto_visibility.proofs.clash.first_clash.Goals as goal
@@ -22,7 +22,7 @@ returns-in-Some c =
     let found = c.in_ok-first.ensures.found ∙ ap (index_in names) name in
     let is = subst (λ o. MatchOption o (HasNone items index item.full_name) (IsFirstNamed items index item.full_name))
     (sym found) (c.loop-index.invariant.first item.full_name) in
-    subst (ClashBy (Contains items) c.in-Some.earlier) (sym (ap (λ (i : Item). i.place) c.item.view_is))
+    subst (ClashBy Before (Contains items) c.in-Some.earlier) (sym (ap (λ (i : Item). i.place) c.item.view_is))
     (is_clash items index item first c.in-Some.earlier c.requires stands is
     (sym c.in-Some.ensures) c.loop-index.invariant.clear)
 

@@ -1,17 +1,20 @@
 use Rattle.std.proofs.Common.{◌≡◌, ◌<◌, Some, length, refl, sym, ◌∙◌, arith}
 use Rattle.std.specs.List.{slice_get}
 use Rattle.std.proofs.lemmas.Option.{slice_get_read}
+use Rattle.std.proofs.lemmas.Bool.{not-true, not-false}
+use Rattle.proto_visibility.specs.Files.{IsSource}
 use Rattle.proto_visibility.proofs.SeeingReachableLemmas.{begun_none, begun_skip, begun_more, begun_all}
+use Rattle.proto_visibility.proofs.SeeingReachableLemmas.{source_from, no_source_from, source_within}
 use Rattle.proto_visibility.proofs.seeing.begin_sources.Goals as goal
 
 pub loop-number-init : goal.loop-number-init
 loop-number-init c = record {
   files = c.requires.files;
-  begun = begun_none c.args.files.now c.args.table.now c.args.search.now.numbers c.requires.none;
+  begun = begun_none (IsSource c.args.files.now) c.args.table.now c.args.search.now.numbers c.requires.none;
 }
 
-pub loop-number-preserved-then-is_included : goal.loop-number-preserved-then-is_included
-loop-number-preserved-then-is_included c =
+pub loop-number-preserved-then-not-is_source : goal.loop-number-preserved-then-not-is_source
+loop-number-preserved-then-not-is_source c =
     let files = c.args.files.now in
     let file = c.index-files-number.result in
     let number = c.loop-number.number in
@@ -20,8 +23,9 @@ loop-number-preserved-then-is_included c =
     slice_get_read files (length files) number file refl within c.index-files-number.is in
     record {
       files = c.loop-number.invariant.files;
-      begun = begun_skip files c.args.table.now number file c.loop-number.search.numbers stands
-          (sym c.is_included.ensures ∙ c.if-is_included.true) c.loop-number.invariant.begun;
+      begun = begun_skip (IsSource files) c.args.table.now number c.loop-number.search.numbers
+          (no_source_from files number file stands (sym c.is_source.ensures ∙ c.if-not-is_source.true))
+          c.loop-number.invariant.begun;
     }
 
 pub begin-requires-clause-within : goal.begin-requires-clause-within
@@ -43,11 +47,14 @@ loop-number-preserved c =
     slice_get_read files (length files) number file refl within c.index-files-number.is in
     record {
       files = c.in_ok-begin.ensures.files ∙ c.loop-number.invariant.files;
-      begun = begun_more files c.args.table.now number file c.loop-number.search.numbers c.begin.new.search.numbers
-          stands (sym c.is_included.ensures ∙ c.if-is_included.false) c.in_ok-begin.ensures.begun
-          c.loop-number.invariant.begun;
+      begun = begun_more (IsSource files) c.args.table.now number c.loop-number.search.numbers
+          c.begin.new.search.numbers
+          (source_from files number file stands (sym c.is_source.ensures ∙ c.if-not-is_source.false))
+          c.in_ok-begin.ensures.begun c.loop-number.invariant.begun;
     }
 
 pub returns-clause-begun : goal.returns-clause-begun
-returns-clause-begun c = begun_all c.args.files.now c.args.table.now c.loop-number.number c.loop-number.search.numbers
-    (omega arith) c.loop-number.invariant.begun
+returns-clause-begun c =
+    let files = c.args.files.now in
+    begun_all (IsSource files) files c.args.table.now c.loop-number.number c.loop-number.search.numbers
+    (source_within files) (omega arith) c.loop-number.invariant.begun

@@ -26,8 +26,8 @@ returns-in_err-built-clause-files g c =
 
 -- where memory doesn't suffice for what is to be said
 
-pub text_of_omissions-requires : goal.text_of_omissions-requires
-text_of_omissions-requires g c =
+pub text-requires : goal.text-requires
+text-requires g c =
     let of = c.in_ok-built.ensures.built in
     rw c.as_slice.ensures (files_of_built (g.C.Chooses.allows c.args.chooser.now) c.args.settings.now c.args.tree.now
     (record { index = of.index; choices = c.in_ok-built.built.choices; told = c.in_ok-built.built.told }) of.built)

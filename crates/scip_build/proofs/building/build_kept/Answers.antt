@@ -9,14 +9,14 @@ make_kept-requires-clause-tree g c = λ _ _.
     let of = c.in_ok-kept.ensures in
     rw c.as_slice.ensures.value
     (kept_ready c.kept_files_are_clear.ensures c.args.all.items c.in_ok-kept.kept.parsed.items of.omissions
-    c.requires.tree of.left_out of.kept).tree
+    c.requires.tree c.requires.present of.left_out of.kept).tree
 
 pub make_kept-requires-clause-clear : goal.make_kept-requires-clause-clear
 make_kept-requires-clause-clear g c = λ _ _.
     let of = c.in_ok-kept.ensures in
     rw c.as_slice.ensures.value
     (kept_ready c.kept_files_are_clear.ensures c.args.all.items c.in_ok-kept.kept.parsed.items of.omissions
-    c.requires.tree of.left_out of.kept).clear
+    c.requires.tree c.requires.present of.left_out of.kept).clear
 
 pub returns : goal.returns
 returns g c =

@@ -17,8 +17,8 @@ push_omissions-requires c =
     let are : Are c.args.all.items = subst Are c.as_slice.ensures.value c.in_ok-omissions.ensures in
     rw (c.as_slice-2.ensures.value, c.as_slice-3.ensures.value) are
 
-pub kept_parsed-requires : goal.kept_parsed-requires
-kept_parsed-requires c =
+pub linked_parsed-requires : goal.linked_parsed-requires
+linked_parsed-requires c =
     let Are : List ReadFile → Type 0 = λ rs. AreOmissions (linked_files rs) c.in_ok-omissions.omissions.items in
     let are : Are c.args.all.items = subst Are c.as_slice.ensures.value c.in_ok-omissions.ensures in
     are.one_each ∙ length-map c.args.all.items linked_file

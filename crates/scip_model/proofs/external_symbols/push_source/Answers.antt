@@ -1,12 +1,12 @@
-use Rattle.std.proofs.Common.{◌∙◌, List, length, sym, subst}
+use Rattle.std.proofs.Common.{List, length, subst}
 use Rattle.std.proofs.lemmas.Option.{MatchOption-at_some}
 use Rattle.std.proofs.lemmas.Result.{on_ok_weaker}
 use Rattle.proto_decl.specs.Facts.{Facts}
 use Rattle.proto_decl.specs.declared.uses.Use.{Use}
-use Rattle.proto_visibility.specs.Files.{HasFacts, IsSource}
+use Rattle.proto_visibility.specs.Files.{HasFacts}
 use Rattle.proto_link.proofs.TargetLemmas.{some_facts}
 use Rattle.scip_model.specs.Tables.ExternalLists.{Adds, FromFront, IsOfUse}
-use Rattle.scip_model.proofs.ConditionLinkedLemmas.{source-facts}
+use Rattle.scip_model.proofs.ConditionLinkedLemmas.{source-facts, source-at}
 use Rattle.scip_model.proofs.ExternalSymbolLemmas.{of-source}
 use Rattle.scip_model.proofs.external_symbols.push_source.Goals as goal
 
@@ -14,9 +14,7 @@ pub unwrap-facts-requires : goal.unwrap-facts-requires
 unwrap-facts-requires c =
     let files = c.args.linker.now in
     let source = c.args.source in
-    let of = c.is_included.ensures in
-    let is : IsSource files source =
-    record { file = of.0; numbered = of.1; source = sym of.2 ∙ c.if-is_included.false } in
+    let is = source-at files source c.is_source.result c.is_source.ensures c.if-not-is_source.false in
     let facts = source-facts files source c.linked.ensures.clear.read is in
     some_facts (λ facts. HasFacts files source facts.now) files source facts.0 c.facts_of.result facts.1
     c.facts_of.ensures
@@ -26,9 +24,7 @@ returns c =
     let files = c.args.linker.now in
     let chosen = c.args.choices.now in
     let source = c.args.source in
-    let of = c.is_included.ensures in
-    let is : IsSource files source =
-    record { file = of.0; numbered = of.1; source = sym of.2 ∙ c.if-is_included.false } in
+    let is = source-at files source c.is_source.result c.is_source.ensures c.if-not-is_source.false in
     let facts = c.unwrap-facts.result.now in
     let known = MatchOption-at_some ((other : Facts) → HasFacts files source other → ⊥)
     (λ facts. HasFacts files source facts.now) c.unwrap-facts.result c.unwrap-facts.ensures c.facts_of.ensures in

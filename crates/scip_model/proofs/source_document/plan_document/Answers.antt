@@ -70,6 +70,7 @@ returns-clause-document c =
       file = c.requires.source.file;
       numbered = c.requires.source.numbered;
       is_source = c.requires.source.source;
+      present = c.requires.source.present;
       relative_path = sym path.2 ∙ ap (λ (f : File). f.path) same_file;
       occurrences = c.in_ok-occurrences.ensures.planned;
       symbols = subst (IsAscendingListOf info_cmp (HasEntry files maker.choices.now maker.package.now source))

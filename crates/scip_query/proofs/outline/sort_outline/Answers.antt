@@ -1,0 +1,23 @@
+use Rattle.std.proofs.Common.{rules, ◌≡◌}
+use Rattle.std.specs.Ordering.{is_lt}
+use Rattle.std.proofs.lemmas.Fn.{always_returns_same}
+use Rattle.std.proofs.lemmas.List.Sorted.{ranks_by}
+use Rattle.std.proofs.lemmas.Result.{on_ok_weaker}
+use Rattle.scip_query.specs.MoreViews.{outlined_view}
+use Rattle.scip_query.specs.Outline.{outlined_cmp}
+use Rattle.scip_query.specs.declared.outline.Outlined.{Outlined}
+use Rattle.scip_query.proofs.OutlineLemmas.{outlined_total}
+use Rattle.scip_query.proofs.SortingLemmas.{sorted_view}
+use Rattle.scip_query.proofs.outline.sort_outline.Goals as goal
+
+pub returns : goal.returns
+returns c =
+    let lt = λ (a b : Outlined). is_lt (outlined_cmp (outlined_view a) (outlined_view b)) in
+    let rank = ranks_by outlined_total outlined_view in
+    on_ok_weaker c.sort_by.result
+    (λ sorted. sorted_view outlined_cmp outlined_total outlined_view c.args.outline.now.items
+    c.sort_by.new.self.items
+    (sorted lt rank (always_returns_same _ (λ a r. is_lt r ≡ lt a.0.now a.1.0.now) _ (λ a r f' k. search rules)))
+    (c.sort_by.ensures.stable lt rank
+    (always_returns_same _ (λ a r. is_lt r ≡ lt a.0.now a.1.0.now) _ (λ a r f' k. search rules))))
+    c.sort_by.ensures.sorted

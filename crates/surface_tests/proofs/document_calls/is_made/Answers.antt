@@ -11,7 +11,7 @@ use Rattle.surface_tests.proofs.ShortListLemmas.{at_one, printable}
 use Rattle.surface_tests.proofs.document_calls.is_made.Goals as goal
 
 is_source : (facts : Facts) → IsSource (source_with facts ∷ []) 0
-is_source facts = record { file = source_with facts; numbered = refl; source = refl }
+is_source facts = record { file = source_with facts; numbered = refl; source = refl; present = refl }
 
 has_text : (text : List ℕ) (facts : Facts) → AreOfText text facts → HasText (source_with facts ∷ []) 0 text
 has_text text facts of_text other has =

@@ -22,7 +22,7 @@ at_one x zero y at = (refl, same_Some x y at)
 at_one x (suc k) y at = absurd (none-some y at)
 
 pub is_source : (facts : Facts) → IsSource (source_with facts ∷ []) 0
-is_source facts = record { file = source_with facts; numbered = refl; source = refl }
+is_source facts = record { file = source_with facts; numbered = refl; source = refl; present = refl }
 
 pub has_text : (text : List ℕ) (facts : Facts) → AreOfText text facts → HasText (source_with facts ∷ []) 0 text
 has_text text facts of_text other has =

@@ -54,7 +54,7 @@ pub(crate) const SILENT: Row = Row {
     said: "",
 };
 
-// The second row reads: there is no program `nothing`, which is said, with status 2.
+// The second row reads: there is no program `zzz`, which is said, with status 2.
 static ROWS: [Row; 20] = [
     Row {
         words: "--version",
@@ -62,9 +62,9 @@ static ROWS: [Row; 20] = [
         ..SILENT
     },
     Row {
-        words: "nothing",
+        words: "zzz",
         status: 2,
-        said: "error: unrecognized subcommand 'nothing'\n\nUsage: protoscip <COMMAND>\n\nFor more information, try '--help'.\n",
+        said: "error: unrecognized subcommand 'zzz'\n\nUsage: protoscip <COMMAND>\n\nFor more information, try '--help'.\n",
         ..SILENT
     },
     Row {

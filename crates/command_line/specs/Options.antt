@@ -8,6 +8,7 @@ use Rattle.command_line.specs.Options.Accept.{accept_rule, accept_words, dialect
 use Rattle.command_line.specs.Options.Comments.{comments_of, comments_rule, comments_words}
 use Rattle.command_line.specs.Options.CustomOptions.{custom_options_rule, custom_options_words}
 use Rattle.command_line.specs.Options.Doc.{doc_of, doc_rule, doc_words}
+use Rattle.command_line.specs.Options.Duplicates.{duplicates_of, duplicates_rule, duplicates_words}
 use Rattle.command_line.specs.Options.Exclude.{exclude_of, exclude_rule}
 use Rattle.command_line.specs.Options.Explain.{explain_rule, explains_in}
 use Rattle.command_line.specs.Options.Faulty.{faulty_of, faulty_rule, faulty_words}
@@ -42,6 +43,7 @@ pub mod Accept
 pub mod Comments
 pub mod CustomOptions
 pub mod Doc
+pub mod Duplicates
 pub mod Exclude
 pub mod Explain
 pub mod Faulty
@@ -72,6 +74,7 @@ pub record AreListed (lists : WordLists) : Type 0 where
   pub accept : texts_at lists.accept ≡ accept_words
   pub custom_options : texts_at lists.custom_options ≡ custom_options_words
   pub faulty : texts_at lists.faulty ≡ faulty_words
+  pub duplicates : texts_at lists.duplicates ≡ duplicates_words
   pub links : texts_at lists.links ≡ links_words
   pub report_format : texts_at lists.report_format ≡ format_words
 
@@ -94,6 +97,7 @@ reading_rules lists = positions_rule lists.positions
     ∷ accept_rule lists.accept
     ∷ custom_options_rule lists.custom_options
     ∷ faulty_rule lists.faulty
+    ∷ duplicates_rule lists.duplicates
     ∷ explain_rule
     ∷ []
 
@@ -129,6 +133,7 @@ pub record Carries (rows : List Row) (options : IndexOptions) : Type 0 where
   pub encoding : options.encoding ≡ encoding_of rows
   pub dialect : options.dialect ≡ dialect_of rows
   pub faulty : options.faulty ≡ faulty_of rows
+  pub duplicates : options.duplicates ≡ duplicates_of rows
   pub explain : options.explain ≡ explains_in rows
   pub exclude : map string_bytes options.exclude.items ≡ exclude_of rows
   pub links : options.links ≡ links_of rows

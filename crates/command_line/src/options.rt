@@ -26,6 +26,7 @@ pub(crate) mod accept;
 mod comments;
 pub(crate) mod custom_options;
 mod doc;
+mod duplicates;
 mod exclude;
 pub(crate) mod explain;
 mod faulty;
@@ -50,6 +51,7 @@ use crate::names::{INDEX_FILE, OUT, ROOT};
 use crate::options::accept::dialect_of;
 use crate::options::comments::comments_of;
 use crate::options::doc::doc_of;
+use crate::options::duplicates::duplicates_of;
 use crate::options::explain::explains_in;
 use crate::options::faulty::faulty_of;
 use crate::options::include::package_folders_of;
@@ -74,7 +76,7 @@ pub use links::Links;
 use proto_lex::Encoding;
 use proto_parse::Dialect;
 pub use report::ReportOptions;
-use scip_build::Faulty;
+use scip_build::{Duplicates, Faulty};
 use std::alloc::{AllocError, Global};
 
 /// The lists of words of the options that take only listed words.
@@ -86,6 +88,7 @@ pub(crate) struct WordLists<'a> {
     pub(crate) accept: &'a [&'a str],
     pub(crate) custom_options: &'a [&'a str],
     pub(crate) faulty: &'a [&'a str],
+    pub(crate) duplicates: &'a [&'a str],
     pub(crate) links: &'a [&'a str],
     pub(crate) report_format: &'a [&'a str],
 }
@@ -102,6 +105,7 @@ impl<'a> WordLists<'a> {
             accept: accept::WORDS.as_slice(),
             custom_options: custom_options::WORDS.as_slice(),
             faulty: faulty::WORDS.as_slice(),
+            duplicates: duplicates::WORDS.as_slice(),
             links: links::WORDS.as_slice(),
             report_format: report::WORDS.as_slice(),
         }
@@ -144,6 +148,8 @@ pub struct IndexOptions {
     pub dialect: Dialect,
     /// What is done about a tree with faults; it is refused if it isn't given.
     pub faulty: Faulty,
+    /// Whether several files may give one name; they may not if it isn't given.
+    pub duplicates: Duplicates,
     /// Whether a fault is explained.
     pub explain: bool,
     /// What is left out of the folders, in the order of the words.
@@ -285,6 +291,7 @@ fn readings<'a>(alloc: Global, lists: WordLists<'a>) -> Result<Vec<Arg<'a>>, All
         accept::arg(alloc, lists.accept),
         custom_options::arg(alloc, lists.custom_options),
         faulty::arg(alloc, lists.faulty),
+        duplicates::arg(alloc, lists.duplicates),
         explain::arg(alloc),
     ]?)
 }
@@ -350,6 +357,7 @@ pub(crate) fn options_of(alloc: Global, given: &ArgMatches<'_>) -> Result<IndexO
         encoding: encoding_of(given),
         dialect: dialect_of(given),
         faulty: faulty_of(given),
+        duplicates: duplicates_of(given),
         explain: explains_in(given),
         exclude: texts_of(alloc, given, exclude::NAME)?,
         links: links_of(given),

@@ -6,9 +6,9 @@ mod callbacks;
 use anyhow::{Result, bail};
 use callbacks::{BothOfFields, Commented, OnlyCommented};
 use protoscip::{
-    AnyAnswer, CommentForm, CustomOptions, Dialect, DocRule, Encoding, Faulty, FilePackages,
-    Filter, NoGate, OwnedText, PackageId, Registry, Run, Settings, Sink, Source, Std, Tree,
-    Workers, index_tree,
+    AnyAnswer, CommentForm, CustomOptions, Dialect, DocRule, Duplicates, Encoding, Faulty,
+    FilePackages, Filter, NoGate, OwnedText, PackageId, Registry, Run, Settings, Sink, Source, Std,
+    Tree, Workers, index_tree,
 };
 use scip_query::Queries;
 use scip_wire::read_index;
@@ -70,6 +70,7 @@ fn own_settings(alloc: Global) -> Result<Settings> {
         dialect: Dialect::Proto3(CustomOptions::Refuse),
         comments: CommentForm::Raw,
         faulty: Faulty::Refuse,
+        duplicates: Duplicates::Refuse,
     })
 }
 

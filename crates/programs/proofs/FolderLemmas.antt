@@ -12,7 +12,7 @@ use Rattle.std.proofs.lemmas.List.Folds.{list_any-append}
 use Rattle.std.proofs.lemmas.Slice.Eq.{bytes_eq-Decides}
 use Rattle.basics.proofs.ListLemmas.{zip_append as zip-append}
 use Rattle.scip_symbol.specs.Package.{Package, IsPackage}
-use Rattle.scip_model.specs.Packages.{Root, Packages, ArePackages, with_path, package_among, package_of_path}
+use Rattle.scip_model.specs.Packages.{Root, Packages, ArePackages, all_in, with_path, package_among, package_of_path}
 use Rattle.command_line.specs.declared.options.IndexOptions.{IndexOptions}
 use Rattle.command_line.specs.declared.options.include.PackageFolder.{PackageFolder}
 use Rattle.source_tree.specs.Files.{TreeFile, paths_of}
@@ -149,7 +149,7 @@ among_alike run path (one ∷ wanted) (root ∷ roots) all =
 
 -- where the roots are those of all folders
 pub by_folder : (options : IndexOptions) (own : List (List ℕ)) (others : List (List (List ℕ)))
-    (first second third : Packages) → first ≡ record { run = package_in options; roots = [] }
+    (first second third : Packages) → first ≡ all_in (package_in options)
     → AddsRoots (record { id = package_in options; paths = own } ∷ []) first second
     → AddsRoots (roots_of (included_packages options) others) second third → ArePackages third
     → AreByFolder options own others third
@@ -189,7 +189,7 @@ all_of_run run (x ∷ xs) = All-cons (λ id. id ≡ run) run (map (λ _. run) xs
 
 pub by_no_folder : (options : IndexOptions) (own : List (List ℕ)) (others : List (List (List ℕ)))
     → options.include_packages.items ≡ [] → IsPackage (package_in options)
-    → AreByFolder options own others (record { run = package_in options; roots = [] })
+    → AreByFolder options own others (all_in (package_in options))
 unfolding package_of_path
 by_no_folder options own others none good = record {
   good = record { run = good; roots = All-nil (λ (root : Root). IsPackage root.id) };
@@ -288,7 +288,7 @@ pub folders_of_run : (lists : List ℕ → List ℕ → Option Listing → Type 
     → IsPackage (package_in options)
     → IsTreeBelow lists gives (leaves_out options.faulty) (string_bytes options.root)
     (map string_bytes options.include.items) tree unread
-    → AreFolders lists gives options tree unread (record { run = package_in options; roots = [] })
+    → AreFolders lists gives options tree unread (all_in (package_in options))
 folders_of_run lists gives options tree unread none good of =
     let roots : included_in options ≡ map string_bytes options.include.items =
     ap (λ (folders : List PackageFolder). map string_bytes options.include.items

@@ -33,6 +33,7 @@ settings_in options ids = record {
   dialect = options.dialect;
   comments = options.comments;
   faulty = options.faulty;
+  duplicates = options.duplicates;
 }
 
 -- the choices that they allow

@@ -39,6 +39,7 @@ fn is_write(fault: &Fault) -> bool
         | Fault::Duplicate(..)
         | Fault::MissingImport(_)
         | Fault::Unresolved(_)
+        | Fault::Ambiguous(_)
         | Fault::TooLarge
         | Fault::Read
         | Fault::Answer(_) => false,

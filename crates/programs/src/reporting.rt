@@ -90,7 +90,8 @@ fn is_of_files(fault: &Fault) -> bool
         | Fault::Syntax(..)
         | Fault::Duplicate(..)
         | Fault::MissingImport(_)
-        | Fault::Unresolved(_) => true,
+        | Fault::Unresolved(_)
+        | Fault::Ambiguous(_) => true,
         Fault::Spawn
         | Fault::Memory
         | Fault::TooLarge

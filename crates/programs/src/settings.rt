@@ -36,6 +36,7 @@ pub(crate) fn settings_of(
         dialect: options.dialect,
         comments: options.comments,
         faulty: options.faulty,
+        duplicates: options.duplicates,
     })
 }
 

@@ -3,7 +3,7 @@
 use crate::runs::{Row, SILENT, see_row};
 use std::test::Fail;
 
-static ROWS: [Row; 34] = [
+static ROWS: [Row; 35] = [
     Row {
         words: "index api out",
         written: b"\x0A\x1C\x12\x0E\x0A\x09protoscip\x12\x011\x1A\x08file:///\x20\x01\
@@ -104,9 +104,30 @@ protoscip: skipped: b.proto@27: Duplicate of a.proto@46
 protoscip: 1 sources indexed, 1 skipped, 1 imports and 0 uses without a target\n",
         ..SILENT
     },
-    // what is missing is told at the end, but not of a file that is left out
+    // with one word both files that give a name are kept, and what is missing is told at the end
     Row {
         words: "index clash out --real",
+        written: b"\x0A\x1C\x12\x0E\x0A\x09protoscip\x12\x011\x1A\x08file:///\x20\x01\
+\x12\xA7\x01\x0A\x07a.proto\
+\x12\x27\x0A\x03\x00\x00\x00\x12\x1Escip-protobuf . . . `a.proto`/\x18\x01\
+\x12\x1F\x0A\x03\x02\x08\x09\x12\x16scip-protobuf . . . A#\x18\x01\
+\x1A\x1B\x0A\x16scip-protobuf . . . A#\x32\x01A\
+\x1A\x29\x0A\x1Escip-protobuf . . . `a.proto`/\x32\x07a.proto\
+\x22\x08Protobuf\x30\x01\
+\x12\xBB\x01\x0A\x07b.proto\
+\x12\x27\x0A\x03\x00\x00\x00\x12\x1Escip-protobuf . . . `b.proto`/\x18\x01\
+\x12\x29\x0A\x03\x01\x08\x09\x12\x20scip-protobuf . . . `b.proto`/A#\x18\x01\
+\x1A\x29\x0A\x1Escip-protobuf . . . `b.proto`/\x32\x07b.proto\
+\x1A\x25\x0A\x20scip-protobuf . . . `b.proto`/A#\x32\x01A\
+\x22\x08Protobuf\x30\x01\0",
+        said: "protoscip: no target: a.proto@26: MissingImport
+protoscip: 2 sources indexed, 0 skipped, 1 imports and 0 uses without a target
+protoscip: 1 import of no.proto leads nowhere: --include the folder that has it\n",
+        ..SILENT
+    },
+    // but not of a file that is left out
+    Row {
+        words: "index clash out --real --duplicates refuse",
         written: b"\x0A\x1C\x12\x0E\x0A\x09protoscip\x12\x011\x1A\x08file:///\x20\x01\
 \x12\xA7\x01\x0A\x07a.proto\
 \x12\x27\x0A\x03\x00\x00\x00\x12\x1Escip-protobuf . . . `a.proto`/\x18\x01\

@@ -1,9 +1,11 @@
 -- What is left out of files is one list.
-use Rattle.std.proofs.Common.{◌≡◌, ◌↔◌, ◌⊎◌, inl, inr, ℕ, ◌<◌, zero, suc, List, [], ◌∷◌, length, Option, Some, None}
+use Rattle.std.proofs.Common.{◌≡◌, ◌↔◌, ◌⊎◌, inl, inr, ℕ, zero, suc, List, [], ◌∷◌, length, Option, Some, None}
 use Rattle.std.proofs.Common.{refl, ap, sym, ◌∙◌, arith}
 use Rattle.std.specs.List.{slice_get}
 use Rattle.std.proofs.lemmas.Option.{same_Some}
 use Rattle.proto_decl.specs.Facts.{Facts, AreOfSomeFile, NamesInOrder, PackageInOrder}
+use Rattle.proto_visibility.specs.declared.clash.Duplicates.{Duplicates}
+use Rattle.proto_visibility.specs.declared.clash.Duplicates.TheVariants.{Refuse, Keep}
 use Rattle.proto_visibility.specs.declared.files.FilePlace.{FilePlace}
 use Rattle.proto_visibility.specs.declared.omissions.FileOmission.{FileOmission}
 use Rattle.proto_visibility.specs.declared.omissions.FileOmission.TheVariants.{Broken, Duplicate}
@@ -47,10 +49,15 @@ module _ (files : List File) (origins : HaveOrigins files)
     (names : (facts : Facts) → AreOfSomeFile facts → NamesInOrder facts.declarations)
     (packages : (facts : Facts) → AreOfSomeFile facts → PackageInOrder facts) where
   -- a clash is of the file itself: those before it that are kept have none
-  unread_or_clash : (C : ℕ → Type 0) (omissions : Omissions) → AreOmissions files omissions → (number : ℕ)
-      (first second : FilePlace) → IsUnreadBy files C number
-      → ClashBy (Precedes files) (IsMet files omissions number) first second → ⊥
-  unread_or_clash C omissions are number first second unread clash = elim clash.exclude.second_is.meets [
+  unread_or_clash : (duplicates : Duplicates) (C : ℕ → Type 0) (omissions : Omissions)
+      → AreOmissions duplicates files omissions → (number : ℕ) (first second : FilePlace) → IsUnreadBy files C number
+      → ClashBy (Precedes files) (IsMet duplicates files omissions number) first second → ⊥
+  unread_or_clash Keep C omissions are number first second unread clash = elim clash.exclude.second_is.meets [
+    | inl own ↦ no_item files C (IsCounted files omissions) number clash.later unread
+        clash.exclude.second_is.is_item own
+    | inr before ↦ absurd before.0
+  ]
+  unread_or_clash Refuse C omissions are number first second unread clash = elim clash.exclude.second_is.meets [
     | inl own ↦ no_item files C (IsCounted files omissions) number clash.later unread
         clash.exclude.second_is.is_item own
     | inr before ↦ (
@@ -78,35 +85,36 @@ module _ (files : List File) (origins : HaveOrigins files)
           by (inl taken) = inr (taken, its.1)
           by (inr same) = inl same.0
 
-  one_omission : (a b : Omissions) → AreOmissions files a → AreOmissions files b → (number : ℕ)
-      (o p : Option FileOmission)
+  one_omission : (duplicates : Duplicates) (a b : Omissions) → AreOmissions duplicates files a
+      → AreOmissions duplicates files b → (number : ℕ) (o p : Option FileOmission)
       → slice_get a number ≡ Some o → slice_get b number ≡ Some p
-      → IsOmission files a number o → IsOmission files b number p → o ≡ p
-  one_omission a b are too number None p at there x y =
-      sym (same_Some p None (sym there ∙ (one_kept files a b are too number).0 at))
-  one_omission a b are too number (Some Broken) None at there x y =
-      same_Some (Some Broken) None (sym at ∙ (one_kept files a b are too number).1 there)
-  one_omission a b are too number (Some Broken) (Some Broken) at there x y = refl
-  one_omission a b are too number (Some Broken) (Some (Duplicate first second)) at there x y =
-      absurd (unread_or_clash (IsCounted files a) b too number first second x y)
-  one_omission a b are too number (Some (Duplicate first second)) None at there x y =
-      same_Some (Some (Duplicate first second)) None (sym at ∙ (one_kept files a b are too number).1 there)
-  one_omission a b are too number (Some (Duplicate first second)) (Some Broken) at there x y =
-      absurd (unread_or_clash (IsCounted files b) a are number first second y x)
-  one_omission a b are too number (Some (Duplicate first second)) (Some (Duplicate other its)) at there x y =
-      let same : (item : Item) → IsMet files a number item ↔ IsMet files b number item =
+      → IsOmission duplicates files a number o → IsOmission duplicates files b number p → o ≡ p
+  one_omission duplicates a b are too number None p at there x y =
+      sym (same_Some p None (sym there ∙ (one_kept duplicates files a b are too number).0 at))
+  one_omission duplicates a b are too number (Some Broken) None at there x y =
+      same_Some (Some Broken) None (sym at ∙ (one_kept duplicates files a b are too number).1 there)
+  one_omission duplicates a b are too number (Some Broken) (Some Broken) at there x y = refl
+  one_omission duplicates a b are too number (Some Broken) (Some (Duplicate first second)) at there x y =
+      absurd (unread_or_clash duplicates (IsCounted files a) b too number first second x y)
+  one_omission duplicates a b are too number (Some (Duplicate first second)) None at there x y =
+      same_Some (Some (Duplicate first second)) None (sym at ∙ (one_kept duplicates files a b are too number).1 there)
+  one_omission duplicates a b are too number (Some (Duplicate first second)) (Some Broken) at there x y =
+      absurd (unread_or_clash duplicates (IsCounted files b) a are number first second y x)
+  one_omission duplicates a b are too number (Some (Duplicate first second)) (Some (Duplicate other its)) at there x y =
+      let same : (item : Item) → IsMet duplicates files a number item ↔ IsMet duplicates files b number item =
       λ item. (
-        met files a b number (λ m taken. (one_kept files a b are too m).0)
-            (λ m near. counted_alike files a b are too m) item,
-        met files b a number (λ m taken. (one_kept files b a too are m).0)
-            (λ m near. counted_alike files b a too are m) item,
+        met duplicates files a b number (λ m taken. (one_kept duplicates files a b are too m).0)
+            (λ m near. counted_alike duplicates files a b are too m) item,
+        met duplicates files b a number (λ m taken. (one_kept duplicates files b a too are m).0)
+            (λ m near. counted_alike duplicates files b a too are m) item,
       ) in
       let one = one_clash_of files origins names packages (IsTakenBefore files) (IsCounted files b)
-      (IsMet files b number) (taken_ordered files)
+      (IsMet duplicates files b number) (taken_ordered files)
       (λ item is. is.is_item) first second other its (clash_by same first second x) y in
       ap (λ place. Some (Duplicate place second)) one.0 ∙ ap (λ place. Some (Duplicate other place)) one.1
 
-  pub one_omission_list : (a b : Omissions) → AreOmissions files a → AreOmissions files b → a ≡ b
-  one_omission_list a b are too =
+  pub one_omission_list : (duplicates : Duplicates) (a b : Omissions) → AreOmissions duplicates files a
+      → AreOmissions duplicates files b → a ≡ b
+  one_omission_list duplicates a b are too =
       one_list a b (are.one_each ∙ sym too.one_each)
-      (λ k x y at there. one_omission a b are too k x y at there (are.each k x at) (too.each k y there))
+      (λ k x y at there. one_omission duplicates a b are too k x y at there (are.each k x at) (too.each k y there))

@@ -1,6 +1,6 @@
 -- Where items and imports stand there is one, and in files without a clash a full name has one declaration.
 use Rattle.std.proofs.Common.{◌≡◌, ◌⊎◌, inl, inr, ℕ, ◌+◌, ◌-◌, ◌<◌, ◌≤◌, ◌||◌, true, false, zero, suc, List, [], ◌∷◌}
-use Rattle.std.proofs.Common.{◌++◌, map, Some, refl, ap, sym, ◌∙◌, subst, arith}
+use Rattle.std.proofs.Common.{◌++◌, Some, refl, ap, sym, ◌∙◌, subst, arith}
 use Rattle.std.specs.List.{Contains, slice_get}
 use Rattle.std.proofs.lemmas.Bool.{cases_order, or_left}
 use Rattle.std.specs.Option.{option_map}
@@ -8,19 +8,21 @@ use Rattle.std.proofs.lemmas.Option.{slice_get_within, slice_get_cases, slice_ge
 use Rattle.std.proofs.lemmas.List.Elements.{Contains-append_left, Contains-append_right}
 use Rattle.std.proofs.lemmas.List.Elements.{Contains-append_cases}
 use Rattle.std.proofs.Math.Bool.{or-true}
-use Rattle.basics.proofs.ListLemmas.{in_front as contains_first, contains_map, only}
+use Rattle.basics.proofs.ListLemmas.{contains_map, only}
 use Rattle.proto_lex.specs.declared.span.Span.{Span}
 use Rattle.proto_lex.specs.Lexed.{AreInOrder}
 use Rattle.proto_decl.specs.Names.{package_of}
 use Rattle.proto_decl.specs.Facts.{Facts, AreOfSomeFile, NamesInOrder, PackageInOrder, name_spans, component_spans}
 use Rattle.proto_decl.specs.declared.declaration.Declaration.{Declaration}
 use Rattle.proto_decl.specs.declared.uses.Component.{Component}
+use Rattle.proto_visibility.specs.declared.clash.Duplicates.{Duplicates}
 use Rattle.proto_visibility.specs.declared.files.FilePlace.{FilePlace}
 use Rattle.proto_visibility.specs.Files.{File, HasFacts, HaveOrigins}
-use Rattle.proto_visibility.specs.Clashes.{Before, BeforeBy, Item, IsItem, IsItemBy, NoClash}
+use Rattle.proto_visibility.specs.Clashes.{Before, BeforeBy, Item, IsItem, IsItemBy, NoClash, ShareNames}
 use Rattle.proto_visibility.specs.Clashes.IsItemBy.{declared, packaged}
 use Rattle.proto_link.specs.Laws.{IsDeclaredAt, HasPackage}
 use Rattle.basics.proofs.FirstLemmas.{contained}
+use Rattle.proto_visibility.proofs.DuplicateLemmas.{none_to, shared_turned}
 use Rattle.proto_visibility.proofs.FileFactLemmas.{one_list_of_facts}
 
 -- ---- spans in order
@@ -216,17 +218,18 @@ module _ (files : List File) (origins : HaveOrigins files)
       one_FilePlace _ _ file (packaged_place has its (contained facts.package_name index component stands)
       (contained others.package_name place other there) file start)
 
-  same_place : NoClash files → (a b : Item) → IsItem files a → IsItem files b → a.full_name ≡ b.full_name
+  same_place : (duplicates : Duplicates) → NoClash duplicates files → (a b : Item)
+      → ShareNames duplicates a.place.file b.place.file → IsItem files a → IsItem files b → a.full_name ≡ b.full_name
       → a.is_declaration ≡ true → (a.place.file ≡ b.place.file) × (a.place.span.start ≡ b.place.span.start)
-  same_place clear a b is also named declares = neither a.place b.place
-      (λ before. clear a b (record {
+  same_place duplicates clear a b can is also named declares = neither a.place b.place
+      (λ before. none_to duplicates files clear a b can (record {
         first_is = is;
         second_is = also;
         ordered = before;
         one_name = named;
         declares = or_left a.is_declaration b.is_declaration declares;
       }))
-      (λ before. clear b a (record {
+      (λ before. none_to duplicates files clear b a (shared_turned duplicates a.place.file b.place.file can) (record {
         first_is = also;
         second_is = is;
         ordered = before;
@@ -247,11 +250,11 @@ module _ (files : List File) (origins : HaveOrigins files)
   name_at ds index d at = slice_get-map (λ (x : Declaration). x.name) ds index
       ∙ ap (option_map (λ (x : Declaration). x.name)) at
 
-  pub one_declaration : NoClash files → (number index other its : ℕ) (a b : Declaration)
-      → IsDeclaredAt files number index a → IsDeclaredAt files other its b → a.full_name ≡ b.full_name
+  pub one_declaration : (duplicates : Duplicates) → NoClash duplicates files → (number index other its : ℕ)
+      (a b : Declaration) → ShareNames duplicates number other → IsDeclaredAt files number index a → IsDeclaredAt files other its b → a.full_name ≡ b.full_name
       → (number ≡ other) × (index ≡ its)
-  one_declaration clear number index other its a b at also named =
-      let place = same_place clear _ _ (item_of number index a at) (item_of other its b also) named refl in
+  one_declaration duplicates clear number index other its a b can at also named =
+      let place = same_place duplicates clear _ _ can (item_of number index a at) (item_of other its b also) named refl in
       let facts = facts_there at.known also.known place.0 in (
         place.0,
         one_index 0 (name_spans also.facts.declarations) index its a.name b.name
@@ -261,18 +264,19 @@ module _ (files : List File) (origins : HaveOrigins files)
             (name_at also.facts.declarations its b also.stands) place.1,
       )
 
-  pub package_not_declared : NoClash files → (number index : ℕ) (d : Declaration) → IsDeclaredAt files number index d
-      → HasPackage files d.full_name → ⊥
-  package_not_declared clear number index d at its = elim (slice_get_cases its.facts.package_name (its.count - 1)).1 [
+  pub package_not_declared : (duplicates : Duplicates) → NoClash duplicates files → (number index other : ℕ)
+      (d : Declaration) → ShareNames duplicates number other → IsDeclaredAt files number index d
+      → HasPackage files other d.full_name → ⊥
+  package_not_declared duplicates clear number index other d can at its = elim (slice_get_cases its.facts.package_name (its.count - 1)).1 [
     | inl component ↦ (
         let last : its.count - 1 + 1 ≡ its.count = omega (arith, its.some) in
         let item : IsItem files (record {
-          place = record { file = its.number; span = component.0.span };
+          place = record { file = other; span = component.0.span };
           full_name = package_of its.facts.package_name (its.count - 1 + 1);
           is_declaration = false;
         }) =
         packaged (its.count - 1) its.is_reachable its.known component.2 in
-        let place = same_place clear _ _ (item_of number index d at) item
+        let place = same_place duplicates clear _ _ can (item_of number index d at) item
         (its.named ∙ ap (package_of its.facts.package_name) (sym last)) refl in
         mixed_place at.known its.known (contained at.facts.declarations index d at.stands)
         (contained its.facts.package_name (its.count - 1) component.0 component.2) place.0 place.1)

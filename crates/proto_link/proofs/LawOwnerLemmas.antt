@@ -1,8 +1,9 @@
--- Where no file is left out and no names clash, a name that a use resolves to has an owner.
-use Rattle.std.proofs.Common.{◌≡◌, ℕ, ◌<◌, Bool, true, false, List, length, refl, sym, ◌∙◌}
+-- Where no names of all files clash, a name that a use resolves to is that of one file, its owner if none is left out.
+use Rattle.std.proofs.Common.{◌≡◌, ℕ, Bool, true, false, List, refl, sym, ◌∙◌}
 use Rattle.std.proofs.lemmas.Bool.{false≢true}
 use Rattle.std.proofs.lemmas.Option.{slice_get_within}
 use Rattle.proto_lex.specs.declared.span.Span.{Span}
+use Rattle.proto_visibility.specs.declared.clash.Duplicates.TheVariants.{Refuse}
 use Rattle.proto_visibility.specs.Files.{File, HasFacts, IsPresent, IsSource}
 use Rattle.proto_visibility.specs.Sees.{IsReachable}
 use Rattle.proto_visibility.specs.Sees.IsReachable.{seen}
@@ -12,7 +13,7 @@ use Rattle.proto_visibility.specs.Knows.{NameKind, Knows, KnowsAs, DeclaresName,
 use Rattle.proto_visibility.specs.Knows.NameKind.{OfPackage}
 use Rattle.proto_visibility.specs.Knows.Knows.{declared as known_declared, packaged as known_packaged}
 use Rattle.proto_visibility.specs.Knows.DeclaresName.{declared as gives_declared, packaged as gives_packaged}
-use Rattle.proto_link.specs.Laws.{EachNameHasAnOwner}
+use Rattle.proto_link.specs.Laws.{EachNameHasAnOwner, NoUseIsAmbiguous}
 use Rattle.proto_link.specs.Resolves.{ResolvesIn, wanted}
 use Rattle.proto_link.specs.Resolves.ResolvesIn.{absolute, single, extended, compound}
 use Rattle.proto_link.proofs.LawOneItemLemmas.{neither}
@@ -36,23 +37,19 @@ abbrev declared_at : (name : List ℕ) (number : ℕ) → Span → Item
 declared_at name number span =
     record { place = record { file = number; span = span }; full_name = name; is_declaration = true }
 
-module _ (files : List File) (all : (number : ℕ) → number < length files → IsPresent files number)
-    (clear : NoClash files) (source : ℕ) (is : IsSource files source) (admits : NameKind → Bool)
-    (typed : admits OfPackage ≡ false) where
+module _ (files : List File) (clear : NoClash Refuse files) (source : ℕ) (is : IsSource files source)
+    (admits : NameKind → Bool) (typed : admits OfPackage ≡ false) where
   -- a declaration that the source sees
   record IsSeenAt (name : List ℕ) (number : ℕ) : Type 0 where
     span : Span
     item : IsItem files (declared_at name number span)
 
-  present_giving : (name : List ℕ) (number : ℕ) → SeesGiving files source admits name number → IsPresent files number
-  present_giving name number gives =
-      all number (slice_get_within files number gives.giving.file gives.giving.numbered)
-
-  seen_at : (name : List ℕ) (number : ℕ) → SeesGiving files source admits name number → IsSeenAt name number
-  seen_at name number gives = by gives.giving.gives.gives.gives gives.giving.gives.gives.admitted
+  seen_at : (name : List ℕ) (number : ℕ) → SeesGiving files source admits name number → IsPresent files number
+      → IsSeenAt name number
+  seen_at name number gives present = by gives.giving.gives.gives.gives gives.giving.gives.gives.admitted
     where
       counts : IsReachable files number
-      counts = seen is gives.sees (present_giving name number gives)
+      counts = seen is gives.sees present
 
       has : HasFacts files number gives.giving.gives.facts
       has = record {
@@ -110,16 +107,27 @@ each_name_has_an_owner files all clear source is type_use name resolves =
     let admits = wanted type_use.is_extended in
     let typed = no_package type_use.is_extended in
     let known = known_as_wanted resolves in
-    let there = giving files all clear source is admits typed name known.kind known.known known.admitted in
-    let at = seen_at files all clear source is admits typed name there.0 there.1 in (
+    let there = giving files clear source is admits typed name known.kind known.known known.admitted in
+    let present : (number : ℕ) → SeesGiving files source admits name number → IsPresent files number =
+    λ number gives. all number (slice_get_within files number gives.giving.file gives.giving.numbered) in
+    let at = seen_at files clear source is admits typed name there.0 there.1 (present there.0 there.1) in (
       there.0,
       record {
         resolves = resolves;
         owned = record {
           gives = there.1;
-          present = present_giving files all clear source is admits typed name there.0 there.1;
-          alone = λ other gives. one_file files all clear source is admits typed name other there.0
-              (seen_at files all clear source is admits typed name other gives) at;
+          present = present there.0 there.1;
+          alone = λ other gives. one_file files clear source is admits typed name other there.0
+              (seen_at files clear source is admits typed name other gives (present other gives)) at;
         };
       },
     )
+
+pub no_use_is_ambiguous : NoUseIsAmbiguous
+no_use_is_ambiguous files clear source is type_use ambiguous =
+    let admits = wanted type_use.is_extended in
+    let typed = no_package type_use.is_extended in
+    let two = ambiguous.twice in
+    two.apart (one_file files clear source is admits typed ambiguous.name two.first two.second
+    (seen_at files clear source is admits typed ambiguous.name two.first two.first_gives two.first_present)
+    (seen_at files clear source is admits typed ambiguous.name two.second two.second_gives two.second_present))

@@ -17,3 +17,5 @@ pub mod ResolveLemmas
 pub mod TargetLemmas
 -- One entity a name, one target a use, one clash, one absence, one refusal
 pub mod TargetOneLemmas
+-- Why uses name nothing: each for one reason at most
+pub mod UseFaultLemmas

@@ -1,7 +1,7 @@
 -- What a use names if files without facts are mended.
-use Rattle.std.proofs.Common.{◌≡◌, ℕ, ◌<◌, Bool, List, ◌∷◌, length, Some, None, refl, ap, sym, ◌∙◌, subst, arith}
+use Rattle.std.proofs.Common.{◌≡◌, ℕ, ◌<◌, Bool, List, ◌∷◌, length, Some, None, refl, sym, ◌∙◌, arith}
 use Rattle.std.specs.List.{slice_get}
-use Rattle.std.proofs.lemmas.Option.{same_Some, slice_get_within}
+use Rattle.std.proofs.lemmas.Option.{slice_get_within}
 use Rattle.basics.proofs.ListLemmas.{item_at}
 use Rattle.proto_decl.specs.Names.{qualified, IsAround}
 use Rattle.proto_decl.specs.Facts.{Facts}
@@ -10,17 +10,15 @@ use Rattle.proto_visibility.specs.Files.{File, HasFacts, Imports, IsPresent}
 use Rattle.proto_visibility.specs.Sees.{LeadsTo, Sees}
 use Rattle.proto_visibility.specs.Sees.LeadsTo.{at_once, through}
 use Rattle.proto_visibility.specs.Sees.SeesBy.{itself, import}
-use Rattle.proto_visibility.specs.Knows.{NameKind, Knows, KnowsAs, SeesGiving, IsOwner}
+use Rattle.proto_visibility.specs.Knows.{NameKind, Knows, KnowsAs, SeesGiving}
 use Rattle.proto_visibility.specs.Knows.Knows.{declared, packaged}
 use Rattle.proto_link.specs.Resolves.{Innermost, ResolvesIn, words_of, wanted}
 use Rattle.proto_link.specs.Resolves.Innermost.{here, farther}
 use Rattle.proto_link.specs.Resolves.ResolvesIn.{absolute, single, extended, compound}
-use Rattle.proto_link.specs.declared.target.Target.{Target}
-use Rattle.proto_link.specs.Targets.{IsTarget}
-use Rattle.proto_link.specs.Mended.{IsAroundOrSame, IsMended, AreMended, Matters, NothingMatters, MendedResolvesAlike}
+use Rattle.proto_link.specs.Mended.{IsAroundOrSame, IsMended, AreMended, NothingMatters, MendedResolvesAlike}
 use Rattle.proto_link.specs.Mended.IsAroundOrSame.{same as same_scope, farther as farther_scope}
 use Rattle.proto_link.specs.Mended.IsMended.{unchanged, read}
-use Rattle.proto_link.specs.Mended.Matters.{whole_name, first_word}
+use Rattle.proto_link.specs.Mended.Matters.{first_word}
 
 -- a scope that is around another one, with one more
 around_more : {scope next outer : List ℕ} → IsAroundOrSame scope next → IsAround next outer

@@ -21,19 +21,17 @@ use Rattle.proto_visibility.specs.Files.{File, HasFacts}
 use Rattle.proto_decl.specs.declared.declaration.DeclarationKind.TheVariants.{Message, Enum, Service, Field, Oneof}
 use Rattle.proto_decl.specs.declared.declaration.DeclarationKind.TheVariants.{Value, Method}
 use Rattle.proto_visibility.specs.Knows.{NameKind, KnowsAs, is_type, is_message, DeclaresName, DeclaresNameAs}
-use Rattle.proto_visibility.specs.Knows.{IsGiving, IsOwner}
+use Rattle.proto_visibility.specs.Knows.{IsGiving, IsGivenTwice, IsOwner}
 use Rattle.proto_visibility.specs.Knows.NameKind.{OfPackage, OfDeclaration}
 use Rattle.proto_link.specs.Resolves.{Innermost, ResolvesIn, Resolves, wanted}
 use Rattle.proto_link.specs.Resolves.Innermost.{here, farther}
 use Rattle.proto_link.specs.Resolves.ResolvesIn.{absolute, single, extended, compound}
-use Rattle.proto_link.specs.declared.target.Target.{Target}
-use Rattle.proto_link.specs.Targets.{Names, IsTarget, IsUnresolved}
+use Rattle.proto_link.specs.Targets.{Names, IsAmbiguous, IsTarget, IsUnresolved}
 use Rattle.proto_link.specs.Tables.Found.{HasNoName}
 use Rattle.proto_link.proofs.LawLemmas.{one_name_a_use}
 use Rattle.proto_visibility.specs.Knows.DeclaresName.{declared as gives_declared, packaged as gives_packaged}
 use Rattle.proto_visibility.specs.Knows.{IsEntityOf}
 use Rattle.proto_link.specs.Tables.Parts.{AreEntitiesOf, AreEntitiesAt, longer}
-use Rattle.proto_visibility.specs.Knows.IsEntityOf.{packaged, declared}
 use Rattle.proto_decl.proofs.CommentTextLemmas.{join_with_byte-push}
 use Rattle.proto_visibility.proofs.SeeingLemmas.{slice_get_prefix}
 use Rattle.proto_visibility.proofs.FileFactLemmas.{one_list_of_facts}
@@ -292,6 +290,14 @@ pub without_name : (files : List File) (file : ℕ) (type_use : Use) → HasNoNa
     → IsUnresolved files file type_use
 without_name files file type_use none name owner names = none name names.resolves
 
+pub none_told : {X : Type 0} (N : Type 0) (P : X → Type 0) (found : Option X) → found ≡ None → MatchOption found N P → N
+none_told N P None none told = told
+none_told N P (Some x) none told = absurd cc
+
+pub without_two : (files : List File) (file : ℕ) (type_use : Use) → HasNoName files file type_use
+    → IsAmbiguous files file type_use → ⊥
+without_two files file type_use none is = none is.name is.resolves
+
 module _ (files : List File) (file : ℕ) (type_use : Use) (name : List ℕ) (admits : NameKind → Bool)
     (resolves : Resolves files file type_use name) (role : admits ≡ wanted type_use.is_extended) where
   pub without_owner : ((owner : ℕ) → IsOwner files file admits name owner → ⊥) → IsUnresolved files file type_use
@@ -299,6 +305,19 @@ module _ (files : List File) (file : ℕ) (type_use : Use) (name : List ℕ) (ad
       let same = one_name_a_use files file type_use other name names.resolves resolves in
       none owner (subst (λ (a : NameKind → Bool). IsOwner files file a name owner) (sym role)
       (subst (λ (n : List ℕ). IsOwner files file (wanted type_use.is_extended) n owner) same names.owned))
+
+  pub not_twice : (IsGivenTwice files file admits name → ⊥) → IsAmbiguous files file type_use → ⊥
+  not_twice none is =
+      let same = one_name_a_use files file type_use is.name name is.resolves resolves in
+      none (subst (λ (a : NameKind → Bool). IsGivenTwice files file a name) (sym role)
+      (subst (λ (n : List ℕ). IsGivenTwice files file (wanted type_use.is_extended) n) same is.twice))
+
+  pub is_twice : IsGivenTwice files file admits name → IsAmbiguous files file type_use
+  is_twice twice = record {
+    name = name;
+    resolves = resolves;
+    twice = subst (λ (a : NameKind → Bool). IsGivenTwice files file a name) role twice;
+  }
 
   pub with_owner : (owner : ℕ) → IsOwner files file admits name owner → Names files file type_use name owner
   with_owner owner owned = record {

@@ -1,5 +1,5 @@
 -- One entity a name, one target a use, one clash, one absence, one refusal.
-use Rattle.std.proofs.Common.{◌≡◌, ◌≢◌, ◌⊎◌, ℕ, ◌+◌, ◌-◌, ◌<◌, List, length, get_or, Some, refl, ap, sym, ◌∙◌, subst}
+use Rattle.std.proofs.Common.{◌≡◌, ◌≢◌, ◌⊎◌, inl, inr, ℕ, ◌+◌, ◌<◌, List, length, get_or, Some, refl, ap, sym, ◌∙◌, subst}
 use Rattle.std.proofs.Common.{arith}
 use Rattle.std.specs.List.{Contains, slice_get}
 use Rattle.std.proofs.lemmas.Bool.{cases_order}
@@ -21,12 +21,16 @@ use Rattle.proto_link.specs.declared.target.Target.{Target}
 use Rattle.proto_visibility.specs.Files.{File, HasFacts, HaveOrigins, IsSource}
 use Rattle.proto_visibility.specs.Sees.{IsReachable}
 use Rattle.proto_visibility.specs.Sees.IsReachable.{seen as counts_seen}
-use Rattle.proto_visibility.specs.Clashes.{BeforeBy, Item, IsItem, IsItemBy, Clash, ClashBy, NoClash}
+use Rattle.proto_visibility.specs.Clashes.{Before, BeforeBy, Item, IsItem, IsItemBy, IsOwnItem}
+use Rattle.proto_visibility.specs.Clashes.{Clash, ClashBy, NoClash}
 use Rattle.proto_visibility.specs.Absences.{IsNeeded, Absent}
 use Rattle.proto_visibility.specs.Absences.IsNeeded.{of_source, of_included}
 use Rattle.proto_visibility.specs.Knows.{IsPrefix, IsEntityOf, SeesGiving}
 use Rattle.proto_visibility.specs.Knows.IsEntityOf.{packaged, declared}
 use Rattle.proto_link.specs.Resolves.{wanted}
+use Rattle.proto_visibility.specs.declared.clash.Duplicates.{Duplicates}
+use Rattle.proto_visibility.specs.declared.clash.Duplicates.TheVariants.{Refuse, Keep}
+use Rattle.proto_visibility.proofs.DuplicateLemmas.{shared_itself}
 use Rattle.proto_link.specs.Targets.{Names, IsTarget}
 use Rattle.proto_visibility.specs.Linked.{MayRefuse}
 use Rattle.proto_visibility.specs.Linked.MayRefuse.{broken_file, clashing, absent_import, lacks_memory}
@@ -41,15 +45,14 @@ module _ (files : List File) (origins : HaveOrigins files)
     (packages : (facts : Facts) → AreOfSomeFile facts → PackageInOrder facts) where
   -- ---- entities
 
-  module _ (clear : NoClash files) (number : ℕ) (is_reachable : IsReachable files number) (facts : Facts)
+  module _ (duplicates : Duplicates) (clear : NoClash duplicates files) (number : ℕ) (is_reachable : IsReachable files number) (facts : Facts)
       (known : HasFacts files number facts) where
     at : {index : ℕ} {d : Declaration} → slice_get facts.declarations index ≡ Some d
         → IsDeclaredAt files number index d
     at stands = record { facts = facts; is_reachable = is_reachable; known = known; stands = stands }
 
-    has_package : {name : List ℕ} → IsPrefix facts.package_name name → HasPackage files name
+    has_package : {name : List ℕ} → IsPrefix facts.package_name name → HasPackage files number name
     has_package prefix = record {
-      number = number;
       facts = facts;
       count = prefix.0;
       is_reachable = is_reachable;
@@ -62,8 +65,8 @@ module _ (files : List File) (origins : HaveOrigins files)
     mixed : {name : List ℕ} (index : ℕ) {d : Declaration} → IsPrefix facts.package_name name
         → slice_get facts.declarations index ≡ Some d → d.full_name ≡ name → ⊥
     mixed index {d} prefix stands is =
-        package_not_declared files origins names packages clear number index d (at stands)
-        (subst (HasPackage files) (sym is) (has_package prefix))
+        package_not_declared files origins names packages duplicates clear number index number d
+        (shared_itself duplicates number) (at stands) (subst (HasPackage files number) (sym is) (has_package prefix))
 
     pub one_entity : (name : List ℕ) (count : ℕ) (a b : Entity) → IsEntityOf number facts name count a
         → IsEntityOf number facts name count b → a ≡ b
@@ -75,8 +78,8 @@ module _ (files : List File) (origins : HaveOrigins files)
     one_entity name count a b (declared {index = index} {declaration = d} stands is)
         (declared {index = its} {declaration = e} there named) =
         ap (Declared number)
-        (one_declaration files origins names packages clear number index number its d e (at stands) (at there)
-        (is ∙ sym named)).1
+        (one_declaration files origins names packages duplicates clear number index number its d e
+        (shared_itself duplicates number) (at stands) (at there) (is ∙ sym named)).1
 
   -- ---- targets
 
@@ -91,9 +94,9 @@ module _ (files : List File) (origins : HaveOrigins files)
       → Names files source type_use name owner → IsReachable files owner
   owner_reachable source is type_use name owner names = counts_seen is names.owned.gives.sees names.owned.present
 
-  pub one_target : NoClash files → (source : ℕ) → IsSource files source → (type_use : Use) (a b : Target)
-      → IsTarget files source type_use a → IsTarget files source type_use b → a ≡ b
-  one_target clear source is_source type_use a b first second =
+  pub one_target : (duplicates : Duplicates) → NoClash duplicates files → (source : ℕ) → IsSource files source
+      → (type_use : Use) (a b : Target) → IsTarget files source type_use a → IsTarget files source type_use b → a ≡ b
+  one_target duplicates clear source is_source type_use a b first second =
       let name = one_name_a_use files source type_use a.name b.name first.names.resolves second.names.resolves in
       let Gives : List ℕ → Type 0 = λ n. SeesGiving files source (wanted type_use.is_extended) n first.owner in
       let owner : first.owner ≡ second.owner =
@@ -113,7 +116,7 @@ module _ (files : List File) (origins : HaveOrigins files)
       let by_facts = subst (λ fs. Is second.owner fs a.name first.skipped) facts by_owner in
       let by_name = subst (λ n. Is second.owner second.facts n first.skipped) name by_facts in
       let moved = subst (Is second.owner second.facts b.name) skipped by_name in
-      one_entity clear second.owner reachable second.facts second.known (prefix_of b.name (second.skipped + k + 1))
+      one_entity duplicates clear second.owner reachable second.facts second.known (prefix_of b.name (second.skipped + k + 1))
       (second.skipped + k + 1) (get_or a.parts k d) (get_or b.parts k d) moved
       (second.named k (get_or b.parts k d) other)))
 
@@ -151,10 +154,20 @@ module _ (files : List File) (origins : HaveOrigins files)
           ap (λ (r : FilePlace). r.span.start) is ∙ (same.1 ∙ ap (λ (r : FilePlace). r.span.start) (sym its_is)) in
           sym is ∙ (one_place files origins names packages item other_item file start ∙ its_is)
 
-  pub one_clash : (first second other its : FilePlace) → Clash files first second → Clash files other its
-      → (first ≡ other) × (second ≡ its)
-  one_clash = one_clash_of (λ number other. number < other) (IsReachable files) (IsItem files) cases_order
-      (λ item is. is)
+  pub one_clash : (duplicates : Duplicates) (first second other its : FilePlace) → Clash duplicates files first second
+      → Clash duplicates files other its → (first ≡ other) × (second ≡ its)
+  one_clash Refuse first second other its a b =
+      one_clash_of (λ number other. number < other) (IsReachable files) (IsItem files) cases_order (λ item is. is)
+      first second other its a b
+  one_clash Keep first second other its a b = elim (cases_order a.number b.number) [
+    | inl same ↦ one_clash_of (λ number other. number < other) (λ number. number ≡ b.number)
+        (IsOwnItem files b.number) cases_order (λ item is. is) first second other its
+        (subst (λ n. ClashBy Before (IsOwnItem files n) first second) same a.clash) b.clash
+    | inr apart ↦ absurd (elim apart [
+      | inl less ↦ b.least a.number a.is_reachable less a.clash.earlier a.clash.later a.clash.exclude
+      | inr more ↦ a.least b.number b.is_reachable more b.clash.earlier b.clash.later b.clash.exclude
+    ])
+  ]
 
 -- ---- imports
 
@@ -185,12 +198,17 @@ module _ (files : List File) (origins : HaveOrigins files)
 module _ (files : List File) (origins : HaveOrigins files)
     (names : (facts : Facts) → AreOfSomeFile facts → NamesInOrder facts.declarations)
     (packages : (facts : Facts) → AreOfSomeFile facts → PackageInOrder facts)
-    (imports : (facts : Facts) → AreOfSomeFile facts → ImportsInOrder facts.imports) where
-  no_clash : {first second : FilePlace} → Clash files first second → NoClash files → ⊥
-  no_clash clash clear = clear clash.earlier clash.later clash.exclude
+    (imports : (facts : Facts) → AreOfSomeFile facts → ImportsInOrder facts.imports) (duplicates : Duplicates) where
+  no_clash_by : (word : Duplicates) (first second : FilePlace) → Clash word files first second → NoClash word files → ⊥
+  no_clash_by Refuse first second clash clear = clear clash.earlier clash.later clash.exclude
+  no_clash_by Keep first second its clear =
+      clear its.number its.is_reachable its.clash.earlier its.clash.later its.clash.exclude
 
-  pub one_refusal : (a b : LinkFault) → MayRefuse files a → MayRefuse files b → a ≢ fault.Memory → b ≢ fault.Memory
-      → a ≡ b
+  no_clash : (first second : FilePlace) → Clash duplicates files first second → NoClash duplicates files → ⊥
+  no_clash first second clash clear = no_clash_by duplicates first second clash clear
+
+  pub one_refusal : (a b : LinkFault) → MayRefuse duplicates files a → MayRefuse duplicates files b
+      → a ≢ fault.Memory → b ≢ fault.Memory → a ≡ b
   one_refusal _ _ (broken_file {number = n} p) (broken_file {number = m} q) x y =
       ap fault.Broken (one_broken_file files n m p q)
   one_refusal _ _ (broken_file {number = n} p) (clashing read clash) x y = absurd (read n p.unread)
@@ -198,12 +216,14 @@ module _ (files : List File) (origins : HaveOrigins files)
   one_refusal _ _ (broken_file p) lacks_memory x y = absurd (y refl)
   one_refusal _ _ (clashing read clash) (broken_file {number = m} q) x y = absurd (read m q.unread)
   one_refusal _ _ (clashing {first = f} {second = s} read clash) (clashing {first = g} {second = t} also other) x y =
-      let same = one_clash files origins names packages f s g t clash other in
+      let same = one_clash files origins names packages duplicates f s g t clash other in
       ap (λ place. fault.Duplicate place s) same.0 ∙ ap (fault.Duplicate g) same.1
-  one_refusal _ _ (clashing read clash) (absent_import also clear absent) x y = absurd (no_clash clash clear)
+  one_refusal _ _ (clashing {first = f} {second = s} read clash) (absent_import also clear absent) x y =
+      absurd (no_clash f s clash clear)
   one_refusal _ _ (clashing read clash) lacks_memory x y = absurd (y refl)
   one_refusal _ _ (absent_import read clear absent) (broken_file {number = m} q) x y = absurd (read m q.unread)
-  one_refusal _ _ (absent_import read clear absent) (clashing also clash) x y = absurd (no_clash clash clear)
+  one_refusal _ _ (absent_import read clear absent) (clashing {first = f} {second = s} also clash) x y =
+      absurd (no_clash f s clash clear)
   one_refusal _ _ (absent_import {place = p} read clear absent) (absent_import {place = q} also none lacks) x y =
       ap fault.MissingImport (one_absence files origins imports p q absent lacks)
   one_refusal _ _ (absent_import read clear absent) lacks_memory x y = absurd (y refl)

@@ -1,16 +1,16 @@
 -- What each component of a use names.
-use Rattle.std.specs.Prelude.{◌≡◌, ⊤, ℕ, ◌+◌, Some, List, length}
+use Rattle.std.specs.Prelude.{◌≡◌, ◌≢◌, ⊤, ℕ, ◌+◌, Some, List, length, Contains}
 use Rattle.std.specs.List.{slice_get}
 use Rattle.proto_decl.specs.Names.{components_of, prefix_of}
 use Rattle.proto_decl.specs.Facts.{Facts}
 use Rattle.proto_decl.specs.declared.uses.Use.{Use}
 use Rattle.proto_visibility.specs.declared.fault.LinkFault.{LinkFault}
 use Rattle.proto_visibility.specs.declared.fault.LinkFault.TheVariants.{Broken, Duplicate, MissingImport, Unresolved}
-use Rattle.proto_visibility.specs.declared.fault.LinkFault.TheVariants.{Memory}
+use Rattle.proto_visibility.specs.declared.fault.LinkFault.TheVariants.{Ambiguous, Memory}
 use Rattle.proto_visibility.specs.declared.lookup.Entity.{Entity}
 use Rattle.proto_link.specs.declared.target.Target.{Target}
 use Rattle.proto_visibility.specs.Files.{File, HasFacts}
-use Rattle.proto_visibility.specs.Knows.{IsEntityOf, IsOwner}
+use Rattle.proto_visibility.specs.Knows.{IsEntityOf, IsGivenTwice, IsOwner}
 use Rattle.proto_link.specs.Resolves.{Resolves, wanted}
 
 -- The full name of the type that a use of this file names, and the file that declares it: of the files that are seen
@@ -37,11 +37,38 @@ pub record IsTarget (files : List File) (file : ℕ) (type_use : Use) (target : 
 abbrev pub IsUnresolved : List File → ℕ → Use → Type 0
 IsUnresolved files file type_use = (name : List ℕ) (owner : ℕ) → Names files file type_use name owner → ⊥
 
--- A use is refused if it names nothing, at the place of the whole use. Nothing is said about memory.
+-- Several of the files that are seen declare the type that it resolves to, and aren't left out.
+pub record IsAmbiguous (files : List File) (file : ℕ) (type_use : Use) : Type 0 where
+  pub name : List ℕ
+  pub resolves : Resolves files file type_use name
+  pub twice : IsGivenTwice files file (wanted type_use.is_extended) name
+
+-- A use is refused if it names nothing, at the place of the whole use: as ambiguous, if it is. Nothing is said about
+-- memory.
 abbrev pub MayRefuseUse : List File → ℕ → Use → LinkFault → Type 0
 MayRefuseUse files file type_use (Unresolved place) =
-    IsUnresolved files file type_use × (place ≡ record { file = file; span = type_use.span })
+    IsUnresolved files file type_use × (IsAmbiguous files file type_use → ⊥)
+    × (place ≡ record { file = file; span = type_use.span })
+MayRefuseUse files file type_use (Ambiguous place) =
+    IsAmbiguous files file type_use × (place ≡ record { file = file; span = type_use.span })
 MayRefuseUse files file type_use (Broken number) = ⊥
 MayRefuseUse files file type_use (Duplicate first second) = ⊥
 MayRefuseUse files file type_use (MissingImport place) = ⊥
 MayRefuseUse files file type_use Memory = ⊤
+
+-- Why a use names nothing; want of memory is no fault of the use.
+pub record IsFaultOfUse (files : List File) (file : ℕ) (type_use : Use) (fault : LinkFault) : Type 0 where
+  pub refused : MayRefuseUse files file type_use fault
+  pub of_use : fault ≢ Memory
+
+-- why one of these uses of a file does
+pub record IsFaultAmong (files : List File) (file : ℕ) (uses : List Use) (fault : LinkFault) : Type 0 where
+  pub type_use : Use
+  pub listed : Contains uses type_use
+  pub is : IsFaultOfUse files file type_use fault
+
+-- why one of a file's uses does
+pub record IsUseFault (files : List File) (file : ℕ) (fault : LinkFault) : Type 0 where
+  pub facts : Facts
+  pub known : HasFacts files file facts
+  pub among : IsFaultAmong files file facts.uses fault

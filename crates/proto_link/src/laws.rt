@@ -7,6 +7,7 @@ ghost use Rattle.proto_link.specs.Laws.{
   NoPackageIsDeclared,
   OneEntityAName,
   EachNameHasAnOwner,
+  NoUseIsAmbiguous,
   OneTargetAUse,
   OneClash,
   OneAbsence,
@@ -39,6 +40,11 @@ pub fn one_declaration_a_name()
 /// alone of those that are seen.
 pub fn each_name_has_an_owner()
     ensures { EachNameHasAnOwner }
+{}
+
+/// In files that are one namespace, without a clash, no use in a source is ambiguous.
+pub fn no_use_is_ambiguous()
+    ensures { NoUseIsAmbiguous }
 {}
 
 /// In files without a clash a use in a source has one target at most, and a full name names one entity at most of a file

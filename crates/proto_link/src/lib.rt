@@ -11,17 +11,18 @@ mod lookup;
 mod parts;
 mod resolve;
 mod target;
+mod use_faults;
 
 // The laws.
 mod laws;
 
 pub use laws::{
-    each_name_has_an_owner, mended_resolves_alike, one_broken_file, one_declaration_a_name,
-    one_name_a_use, one_omission_list, one_refusal, one_target_a_use,
+    each_name_has_an_owner, mended_resolves_alike, no_use_is_ambiguous, one_broken_file,
+    one_declaration_a_name, one_name_a_use, one_omission_list, one_refusal, one_target_a_use,
 };
 pub use linker::Linker;
 pub use proto_visibility::{
-    CheckedFiles, Entity, FileOmission, FilePlace, LinkFault, LinkFile, ListedNames,
+    CheckedFiles, Duplicates, Entity, FileOmission, FilePlace, LinkFault, LinkFile, ListedNames,
     have_own_paths, kept_files_are_clear, left_out, nothing_is_left_out_of_good_files, one_kept,
 };
 pub use target::Target;

@@ -2,22 +2,29 @@
 
 ghost use Rattle.std.specs.Prelude.{ℕ, ◌≡◌, ◌<◌, ◌↔◌, IsTrue, IfOk, IfErr, MatchOption, length};
 ghost use Rattle.proto_decl.specs.Facts.{Facts};
+ghost use Rattle.proto_visibility.specs.declared.clash.Duplicates.TheVariants.{Keep};
 ghost use Rattle.proto_visibility.specs.Files.{HaveOwnPaths, HaveOrigins, HasFacts, HasPath, HasPathAt};
 ghost use Rattle.proto_visibility.specs.Files.{IsIncludedAt, IsSourceAt};
-ghost use Rattle.proto_visibility.specs.Sees.{Sees};
+ghost use Rattle.std.specs.Prelude.{Contains};
+ghost use Rattle.std.specs.List.Sorted.{IsStrictlyIncreasing};
+ghost use Rattle.proto_visibility.specs.Sees.{IsReachable, Sees};
 ghost use Rattle.proto_visibility.specs.Absences.{AreMissing};
 ghost use Rattle.proto_visibility.specs.Linked.{HaveClearNames, CanBeLinked, MayRefuse};
-ghost use Rattle.proto_link.specs.Targets.{IsTarget, MayRefuseUse};
+ghost use Rattle.proto_visibility.specs.declared.fault.LinkFault.{LinkFault};
+ghost use Rattle.proto_link.specs.Targets.{IsTarget, IsUseFault, MayRefuseUse};
 
 use crate::resolve::target_of;
 use crate::target::Target;
+use crate::use_faults::use_faults_of;
 use proto_decl::{FileFacts, Use};
-use proto_visibility::{CheckedFiles, FilePlace, LinkFault, LinkFile, ListedNames, Namespace};
+use proto_visibility::{
+    CheckedFiles, Duplicates, FilePlace, LinkFault, LinkFile, ListedNames, Namespace,
+};
 use std::alloc::{AllocError, Global};
 use std::marker::Model;
 
 /// Files in which no full name is declared twice: all sources, and the included files that they see,
-/// are one namespace.
+/// are one namespace; or each of them is one, if several may give one name.
 ///
 /// Contracts see the list of the files.
 #[derive(Drop)]
@@ -45,18 +52,22 @@ impl<'a, 't> Linker<'a, 't> {
     /// - `Broken`: the least number of a file without facts, among the sources and the included files that some source
     ///   sees.
     /// - `Duplicate`: two places in these files, of declarations or of a declaration and a component of a package
-    ///   statement, that give one full name. Of such pairs it is that with the least second place, and then the least
-    ///   first; places are ordered by file number, then start.
+    ///   statement, that give one full name; both in one file, if several files may give it. Of such pairs it is that
+    ///   with the least second place, and then the least first; places are ordered by file number, then start.
     /// - `MissingImport`: the first import of a path that no file has. Any import of a source counts, and the public
     ///   ones of an included file that some source sees.
     /// - `Memory`: memory was refused.
-    pub fn new(alloc: Global, files: &'a [LinkFile<'a, 't>]) -> Result<Linker<'a, 't>, LinkFault>
+    pub fn new(
+        alloc: Global,
+        files: &'a [LinkFile<'a, 't>],
+        duplicates: Duplicates,
+    ) -> Result<Linker<'a, 't>, LinkFault>
         requires { HaveOwnPaths files.now }
         ensures linked { IfOk result (λ linker. linker ≡ files.now) }
-        ensures can_be { IfOk result (λ _. CanBeLinked files.now) }
-        ensures refused { IfErr result (MayRefuse files.now) }
+        ensures can_be { IfOk result (λ _. CanBeLinked duplicates files.now) }
+        ensures refused { IfErr result (MayRefuse duplicates files.now) }
     {
-        let namespace = Namespace::new(alloc, files)?;
+        let namespace = Namespace::new(alloc, files, duplicates)?;
         Ok(Linker { namespace })
     }
 
@@ -79,12 +90,13 @@ impl<'a, 't> Linker<'a, 't> {
     pub fn of_kept(
         alloc: Global,
         files: &'a [LinkFile<'a, 't>],
+        duplicates: Duplicates,
     ) -> Result<Linker<'a, 't>, AllocError>
         requires own { HaveOwnPaths files.now }
-        requires clear { HaveClearNames files.now }
+        requires clear { HaveClearNames duplicates files.now }
         ensures { IfOk result (λ linker. linker ≡ files.now) }
     {
-        let namespace = Namespace::of_kept(alloc, files)?;
+        let namespace = Namespace::of_kept(alloc, files, duplicates)?;
         Ok(Linker { namespace })
     }
 
@@ -103,6 +115,16 @@ impl<'a, 't> Linker<'a, 't> {
         self.namespace.missing_imports(alloc)
     }
 
+    /// The numbers of the sources, and of the included files that some source sees, rising. An error means that memory
+    /// was refused.
+    pub fn reachable_files(&self, alloc: Global) -> Result<Vec<usize>, AllocError>
+        ensures reachable { IfOk result (λ numbers. (number : ℕ) → Contains numbers.items number
+            ↔ IsReachable self.now number) }
+        ensures rising { IfOk result (λ numbers. IsStrictlyIncreasing numbers.items) }
+    {
+        self.namespace.reachable_files(alloc)
+    }
+
     /// Whether a file sees another: itself, what it imports, and what public imports lead to from
     /// there. Both numbers have to be below `count`. Takes no memory.
     pub fn visible(&self, file: usize, other: usize) -> bool
@@ -113,10 +135,18 @@ impl<'a, 't> Linker<'a, 't> {
         self.namespace.visible(file, other)
     }
 
-    /// The reachable files have facts, no names clash, and the facts of each file are those of some
-    /// text: what the laws ask for. Takes no memory.
+    /// Whether several files may give one name: as it was said when the files were linked. Takes no memory.
+    pub fn duplicates(&self) -> Duplicates
+        ensures { HaveClearNames result self.now }
+    {
+        self.namespace.duplicates()
+    }
+
+    /// No two files have one path, the reachable files have facts, no names clash in any of them, and the facts of each
+    /// file are those of some text: what the laws ask for. Takes no memory.
     pub fn linked(&self)
-        ensures clear { HaveClearNames self.now }
+        ensures own { HaveOwnPaths self.now }
+        ensures clear { HaveClearNames Keep self.now }
         ensures origins { HaveOrigins self.now }
     {
         // From here on it is known that no names of the files clash, and that their facts are those of texts.
@@ -166,16 +196,28 @@ impl<'a, 't> Linker<'a, 't> {
     /// What a use names, in a file's scopes: by the names of the files that it sees. The file's number has to be below
     /// `count`.
     ///
-    /// Refusals are `Unresolved`, at the place of the whole use, if it names nothing, and `Memory`, if memory was
-    /// refused. The others never come.
+    /// Refusals are `Ambiguous` and `Unresolved`, at the place of the whole use, if it names nothing, and `Memory`, if
+    /// memory was refused. The others never come.
     ///
     /// A use names what one file alone declares, of those that are seen: if several declare the type that it resolves
-    /// to, or the one that does is left out, it names nothing. So the answer is the only one.
+    /// to, or the one that does is left out, it names nothing. So the answer is the only one. It is ambiguous if two of
+    /// them aren't left out; never, if all files are one namespace and the file is a source.
     pub fn resolve(&self, alloc: Global, file: usize, type_use: &Use) -> Result<Target, LinkFault>
         requires { file < length self.now }
         ensures target { IfOk result (IsTarget self.now file type_use.now) }
         ensures refused { IfErr result (MayRefuseUse self.now file type_use.now) }
     {
         target_of(alloc, &self.namespace, file, type_use)
+    }
+
+    /// Why uses of a file name nothing, in order: for each that `resolve` refuses the refusal, `Unresolved` or
+    /// `Ambiguous`, at the place of the whole use. The file's number has to be below `count`. An error means that
+    /// memory was refused.
+    pub fn use_faults(&self, alloc: Global, file: usize) -> Result<Vec<LinkFault>, AllocError>
+        requires { file < length self.now }
+        ensures { IfOk result (λ faults. (fault : LinkFault) → Contains faults.items fault
+            ↔ IsUseFault self.now file fault) }
+    {
+        use_faults_of(alloc, &self.namespace, file)
     }
 }

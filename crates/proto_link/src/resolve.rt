@@ -3,7 +3,7 @@
 ghost use Rattle.std.specs.Prelude.{ℕ, ◌≡◌, ◌<◌, ◌≤◌, IfOk, IfErr, length};
 ghost use Rattle.std.specs.String.{string_bytes};
 ghost use Rattle.proto_decl.specs.Names.{components_of};
-ghost use Rattle.proto_visibility.specs.declared.fault.LinkFault.TheVariants.{Unresolved};
+ghost use Rattle.proto_visibility.specs.declared.fault.LinkFault.TheVariants.{Ambiguous, Unresolved};
 ghost use Rattle.proto_visibility.specs.Knows.{IsGiving, is_type};
 ghost use Rattle.proto_link.specs.Resolves.{Resolves};
 ghost use Rattle.proto_link.specs.Tables.Parts.{AreEntitiesAt};
@@ -57,8 +57,22 @@ fn target_named(
                 parts: Sequence::from_vec(parts),
             })
         }
-        None => Err(unresolved(file, type_use)),
+        None => {
+            if namespace.is_given_twice(file, name.as_str(), role) {
+                Err(ambiguous(file, type_use))
+            } else {
+                Err(unresolved(file, type_use))
+            }
+        }
     }
+}
+
+/// That a use is ambiguous, at the place of the whole use.
+fn ambiguous(file: usize, type_use: &Use) -> LinkFault
+    ensures { result ≡ Ambiguous (record { file = file; span = type_use.now.span }) }
+{
+    let span = type_use.span;
+    LinkFault::Ambiguous(FilePlace { file, span })
 }
 
 /// That a use names nothing, at the place of the whole use.

@@ -1,9 +1,10 @@
 //! What linking answers to files, as a text.
 //!
-//! Files that can be linked have a line each: its path, behind a `+` where it is included, and a `-` where it is left out; for each file
-//! a digit, which is 1 where the one sees the other; and for each use of a source a `;` and what it names.
-//! That is the full name of a type and what each component names: the number of a package's words, or a
-//! file and a declaration of it as `FILE/NUMBER`. Where it names no type, it is `?` and the use's place.
+//! Files that can be linked have a line each: its path, behind a `+` where it is included, and a `-` where it is left
+//! out; for each file a digit, which is 1 where the one sees the other; and for each use of a source a `;` and what it
+//! names. That is the full name of a type and what each component names: the number of a package's words, or a
+//! file and a declaration of it as `FILE/NUMBER`. Where it names no type, it is `?` and the use's place, and `??` where
+//! it names several.
 //!
 //! Other files have a line with the fault.
 
@@ -12,7 +13,7 @@ ghost use Rattle.proto_visibility.specs.Files.{HaveOwnPaths};
 
 use proto_decl::{FileFacts, Use};
 use proto_link::{
-    CheckedFiles, Entity, FilePlace, LinkFault, LinkFile, Linker, ListedNames, Target,
+    CheckedFiles, Duplicates, Entity, FilePlace, LinkFault, LinkFile, Linker, ListedNames, Target,
 };
 use std::alloc::{AllocError, Global};
 use test_kit::{Draft, Made};
@@ -47,6 +48,10 @@ pub(crate) fn add_fault(draft: &mut Draft, fault: LinkFault) {
             draft.add("?");
             add_place(draft, place);
         }
+        LinkFault::Ambiguous(place) => {
+            draft.add("??");
+            add_place(draft, place);
+        }
         LinkFault::Memory => draft.add("memory"),
     }
 }
@@ -72,24 +77,46 @@ fn add_target(draft: &mut Draft, target: &Target) {
     }
 }
 
-/// Adds what a use names.
-fn add_use(draft: &mut Draft, linker: &Linker, file: usize, type_use: &Use)
+/// Adds what a use names, and gives why it names nothing.
+fn add_use(draft: &mut Draft, linker: &Linker, file: usize, type_use: &Use) -> Option<LinkFault>
     requires { file < length linker.now }
 {
     draft.add("; ");
     match linker.resolve(draft.alloc(), file, type_use) {
-        Err(LinkFault::Memory) => draft.cut(),
-        Err(fault) => add_fault(draft, fault),
-        Ok(target) => add_target(draft, &target),
+        Err(LinkFault::Memory) => {
+            draft.cut();
+            None
+        }
+        Err(fault) => {
+            add_fault(draft, fault);
+            Some(fault)
+        }
+        Ok(target) => {
+            add_target(draft, &target);
+            None
+        }
     }
 }
 
-/// Adds what each use of a file names.
+/// Adds what each use of a file names, and a `!` if what is said of all of them at once isn't the same.
 fn add_uses(draft: &mut Draft, linker: &Linker, file: usize, facts: &FileFacts)
     requires { file < length linker.now }
 {
+    let Ok(faults) = linker.use_faults(draft.alloc(), file) else {
+        draft.cut();
+        return;
+    };
+    let mut met: usize = 0;
     for type_use in facts.uses() {
-        add_use(draft, linker, file, type_use);
+        if let Some(fault) = add_use(draft, linker, file, type_use) {
+            if faults.get(met) != Some(&fault) {
+                draft.add("!");
+            }
+            met = met.saturating_add(1);
+        }
+    }
+    if met != faults.len() {
+        draft.add("!");
     }
 }
 
@@ -172,10 +199,14 @@ pub(crate) fn listing_with_paths(alloc: Global, linker: &Linker) -> Made<String>
 }
 
 /// What linking answers to files, no two of which have one path.
-pub(crate) fn answer_of<'a>(alloc: Global, files: &'a [LinkFile<'a, '_>]) -> Made<String>
+pub(crate) fn answer_of<'a>(
+    alloc: Global,
+    files: &'a [LinkFile<'a, '_>],
+    duplicates: Duplicates,
+) -> Made<String>
     requires { HaveOwnPaths files.now }
 {
-    match Linker::new(alloc, files) {
+    match Linker::new(alloc, files, duplicates) {
         Ok(linker) => listing_with_paths(alloc, &linker),
         Err(LinkFault::Memory) => Err(AllocError),
         Err(fault) => line_of(alloc, fault),
@@ -183,11 +214,15 @@ pub(crate) fn answer_of<'a>(alloc: Global, files: &'a [LinkFile<'a, '_>]) -> Mad
 }
 
 /// What linking answers to the same files in two parts, of which the names are listed first.
-pub(crate) fn answer_in_parts<'a>(alloc: Global, files: &'a [LinkFile<'a, '_>]) -> Made<String>
+pub(crate) fn answer_in_parts<'a>(
+    alloc: Global,
+    files: &'a [LinkFile<'a, '_>],
+    duplicates: Duplicates,
+) -> Made<String>
     requires { HaveOwnPaths files.now }
 {
     let listed = ListedNames::of(alloc, files)?;
-    match CheckedFiles::of(alloc, files) {
+    match CheckedFiles::of(alloc, files, duplicates) {
         Ok(checked) => listing_with_paths(alloc, &Linker::joined(checked, listed)),
         Err(LinkFault::Memory) => Err(AllocError),
         Err(fault) => line_of(alloc, fault),

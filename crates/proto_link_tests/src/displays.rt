@@ -17,7 +17,7 @@ const SECOND: FilePlace = FilePlace {
 };
 
 /// Faults, and their sentences.
-const DISPLAYED: [(LinkFault, &str); 5] = [
+const DISPLAYED: [(LinkFault, &str); 6] = [
     (LinkFault::Broken(7), "file 7 has no facts"),
     (
         LinkFault::Duplicate(FIRST, SECOND),
@@ -30,6 +30,10 @@ const DISPLAYED: [(LinkFault, &str); 5] = [
     (
         LinkFault::Unresolved(FIRST),
         "a use that names no type, at byte 12 of file 0",
+    ),
+    (
+        LinkFault::Ambiguous(FIRST),
+        "a use that names several types, at byte 12 of file 0",
     ),
     (LinkFault::Memory, "memory ran out"),
 ];

@@ -1,7 +1,7 @@
 //! What files declare, and the components of their packages.
 
 use proto_decl::{Component, Declaration, DeclarationKind};
-use proto_link::{Entity, FilePlace, LinkFile};
+use proto_link::{Duplicates, Entity, FilePlace, LinkFile};
 use std::alloc::Global;
 use test_kit::Made;
 
@@ -113,8 +113,9 @@ fn is_before(place: FilePlace, other: FilePlace) -> bool {
 }
 
 /// Whether the second of two items clashes with the first.
-fn exclude_each_other(first: &Item, second: &Item) -> bool {
+fn exclude_each_other(first: &Item, second: &Item, duplicates: Duplicates) -> bool {
     is_before(first.place, second.place)
+        && (duplicates == Duplicates::Refuse || first.place.file == second.place.file)
         && first.full_name.as_str() == second.full_name.as_str()
         && (first.kind.is_some() || second.kind.is_some())
 }
@@ -137,10 +138,11 @@ fn lesser(
 fn least_with(
     items: &[Item],
     second: &Item,
+    duplicates: Duplicates,
     mut least: Option<(FilePlace, FilePlace)>,
 ) -> Option<(FilePlace, FilePlace)> {
     for first in items {
-        if exclude_each_other(first, second) {
+        if exclude_each_other(first, second, duplicates) {
             least = lesser(least, (first.place, second.place));
         }
     }
@@ -148,10 +150,13 @@ fn least_with(
 }
 
 /// The first clash of items.
-pub(crate) fn first_clash(items: &[Item]) -> Option<(FilePlace, FilePlace)> {
+pub(crate) fn first_clash(
+    items: &[Item],
+    duplicates: Duplicates,
+) -> Option<(FilePlace, FilePlace)> {
     let mut least = None;
     for second in items {
-        least = least_with(items, second, least);
+        least = least_with(items, second, duplicates, least);
     }
     least
 }

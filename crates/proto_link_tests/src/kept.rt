@@ -8,7 +8,7 @@ ghost use Rattle.proto_visibility.specs.Linked.{HaveClearNames};
 use crate::answers::listing_with_paths;
 use crate::meanings::listing_of;
 use crate::scans::{absent_of, omissions_of};
-use proto_link::{FileOmission, LinkFile, Linker, kept_files_are_clear, left_out};
+use proto_link::{Duplicates, FileOmission, LinkFile, Linker, kept_files_are_clear, left_out};
 use std::alloc::Global;
 use test_kit::Made;
 
@@ -101,11 +101,15 @@ fn is_as_scanned(alloc: Global, linker: &Linker, files: &[LinkFile]) -> Made<boo
 }
 
 /// Whether the linker of kept files does.
-fn are_linked_as_scanned<'a>(alloc: Global, files: &'a [LinkFile<'a, '_>]) -> Made<bool>
+fn are_linked_as_scanned<'a>(
+    alloc: Global,
+    files: &'a [LinkFile<'a, '_>],
+    duplicates: Duplicates,
+) -> Made<bool>
     requires own { HaveOwnPaths files.now }
-    requires clear { HaveClearNames files.now }
+    requires clear { HaveClearNames duplicates files.now }
 {
-    let linker = Linker::of_kept(alloc, files)?;
+    let linker = Linker::of_kept(alloc, files, duplicates)?;
     is_as_scanned(alloc, &linker, files)
 }
 
@@ -113,34 +117,46 @@ fn are_linked_as_scanned<'a>(alloc: Global, files: &'a [LinkFile<'a, '_>]) -> Ma
 fn are_omitted_as_scanned<'a>(
     alloc: Global,
     files: &'a [LinkFile<'a, '_>],
+    duplicates: Duplicates,
     omissions: &[Option<FileOmission>],
 ) -> Made<bool>
     requires own { HaveOwnPaths files.now }
-    requires omissions { AreOmissions files.now omissions.now }
+    requires omissions { AreOmissions duplicates files.now omissions.now }
 {
     kept_files_are_clear();
     let mut linked = kept_files(alloc, files, omissions)?;
     add_left_out(&mut linked, files, omissions)?;
-    let scanned = omissions_of(alloc, files)?;
-    Ok(omissions == scanned.as_slice() && are_linked_as_scanned(alloc, linked.as_slice())?)
+    let scanned = omissions_of(alloc, files, duplicates)?;
+    Ok(
+        omissions == scanned.as_slice()
+            && are_linked_as_scanned(alloc, linked.as_slice(), duplicates)?,
+    )
 }
 
 /// Whether scans tell which files are left out, and what linking answers to those that are kept.
-pub(crate) fn are_kept_as_scanned<'a>(alloc: Global, files: &'a [LinkFile<'a, '_>]) -> Made<bool>
+pub(crate) fn are_kept_as_scanned<'a>(
+    alloc: Global,
+    files: &'a [LinkFile<'a, '_>],
+    duplicates: Duplicates,
+) -> Made<bool>
     requires { HaveOwnPaths files.now }
 {
-    let omissions = left_out(alloc, files)?;
-    are_omitted_as_scanned(alloc, files, omissions.as_slice())
+    let omissions = left_out(alloc, files, duplicates)?;
+    are_omitted_as_scanned(alloc, files, duplicates, omissions.as_slice())
 }
 
 /// What linking answers to the files that are kept, with those that are left out.
-pub(crate) fn kept_answer<'a>(alloc: Global, files: &'a [LinkFile<'a, '_>]) -> Made<String>
+pub(crate) fn kept_answer<'a>(
+    alloc: Global,
+    files: &'a [LinkFile<'a, '_>],
+    duplicates: Duplicates,
+) -> Made<String>
     requires { HaveOwnPaths files.now }
 {
     kept_files_are_clear();
-    let omissions = left_out(alloc, files)?;
+    let omissions = left_out(alloc, files, duplicates)?;
     let mut linked = kept_files(alloc, files, omissions.as_slice())?;
     add_left_out(&mut linked, files, omissions.as_slice())?;
-    let linker = Linker::of_kept(alloc, linked.as_slice())?;
+    let linker = Linker::of_kept(alloc, linked.as_slice(), duplicates)?;
     listing_with_paths(alloc, &linker)
 }

@@ -5,7 +5,7 @@ use crate::answers::{add_fault, add_part, line_of, mark_of};
 use crate::items::{Item, add_items_of};
 use crate::scans::{fault_of, is_source, seen_by};
 use proto_decl::{Component, DeclarationKind, Use};
-use proto_link::{FilePlace, LinkFault, LinkFile};
+use proto_link::{Duplicates, FilePlace, LinkFault, LinkFile};
 use std::alloc::Global;
 use test_kit::{Draft, Made};
 
@@ -123,22 +123,36 @@ fn name_of(alloc: Global, known: &[Item], type_use: &Use) -> Made<Option<String>
     }
 }
 
-/// The only file that has a name which is sought, if there is just one, and if it isn't left out.
-fn owner_of(files: &[LinkFile], known: &[Item], name: &str, sought: Sought) -> Option<usize> {
-    let mut owner = None;
+/// The files that have a name which is sought, and that are left out or not, as is asked: of several the last, and how
+/// many there are.
+fn owners_of(
+    files: &[LinkFile],
+    known: &[Item],
+    name: &str,
+    sought: Sought,
+    left_out: bool,
+) -> (usize, usize) {
+    let (mut last, mut count) = (0, 0usize);
+    for (number, file) in files.iter().enumerate() {
+        if file.left_out == left_out && has_item(known, number, name, sought) {
+            last = number;
+            count = count.saturating_add(1);
+        }
+    }
+    (last, count)
+}
+
+/// Whether a file has an item with a name, which is sought.
+fn has_item(known: &[Item], file: usize, name: &str, sought: Sought) -> bool {
     for item in known {
-        if item.full_name.as_str() != name || !is_sought(item.kind, sought) {
-            continue;
+        if item.place.file == file
+            && item.full_name.as_str() == name
+            && is_sought(item.kind, sought)
+        {
+            return true;
         }
-        if owner.is_some() && owner != Some(item.place.file) {
-            return None;
-        }
-        owner = Some(item.place.file);
     }
-    match files.get(owner?) {
-        Some(file) if !file.left_out => owner,
-        _ => None,
-    }
+    false
 }
 
 /// Adds what a full name names in a file: it is that of one declaration, or of packages, which count as one.
@@ -175,10 +189,20 @@ fn add_name(draft: &mut Draft, known: &[Item], owner: usize, name: &str, count: 
     Ok(())
 }
 
-/// Adds that a use names nothing.
-fn add_unresolved(draft: &mut Draft, file: usize, type_use: &Use) {
-    let span = type_use.span;
-    add_fault(draft, LinkFault::Unresolved(FilePlace { file, span }));
+/// Adds that a use names nothing, or several types.
+fn add_no_target(draft: &mut Draft, file: usize, type_use: &Use, is_ambiguous: bool) {
+    let place = FilePlace {
+        file,
+        span: type_use.span,
+    };
+    add_fault(
+        draft,
+        if is_ambiguous {
+            LinkFault::Ambiguous(place)
+        } else {
+            LinkFault::Unresolved(place)
+        },
+    );
 }
 
 /// Adds what a use names.
@@ -191,19 +215,18 @@ fn add_use(
 ) -> Made<()> {
     draft.add("; ");
     let Some(name) = name_of(draft.alloc(), known, type_use)? else {
-        add_unresolved(draft, file, type_use);
+        add_no_target(draft, file, type_use, false);
         return Ok(());
     };
-    match owner_of(files, known, name.as_str(), sought_by(type_use)) {
-        Some(owner) => {
-            let count = type_use.components.as_slice().len();
-            add_name(draft, known, owner, name.as_str(), count)
-        }
-        None => {
-            add_unresolved(draft, file, type_use);
-            Ok(())
-        }
+    let sought = sought_by(type_use);
+    let (owner, owners) = owners_of(files, known, name.as_str(), sought, false);
+    let (_, others) = owners_of(files, known, name.as_str(), sought, true);
+    if owners == 1 && others == 0 {
+        let count = type_use.components.as_slice().len();
+        return add_name(draft, known, owner, name.as_str(), count);
     }
+    add_no_target(draft, file, type_use, owners > 1);
+    Ok(())
 }
 
 /// Adds what each of these uses names.
@@ -264,8 +287,8 @@ pub(crate) fn listing_of(alloc: Global, files: &[LinkFile]) -> Made<String> {
 }
 
 /// What scans tell of files.
-pub(crate) fn scan_of(alloc: Global, files: &[LinkFile]) -> Made<String> {
-    match fault_of(alloc, files)? {
+pub(crate) fn scan_of(alloc: Global, files: &[LinkFile], duplicates: Duplicates) -> Made<String> {
+    match fault_of(alloc, files, duplicates)? {
         Some(fault) => line_of(alloc, fault),
         None => listing_of(alloc, files),
     }

@@ -171,6 +171,54 @@ fn worked_trees_of_kept_files(rt: HostRuntime) -> Result<(), Fail> {
     Ok(())
 }
 
+/// Trees of which several files may give one name, and what linking answers to them.
+///
+/// The first row reads: `p.M` of `a.proto` is what `c.proto` uses, and `d.proto`, which sees both files that give it, uses
+/// several types.
+static SEVERAL_ROWS: [Row; 5] = [
+    Row {
+        tree: "a.proto\nsyntax = \"proto3\";\npackage p;\nmessage M {}\n|\
+b.proto\nsyntax = \"proto3\";\npackage p;\nmessage M {}\n|\
+c.proto\nsyntax = \"proto3\";\npackage p;\nimport \"a.proto\";\nmessage C { M m = 1; }\n|\
+d.proto\nsyntax = \"proto3\";\npackage p;\nimport \"a.proto\";\nimport \"b.proto\";\nmessage D { M m = 1; .p.M n = 2; D d = 3; }\n|",
+        answer: "a.proto 1000\nb.proto 0100\nc.proto 1010; p.M 0/0\nd.proto 1101; ?? 3 78..79; ?? 3 87..91; p.D 3/0\n",
+    },
+    Row {
+        tree: "a.proto\nsyntax = \"proto3\";\npackage p;\nmessage M { message A {} }\n|\
+b.proto\nsyntax = \"proto3\";\npackage p;\nmessage M { message B {} }\n|\
+c.proto\nsyntax = \"proto3\";\npackage p;\nimport \"b.proto\";\nmessage C { M.B b = 1; p.M.B c = 2; }\n|\
+d.proto\nsyntax = \"proto3\";\npackage p;\nimport \"a.proto\";\nimport \"b.proto\";\nmessage D { M.A a = 1; M.B b = 2; }\n|",
+        answer: "a.proto 1000\nb.proto 0100\nc.proto 0110; p.M.B 1/0 1/1; p.M.B 1 1/0 1/1\nd.proto 1101; p.M.A 0/0 0/1; p.M.B 1/0 1/1\n",
+    },
+    Row {
+        tree: "a.proto\nsyntax = \"proto3\";\npackage p.M;\nmessage T {}\n|\
+b.proto\nsyntax = \"proto3\";\npackage p;\nmessage M { message U {} }\n|\
+d.proto\nsyntax = \"proto3\";\npackage p;\nimport \"a.proto\";\nimport \"b.proto\";\nmessage D { M.T t = 1; M.U u = 2; M m = 3; }\n|",
+        answer: "a.proto 100\nb.proto 010\nd.proto 111; p.M.T 2 0/0; p.M.U 1/0 1/1; p.M 1/0\n",
+    },
+    Row {
+        tree: "a.proto\nsyntax = \"proto3\";\npackage p;\nmessage M {}\n|\
+c.proto\nsyntax = \"proto3\";\nimport public \"x.proto\";\n|\
+d.proto\nsyntax = \"proto3\";\npackage p;\nimport \"c.proto\";\nmessage D { M m = 1; }\n|\
+e.proto\nsyntax = \"proto3\";\npackage p;\nimport \"a.proto\";\nimport \"c.proto\";\nmessage E { M m = 1; }\n|\
++x.proto\nsyntax = \"proto3\";\npackage p;\nmessage M {}\n|",
+        answer: "a.proto 10000\nc.proto 01001\nd.proto 01101; p.M 4/0\ne.proto 11011; ?? 3 78..79\n+x.proto 00001\n",
+    },
+    Row {
+        tree: "a.proto\nsyntax = \"proto3\";\npackage p;\nmessage M {}\n|\
+b.proto\nsyntax = \"proto3\";\npackage p;\nmessage M {}\nenum N { Z = 0; }\nenum O { Z = 0; }\n|",
+        answer: "duplicate 1 52..53 1 70..71\n",
+    },
+];
+
+#[test]
+fn worked_trees_with_duplicates(rt: HostRuntime) -> Result<(), Fail> {
+    for (number, row) in SEVERAL_ROWS.iter().enumerate() {
+        see_tree(&rt, rt.alloc(), number, row.tree, Due::Several(row.answer))?;
+    }
+    Ok(())
+}
+
 #[test]
 fn worked_trees(rt: HostRuntime) -> Result<(), Fail> {
     for (number, row) in ROWS.iter().enumerate() {

@@ -1,7 +1,7 @@
 //! Which files see which, and why files can't be linked, found by scans of all files.
 
 use crate::items::{add_items_of, first_clash};
-use proto_link::{FileOmission, FilePlace, LinkFault, LinkFile};
+use proto_link::{Duplicates, FileOmission, FilePlace, LinkFault, LinkFile};
 use proto_parse::ImportKind;
 use std::alloc::Global;
 use test_kit::Made;
@@ -158,10 +158,11 @@ fn clash_of(
     alloc: Global,
     files: &[LinkFile],
     numbers: &[usize],
+    duplicates: Duplicates,
 ) -> Made<Option<(FilePlace, FilePlace)>> {
     let mut items = Vec::new(alloc);
     add_items_of(alloc, &mut items, files, numbers)?;
-    Ok(first_clash(items.as_slice()))
+    Ok(first_clash(items.as_slice(), duplicates))
 }
 
 /// Why files can't be linked of which these count, if they can't.
@@ -169,11 +170,12 @@ fn fault_of_counted(
     alloc: Global,
     files: &[LinkFile],
     reachable: &[usize],
+    duplicates: Duplicates,
 ) -> Made<Option<LinkFault>> {
     if let Some(file) = first_unread(files, reachable) {
         return Ok(Some(LinkFault::Broken(file)));
     }
-    if let Some((first, second)) = clash_of(alloc, files, reachable)? {
+    if let Some((first, second)) = clash_of(alloc, files, reachable, duplicates)? {
         return Ok(Some(LinkFault::Duplicate(first, second)));
     }
     let absent = absent_of(alloc, files)?;
@@ -187,13 +189,17 @@ fn omission_of(
     files: &[LinkFile],
     kept: &mut Vec<usize>,
     number: usize,
-    file: &LinkFile,
+    duplicates: Duplicates,
 ) -> Made<Option<FileOmission>> {
-    if file.facts.is_none() {
+    let has_facts = match files.get(number) {
+        Some(file) => file.facts.is_some(),
+        None => false,
+    };
+    if !has_facts {
         return Ok(Some(FileOmission::Broken));
     }
     kept.push(number)?;
-    match clash_of(alloc, files, kept.as_slice())? {
+    match clash_of(alloc, files, kept.as_slice(), duplicates)? {
         Some((first, second)) => {
             kept.pop();
             Ok(Some(FileOmission::Duplicate(first, second)))
@@ -208,11 +214,12 @@ fn note_omissions(
     files: &[LinkFile],
     taken: &[usize],
     kept: &mut Vec<usize>,
+    duplicates: Duplicates,
     omissions: &mut Vec<Option<FileOmission>>,
 ) -> Made<()> {
-    for (number, file) in files.iter().enumerate() {
+    for number in 0..files.len() {
         if taken.contains(&number) {
-            let omission = omission_of(alloc, files, kept, number, file)?;
+            let omission = omission_of(alloc, files, kept, number, duplicates)?;
             if let Some(noted) = omissions.get_mut(number) {
                 *noted = omission;
             }
@@ -244,23 +251,45 @@ fn others_of(alloc: Global, files: &[LinkFile], numbers: &[usize]) -> Made<Vec<u
 }
 
 /// For each file why it is left out, if it is: first sources are taken, then what the sources that are kept see.
-pub(crate) fn omissions_of(alloc: Global, files: &[LinkFile]) -> Made<Vec<Option<FileOmission>>> {
+pub(crate) fn omissions_of(
+    alloc: Global,
+    files: &[LinkFile],
+    duplicates: Duplicates,
+) -> Made<Vec<Option<FileOmission>>> {
     let mut omissions = Vec::new(alloc);
     for _ in files {
         omissions.push(None)?;
     }
     let mut kept = Vec::new(alloc);
     let sources = sources_of(alloc, files)?;
-    note_omissions(alloc, files, sources.as_slice(), &mut kept, &mut omissions)?;
+    note_omissions(
+        alloc,
+        files,
+        sources.as_slice(),
+        &mut kept,
+        duplicates,
+        &mut omissions,
+    )?;
     let seen = seen_by(alloc, files, kept.as_slice())?;
     let present = present_of(alloc, files, seen.as_slice())?;
     let others = others_of(alloc, files, present.as_slice())?;
-    note_omissions(alloc, files, others.as_slice(), &mut kept, &mut omissions)?;
+    note_omissions(
+        alloc,
+        files,
+        others.as_slice(),
+        &mut kept,
+        duplicates,
+        &mut omissions,
+    )?;
     Ok(omissions)
 }
 
 /// Why files can't be linked, if they can't.
-pub(crate) fn fault_of(alloc: Global, files: &[LinkFile]) -> Made<Option<LinkFault>> {
+pub(crate) fn fault_of(
+    alloc: Global,
+    files: &[LinkFile],
+    duplicates: Duplicates,
+) -> Made<Option<LinkFault>> {
     let reachable = counted_of(alloc, files)?;
-    fault_of_counted(alloc, files, reachable.as_slice())
+    fault_of_counted(alloc, files, reachable.as_slice(), duplicates)
 }

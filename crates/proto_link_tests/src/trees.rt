@@ -7,7 +7,7 @@ use crate::facts::facts_of;
 use crate::kept::{are_kept_as_scanned, kept_answer};
 use crate::meanings::scan_of;
 use proto_decl::FileFacts;
-use proto_link::{LinkFile, have_own_paths};
+use proto_link::{Duplicates, LinkFile, have_own_paths};
 use std::alloc::Global;
 use std::process::Abort;
 use test_kit::{FileText, Made, file_text};
@@ -83,14 +83,8 @@ pub(crate) enum Due<'a> {
     Linked(&'a str),
     /// What linking answers to the files that are kept, with those that are left out.
     Kept(&'a str),
-}
-
-/// Whether an answer to all files is what is due of them.
-fn is_due(due: Due<'_>, answer: &str) -> bool {
-    match due {
-        Due::Linked(text) => text == answer,
-        Due::Any | Due::Kept(_) => true,
-    }
+    /// What linking answers to all files, of which several may give one name.
+    Several(&'a str),
 }
 
 /// Whether what linking answers to the files that are kept is what is due of them.
@@ -99,34 +93,55 @@ fn is_kept_due<'a>(alloc: Global, files: &'a [LinkFile<'a, '_>], due: Due<'_>) -
 {
     match due {
         Due::Kept(text) => {
-            let answer = kept_answer(alloc, files)?;
+            let answer = kept_answer(alloc, files, Duplicates::Refuse)?;
             Ok(answer.as_str() == text)
         }
-        Due::Any | Due::Linked(_) => Ok(true),
+        Due::Any | Due::Linked(_) | Due::Several(_) => Ok(true),
     }
 }
 
-/// Whether scans tell this answer, and it is what is due.
-fn is_as_scanned(alloc: Global, files: &[LinkFile], answer: &str, due: Due<'_>) -> Made<bool> {
-    let scan = scan_of(alloc, files)?;
-    Ok(scan.as_str() == answer && is_due(due, answer))
+/// What is due of all files, if it is told.
+fn due_of_all<'a>(due: Due<'a>, duplicates: Duplicates) -> Option<&'a str> {
+    match (due, duplicates) {
+        (Due::Linked(text), Duplicates::Refuse) => Some(text),
+        (Due::Several(text), Duplicates::Keep) => Some(text),
+        (_, _) => None,
+    }
 }
 
-/// Whether linking answers to files what is due, be it in one or in two parts.
+/// Whether linking answers to files what scans tell, be it in one or in two parts, and what is due.
+fn are_files_linked<'a>(
+    alloc: Global,
+    files: &'a [LinkFile<'a, '_>],
+    duplicates: Duplicates,
+    due: Option<&str>,
+) -> Made<bool>
+    requires { HaveOwnPaths files.now }
+{
+    let answer = answer_of(alloc, files, duplicates)?;
+    let in_parts = answer_in_parts(alloc, files, duplicates)?;
+    let scan = scan_of(alloc, files, duplicates)?;
+    Ok(
+        in_parts.as_str() == answer.as_str()
+            && scan.as_str() == answer.as_str()
+            && (due.is_none() || due == Some(answer.as_str()))
+            && are_kept_as_scanned(alloc, files, duplicates)?,
+    )
+}
+
+/// The same whether several files may give one name or not.
 fn are_files_answered<'a>(
     alloc: Global,
     files: &'a [LinkFile<'a, '_>],
     due: Due<'_>,
 ) -> Made<bool> {
     if !have_own_paths(alloc, files)? {
-        return Ok(is_due(due, "a path twice\n"));
+        return Ok(due_of_all(due, Duplicates::Refuse) == Some("a path twice\n"));
     }
-    let answer = answer_of(alloc, files)?;
-    let in_parts = answer_in_parts(alloc, files)?;
+    let (refuse, keep) = (Duplicates::Refuse, Duplicates::Keep);
     Ok(
-        in_parts.as_str() == answer.as_str()
-            && is_as_scanned(alloc, files, answer.as_str(), due)?
-            && are_kept_as_scanned(alloc, files)?
+        are_files_linked(alloc, files, refuse, due_of_all(due, refuse))?
+            && are_files_linked(alloc, files, keep, due_of_all(due, keep))?
             && is_kept_due(alloc, files, due)?,
     )
 }

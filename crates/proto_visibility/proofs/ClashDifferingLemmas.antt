@@ -14,7 +14,7 @@ use Rattle.proto_decl.specs.Names.{hash64}
 use Rattle.proto_decl.specs.declared.declaration.Declaration.{Declaration}
 use Rattle.proto_visibility.specs.Files.{File}
 use Rattle.proto_visibility.specs.Sees.{IsReachable}
-use Rattle.proto_visibility.specs.Clashes.{Before, Item, IsItem, NoClash}
+use Rattle.proto_visibility.specs.Clashes.{Before, Item, IsItem, NoClashBy}
 use Rattle.proto_visibility.specs.Clashes.IsItemBy.{declared, packaged}
 use Rattle.proto_visibility.specs.Tables.FileItems.{AreAllPrefixes, ArePrefixes, declared_item, package_name_in}
 use Rattle.proto_visibility.specs.Tables.GivenNames.{HasPrefixAt}
@@ -196,7 +196,7 @@ module _ {S : Type 0} (files : List File) (prefixes : List (List (List ℕ))) (r
       false≢true (sym (not_numbered number name has)
       ∙ (ap (has_number numbers) (sym same) ∙ apart.1.numbered x there))
 
-  pub clear_by_numbers : NoClash files
+  pub clear_by_numbers : NoClashBy Before (IsItem files)
   clear_by_numbers a b e = elim (told a e.first_is) [
     | inl a_declared ↦ elim (told b e.second_is) [
       | inl b_declared ↦ apart.1.clear a b (record {

@@ -14,7 +14,7 @@ use Rattle.proto_decl.specs.Facts.{Facts}
 use Rattle.proto_decl.specs.declared.declaration.Declaration.{Declaration}
 use Rattle.proto_visibility.specs.Files.{File, HasFacts}
 use Rattle.proto_visibility.specs.Sees.{IsReachable}
-use Rattle.proto_visibility.specs.Clashes.{Item, IsItem, IsItemBy, Before, BeforeBy}
+use Rattle.proto_visibility.specs.Clashes.{Item, IsItem, IsItemBy, BeforeBy}
 use Rattle.proto_visibility.specs.Clashes.IsItemBy.{declared, packaged}
 use Rattle.proto_visibility.specs.Tables.ClashTables.{AreInPlace, AreInPlaceBy}
 use Rattle.proto_visibility.specs.Tables.FileItems.{ArePrefixes, declared_item, IsItemOf, IsItemIn, package_name_of}
@@ -154,14 +154,14 @@ module _ (files : List File) (row : List ℕ) where
             (λ e h. all e (Contains-append_right (d ∷ []) ds e h)) other
       ]
 
-  from_file : (number : ℕ) (facts : Facts) (item : Item) → Contains row number → HasFacts files number facts
+  pub from_file : (number : ℕ) (facts : Facts) (item : Item) → Contains row number → HasFacts files number facts
       → IsItemOf number facts item → IsItemBy files (Contains row) item
   from_file number facts item counts has (inl there) =
       declared_from number facts item counts has facts.declarations (λ d h. h) there
   from_file number facts item counts has (inr its) =
       subst (IsItemBy files (Contains row)) (sym its.4) (packaged its.0 counts has its.3)
 
-  to_file : (item : Item) → IsItemBy files (Contains row) item
+  pub to_file : (item : Item) → IsItemBy files (Contains row) item
       → (number : ℕ) × (facts : Facts) × Contains row number × HasFacts files number facts × IsItemOf number facts item
   to_file item (declared {number = number} {facts = facts} {declaration = d} counts has listed) =
       (number, facts, counts, has, inl (declared_to number d facts.declarations listed))

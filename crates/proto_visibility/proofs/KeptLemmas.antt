@@ -5,20 +5,24 @@ use Rattle.std.specs.List.{slice_get}
 use Rattle.std.proofs.lemmas.Bool.{cases_lt}
 use Rattle.std.proofs.lemmas.Option.{slice_get_within, slice_get-get_or}
 use Rattle.proto_visibility.specs.declared.files.FilePlace.{FilePlace}
+use Rattle.proto_visibility.specs.declared.clash.Duplicates.{Duplicates}
+use Rattle.proto_visibility.specs.declared.clash.Duplicates.TheVariants.{Refuse, Keep}
 use Rattle.proto_visibility.specs.declared.omissions.FileOmission.{FileOmission}
 use Rattle.proto_visibility.specs.declared.omissions.FileOmission.TheVariants.{Broken, Duplicate}
 use Rattle.proto_visibility.specs.Files.{File, IsSource}
 use Rattle.proto_visibility.specs.Sees.{IsReachable}
 use Rattle.proto_visibility.specs.Sees.SeesBy.{itself}
 use Rattle.proto_visibility.specs.Sees.IsReachable.{seen}
-use Rattle.proto_visibility.specs.Clashes.{Before, Item, IsItem, IsItemBy, Excludes, NoClashBy}
+use Rattle.proto_visibility.specs.Clashes.{Before, Item, IsItem, IsItemBy, Excludes, NoClashBy, ShareNames}
 use Rattle.proto_visibility.specs.Absences.{IsUnreadBy}
 use Rattle.proto_visibility.specs.Linked.{HaveClearNames}
-use Rattle.proto_visibility.specs.Kept.{Omissions, IsKeptFile, IsCounted, IsTakenBefore, Precedes, IsMet, IsOmission}
+use Rattle.proto_visibility.specs.Kept.{Omissions, IsKeptFile, IsCounted, IsTakenBefore, Precedes, Meets, IsMet}
+use Rattle.proto_visibility.specs.Kept.{IsOmission}
 use Rattle.proto_visibility.specs.Kept.{AreOmissions, kept_of, linked_of, number_among_all}
 use Rattle.proto_visibility.specs.Kept.{AreAllKept, OneKept, NothingIsLeftOutOfGoodFiles, KeptFilesAreClear}
 use Rattle.proto_visibility.specs.Kept.IsCounted.{is_source, is_seen}
 use Rattle.proto_visibility.specs.Kept.IsTakenBefore.{of_sources, source_first, of_others}
+use Rattle.proto_visibility.proofs.DuplicateLemmas.{none_from, none_to, shared_turned}
 use Rattle.proto_visibility.proofs.ItemAllLemmas.{file_within, item_counts}
 use Rattle.proto_visibility.proofs.KeptAmongLemmas.{counted_among, item_among, item_kept, moved, one_origin, order_among}
 use Rattle.proto_visibility.proofs.KeptAmongLemmas.{origin, original, present_unread}
@@ -42,7 +46,13 @@ or_turn false false e = e
 
 -- ---- one list is kept
 
-module _ (files : List File) where
+-- what is met is taken before
+taken_of : (duplicates : Duplicates) (files : List File) (m n : ℕ) → Meets duplicates files m n
+    → IsTakenBefore files m n
+taken_of Refuse files m n taken = taken
+taken_of Keep files m n nothing = absurd nothing
+
+module _ (duplicates : Duplicates) (files : List File) where
   counted_as : (a b : Omissions) (n : ℕ) → ((m : ℕ) → IsSource files m → IsKeptFile a m → IsKeptFile b m)
       → IsCounted files a n → IsCounted files b n
   counted_as a b n same (is_source is) = is_source is
@@ -51,17 +61,22 @@ module _ (files : List File) where
 
   pub met : (a b : Omissions) (n : ℕ) → ((m : ℕ) → IsTakenBefore files m n → IsKeptFile a m → IsKeptFile b m)
       → ((m : ℕ) → (m ≡ n) ⊎ IsTakenBefore files m n → IsCounted files a m → IsCounted files b m)
-      → (item : Item) → IsMet files a n item → IsMet files b n item
+      → (item : Item) → IsMet duplicates files a n item → IsMet duplicates files b n item
   met a b n earlier counted item is = record {
-    is_item = item_counts item (counted item.place.file (elim is.meets [ inl own ↦ inl own | inr before ↦ inr before.0 ]))
-        is.is_item;
+    is_item = item_counts item (counted item.place.file (elim is.meets [
+      | inl own ↦ inl own
+      | inr before ↦ inr (taken_of duplicates files item.place.file n before.0)
+    ])) is.is_item;
     meets = elim is.meets [
       | inl own ↦ inl own
-      | inr before ↦ inr (before.0, earlier item.place.file before.0 before.1)
+      | inr before ↦ inr (
+        before.0,
+        earlier item.place.file (taken_of duplicates files item.place.file n before.0) before.1,
+      )
     ];
   }
 
-  module _ (a b : Omissions) (are : AreOmissions files a) (others : AreOmissions files b) where
+  module _ (a b : Omissions) (are : AreOmissions duplicates files a) (others : AreOmissions duplicates files b) where
     kept_too : (n : ℕ) → ((m : ℕ) → IsTakenBefore files m n → IsKeptFile b m → IsKeptFile a m)
         → ((m : ℕ) → (m ≡ n) ⊎ IsTakenBefore files m n → IsCounted files b m → IsCounted files a m)
         → IsKeptFile a n → IsKeptFile b n
@@ -70,7 +85,7 @@ module _ (files : List File) where
         let at = slice_get-get_or b n None (omega (arith, are.one_each, others.one_each, within)) in
         by (get_or b n None) at (others.each n (get_or b n None) at)
       where
-        by : (o : Option FileOmission) → slice_get b n ≡ Some o → IsOmission files b n o → IsKeptFile b n
+        by : (o : Option FileOmission) → slice_get b n ≡ Some o → IsOmission duplicates files b n o → IsKeptFile b n
         by None at is = at
         by (Some Broken) at is = absurd ((are.each n None kept).0 (record {
           file = is.file;
@@ -90,7 +105,7 @@ module _ (files : List File) where
   turned a b n alike = (alike.1, alike.0)
 
   -- a source is kept by what sources before it are
-  source_kept_too : (a b : Omissions) → AreOmissions files a → AreOmissions files b → (n : ℕ) → IsSource files n
+  source_kept_too : (a b : Omissions) → AreOmissions duplicates files a → AreOmissions duplicates files b → (n : ℕ) → IsSource files n
       → ((m : ℕ) → m < n → IsSource files m → AreKeptAlike a b m) → IsKeptFile a n → IsKeptFile b n
   source_kept_too a b are others n is below kept = kept_too a b are others n
       (λ m taken. (let its = before_source files m n taken is in (below m its.1 its.0).1))
@@ -99,7 +114,7 @@ module _ (files : List File) where
         | inr taken ↦ (before_source files m n taken is).0
       ])) kept
 
-  sources_below : (a b : Omissions) → AreOmissions files a → AreOmissions files b → (n m : ℕ) → m < n
+  sources_below : (a b : Omissions) → AreOmissions duplicates files a → AreOmissions duplicates files b → (n m : ℕ) → m < n
       → IsSource files m → AreKeptAlike a b m
   sources_below a b are others zero m h is = absurd (omega arith)
   sources_below a b are others (suc n) m h is = elim (cases_lt m n) [
@@ -113,18 +128,18 @@ module _ (files : List File) where
         ))
   ]
 
-  sources_alike : (a b : Omissions) → AreOmissions files a → AreOmissions files b → (m : ℕ) → IsSource files m
+  sources_alike : (a b : Omissions) → AreOmissions duplicates files a → AreOmissions duplicates files b → (m : ℕ) → IsSource files m
       → AreKeptAlike a b m
   sources_alike a b are others m is = sources_below a b are others (suc m) m (omega arith) is
 
   -- so the same files count
-  pub counted_alike : (a b : Omissions) → AreOmissions files a → AreOmissions files b → (n : ℕ)
+  pub counted_alike : (a b : Omissions) → AreOmissions duplicates files a → AreOmissions duplicates files b → (n : ℕ)
       → IsCounted files a n → IsCounted files b n
   counted_alike a b are others n counts =
       counted_as a b n (λ m is kept. (sources_alike a b are others m is).0 kept) counts
 
   -- any other file is kept by what all sources and the others before it are
-  other_kept_too : (a b : Omissions) → AreOmissions files a → AreOmissions files b → (n : ℕ)
+  other_kept_too : (a b : Omissions) → AreOmissions duplicates files a → AreOmissions duplicates files b → (n : ℕ)
       → (IsSource files n → ⊥) → ((m : ℕ) → m < n → AreKeptAlike a b m) → IsKeptFile a n → IsKeptFile b n
   other_kept_too a b are others n isnt below kept = kept_too a b are others n
       (λ m taken. earlier m taken)
@@ -135,7 +150,7 @@ module _ (files : List File) where
       earlier m (source_first x y) its = (sources_alike a b are others m x).1 its
       earlier m (of_others x y less) its = (below m less).1 its
 
-  below : (a b : Omissions) → AreOmissions files a → AreOmissions files b → (n m : ℕ) → m < n → AreKeptAlike a b m
+  below : (a b : Omissions) → AreOmissions duplicates files a → AreOmissions duplicates files b → (n m : ℕ) → m < n → AreKeptAlike a b m
   below a b are others zero m h = absurd (omega arith)
   below a b are others (suc n) m h = elim (cases_lt m n) [
     | inl before ↦ below a b are others n m before
@@ -152,41 +167,49 @@ module _ (files : List File) where
   ]
 
 pub one_kept : OneKept
-one_kept files omissions others are too number = below files omissions others are too (suc number) number (omega arith)
+one_kept duplicates files omissions others are too number =
+    below duplicates files omissions others are too (suc number) number (omega arith)
 
 -- ---- files that are kept don't clash, whichever of the two is taken first
 
-module _ (files : List File) (omissions : Omissions) (are : AreOmissions files omissions) where
+-- a kept file that is taken before, or the file itself, is met by one whose names it shares
+meets_pair : (duplicates : Duplicates) (files : List File) (omissions : Omissions) (x y : Item)
+    → IsKeptFile omissions x.place.file → ShareNames duplicates x.place.file y.place.file
+    → Precedes files x.place y.place → (x.place.file ≡ y.place.file)
+    ⊎ (Meets duplicates files x.place.file y.place.file × IsKeptFile omissions x.place.file)
+meets_pair Refuse files omissions x y x_kept can (inl taken) = inr (taken, x_kept)
+meets_pair Refuse files omissions x y x_kept can (inr same) = inl same.0
+meets_pair Keep files omissions x y x_kept can before = inl can
+
+module _ (duplicates : Duplicates) (files : List File) (omissions : Omissions)
+    (are : AreOmissions duplicates files omissions) where
   kept_pair : (x y : Item) → IsItemBy files (IsCounted files omissions) x
       → IsItemBy files (IsCounted files omissions) y → IsKeptFile omissions x.place.file
-      → IsKeptFile omissions y.place.file → Precedes files x.place y.place → x.full_name ≡ y.full_name
+      → IsKeptFile omissions y.place.file → ShareNames duplicates x.place.file y.place.file → Precedes files x.place y.place → x.full_name ≡ y.full_name
       → (x.is_declaration || y.is_declaration) ≡ true → ⊥
-  kept_pair x y x_is y_is x_kept y_kept before name declares =
+  kept_pair x y x_is y_is x_kept y_kept can before name declares =
       (are.each y.place.file None y_kept).1 x y (record {
-        first_is = record { is_item = x_is; meets = meets before };
+        first_is = record { is_item = x_is; meets = meets_pair duplicates files omissions x y x_kept can before };
         second_is = record { is_item = y_is; meets = inl refl };
         ordered = before;
         one_name = name;
         declares = declares;
       })
-    where
-      meets : Precedes files x.place y.place → (x.place.file ≡ y.place.file)
-          ⊎ (IsTakenBefore files x.place.file y.place.file × IsKeptFile omissions x.place.file)
-      meets (inl taken) = inr (taken, x_kept)
-      meets (inr same) = inl same.0
 
   pub kept_apart : (x y : Item) → IsItemBy files (IsCounted files omissions) x
       → IsItemBy files (IsCounted files omissions) y → IsKeptFile omissions x.place.file
-      → IsKeptFile omissions y.place.file → Before x.place y.place → x.full_name ≡ y.full_name
+      → IsKeptFile omissions y.place.file → ShareNames duplicates x.place.file y.place.file
+      → Before x.place y.place → x.full_name ≡ y.full_name
       → (x.is_declaration || y.is_declaration) ≡ true → ⊥
-  kept_apart x y x_is y_is x_kept y_kept (inl less) name declares =
+  kept_apart x y x_is y_is x_kept y_kept can (inl less) name declares =
       elim (taken_either files x.place.file y.place.file less) [
-        | inl taken ↦ kept_pair x y x_is y_is x_kept y_kept (inl taken) name declares
-        | inr back ↦ kept_pair y x y_is x_is y_kept x_kept (inl back) (sym name)
+        | inl taken ↦ kept_pair x y x_is y_is x_kept y_kept can (inl taken) name declares
+        | inr back ↦ kept_pair y x y_is x_is y_kept x_kept
+            (shared_turned duplicates x.place.file y.place.file can) (inl back) (sym name)
             (or_turn x.is_declaration y.is_declaration declares)
       ]
-  kept_apart x y x_is y_is x_kept y_kept (inr same) name declares =
-      kept_pair x y x_is y_is x_kept y_kept (inr same) name declares
+  kept_apart x y x_is y_is x_kept y_kept can (inr same) name declares =
+      kept_pair x y x_is y_is x_kept y_kept can (inr same) name declares
 
 -- ---- nothing is left out of good files
 
@@ -200,50 +223,64 @@ reachable_of files omissions number (is_source is) =
 reachable_of files omissions number (is_seen is kept sees present) = seen is sees present
 
 -- of good files none that counts is without facts
-pub clear_read : (files : List File) (omissions : Omissions) → HaveClearNames files → (number : ℕ)
+pub clear_read : (duplicates : Duplicates) (files : List File) (omissions : Omissions)
+    → HaveClearNames duplicates files → (number : ℕ)
     → IsUnreadBy files (IsCounted files omissions) number → ⊥
-clear_read files omissions good number is = good.read number (record {
+clear_read duplicates files omissions good number is = good.read number (record {
   file = is.file;
   counts = reachable_of files omissions number is.counts;
   numbered = is.numbered;
   unread = is.unread;
 })
 
--- and no names clash, whichever file is taken first
-pub clear_pairs : (files : List File) (omissions : Omissions) → HaveClearNames files → (number : ℕ)
-    → NoClashBy (Precedes files) (IsMet files omissions number)
-clear_pairs files omissions good number a b e = by e.ordered
+-- what one file meets are items of files that share names
+met_share : (duplicates : Duplicates) (files : List File) (omissions : Omissions) (number : ℕ) (a b : Item)
+    → IsMet duplicates files omissions number a → IsMet duplicates files omissions number b
+    → ShareNames duplicates a.place.file b.place.file
+met_share Refuse files omissions number a b a_is b_is = tt
+met_share Keep files omissions number a b a_is b_is = own a a_is ∙ sym (own b b_is)
   where
-    reached : (item : Item) → IsMet files omissions number item → IsItem files item
+    own : (item : Item) → IsMet Keep files omissions number item → item.place.file ≡ number
+    own item is = elim is.meets [ inl same ↦ same | inr before ↦ absurd before.0 ]
+
+-- and no names clash, whichever file is taken first
+pub clear_pairs : (duplicates : Duplicates) (files : List File) (omissions : Omissions)
+    → HaveClearNames duplicates files → (number : ℕ)
+    → NoClashBy (Precedes files) (IsMet duplicates files omissions number)
+clear_pairs duplicates files omissions good number a b e = by e.ordered
+  where
+    reached : (item : Item) → IsMet duplicates files omissions number item → IsItem files item
     reached item is = item_counts item (reachable_of files omissions item.place.file) is.is_item
 
-    by : Precedes files a.place b.place → ⊥
-    by (inl taken) = elim (taken_apart files a.place.file b.place.file taken) [
-      | inl less ↦ good.clear a b (record {
-        first_is = reached a e.first_is;
-        second_is = reached b e.second_is;
-        ordered = inl less;
-        one_name = e.one_name;
-        declares = e.declares;
-      })
-      | inr more ↦ good.clear b a (record {
-        first_is = reached b e.second_is;
-        second_is = reached a e.first_is;
-        ordered = inl more;
-        one_name = sym e.one_name;
-        declares = or_turn a.is_declaration b.is_declaration e.declares;
-      })
-    ]
-    by (inr same) = good.clear a b (record {
+    can : ShareNames duplicates a.place.file b.place.file
+    can = met_share duplicates files omissions number a b e.first_is e.second_is
+
+    in_order : Before a.place b.place → ⊥
+    in_order before = none_to duplicates files good.clear a b can (record {
       first_is = reached a e.first_is;
       second_is = reached b e.second_is;
-      ordered = inr same;
+      ordered = before;
       one_name = e.one_name;
       declares = e.declares;
     })
 
+    turned_round : Before b.place a.place → ⊥
+    turned_round before =
+        none_to duplicates files good.clear b a (shared_turned duplicates a.place.file b.place.file can) (record {
+          first_is = reached b e.second_is;
+          second_is = reached a e.first_is;
+          ordered = before;
+          one_name = sym e.one_name;
+          declares = or_turn a.is_declaration b.is_declaration e.declares;
+        })
+
+    by : Precedes files a.place b.place → ⊥
+    by (inl taken) = elim (taken_apart files a.place.file b.place.file taken)
+        [ inl less ↦ in_order (inl less) | inr more ↦ turned_round (inl more) ]
+    by (inr same) = in_order (inr same)
+
 pub nothing_is_left_out : NothingIsLeftOutOfGoodFiles
-nothing_is_left_out files omissions are = (
+nothing_is_left_out duplicates files omissions are = (
   λ all. record {
     read = λ number unread. (are.each number None
         (kept all number (slice_get_within files number unread.file unread.numbered))).0 (record {
@@ -252,10 +289,10 @@ nothing_is_left_out files omissions are = (
           numbered = unread.numbered;
           unread = unread.unread;
         });
-    clear = λ a b e. kept_apart files omissions are a b
+    clear = none_from duplicates files (λ a b can e. kept_apart duplicates files omissions are a b
         (item_counts a (counted all a.place.file) e.first_is) (item_counts b (counted all b.place.file) e.second_is)
         (kept all a.place.file (file_of files a e.first_is)) (kept all b.place.file (file_of files b e.second_is))
-        e.ordered e.one_name e.declares;
+        can e.ordered e.one_name e.declares);
   },
   λ good k d h.
       let at = slice_get-get_or omissions k d h in
@@ -271,16 +308,22 @@ nothing_is_left_out files omissions are = (
     counted all number (seen {source = source} is sees present) =
         is_seen is (kept all source (slice_get_within files source is.file is.numbered)) sees present
 
-    by : HaveClearNames files → (k : ℕ) (o : Option FileOmission) → IsOmission files omissions k o → o ≡ None
+    by : HaveClearNames duplicates files → (k : ℕ) (o : Option FileOmission)
+        → IsOmission duplicates files omissions k o → o ≡ None
     by good k None is = refl
-    by good k (Some Broken) is = absurd (clear_read files omissions good k is)
+    by good k (Some Broken) is = absurd (clear_read duplicates files omissions good k is)
     by good k (Some (Duplicate first second)) is =
-        absurd (clear_pairs files omissions good k is.earlier is.later is.exclude)
+        absurd (clear_pairs duplicates files omissions good k is.earlier is.later is.exclude)
 
 -- ---- what is linked is clear
 
+shared_among : (duplicates : Duplicates) (omissions : Omissions) (m n : ℕ) → ShareNames duplicates m n
+    → ShareNames duplicates (number_among_all omissions m) (number_among_all omissions n)
+shared_among Refuse omissions m n can = tt
+shared_among Keep omissions m n can = ap (number_among_all omissions) can
+
 pub kept_are_clear : KeptFilesAreClear
-kept_are_clear files omissions are own = (
+kept_are_clear duplicates files omissions are own = (
   λ i j a b at there same.
       let first = original files omissions i a at in
       let second = original files omissions j b there in
@@ -300,9 +343,11 @@ kept_are_clear files omissions are own = (
           numbered = known;
           unread = unread.unread;
         });
-    clear = λ a b e. kept_apart files omissions are (moved files omissions a) (moved files omissions b)
+    clear = none_from duplicates (linked_of omissions files) (λ a b can e.
+        kept_apart duplicates files omissions are (moved files omissions a) (moved files omissions b)
         (item_among files omissions a e.first_is) (item_among files omissions b e.second_is)
         (item_kept files omissions a e.first_is) (item_kept files omissions b e.second_is)
-        (order_among files omissions a b e.ordered) e.one_name e.declares;
+        (shared_among duplicates omissions a.place.file b.place.file can)
+        (order_among files omissions a b e.ordered) e.one_name e.declares);
   },
 )

@@ -5,6 +5,8 @@ pub mod AbsentLemmas
 pub mod ClashDifferingLemmas
 -- The first clash of names, over items in order of place
 pub mod ClashLemmas
+-- Names of files that are one namespace, and of files each of which is one
+pub mod DuplicateLemmas
 -- The facts of the file with a number
 pub mod FileFactLemmas
 -- An order of files, and rows of places in it
@@ -31,10 +33,14 @@ pub mod LookupEntityLemmas
 pub mod LookupKnownLemmas
 -- The files that give a name, by the tables
 pub mod LookupListedLemmas
+-- Whether two files that are seen give a name
+pub mod LookupTwiceLemmas
 -- Tables of the names that files give
 pub mod NameLemmas
 -- The files without facts are left out; what kept sources see; and the order of all items
 pub mod OmissionLemmas
+-- What is left out where each file is a namespace of its own
+pub mod OmissionOwnLemmas
 -- What is left out of the sources, and then of the other files that kept ones see
 pub mod OmissionPassLemmas
 -- The pass over items that leaves out the files with a clash

@@ -1,5 +1,5 @@
 -- What is left out of the sources, and then of the other files that kept ones see.
-use Rattle.std.proofs.Common.{◌≡◌, ◌↔◌, ◌⊎◌, inl, inr, ℕ, ◌<◌, true, false, ◌||◌, zero, suc, List, [], ◌∷◌, ◌++◌, length}
+use Rattle.std.proofs.Common.{◌≡◌, ◌↔◌, ◌⊎◌, inl, inr, ℕ, ◌<◌, true, ◌||◌, zero, suc, List, [], ◌∷◌, ◌++◌, length}
 use Rattle.std.proofs.Common.{Option, Some, None, refl, ap, sym, ◌∙◌, subst, arith}
 use Rattle.std.specs.List.{Contains, slice_get}
 use Rattle.std.specs.HashMap.{HashMap}
@@ -7,7 +7,7 @@ use Rattle.std.proofs.lemmas.Bool.{false≢true}
 use Rattle.std.proofs.lemmas.Option.{slice_get_within, slice_get-get_or, same_Some}
 use Rattle.std.proofs.lemmas.List.Elements.{Contains-append_left, Contains-append_right, Contains-append_cases}
 use Rattle.basics.proofs.FirstLemmas.{contained, contained_at}
-use Rattle.proto_visibility.specs.declared.files.FilePlace.{FilePlace}
+use Rattle.proto_visibility.specs.declared.clash.Duplicates.TheVariants.{Refuse}
 use Rattle.proto_visibility.specs.declared.omissions.FileOmission.{FileOmission}
 use Rattle.proto_visibility.specs.declared.omissions.FileOmission.TheVariants.{Broken, Duplicate}
 use Rattle.proto_visibility.specs.Files.{File, IsSource}
@@ -29,18 +29,18 @@ use Rattle.proto_visibility.proofs.PassLemmas.{none_passed, not_both, passed_all
 
 -- ---- the passes over the items of the sources, and of the others
 
-kept_of_all : (omissions : Omissions) (number : ℕ) → AreAllKept omissions → number < length omissions
+pub kept_of_all : (omissions : Omissions) (number : ℕ) → AreAllKept omissions → number < length omissions
     → IsKeptFile omissions number
 kept_of_all omissions number all within =
     slice_get-get_or omissions number None within ∙ ap Some (all number None within)
 
-all_kept : (omissions : Omissions) (number : ℕ) (out : FileOmission) → AreAllKept omissions
+pub all_kept : (omissions : Omissions) (number : ℕ) (out : FileOmission) → AreAllKept omissions
     → slice_get omissions number ≡ Some (Some out) → ⊥
 all_kept omissions number out all at =
     not_both out (sym (kept_of_all omissions number all (slice_get_within omissions number (Some out) at)) ∙ at)
 
 -- of two lists that are as long, one has no more than the other
-never_missing : {X Y : Type 0} (xs : List X) (ys : List Y) (k : ℕ) (x : X) → length xs ≡ length ys
+pub never_missing : {X Y : Type 0} (xs : List X) (ys : List Y) (k : ℕ) (x : X) → length xs ≡ length ys
     → slice_get xs k ≡ Some x → slice_get ys k ≡ None → ⊥
 never_missing [] ys k x size at missing = cc
 never_missing (x ∷ xs) [] k y size at missing = omega (arith, size)
@@ -48,7 +48,7 @@ never_missing (x ∷ xs) (y ∷ ys) zero z size at missing = cc
 never_missing (x ∷ xs) (y ∷ ys) (suc k) z size at missing =
     never_missing xs ys k z (omega (arith, size)) at missing
 
-kept_or_out : (o : Option (Option FileOmission)) → (o ≡ None) ⊎ ((o ≡ Some None)
+pub kept_or_out : (o : Option (Option FileOmission)) → (o ≡ None) ⊎ ((o ≡ Some None)
     ⊎ ((out : FileOmission) × (o ≡ Some (Some out))))
 kept_or_out None = inl refl
 kept_or_out (Some None) = inr (inl refl)
@@ -312,7 +312,7 @@ module _ {S : Type 0} (files : List File) (sources others : List ℕ) (items mor
 
   by_both : (number : ℕ) (omission : Option FileOmission) → IsKeptFile open_ number
       → IsClashOmission (IsTakenBefore files) (Contains (items ++ more)) omissions number omission
-      → IsOmission files omissions number omission
+      → IsOmission Refuse files omissions number omission
   by_both number None kept is = (read number kept, no_clash_by (met number) is)
   by_both number (Some Broken) kept is = elim is [ ]
   by_both number (Some (Duplicate first second)) kept (by_clash is) = clash_by (met number) first second is
@@ -345,7 +345,7 @@ module _ {S : Type 0} (files : List File) (sources others : List ℕ) (items mor
   )
 
   by_first : (number : ℕ) (out : FileOmission) → IsSource files number
-      → IsOutByClash (IsTakenBefore files) (Contains items) passed number out → IsOmission files omissions number (Some out)
+      → IsOutByClash (IsTakenBefore files) (Contains items) passed number out → IsOmission Refuse files omissions number (Some out)
   by_first number _ is (by_clash {first = first} {second = second} clash) =
       clash_by (met_first number is) first second clash
 
@@ -360,7 +360,7 @@ module _ {S : Type 0} (files : List File) (sources others : List ℕ) (items mor
 
   -- a file that is left out by the first pass
   out_first : (number : ℕ) (out : FileOmission) → slice_get passed number ≡ Some (Some out)
-      → IsOmission files omissions number (Some out)
+      → IsOmission Refuse files omissions number (Some out)
   out_first number out at = elim (kept_or_out (slice_get start number)) [
     | inl missing ↦ absurd (never_missing passed start number (Some out) first_clashes.size at missing)
     | inr there ↦ elim there [
@@ -373,7 +373,7 @@ module _ {S : Type 0} (files : List File) (sources others : List ℕ) (items mor
             let broken : Broken ≡ begins.0 = one_out Broken begins.0 (sym is.1 ∙ begins.1) in
             let same : begins.0 ≡ out = one_out begins.0 out (sym (first_clashes.stays number begins.0 begins.1) ∙ at)
             in
-            subst (λ o. IsOmission files omissions number (Some o)) (broken ∙ same) (counts_as_source number is.0))
+            subst (λ o. IsOmission Refuse files omissions number (Some o)) (broken ∙ same) (counts_as_source number is.0))
         | inr stays ↦ absurd (all_kept none number begins.0 all (sym stays.1 ∙ begins.1))
       ]
     ]
@@ -384,9 +384,9 @@ module _ {S : Type 0} (files : List File) (sources others : List ℕ) (items mor
 
   -- a file that is left out before the second pass
   out_open : (number : ℕ) (out : FileOmission) → slice_get open_ number ≡ Some (Some out)
-      → IsOmission files omissions number (Some out)
+      → IsOmission Refuse files omissions number (Some out)
   out_open number out at = elim (unread_others.each number) [
-    | inl is ↦ subst (λ o. IsOmission files omissions number (Some o)) (one_out Broken out (sym is.1 ∙ at)) (record {
+    | inl is ↦ subst (λ o. IsOmission Refuse files omissions number (Some o)) (one_out Broken out (sym is.1 ∙ at)) (record {
       file = is.0.file;
       counts = (counted number).0 ((are_others number).0 is.0.counts).0;
       numbered = is.0.numbered;
@@ -398,7 +398,7 @@ module _ {S : Type 0} (files : List File) (sources others : List ℕ) (items mor
       one_out : (a b : FileOmission) → Some (Some a) ≡ Some (Some b) → a ≡ b
       one_out a b e = cc
 
-  pub are_omissions : AreOmissions files omissions
+  pub are_omissions : AreOmissions Refuse files omissions
   are_omissions = record {
     one_each = sizes;
     each = λ number omission at. elim (kept_or_out (slice_get open_ number)) [
@@ -408,7 +408,7 @@ module _ {S : Type 0} (files : List File) (sources others : List ℕ) (items mor
         | inr out ↦ (
             let same : Some out.0 ≡ omission =
             same_Some (Some out.0) omission (sym (clashes.stays number out.0 out.1) ∙ at) in
-            subst (IsOmission files omissions number) same (out_open number out.0 out.1))
+            subst (IsOmission Refuse files omissions number) same (out_open number out.0 out.1))
       ]
     ];
   }

@@ -1,12 +1,14 @@
 -- Places in the files, the items that are there (declarations and the components of package statements), and the
--- first clash of their names: all reachable files are one namespace (the profile's).
-use Rattle.std.specs.Prelude.{◌≡◌, ◌<◌, ◌⊎◌, ℕ, ◌+◌, Bool, true, false, Some, List, Contains, ◌||◌}
+-- first clash of their names: all reachable files are one namespace, or each file is one (the profile's).
+use Rattle.std.specs.Prelude.{◌≡◌, ◌<◌, ◌⊎◌, ⊤, ℕ, ◌+◌, Bool, true, false, Some, List, Contains, ◌||◌}
 use Rattle.std.specs.List.{slice_get}
 use Rattle.proto_decl.specs.Names.{package_of}
 use Rattle.proto_decl.specs.Facts.{Facts}
 use Rattle.proto_decl.specs.declared.uses.Component.{Component}
 use Rattle.proto_decl.specs.declared.declaration.Declaration.{Declaration}
 use Rattle.proto_visibility.specs.declared.files.FilePlace.{FilePlace}
+use Rattle.proto_visibility.specs.declared.clash.Duplicates.{Duplicates}
+use Rattle.proto_visibility.specs.declared.clash.Duplicates.TheVariants.{Refuse, Keep}
 use Rattle.proto_visibility.specs.Files.{File, HasFacts}
 use Rattle.proto_visibility.specs.Sees.{IsReachable}
 
@@ -46,6 +48,10 @@ pub data IsItemBy (files : List File) (Counts : ℕ → Type 0) : Item → Type 
 abbrev pub IsItem : List File → Item → Type 0
 IsItem files = IsItemBy files (IsReachable files)
 
+-- of one file
+abbrev pub IsOwnItem : List File → (number : ℕ) → Item → Type 0
+IsOwnItem files number = IsItemBy files (λ other. other ≡ number)
+
 -- ---- clashes
 
 -- two items in this order, of which at least one is a declaration, have one full name
@@ -72,9 +78,23 @@ pub record ClashBy (Before : FilePlace → FilePlace → Type 0) (IsItem : Item 
 abbrev pub NoClashBy : (FilePlace → FilePlace → Type 0) → (Item → Type 0) → Type 0
 NoClashBy Before IsItem = (a b : Item) → Excludes Before IsItem a b → ⊥
 
--- over the items of the files
-abbrev pub Clash : List File → (first second : FilePlace) → Type 0
-Clash files = ClashBy Before (IsItem files)
+-- the first clash of two items of one file: of those that are reachable, the first that has one
+pub record OwnClash (files : List File) (first second : FilePlace) : Type 0 where
+  pub number : ℕ
+  pub is_reachable : IsReachable files number
+  pub clash : ClashBy Before (IsOwnItem files number) first second
+  pub least : (other : ℕ) → IsReachable files other → other < number → NoClashBy Before (IsOwnItem files other)
 
-abbrev pub NoClash : List File → Type 0
-NoClash files = NoClashBy Before (IsItem files)
+-- over the items of the reachable files, which are one namespace, or each of which is one
+abbrev pub Clash : Duplicates → List File → (first second : FilePlace) → Type 0
+Clash Refuse files = ClashBy Before (IsItem files)
+Clash Keep files = OwnClash files
+
+abbrev pub NoClash : Duplicates → List File → Type 0
+NoClash Refuse files = NoClashBy Before (IsItem files)
+NoClash Keep files = (number : ℕ) → IsReachable files number → NoClashBy Before (IsOwnItem files number)
+
+-- whether files with these numbers are of one namespace
+abbrev pub ShareNames : Duplicates → (number other : ℕ) → Type 0
+ShareNames Refuse number other = ⊤
+ShareNames Keep number other = number ≡ other

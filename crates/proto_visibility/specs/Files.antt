@@ -1,5 +1,5 @@
 -- The files that are linked, by their numbers, and what they import (proto3 specification, "Import statement").
-use Rattle.std.specs.Prelude.{◌≡◌, ℕ, Bool, true, false, not, ◌&&◌, Option, Some, List, map, Contains}
+use Rattle.std.specs.Prelude.{◌≡◌, ℕ, Bool, true, false, not, ◌&&◌, Option, Some, List, Contains}
 use Rattle.std.specs.List.{slice_get}
 use Rattle.proto_parse.specs.tree.ImportKind.{ImportKind}
 use Rattle.proto_parse.specs.tree.ImportKind.TheVariants.{Plain, Weak, Public}

@@ -3,6 +3,8 @@ use Rattle.std.specs.Prelude.{◌≡◌, ◌<◌, ◌↔◌, ◌⊎◌, ℕ, zer
 use Rattle.std.specs.Prelude.{All, map}
 use Rattle.std.specs.List.{slice_get}
 use Rattle.proto_visibility.specs.declared.files.FilePlace.{FilePlace}
+use Rattle.proto_visibility.specs.declared.clash.Duplicates.{Duplicates}
+use Rattle.proto_visibility.specs.declared.clash.Duplicates.TheVariants.{Refuse, Keep}
 use Rattle.proto_visibility.specs.declared.omissions.FileOmission.{FileOmission}
 use Rattle.proto_visibility.specs.declared.omissions.FileOmission.TheVariants.{Broken, Duplicate}
 use Rattle.proto_visibility.specs.Files.{File, HaveOwnPaths, IsPresent, IsSource}
@@ -45,26 +47,32 @@ pub record IsMetBy (IsItem : Item → Type 0) (Earlier : ℕ → ℕ → Type 0)
   pub meets : (item.place.file ≡ number)
       ⊎ (Earlier item.place.file number × IsKeptFile omissions item.place.file)
 
+-- the names of which files before it the file meets: of all that are taken before, or of none
+abbrev pub Meets : Duplicates → List File → (earlier number : ℕ) → Type 0
+Meets Refuse files = IsTakenBefore files
+Meets Keep files = λ earlier number. ⊥
+
 -- of files that count, as they are taken
-abbrev pub IsMet : List File → Omissions → (number : ℕ) → Item → Type 0
-IsMet files omissions = IsMetBy (IsItemBy files (IsCounted files omissions)) (IsTakenBefore files) omissions
+abbrev pub IsMet : Duplicates → List File → Omissions → (number : ℕ) → Item → Type 0
+IsMet duplicates files omissions =
+    IsMetBy (IsItemBy files (IsCounted files omissions)) (Meets duplicates files) omissions
 
 -- Whether a file is left out, and why. Files are taken one by one. Left out is one that counts and has no facts, and
--- one of which an item clashes with another of its own, or with one of a file that was kept before it: for the first
--- such clash. Files that don't count give no items, so they are kept.
-abbrev pub IsOmission : List File → Omissions → (number : ℕ) → Option FileOmission → Type 0
-IsOmission files omissions number None =
+-- one of which an item clashes with another of its own, or, if all files are one namespace, with one of a file that was
+-- kept before it: for the first such clash. Files that don't count give no items, so they are kept.
+abbrev pub IsOmission : Duplicates → List File → Omissions → (number : ℕ) → Option FileOmission → Type 0
+IsOmission duplicates files omissions number None =
     (IsUnreadBy files (IsCounted files omissions) number → ⊥)
-    × NoClashBy (Precedes files) (IsMet files omissions number)
-IsOmission files omissions number (Some Broken) = IsUnreadBy files (IsCounted files omissions) number
-IsOmission files omissions number (Some (Duplicate first second)) =
-    ClashBy (Precedes files) (IsMet files omissions number) first second
+    × NoClashBy (Precedes files) (IsMet duplicates files omissions number)
+IsOmission duplicates files omissions number (Some Broken) = IsUnreadBy files (IsCounted files omissions) number
+IsOmission duplicates files omissions number (Some (Duplicate first second)) =
+    ClashBy (Precedes files) (IsMet duplicates files omissions number) first second
 
 -- what is left out of the files
-pub record AreOmissions (files : List File) (omissions : Omissions) : Type 0 where
+pub record AreOmissions (duplicates : Duplicates) (files : List File) (omissions : Omissions) : Type 0 where
   pub one_each : length omissions ≡ length files
   pub each : (number : ℕ) (omission : Option FileOmission) → slice_get omissions number ≡ Some omission
-      → IsOmission files omissions number omission
+      → IsOmission duplicates files omissions number omission
 
 -- what is kept of a list that has an entry for each file, in order
 abbrev pub kept_of : {X : Type 0} → Omissions → List X → List X
@@ -102,16 +110,18 @@ AreAllKept omissions = All (λ omission. omission ≡ None) omissions
 
 -- The laws. What is kept of files is one list.
 abbrev pub OneKept : Type 0
-OneKept = (files : List File) (omissions others : Omissions) → AreOmissions files omissions → AreOmissions files others
+OneKept = (duplicates : Duplicates) (files : List File) (omissions others : Omissions)
+    → AreOmissions duplicates files omissions → AreOmissions duplicates files others
     → (number : ℕ) → IsKeptFile omissions number ↔ IsKeptFile others number
 
 -- Nothing is left out if and only if the reachable files have facts and no names clash.
 abbrev pub NothingIsLeftOutOfGoodFiles : Type 0
-NothingIsLeftOutOfGoodFiles = (files : List File) (omissions : Omissions) → AreOmissions files omissions
-    → AreAllKept omissions ↔ HaveClearNames files
+NothingIsLeftOutOfGoodFiles = (duplicates : Duplicates) (files : List File) (omissions : Omissions)
+    → AreOmissions duplicates files omissions → AreAllKept omissions ↔ HaveClearNames duplicates files
 
 -- The files that are kept can be linked, with those that are left out behind them: they have paths of their own, the
 -- reachable ones have facts, and no names clash.
 abbrev pub KeptFilesAreClear : Type 0
-KeptFilesAreClear = (files : List File) (omissions : Omissions) → AreOmissions files omissions → HaveOwnPaths files
-    → HaveOwnPaths (linked_of omissions files) × HaveClearNames (linked_of omissions files)
+KeptFilesAreClear = (duplicates : Duplicates) (files : List File) (omissions : Omissions)
+    → AreOmissions duplicates files omissions → HaveOwnPaths files
+    → HaveOwnPaths (linked_of omissions files) × HaveClearNames duplicates (linked_of omissions files)

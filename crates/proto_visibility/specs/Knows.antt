@@ -1,6 +1,6 @@
 -- Which names a file knows (proto3 language guide, "Packages and Name Resolution"; that a package is known only if a
 -- file that is seen has it, or one below it, is the profile's), which file gives a name, and what it names there.
-use Rattle.std.specs.Prelude.{◌≡◌, ◌<◌, ◌≤◌, ℕ, Bool, true, false, List, length, Contains, Some}
+use Rattle.std.specs.Prelude.{◌≡◌, ◌≢◌, ◌<◌, ◌≤◌, ℕ, Bool, true, false, List, length, Contains, Some}
 use Rattle.std.specs.List.{slice_get}
 use Rattle.proto_decl.specs.declared.declaration.DeclarationKind.{DeclarationKind}
 use Rattle.proto_decl.specs.declared.declaration.DeclarationKind.TheVariants.{Message, Enum, Service, Field, Oneof}
@@ -116,6 +116,16 @@ pub record IsOwner (files : List File) (file : ℕ) (admits : NameKind → Bool)
   pub gives : SeesGiving files file admits name owner
   pub present : IsPresent files owner
   pub alone : (other : ℕ) → SeesGiving files file admits name other → other ≡ owner
+
+-- Of the files that a file sees, two give the name that aren't left out.
+pub record IsGivenTwice (files : List File) (file : ℕ) (admits : NameKind → Bool) (name : List ℕ) : Type 0 where
+  pub first : ℕ
+  pub second : ℕ
+  pub first_gives : SeesGiving files file admits name first
+  pub second_gives : SeesGiving files file admits name second
+  pub first_present : IsPresent files first
+  pub second_present : IsPresent files second
+  pub apart : first ≢ second
 
 -- ---- what a full name names in one file
 

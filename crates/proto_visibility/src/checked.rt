@@ -1,6 +1,7 @@
 //! Files that can be linked, but for the tables of their names.
 
 ghost use Rattle.std.specs.Prelude.{ℕ, ◌≡◌, ◌↔◌, IfOk, IfErr, MatchOption, Contains};
+ghost use Rattle.proto_visibility.specs.declared.clash.Duplicates.TheVariants.{Refuse, Keep};
 ghost use Rattle.proto_visibility.specs.Files.{HaveOwnPaths};
 ghost use Rattle.proto_visibility.specs.Sees.{IsReachable};
 ghost use Rattle.proto_visibility.specs.Clashes.{Clash, NoClash};
@@ -8,11 +9,11 @@ ghost use Rattle.proto_visibility.specs.Tables.FileItems.{AreAllPrefixes};
 ghost use Rattle.proto_visibility.specs.Linked.{CanBeLinked, MayRefuse};
 
 use crate::absent::first_absent;
-use crate::clash::{first_clash, numbers_differ};
+use crate::clash::{Duplicates, first_clash, numbers_differ};
 use crate::fault::LinkFault;
 use crate::files::{FilePlace, LinkFile, have_origins};
 use crate::import_table::{numbers_of, paths_of, steps_of};
-use crate::items::{all_items, all_prefixes};
+use crate::items::{all_items, all_prefixes, own_clash};
 use crate::rows::FileRow;
 use crate::seeing::{SeenFiles, first_unread, reachable_files, seen_files};
 use basics::{OwnedText, Sequence};
@@ -26,6 +27,7 @@ use std::marker::Model;
 #[derive(Drop)]
 pub struct CheckedFiles<'a, 't> {
     pub(crate) files: &'a [LinkFile<'a, 't>],
+    pub(crate) duplicates: Duplicates,
     pub(crate) paths: HashMap<&'a str, usize>,
     pub(crate) seen: SeenFiles,
 }
@@ -39,7 +41,8 @@ impl<'a, 't> Model for CheckedFiles<'a, 't> {
 
     ghost view = { λ checked. checked.files.now };
 
-    ghost invariant = { λ checked. AreChecked checked.files.now checked.paths checked.seen };
+    ghost invariant = { λ checked. AreChecked checked.duplicates checked.files.now checked.paths
+        checked.seen };
 }
 
 impl<'a, 't> CheckedFiles<'a, 't> {
@@ -48,14 +51,15 @@ impl<'a, 't> CheckedFiles<'a, 't> {
     pub fn of(
         alloc: Global,
         files: &'a [LinkFile<'a, 't>],
+        duplicates: Duplicates,
     ) -> Result<CheckedFiles<'a, 't>, LinkFault>
         requires { HaveOwnPaths files.now }
         ensures checked { IfOk result (λ checked. checked ≡ files.now) }
-        ensures can_be { IfOk result (λ _. CanBeLinked files.now) }
-        ensures refused { IfErr result (MayRefuse files.now) }
+        ensures can_be { IfOk result (λ _. CanBeLinked duplicates files.now) }
+        ensures refused { IfErr result (MayRefuse duplicates files.now) }
     {
         let prefixes = all_prefixes(alloc, files)?;
-        let checked = CheckedFiles::by_prefixes(alloc, files, prefixes.as_slice())?;
+        let checked = CheckedFiles::by_prefixes(alloc, files, prefixes.as_slice(), duplicates)?;
         Ok(checked)
     }
 
@@ -65,12 +69,13 @@ impl<'a, 't> CheckedFiles<'a, 't> {
         alloc: Global,
         files: &'a [LinkFile<'a, 't>],
         prefixes: &[Sequence<OwnedText>],
+        duplicates: Duplicates,
     ) -> Result<CheckedFiles<'a, 't>, LinkFault>
         requires own { HaveOwnPaths files.now }
         requires prefixes { AreAllPrefixes files.now prefixes.now }
         ensures checked { IfOk result (λ checked. checked ≡ files.now) }
-        ensures can_be { IfOk result (λ _. CanBeLinked files.now) }
-        ensures refused { IfErr result (MayRefuse files.now) }
+        ensures can_be { IfOk result (λ _. CanBeLinked duplicates files.now) }
+        ensures refused { IfErr result (MayRefuse duplicates files.now) }
     {
         let numbers = numbers_of(alloc, files)?;
         let table = steps_of(alloc, files, &numbers)?;
@@ -78,7 +83,7 @@ impl<'a, 't> CheckedFiles<'a, 't> {
         if let Some(number) = first_unread(files, &reachable) {
             return Err(LinkFault::Broken(number));
         }
-        let clash = clash_among(alloc, files, prefixes, &reachable)?;
+        let clash = clash_among(alloc, files, prefixes, &reachable, duplicates)?;
         if let Some((first, second)) = clash {
             return Err(LinkFault::Duplicate(first, second));
         }
@@ -88,7 +93,12 @@ impl<'a, 't> CheckedFiles<'a, 't> {
         }
         have_origins(files);
         let seen = seen_files(alloc, files, table.as_slice())?;
-        Ok(CheckedFiles { files, paths, seen })
+        Ok(CheckedFiles {
+            files,
+            duplicates,
+            paths,
+            seen,
+        })
     }
 }
 
@@ -98,16 +108,57 @@ fn clash_among(
     files: &[LinkFile],
     prefixes: &[Sequence<OwnedText>],
     reachable: &FileRow,
+    duplicates: Duplicates,
 ) -> Result<Option<(FilePlace, FilePlace)>, AllocError>
     requires prefixes { AreAllPrefixes files.now prefixes.now }
     requires reachable { (number : ℕ) → Contains reachable.now number ↔ IsReachable files.now number }
-    ensures { IfOk result (λ clash. MatchOption clash (NoClash files.now)
-        (λ places. Clash files.now places.0 places.1)) }
+    ensures { IfOk result (λ clash. MatchOption clash (NoClash duplicates files.now)
+        (λ places. Clash duplicates files.now places.0 places.1)) }
 {
     if numbers_differ(alloc, files, prefixes, reachable)? {
         return Ok(None);
     }
+    match duplicates {
+        Duplicates::Refuse => first_of_all(alloc, files, prefixes, reachable),
+        Duplicates::Keep => first_own_clash(alloc, files, prefixes, reachable),
+    }
+}
+
+/// The same where they are one namespace.
+fn first_of_all(
+    alloc: Global,
+    files: &[LinkFile],
+    prefixes: &[Sequence<OwnedText>],
+    reachable: &FileRow,
+) -> Result<Option<(FilePlace, FilePlace)>, AllocError>
+    requires prefixes { AreAllPrefixes files.now prefixes.now }
+    requires reachable { (number : ℕ) → Contains reachable.now number ↔ IsReachable files.now number }
+    ensures { IfOk result (λ clash. MatchOption clash (NoClash Refuse files.now)
+        (λ places. Clash Refuse files.now places.0 places.1)) }
+{
     let items = all_items(alloc, files, prefixes, reachable)?;
     let clash = first_clash(alloc, items.as_slice())?;
     Ok(clash)
+}
+
+/// The same where each file is a namespace of its own.
+fn first_own_clash(
+    alloc: Global,
+    files: &[LinkFile],
+    prefixes: &[Sequence<OwnedText>],
+    reachable: &FileRow,
+) -> Result<Option<(FilePlace, FilePlace)>, AllocError>
+    requires prefixes { AreAllPrefixes files.now prefixes.now }
+    requires reachable { (number : ℕ) → Contains reachable.now number ↔ IsReachable files.now number }
+    ensures { IfOk result (λ clash. MatchOption clash (NoClash Keep files.now)
+        (λ places. Clash Keep files.now places.0 places.1)) }
+{
+    for number in reachable.as_slice() {
+        let file = &files[*number];
+        let own = own_clash(alloc, *number, file, prefixes[*number].as_slice())?;
+        if own.is_some() {
+            return Ok(own);
+        }
+    }
+    Ok(None)
 }

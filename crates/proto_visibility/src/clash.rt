@@ -4,6 +4,7 @@ ghost use Rattle.std.specs.Prelude.{List, ℕ, ◌≡◌, ◌<◌, IfOk, OnOk, I
 ghost use Rattle.std.specs.Prelude.{is_some, if◌then◌else◌, ◌↔◌, ◌++◌, IsTrue, map};
 ghost use Rattle.std.specs.Str.{bytes_eq};
 ghost use Rattle.std.specs.List.{list_any};
+ghost use Rattle.proto_visibility.specs.declared.clash.Duplicates.{Duplicates};
 ghost use Rattle.proto_visibility.specs.Clashes.{Before, ClashBy, NoClashBy, NoClash, Item};
 ghost use Rattle.proto_visibility.specs.Tables.ClashTables.{AreInPlace, clash_with, index_in};
 ghost use Rattle.proto_visibility.specs.Sees.{IsReachable};
@@ -17,6 +18,15 @@ use proto_decl::{Declaration, FullName};
 use std::alloc::{AllocError, Global};
 use std::collections::{HashMap, HashSet};
 use std::marker::Model;
+
+/// Whether several files may give one full name.
+#[derive(Clone, Copy, Debug, PartialEq, Eq)]
+pub enum Duplicates {
+    /// They may not: all reachable files are one namespace.
+    Refuse,
+    /// They may: each file is a namespace of its own.
+    Keep,
+}
 
 /// A declaration or a component of a package statement: where it is, and the full name that it gives.
 #[derive(Drop)]
@@ -104,7 +114,8 @@ pub(crate) fn numbers_differ(
 ) -> Result<bool, AllocError>
     requires prefixes { AreAllPrefixes files.now prefixes.now }
     requires reachable { (number : ℕ) → Contains reachable.now number ↔ IsReachable files.now number }
-    ensures { IfOk result (λ differ. IsTrue differ → NoClash files.now) }
+    ensures { IfOk result (λ differ. IsTrue differ
+        → (duplicates : Duplicates) → NoClash duplicates files.now) }
 {
     let mut numbers = HashSet::with_capacity(alloc, room_for(files))?;
     for number in reachable.as_slice() {

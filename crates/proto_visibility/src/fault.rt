@@ -24,6 +24,10 @@ pub enum LinkFault {
     /// has none, to its last one. `proto_link` and the crates above answer it.
     #[error("a use that names no type, {0}")]
     Unresolved(FilePlace),
+    /// A use of a type that several of the files declare which are seen, by the place of the whole use. It never comes
+    /// if no two files may give one name. `proto_link` and the crates above answer it.
+    #[error("a use that names several types, {0}")]
+    Ambiguous(FilePlace),
     /// Memory was refused.
     #[error("memory ran out")]
     Memory,

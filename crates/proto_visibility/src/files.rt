@@ -106,6 +106,14 @@ fn has_origin(file: &LinkFile)
     }
 }
 
+/// Whether the file with this number isn't left out.
+pub(crate) fn is_present(files: &[LinkFile], number: usize) -> bool
+    requires { number < length files.now }
+    ensures { IsTrue result ↔ IsPresent files.now number }
+{
+    unless_left_out(files, number).is_some()
+}
+
 /// The number of a file, unless the file is left out.
 pub(crate) fn unless_left_out(files: &[LinkFile], number: usize) -> Option<usize>
     requires { number < length files.now }

@@ -1,14 +1,15 @@
 //! The items of files: their declarations and the components of their package statements.
 
 ghost use Rattle.std.specs.Prelude.{List, ℕ, ◌≡◌, ◌<◌, ◌+◌, ◌∷◌, ◌↔◌, IfOk, OnOk, Some, Contains, length, map};
+ghost use Rattle.std.specs.Prelude.{MatchOption};
 ghost use Rattle.std.specs.List.{slice_get};
 ghost use Rattle.proto_decl.specs.Names.{dotted};
 ghost use Rattle.proto_visibility.specs.Tables.FileItems.{ArePrefixes, IsItemOf, declared_item, AreWithPackage};
 ghost use Rattle.proto_visibility.specs.Tables.FileItems.{AreAllPrefixes, IsItemIn, package_name_of};
-ghost use Rattle.proto_visibility.specs.Clashes.{Item, IsItemBy};
+ghost use Rattle.proto_visibility.specs.Clashes.{Before, Item, IsItemBy, ClashBy, NoClashBy};
 ghost use Rattle.proto_visibility.specs.Tables.ClashTables.{AreInPlace};
 
-use crate::clash::{Item, room_for};
+use crate::clash::{Item, first_clash, room_for};
 use crate::files::{FilePlace, LinkFile};
 use crate::rows::FileRow;
 use basics::{OwnedText, Sequence};
@@ -187,4 +188,20 @@ fn items_of_file<'a>(
         }
         None => Ok(Vec::new(alloc)),
     }
+}
+
+/// The first clash of two items of a file.
+pub(crate) fn own_clash(
+    alloc: Global,
+    number: usize,
+    file: &LinkFile,
+    prefixes: &[OwnedText],
+) -> Result<Option<(FilePlace, FilePlace)>, AllocError>
+    requires { ArePrefixes (package_name_of file.now) prefixes.now }
+    ensures { IfOk result (λ clash. MatchOption clash (NoClashBy Before (IsItemIn number file.now))
+        (λ places. ClashBy Before (IsItemIn number file.now) places.0 places.1)) }
+{
+    let items = items_of_file(alloc, number, file, prefixes)?;
+    let clash = first_clash(alloc, items.as_slice())?;
+    Ok(clash)
 }

@@ -30,6 +30,7 @@ mod omissions;
 mod laws;
 
 pub use checked::CheckedFiles;
+pub use clash::Duplicates;
 pub use fault::LinkFault;
 pub use files::{FilePlace, LinkFile};
 pub use import_table::have_own_paths;

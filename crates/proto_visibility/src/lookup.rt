@@ -1,6 +1,7 @@
 //! Who gives a name, by the tables, and as what; and what it names in one file.
 
 ghost use Rattle.std.specs.Prelude.{◌≡◌, ◌≢◌, ℕ, List, ◌↔◌, IsTrue, MatchOption, Contains, position, bytes_eq};
+ghost use Rattle.std.specs.Prelude.{◌<◌, Some, length};
 ghost use Rattle.std.specs.List.Sorted.{IsNonDecreasing};
 ghost use Rattle.proto_decl.specs.declared.declaration.DeclarationKind.TheVariants.{Enum};
 ghost use Rattle.proto_decl.specs.Laws.{IsEntity};
@@ -8,7 +9,9 @@ ghost use Rattle.proto_visibility.specs.Knows.NameKind.{OfPackage, OfDeclaration
 ghost use Rattle.proto_visibility.specs.Knows.{admits, IsEntityOf};
 ghost use Rattle.proto_visibility.specs.declared.names.DeclaredAt.{DeclaredAt};
 ghost use Rattle.proto_visibility.specs.Tables.GivenNames.{owned_at, IsAloneIn, IsDeclaring, IsListed, AreNamesOf};
+ghost use Rattle.proto_visibility.specs.Tables.GivenNames.{AreOfFiles, AreTwoDeclaring, IsBeside, IsDeclaringBeside};
 
+use crate::files::{LinkFile, is_present};
 use crate::names::{DeclaredAt, Names};
 use crate::rows::SeenRow;
 use proto_decl::{Declaration, DeclarationKind, FileFacts};
@@ -140,6 +143,70 @@ fn is_declared_elsewhere(declared: &[DeclaredAt], row: &SeenRow, role: Role, fil
         }
     }
     false
+}
+
+/// Whether two files of a row that aren't left out have one each of these declarations that is admitted in this role.
+pub(crate) fn are_two_declaring(
+    files: &[LinkFile],
+    declared: &[DeclaredAt],
+    row: &SeenRow,
+    role: Role,
+) -> bool
+    requires { AreOfFiles files.now declared.now }
+    ensures { IsTrue result ↔ AreTwoDeclaring files.now row.now declared.now (admits role) }
+{
+    match declaring_beside(files, declared, row, role, None) {
+        Some(first) => declaring_beside(files, declared, row, role, Some(first)).is_some(),
+        None => false,
+    }
+}
+
+/// A file of a row that isn't left out, of which one of these declarations is admitted in this role; but not this one.
+fn declaring_beside(
+    files: &[LinkFile],
+    declared: &[DeclaredAt],
+    row: &SeenRow,
+    role: Role,
+    beside: Option<usize>,
+) -> Option<usize>
+    requires { AreOfFiles files.now declared.now }
+    ensures { MatchOption result
+        ((number : ℕ) → IsDeclaringBeside files.now row.now declared.now (admits role) beside number → ⊥)
+        (IsDeclaringBeside files.now row.now declared.now (admits role) beside) }
+{
+    for given in declared {
+        if is_beside(files, given, row, role, beside) {
+            return Some(given.file);
+        }
+    }
+    None
+}
+
+/// Whether a declaration is admitted in this role, and is of a file of a row that isn't left out and isn't this one.
+fn is_beside(
+    files: &[LinkFile],
+    one: &DeclaredAt,
+    row: &SeenRow,
+    role: Role,
+    beside: Option<usize>,
+) -> bool
+    requires { one.now.file < length files.now }
+    ensures { IsTrue result ↔ IsBeside files.now row.now (admits role) beside one.now }
+{
+    if !is_other(one.file, beside) || !role.admits(one.kind) {
+        return false;
+    }
+    row.has(one.file) && is_present(files, one.file)
+}
+
+/// Whether a number isn't this one.
+fn is_other(number: usize, beside: Option<usize>) -> bool
+    ensures { IsTrue result ↔ (Some number ≢ beside) }
+{
+    match beside {
+        Some(first) => number != first,
+        None => true,
+    }
 }
 
 /// A file that is among these numbers, which don't fall, and in a row. Each of the fewer is looked for in the other.

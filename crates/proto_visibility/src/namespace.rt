@@ -1,23 +1,27 @@
-//! Files whose names are one namespace.
+//! Files whose names are one namespace, or each file's one of its own.
 
 ghost use Rattle.std.specs.Prelude.{◌≡◌, ℕ, ◌<◌, ◌↔◌, false, IsTrue, IfOk, IfErr, MatchOption, length};
 ghost use Rattle.proto_decl.specs.Facts.{Facts};
 ghost use Rattle.proto_decl.specs.Laws.{IsEntity};
+ghost use Rattle.proto_visibility.specs.declared.clash.Duplicates.TheVariants.{Keep};
 ghost use Rattle.proto_visibility.specs.Knows.NameKind.{OfPackage};
-ghost use Rattle.proto_visibility.specs.Knows.{IsEntityOf, IsOwner, KnowsAs, admits, SeesGiving};
+ghost use Rattle.proto_visibility.specs.Knows.{IsEntityOf, IsGivenTwice, IsOwner, KnowsAs, admits, SeesGiving};
 ghost use Rattle.proto_visibility.specs.Files.{HaveOwnPaths, HaveOrigins, HasFacts, HasPath, HasPathAt};
 ghost use Rattle.proto_visibility.specs.Files.{IsIncludedAt, IsSourceAt};
-ghost use Rattle.proto_visibility.specs.Sees.{Sees};
+ghost use Rattle.std.specs.Prelude.{Contains};
+ghost use Rattle.std.specs.List.Sorted.{IsStrictlyIncreasing};
+ghost use Rattle.proto_visibility.specs.Sees.{IsReachable, Sees};
 ghost use Rattle.proto_visibility.specs.Absences.{AreMissing};
 ghost use Rattle.proto_visibility.specs.Linked.{HaveClearNames, CanBeLinked, MayRefuse};
 
 use crate::absent::{all_absent, is_path_of_one};
 use crate::checked::CheckedFiles;
+use crate::clash::Duplicates;
 use crate::fault::LinkFault;
 use crate::files::{FilePlace, LinkFile, have_origins, unless_left_out};
 use crate::import_table::{numbers_of, paths_of, steps_of};
 use crate::items::all_prefixes;
-use crate::lookup::{Entity, Role, entity_in, giving_in, only_declaring};
+use crate::lookup::{Entity, Role, are_two_declaring, entity_in, giving_in, only_declaring};
 use crate::names::{ListedNames, Names};
 use crate::seeing::{SeenFiles, reachable_files, seen_files};
 use proto_decl::FileFacts;
@@ -26,12 +30,13 @@ use std::collections::HashMap;
 use std::marker::Model;
 
 /// Files in which no full name is declared twice: all sources, and the included files that they see,
-/// are one namespace.
+/// are one namespace; or each of them is one, if several may give one name.
 ///
 /// Contracts see the list of the files.
 #[derive(Drop)]
 pub struct Namespace<'a, 't> {
     files: &'a [LinkFile<'a, 't>],
+    duplicates: Duplicates,
     paths: HashMap<&'a str, usize>,
     seen: SeenFiles,
     names: Names,
@@ -46,8 +51,8 @@ impl<'a, 't> Model for Namespace<'a, 't> {
 
     ghost view = { λ namespace. namespace.files.now };
 
-    ghost invariant = { λ namespace. IsLinked namespace.files.now namespace.paths namespace.seen
-        namespace.names };
+    ghost invariant = { λ namespace. IsLinked namespace.duplicates namespace.files.now namespace.paths
+        namespace.seen namespace.names };
 }
 
 impl<'a, 't> Namespace<'a, 't> {
@@ -56,14 +61,18 @@ impl<'a, 't> Namespace<'a, 't> {
     /// An included file has an effect only where some source sees it. A weak import counts as a
     /// plain one.
     #[tactic(auto, using(crate::proofs::LinkedRefusalRules::refusals))]
-    pub fn new(alloc: Global, files: &'a [LinkFile<'a, 't>]) -> Result<Namespace<'a, 't>, LinkFault>
+    pub fn new(
+        alloc: Global,
+        files: &'a [LinkFile<'a, 't>],
+        duplicates: Duplicates,
+    ) -> Result<Namespace<'a, 't>, LinkFault>
         requires { HaveOwnPaths files.now }
         ensures linked { IfOk result (λ namespace. namespace ≡ files.now) }
-        ensures can_be { IfOk result (λ _. CanBeLinked files.now) }
-        ensures refused { IfErr result (MayRefuse files.now) }
+        ensures can_be { IfOk result (λ _. CanBeLinked duplicates files.now) }
+        ensures refused { IfErr result (MayRefuse duplicates files.now) }
     {
         let prefixes = all_prefixes(alloc, files)?;
-        let checked = CheckedFiles::by_prefixes(alloc, files, prefixes.as_slice())?;
+        let checked = CheckedFiles::by_prefixes(alloc, files, prefixes.as_slice(), duplicates)?;
         let listed = ListedNames::by_prefixes(alloc, files, prefixes.as_slice())?;
         Ok(Namespace::joined(checked, listed))
     }
@@ -74,9 +83,15 @@ impl<'a, 't> Namespace<'a, 't> {
         ensures { result ≡ checked.entry }
     {
         let names = listed.into_names();
-        let CheckedFiles { files, paths, seen } = checked;
+        let CheckedFiles {
+            files,
+            duplicates,
+            paths,
+            seen,
+        } = checked;
         Namespace {
             files,
+            duplicates,
             paths,
             seen,
             names,
@@ -87,9 +102,10 @@ impl<'a, 't> Namespace<'a, 't> {
     pub fn of_kept(
         alloc: Global,
         files: &'a [LinkFile<'a, 't>],
+        duplicates: Duplicates,
     ) -> Result<Namespace<'a, 't>, AllocError>
         requires own { HaveOwnPaths files.now }
-        requires clear { HaveClearNames files.now }
+        requires clear { HaveClearNames duplicates files.now }
         ensures { IfOk result (λ namespace. namespace ≡ files.now) }
     {
         let numbers = numbers_of(alloc, files)?;
@@ -101,6 +117,7 @@ impl<'a, 't> Namespace<'a, 't> {
         let paths = paths_of(alloc, files, numbers)?;
         Ok(Namespace {
             files,
+            duplicates,
             paths,
             seen,
             names,
@@ -123,6 +140,19 @@ impl<'a, 't> Namespace<'a, 't> {
         let table = steps_of(alloc, self.files, &numbers)?;
         let reachable = reachable_files(alloc, self.files, table.as_slice())?;
         all_absent(alloc, self.files, &self.paths, &reachable)
+    }
+
+    /// The numbers of the sources, and of the included files that some source sees, rising. An error means that memory
+    /// was refused.
+    pub fn reachable_files(&self, alloc: Global) -> Result<Vec<usize>, AllocError>
+        ensures reachable { IfOk result (λ numbers. (number : ℕ) → Contains numbers.items number
+            ↔ IsReachable self.now number) }
+        ensures rising { IfOk result (λ numbers. IsStrictlyIncreasing numbers.items) }
+    {
+        let numbers = numbers_of(alloc, self.files)?;
+        let table = steps_of(alloc, self.files, &numbers)?;
+        let reachable = reachable_files(alloc, self.files, table.as_slice())?;
+        Vec::from_slice(alloc, reachable.as_slice())
     }
 
     /// Whether a file sees another: itself, what it imports, and what public imports lead to from
@@ -158,10 +188,29 @@ impl<'a, 't> Namespace<'a, 't> {
         }
     }
 
-    /// The reachable files have facts, no names clash, and the facts of each file are those of some
-    /// text: what the laws ask for. Takes no memory.
+    /// Whether of the files that a file sees two declare a name in a role that packages haven't, and aren't left out.
+    /// Takes no memory.
+    pub fn is_given_twice(&self, file: usize, name: &str, role: Role) -> bool
+        requires file { file < length self.now }
+        requires declared { admits role OfPackage ≡ false }
+        ensures { IsTrue result ↔ IsGivenTwice self.now file (admits role) name.now }
+    {
+        let declared = self.names.declaring(name);
+        are_two_declaring(self.files, declared, &self.seen.row(file), role)
+    }
+
+    /// Whether several files may give one name: as it was said when the namespace was made. Takes no memory.
+    pub fn duplicates(&self) -> Duplicates
+        ensures { HaveClearNames result self.now }
+    {
+        self.duplicates
+    }
+
+    /// No two files have one path, the reachable files have facts, no names clash in any of them, and the facts of each
+    /// file are those of some text: what the laws ask for. Takes no memory.
     pub fn linked(&self)
-        ensures clear { HaveClearNames self.now }
+        ensures own { HaveOwnPaths self.now }
+        ensures clear { HaveClearNames Keep self.now }
         ensures origins { HaveOrigins self.now }
     {
         let _files = self.files;

@@ -20,21 +20,25 @@ ghost use Rattle.std.specs.Prelude.{
   slice_set,
 };
 ghost use Rattle.std.specs.List.{filter};
+ghost use Rattle.proto_visibility.specs.declared.clash.Duplicates.TheVariants.{Refuse, Keep};
 ghost use Rattle.proto_visibility.specs.declared.omissions.FileOmission.TheVariants.{Broken, Duplicate};
 ghost use Rattle.proto_visibility.specs.Files.{File, HaveOwnPaths, IsSource};
 ghost use Rattle.proto_visibility.specs.Kept.{Omissions, IsKeptFile, AreAllKept, AreOmissions, IsCounted};
 ghost use Rattle.proto_visibility.specs.Kept.{IsTakenBefore};
 ghost use Rattle.proto_visibility.specs.Tables.ClashTables.{AreInPlaceBy, clash_with, index_in};
+ghost use Rattle.proto_visibility.specs.Tables.FileItems.{ArePrefixes, AreAllPrefixes, IsItemIn, package_name_of};
 ghost use Rattle.proto_visibility.specs.Tables.ImportTables.{IsTableOf, IsBegunBy, is_other, is_other_at};
 ghost use Rattle.proto_visibility.specs.Tables.Passes.{AreUnreadOmitted, ArePassed, IsKeptSource, IsOpenAt};
+ghost use Rattle.proto_visibility.specs.Tables.Passes.{AreOwnClashesOmitted, IsOwnStep};
 
-use crate::clash::{Item, clash_with};
+use crate::clash::{Duplicates, Item, clash_with};
 use crate::files::{FilePlace, LinkFile};
 use crate::import_table::{Steps, numbers_of, steps_of};
-use crate::items::{all_items, all_prefixes};
+use crate::items::{all_items, all_prefixes, own_clash};
 use crate::rows::FileRow;
 use crate::search::Search;
 use crate::seeing::{begin, follow, source_files};
+use basics::{OwnedText, Sequence};
 use proto_decl::FullName;
 use std::alloc::{AllocError, Global};
 use std::collections::HashMap;
@@ -44,8 +48,8 @@ use std::collections::HashMap;
 pub enum FileOmission {
     /// It has no facts.
     Broken,
-    /// One of its names clashes with another of its own, or with one of a file that was kept before it: the places of
-    /// the two. Among these clashes it is that with the least second place, and then the least first.
+    /// One of its names clashes with another of its own, or, if all files are one namespace, with one of a file that was
+    /// kept before it: the places of the two. Among these clashes it is that with the least second place, and then the least first.
     Duplicate(FilePlace, FilePlace),
 }
 
@@ -54,9 +58,107 @@ pub enum FileOmission {
 ///
 /// Only files that count are left out: sources, and what a source that is kept sees. Sources are taken first, then the
 /// other files, each by number.
-pub fn left_out(alloc: Global, files: &[LinkFile]) -> Result<Vec<Option<FileOmission>>, AllocError>
+pub fn left_out(
+    alloc: Global,
+    files: &[LinkFile],
+    duplicates: Duplicates,
+) -> Result<Vec<Option<FileOmission>>, AllocError>
     requires { HaveOwnPaths files.now }
-    ensures { IfOk result (λ omissions. AreOmissions files.now omissions.items) }
+    ensures { IfOk result (λ omissions. AreOmissions duplicates files.now omissions.items) }
+{
+    match duplicates {
+        Duplicates::Refuse => left_out_of_all(alloc, files),
+        Duplicates::Keep => left_out_by_file(alloc, files),
+    }
+}
+
+/// The same where each file is a namespace of its own.
+fn left_out_by_file(
+    alloc: Global,
+    files: &[LinkFile],
+) -> Result<Vec<Option<FileOmission>>, AllocError>
+    requires { HaveOwnPaths files.now }
+    ensures { IfOk result (λ omissions. AreOmissions Keep files.now omissions.items) }
+{
+    let numbers = numbers_of(alloc, files)?;
+    let table = steps_of(alloc, files, &numbers)?;
+    let prefixes = all_prefixes(alloc, files)?;
+    let sources = source_files(alloc, files)?;
+    let mut omissions = none_left_out(alloc, files.len())?;
+    omit_unread(&mut omissions, files, &sources);
+    omit_own_clashes(alloc, &mut omissions, files, prefixes.as_slice(), &sources)?;
+    let others = seen_by_kept(alloc, files, table.as_slice(), omissions.as_slice())?;
+    omit_unread(&mut omissions, files, &others);
+    omit_own_clashes(alloc, &mut omissions, files, prefixes.as_slice(), &others)?;
+    Ok(omissions)
+}
+
+/// Leaves out those files of a row of which two items clash.
+fn omit_own_clashes(
+    alloc: Global,
+    omissions: &mut Vec<Option<FileOmission>>,
+    files: &[LinkFile],
+    prefixes: &[Sequence<OwnedText>],
+    row: &FileRow,
+) -> Result<(), AllocError>
+    requires one_each { length omissions.old.items ≡ length files.now }
+    requires prefixes { AreAllPrefixes files.now prefixes.now }
+    requires within { (number : ℕ) → Contains row.now number → number < length files.now }
+    ensures { OnOk result (AreOwnClashesOmitted files.now row.now omissions.old.items omissions.new.items) }
+{
+    for number in row.as_slice() {
+        let file = &files[*number];
+        omit_if_own_clash(
+            alloc,
+            omissions,
+            *number,
+            file,
+            prefixes[*number].as_slice(),
+        )?;
+    }
+    Ok(())
+}
+
+/// Leaves out the file with this number if two of its items clash.
+fn omit_if_own_clash(
+    alloc: Global,
+    omissions: &mut Vec<Option<FileOmission>>,
+    number: usize,
+    file: &LinkFile,
+    prefixes: &[OwnedText],
+) -> Result<(), AllocError>
+    requires within { number < length omissions.old.items }
+    requires prefixes { ArePrefixes (package_name_of file.now) prefixes.now }
+    ensures { OnOk result (IsOwnStep (IsItemIn number file.now) number omissions.old.items omissions.new.items) }
+{
+    let clash = own_clash(alloc, number, file, prefixes)?;
+    omit_for(omissions, number, clash);
+    Ok(())
+}
+
+/// Leaves out the file with this number for a clash, if there is one.
+fn omit_for(
+    omissions: &mut Vec<Option<FileOmission>>,
+    number: usize,
+    clash: Option<(FilePlace, FilePlace)>,
+)
+    requires { number < length omissions.old.items }
+    ensures { MatchOption clash (omissions.new.items ≡ omissions.old.items)
+        (λ places. omissions.new.items
+        ≡ slice_set omissions.old.items number (Some (Duplicate places.0 places.1))) }
+{
+    if let Some((first, second)) = clash {
+        omissions[number] = Some(FileOmission::Duplicate(first, second));
+    }
+}
+
+/// The same where all files are one namespace.
+fn left_out_of_all(
+    alloc: Global,
+    files: &[LinkFile],
+) -> Result<Vec<Option<FileOmission>>, AllocError>
+    requires { HaveOwnPaths files.now }
+    ensures { IfOk result (λ omissions. AreOmissions Refuse files.now omissions.items) }
 {
     let numbers = numbers_of(alloc, files)?;
     let table = steps_of(alloc, files, &numbers)?;

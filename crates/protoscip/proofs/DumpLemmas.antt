@@ -17,8 +17,9 @@ use Rattle.source_tree.specs.Reading.{kept_bytes, max_kept_length}
 use Rattle.scip_build.specs.Builds.{IsBuilt, IsBuildFault}
 use Rattle.streams.specs.Readers.{Reader}
 use Rattle.streams.specs.Writers.{SinkOf, Writer, writing}
+use Rattle.proto_visibility.specs.declared.clash.Duplicates.TheVariants as names
 use Rattle.proto_visibility.specs.Linked.{CanBeLinked}
-use Rattle.scip_build.specs.Documents.{IsLeastUnresolved}
+use Rattle.scip_build.specs.Documents.{IsAmbiguousAt, IsLeastUnresolved}
 use Rattle.scip_build.specs.Files.{FileContents, ReadFile}
 use Rattle.scip_build.specs.Linking.{linked_files, MayRefuseParsed}
 use Rattle.scip_build.specs.Parsed.{IsUnparsed, IsUnreadable}
@@ -45,7 +46,7 @@ use Rattle.protoscip.specs.declared.fault.Fault.TheVariants as fault
 use Rattle.protoscip.proofs.HeadlineFileLemmas.{files_of_build}
 
 refused_of_build : (allows : Seen → Choice → Type 0) (settings : Settings) (tree : List TreeFile) (workers : ℕ)
-    (e : BuildFault) → IsBuildFault allows settings.faulty settings.dialect settings.comments tree workers e
+    (e : BuildFault) → IsBuildFault allows settings tree workers e
     → IsRefused allows settings tree workers (fault_of_build e)
 refused_of_build allows settings tree workers build.Spawn is = is
 refused_of_build allows settings tree workers build.Memory is = is
@@ -54,12 +55,13 @@ refused_of_build allows settings tree workers (build.File number (file.Syntax e)
 refused_of_build allows settings tree workers (build.Duplicate first second) is = is
 refused_of_build allows settings tree workers (build.MissingImport place) is = is
 refused_of_build allows settings tree workers (build.Unresolved place) is = is
+refused_of_build allows settings tree workers (build.Ambiguous place) is = is
 
 module _ (dialect : Dialect) (bytes : List ℕ) (settings : Settings) (tree : List TreeFile)
     (set : settings ≡ dump_settings dialect) (alone : tree ≡ dump_tree bytes) where
   -- why its tree isn't built is why a source has no listing
   pub refusal_of_build : (workers : ℕ) (e : BuildFault) → workers ≡ 1
-      → IsBuildFault default_choices settings.faulty settings.dialect settings.comments tree workers e
+      → IsBuildFault default_choices settings tree workers e
       → IsRefusal dialect bytes (fault_of_build e)
   refusal_of_build workers e one is =
       let of : IsRefused default_choices settings tree workers (fault_of_build e) =
@@ -159,11 +161,11 @@ module _ (dialect : Dialect) (bytes : List ℕ) where
       × P (dump_tree b) parsed) bytes (short_source dialect (kept_bytes bytes) of.0 of.1) of
 
   fault_of_all : (number : ℕ) (e : FileFault)
-      → IsBuildFault default_choices Refuse dialect Raw (dump_tree (kept_bytes bytes)) 1 (build.File number e)
-      → IsBuildFault default_choices Refuse dialect Raw (dump_tree bytes) 1 (build.File number e)
+      → IsBuildFault default_choices (dump_settings dialect) (dump_tree (kept_bytes bytes)) 1 (build.File number e)
+      → IsBuildFault default_choices (dump_settings dialect) (dump_tree bytes) 1 (build.File number e)
   fault_of_all number e (refuse, inl first) = (refuse, inl (faulty_of_all number e first))
   fault_of_all number e (refuse, inr of) =
-      (refuse, inr (of_parsed (λ _ parsed. MayRefuseParsed parsed (build.File number e)) of))
+      (refuse, inr (of_parsed (λ _ parsed. MayRefuseParsed names.Refuse parsed (build.File number e)) of))
 
   -- what holds of the bytes that are kept holds of all
   pub refusal_of_all : (e : Fault) → IsRefusal dialect (kept_bytes bytes) e → IsRefusal dialect bytes e
@@ -172,13 +174,20 @@ module _ (dialect : Dialect) (bytes : List ℕ) where
   refusal_of_all (fault.Lex number e) is = fault_of_all number (file.Lex e) is
   refusal_of_all (fault.Syntax number e) is = fault_of_all number (file.Syntax e) is
   refusal_of_all (fault.Duplicate first second) is =
-      (is.0, of_parsed (λ _ parsed. MayRefuseParsed parsed (build.Duplicate first second)) is.1)
+      (is.0, of_parsed (λ _ parsed. MayRefuseParsed names.Refuse parsed (build.Duplicate first second)) is.1)
   refusal_of_all (fault.MissingImport place) is =
-      (is.0, of_parsed (λ _ parsed. MayRefuseParsed parsed (build.MissingImport place)) is.1)
+      (is.0, of_parsed (λ _ parsed. MayRefuseParsed names.Refuse parsed (build.MissingImport place)) is.1)
   refusal_of_all (fault.Unresolved place) is = (
     is.0,
     of_parsed
-        (λ _ parsed. CanBeLinked (linked_files parsed) × IsLeastUnresolved (linked_files parsed) place) is.1,
+        (λ _ parsed. CanBeLinked names.Refuse (linked_files parsed) × IsLeastUnresolved (linked_files parsed) place
+        × (IsAmbiguousAt (linked_files parsed) place → ⊥)) is.1,
+  )
+  refusal_of_all (fault.Ambiguous place) is = (
+    is.0,
+    of_parsed
+        (λ _ parsed. CanBeLinked names.Refuse (linked_files parsed) × IsLeastUnresolved (linked_files parsed) place
+        × IsAmbiguousAt (linked_files parsed) place) is.1,
   )
   refusal_of_all fault.TooLarge is =
       whole (λ b. IsRefusal dialect b fault.TooLarge) bytes
@@ -203,6 +212,7 @@ module _ (dialect : Dialect) (bytes : List ℕ) where
   refused_dumps due (fault.Duplicate first second) is = is
   refused_dumps due (fault.MissingImport place) is = is
   refused_dumps due (fault.Unresolved place) is = is
+  refused_dumps due (fault.Ambiguous place) is = is
   refused_dumps due fault.TooLarge is = is
   refused_dumps due (fault.Write count) is = absurd is
   refused_dumps due fault.Read is = absurd is
@@ -218,6 +228,7 @@ module _ (dialect : Dialect) (bytes : List ℕ) where
   refused_writer sink out due (fault.Duplicate first second) is = refl
   refused_writer sink out due (fault.MissingImport place) is = refl
   refused_writer sink out due (fault.Unresolved place) is = refl
+  refused_writer sink out due (fault.Ambiguous place) is = refl
   refused_writer sink out due fault.TooLarge is = refl
   refused_writer sink out due (fault.Write count) is = absurd is
   refused_writer sink out due fault.Read is = refl
@@ -228,15 +239,17 @@ module _ (dialect : Dialect) (bytes : List ℕ) where
   dump_files fault.Spawn is = tt
   dump_files fault.Memory is = tt
   dump_files (fault.Lex number e) is =
-      files_of_build default_choices Refuse dialect Raw (dump_tree bytes) 1 (build.File number (file.Lex e)) is
+      files_of_build default_choices (dump_settings dialect) (dump_tree bytes) 1 (build.File number (file.Lex e)) is
   dump_files (fault.Syntax number e) is =
-      files_of_build default_choices Refuse dialect Raw (dump_tree bytes) 1 (build.File number (file.Syntax e)) is
+      files_of_build default_choices (dump_settings dialect) (dump_tree bytes) 1 (build.File number (file.Syntax e)) is
   dump_files (fault.Duplicate first second) is =
-      files_of_build default_choices Refuse dialect Raw (dump_tree bytes) 1 (build.Duplicate first second) is
+      files_of_build default_choices (dump_settings dialect) (dump_tree bytes) 1 (build.Duplicate first second) is
   dump_files (fault.MissingImport place) is =
-      files_of_build default_choices Refuse dialect Raw (dump_tree bytes) 1 (build.MissingImport place) is
+      files_of_build default_choices (dump_settings dialect) (dump_tree bytes) 1 (build.MissingImport place) is
   dump_files (fault.Unresolved place) is =
-      files_of_build default_choices Refuse dialect Raw (dump_tree bytes) 1 (build.Unresolved place) is
+      files_of_build default_choices (dump_settings dialect) (dump_tree bytes) 1 (build.Unresolved place) is
+  dump_files (fault.Ambiguous place) is =
+      files_of_build default_choices (dump_settings dialect) (dump_tree bytes) 1 (build.Ambiguous place) is
   dump_files fault.TooLarge is = tt
   dump_files (fault.Write count) is = tt
   dump_files fault.Read is = tt
@@ -280,6 +293,7 @@ any_dump_files (fault.Syntax number e) bytes others has = has
 any_dump_files (fault.Duplicate first second) bytes others has = has
 any_dump_files (fault.MissingImport place) bytes others has = has
 any_dump_files (fault.Unresolved place) bytes others has = has
+any_dump_files (fault.Ambiguous place) bytes others has = has
 any_dump_files fault.TooLarge bytes others has = has
 any_dump_files (fault.Write count) bytes others has = has
 any_dump_files fault.Read bytes others has = has
@@ -295,6 +309,7 @@ module _ {R : Type 0} (source : Reader R) (tree : List TreeFile) where
   tree_of_fault (fault.Duplicate first second) is = is
   tree_of_fault (fault.MissingImport place) is = is
   tree_of_fault (fault.Unresolved place) is = is
+  tree_of_fault (fault.Ambiguous place) is = is
   tree_of_fault fault.TooLarge is = is
   tree_of_fault (fault.Write count) is = is
   tree_of_fault fault.Read is = tt

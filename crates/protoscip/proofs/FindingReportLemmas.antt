@@ -1,12 +1,12 @@
 -- The findings of a report: the files that they name, and that each comes once.
-use Rattle.std.proofs.Common.{◌≡◌, ◌≢◌, ◌∙◌, ℕ, ◌<◌, ◌+◌, Bool, true, false, List, [], ◌∷◌, ◌++◌, length}
+use Rattle.std.proofs.Common.{◌≡◌, ◌≢◌, ◌∙◌, ℕ, ◌<◌, ◌+◌, true, false, List, [], ◌∷◌, ◌++◌, length}
 use Rattle.std.proofs.Common.{get_or, take, Option, Some, None, ap, sym, refl, subst, arith}
 use Rattle.std.specs.Prelude.{⊤, not, cond, nat_eq, Contains, codes, unwrap_or}
 use Rattle.std.specs.List.{All, filter, slice_get}
 use Rattle.std.specs.Option.{option_map}
 use Rattle.std.specs.Str.{bytes_eq}
 use Rattle.std.specs.declared.cmp.Ordering.TheVariants.{Less}
-use Rattle.std.specs.Cmp.{IsTotalOrder, bool_cmp_total}
+use Rattle.std.specs.Cmp.{IsTotalOrder}
 use Rattle.std.specs.List.Sorted.{IsStrictlySortedBy}
 use Rattle.std.proofs.lemmas.Cmp.{on_total, then_total, nat_cmp_total}
 use Rattle.std.proofs.lemmas.List.{get_or-map, length-map}
@@ -21,10 +21,7 @@ use Rattle.index_hooks.specs.declared.choice.Choice.{Choice}
 use Rattle.source_tree.specs.Files.{TreeFile}
 use Rattle.source_tree.specs.Trees.{HaveOwnPaths}
 use Rattle.scip_model.proofs.IndexSortLemmas.{not-below}
-use Rattle.scip_build.specs.Builds.{IsBuilt}
 use Rattle.scip_build.specs.Kept.{Key, key_cmp, told_cmp, told_key}
-use Rattle.scip_build.specs.declared.settings.Settings.{Settings}
-use Rattle.scip_build.specs.declared.built.Built.{Built}
 use Rattle.scip_build.specs.declared.omission.Omission.{Omission}
 use Rattle.scip_build.specs.declared.omission.Omission.TheVariants as omitted
 use Rattle.scip_build.specs.declared.fault.FileFault.TheVariants as file
@@ -70,7 +67,7 @@ one_fault_more own all now next at d within so is =
 key_total : IsTotalOrder key_cmp
 key_total = then_total
     (then_total (on_total (λ (x : Key). x.0.0) nat_cmp_total) (on_total (λ (x : Key). x.0.1) nat_cmp_total))
-    (then_total (on_total (λ (x : Key). x.1.0) nat_cmp_total) (on_total (λ (x : Key). x.1.1) bool_cmp_total))
+    (then_total (on_total (λ (x : Key). x.1.0) nat_cmp_total) (on_total (λ (x : Key). x.1.1) nat_cmp_total))
 
 -- an element of no list
 abbrev nothing : Omission
@@ -87,12 +84,13 @@ keys_differ told rising i j d before within same =
 
 -- it is seen from the fault of a run
 abbrev fault_key : Fault → Key
-fault_key (fault.Lex number e) = ((number, 0), (0, false))
-fault_key (fault.Syntax number e) = ((number, 0), (0, false))
-fault_key (fault.Duplicate first second) = ((second.file, 0), (0, false))
-fault_key (fault.MissingImport place) = ((place.file, place.span.start), (place.span.end, false))
-fault_key (fault.Unresolved place) = ((place.file, place.span.start), (place.span.end, true))
-fault_key other = ((0, 0), (0, false))
+fault_key (fault.Lex number e) = ((number, 0), (0, 0))
+fault_key (fault.Syntax number e) = ((number, 0), (0, 0))
+fault_key (fault.Duplicate first second) = ((second.file, 0), (0, 0))
+fault_key (fault.MissingImport place) = ((place.file, place.span.start), (place.span.end, 0))
+fault_key (fault.Unresolved place) = ((place.file, place.span.start), (place.span.end, 1))
+fault_key (fault.Ambiguous place) = ((place.file, place.span.start), (place.span.end, 2))
+fault_key other = ((0, 0), (0, 0))
 
 key_of_fault : (told : Omission) → fault_key (fault_of_omission told) ≡ told_key told
 key_of_fault (omitted.File number (file.Lex e)) = refl
@@ -100,6 +98,7 @@ key_of_fault (omitted.File number (file.Syntax e)) = refl
 key_of_fault (omitted.Duplicate first second) = refl
 key_of_fault (omitted.MissingImport place) = refl
 key_of_fault (omitted.Unresolved place) = refl
+key_of_fault (omitted.Ambiguous place) = refl
 
 faults_apart : (told : List Omission) → IsStrictlySortedBy told_cmp told → AreApart (faults_of told)
 faults_apart told rising i j d before within same =
@@ -122,6 +121,7 @@ IsOfFile (fault.Syntax number e) = ⊤
 IsOfFile (fault.Duplicate first second) = ⊤
 IsOfFile (fault.MissingImport place) = ⊤
 IsOfFile (fault.Unresolved place) = ⊤
+IsOfFile (fault.Ambiguous place) = ⊤
 IsOfFile fault.TooLarge = ⊥
 IsOfFile (fault.Write count) = ⊥
 IsOfFile fault.Read = ⊥
@@ -134,6 +134,7 @@ told_of_file (omitted.File number (file.Syntax e)) = tt
 told_of_file (omitted.Duplicate first second) = tt
 told_of_file (omitted.MissingImport place) = tt
 told_of_file (omitted.Unresolved place) = tt
+told_of_file (omitted.Ambiguous place) = tt
 
 file_of : (tree : List TreeFile) (told : Omission) → HasFilesOf tree (fault_of_omission told)
     → HasFile tree (told_key told).0.0
@@ -142,10 +143,11 @@ file_of tree (omitted.File number (file.Syntax e)) have = have
 file_of tree (omitted.Duplicate first second) have = have.1
 file_of tree (omitted.MissingImport place) have = have
 file_of tree (omitted.Unresolved place) have = have
+file_of tree (omitted.Ambiguous place) have = have
 
 -- where it is told, by the path of the file; it is seen from its finding
 abbrev PathKey : Type 0
-PathKey = (List ℕ × ℕ) × (ℕ × Bool)
+PathKey = (List ℕ × ℕ) × (ℕ × ℕ)
 
 abbrev path_key : List TreeFile → Key → PathKey
 path_key tree key = ((path_of tree key.0.0, key.0.1), key.1)
@@ -153,13 +155,17 @@ path_key tree key = ((path_of tree key.0.0, key.0.1), key.1)
 abbrev no_place : FoundPlace
 no_place = record { path = []; text = []; offset = None; end = None }
 
-abbrev key_at : FindingKind → (is_use : Bool) → FoundPlace → PathKey
-key_at kind.Unresolved is_use place = ((place.path, unwrap_or place.offset 0), (unwrap_or place.end 0, is_use))
-key_at kind.Skipped is_use place = ((place.path, 0), (0, false))
-key_at kind.Fault is_use place = ((place.path, 0), (0, false))
+abbrev key_at : FindingKind → (what : ℕ) → FoundPlace → PathKey
+key_at kind.Unresolved what place = ((place.path, unwrap_or place.offset 0), (unwrap_or place.end 0, what))
+key_at kind.Skipped what place = ((place.path, 0), (0, 0))
+key_at kind.Fault what place = ((place.path, 0), (0, 0))
+
+-- what is told, by the fault's name
+abbrev what_by : List ℕ → ℕ
+what_by name = cond (bytes_eq name (codes "Unresolved")) 1 (cond (bytes_eq name (codes "Ambiguous")) 2 0)
 
 abbrev found_key : Found → PathKey
-found_key found = key_at found.kind (bytes_eq found.name (codes "Unresolved")) (unwrap_or found.place no_place)
+found_key found = key_at found.kind (what_by found.name) (unwrap_or found.place no_place)
 
 key_found : (tree : List TreeFile) (told : Omission)
     → found_key (told_finding tree told) ≡ path_key tree (told_key told)
@@ -168,6 +174,7 @@ key_found tree (omitted.File number (file.Syntax e)) = refl
 key_found tree (omitted.Duplicate first second) = refl
 key_found tree (omitted.MissingImport place) = refl
 key_found tree (omitted.Unresolved place) = refl
+key_found tree (omitted.Ambiguous place) = refl
 
 module _ (tree : List TreeFile) (own : HaveOwnPaths tree) where
   -- a path is that of one file
@@ -224,6 +231,7 @@ same_fault (fault.Syntax number e) of = same_number number
 same_fault (fault.Duplicate first second) of = same_number second.file
 same_fault (fault.MissingImport place) of = same_place place
 same_fault (fault.Unresolved place) of = same_place place
+same_fault (fault.Ambiguous place) of = same_place place
 same_fault fault.TooLarge of = absurd of
 same_fault (fault.Write count) of = absurd of
 same_fault fault.Read of = absurd of

@@ -1,24 +1,23 @@
 -- The entities of linked files: what occurs names one, and a symbol's text is that of one.
-use Rattle.std.proofs.Common.{◌≡◌, ◌∙◌, ◌⊎◌, inl, inr, ℕ, zero, ◌+◌, ◌<◌, Some, List, [], ◌∷◌, ◌++◌, map, take, sym, ap}
+use Rattle.std.proofs.Common.{◌≡◌, ◌∙◌, ◌⊎◌, inl, inr, ℕ, zero, ◌+◌, ◌<◌, Some, List, [], ◌∷◌, ◌++◌, take, sym, ap}
 use Rattle.std.proofs.Common.{refl, subst, arith, ⊎_elim}
 use Rattle.std.specs.Prelude.{Contains}
 use Rattle.std.specs.List.{slice_get}
 use Rattle.std.specs.Str.{bytes_eq}
 use Rattle.std.proofs.lemmas.Bool.{cases_Bool, false≢true}
 use Rattle.std.proofs.lemmas.Option.{slice_get_within}
-use Rattle.std.proofs.lemmas.List.Elements.{All-nil, All-contains, Contains-append_cases}
+use Rattle.std.proofs.lemmas.List.Elements.{Contains-append_cases}
 use Rattle.std.proofs.lemmas.Slice.Eq.{bytes_eq-Decides}
-use Rattle.basics.proofs.ListLemmas.{in_front, behind_it, only, in_nothing}
+use Rattle.basics.proofs.ListLemmas.{behind_it, only, in_nothing}
 use Rattle.proto_lex.specs.declared.position.Encoding.{Encoding}
-use Rattle.proto_decl.specs.Names.{dotted, components_of, prefix_of}
+use Rattle.proto_decl.specs.Names.{components_of, prefix_of}
 use Rattle.proto_decl.specs.Facts.{Facts}
-use Rattle.proto_decl.specs.Laws.{names_of, component_names, AreHeld}
+use Rattle.proto_decl.specs.Laws.{component_names}
 use Rattle.proto_decl.specs.declared.imports.Imported.{Imported}
 use Rattle.proto_decl.specs.declared.declaration.Declaration.{Declaration}
 use Rattle.proto_decl.specs.declared.uses.Component.{Component}
 use Rattle.proto_visibility.specs.declared.lookup.Entity.{Entity as Part}
 use Rattle.proto_visibility.specs.declared.lookup.Entity.TheVariants as link
-use Rattle.proto_visibility.specs.Clashes.{NoClash}
 use Rattle.proto_visibility.specs.Files.{File, HasFacts, HaveOrigins, HasPath, IsPresent, IsSource}
 use Rattle.proto_visibility.specs.Sees.{IsReachable}
 use Rattle.proto_visibility.specs.Sees.LeadsTo.{at_once}
@@ -30,14 +29,13 @@ use Rattle.proto_visibility.specs.Knows.IsEntityOf.{packaged as named_package, d
 use Rattle.scip_symbol.specs.Package.{Package, IsPackage}
 use Rattle.scip_model.specs.Packages.{Packages, ArePackages, package_of_path, package_of_file, package_of_part}
 use Rattle.scip_symbol.specs.Entities.{Entity, OfFile, OfPackage, OfDeclaration, IsEntity}
-use Rattle.scip_symbol.specs.OneEntity.{declarations_of, AreWithoutClash, IsAmong}
-use Rattle.scip_symbol.proofs.OneEntityClashLemmas.{put}
+use Rattle.scip_symbol.specs.OneEntity.{IsWithoutClash, IsAmong}
 use Rattle.scip_model.specs.Chosen.{Chosen}
 use Rattle.scip_model.specs.Conditions.{HaveGoodPaths}
-use Rattle.scip_model.specs.Named.{HasDeclaration, NamesIn, text_of, package_at, declaration_at}
+use Rattle.scip_model.specs.Named.{HasDeclaration, NamesIn, text_of, package_at, declaration_in, home_of_file}
 use Rattle.scip_model.specs.Occurs.{Occurs}
 use Rattle.scip_model.specs.Occurs as rule
-use Rattle.scip_model.proofs.NamedApartLemmas.{AreIdentifiers, AreCounted, one-text}
+use Rattle.scip_model.proofs.NamedApartLemmas.{AreApart, AreCounted, both, in-first, in-second, one-text, one-declared}
 use Rattle.scip_model.proofs.NamedEntityLemmas.{package-is, declaration-is}
 use Rattle.scip_model.proofs.ConditionLinkedLemmas.{source-counts}
 use Rattle.scip_model.proofs.PackageLemmas.{by_path, file_good}
@@ -45,10 +43,6 @@ use Rattle.scip_records.specs.declared.records.Occurrence.{Occurrence}
 use Rattle.protoscip.specs.NameLaws.{LawsOfNames}
 use Rattle.protoscip.specs.Headline.{IsEntityOf, of_file, of_package, of_declaration, entity_of, package_of_entity}
 use Rattle.protoscip.proofs.HeadlineDottedLemmas.{same_front}
-
--- what they say of identifiers
-spelled : LawsOfNames → AreIdentifiers
-spelled laws = record { named = laws.named; paths = laws.paths; held = laws.held }
 
 -- ---- texts in a list
 
@@ -67,11 +61,11 @@ has_text (first ∷ texts) text = elim (cases_Bool (bytes_eq first text)) [
 
 -- ---- what occurs
 
-module _ (files : List File) (origins : HaveOrigins files) (laws : LawsOfNames) where
+module _ (files : List File) (ids : Packages) (origins : HaveOrigins files) (laws : LawsOfNames) where
   -- the file that an import of a source names
   imported_is : (source : ℕ) → IsSource files source → (facts : Facts) (imported : Imported)
       → HasFacts files source facts → Contains facts.imports imported → HasPath files imported.path
-      → IsEntityOf files (OfFile imported.path)
+      → IsEntityOf files ids (OfFile imported.path)
   imported_is source is facts imported has listed there = named there
     where
       counts : (number : ℕ) (file : File) → slice_get files number ≡ Some file → file.path ≡ imported.path
@@ -88,20 +82,20 @@ module _ (files : List File) (origins : HaveOrigins files) (laws : LawsOfNames) 
             path = path;
           }) at_once) present
 
-      named : HasPath files imported.path → IsEntityOf files (OfFile imported.path)
+      named : HasPath files imported.path → IsEntityOf files ids (OfFile imported.path)
       named there =
           let at = there.1 in
-          let Is : List ℕ → Type 0 = λ path. IsEntityOf files (OfFile path) in
+          let Is : List ℕ → Type 0 = λ path. IsEntityOf files ids (OfFile path) in
           subst Is at.2 (of_file (counts there.0 at.0 at.1 at.2 there.2) at.1)
 
   -- a package of the file that declares what a use names
   named_package_is : {owner : ℕ} {facts : Facts} → IsReachable files owner → HasFacts files owner facts
       → (whole : List ℕ) (number : ℕ) (part : Part) → 0 < number
       → IsNamed owner facts (prefix_of whole number) number part → (count : ℕ) → part ≡ link.Package count
-      → IsEntityOf files (OfPackage (take count (components_of whole)))
+      → IsEntityOf files ids (OfPackage (take count (components_of whole)))
   named_package_is {owner} {facts} counts has whole number _ one (named_package prefix) count same =
-      let Of : List (List ℕ) → Type 0 = λ parts. IsEntityOf files (OfPackage parts) in
-      let Is : ℕ → Type 0 = λ n. IsEntityOf files (OfPackage (take n (components_of whole))) in
+      let Of : List (List ℕ) → Type 0 = λ parts. IsEntityOf files ids (OfPackage parts) in
+      let Is : ℕ → Type 0 = λ n. IsEntityOf files ids (OfPackage (take n (components_of whole))) in
       let few = prefix.1 in
       let within = prefix.2 in
       let front = same_front whole number prefix.0 facts.package_name one few (omega (arith, few, within))
@@ -123,26 +117,26 @@ module _ (files : List File) (origins : HaveOrigins files) (laws : LawsOfNames) 
       file_of a b c d e = cc
 
   component_is : (source : ℕ) → IsSource files source → (component : Component) (part : Part) (entity : Entity)
-      → NamesIn files source component part entity → IsEntityOf files entity
+      → NamesIn files ids source component part entity → IsEntityOf files ids entity
   component_is source is component (link.Package count) entity names =
       let target = names.is_target in
       let owned = target.names.owned in
       let named = target.named names.index (link.Package count) names.part_is in
-      subst (IsEntityOf files) (sym names.entity_is)
+      subst (IsEntityOf files ids) (sym names.entity_is)
       (named_package_is (seen is owned.gives.sees owned.present) target.known names.target.name _ (link.Package count)
       (omega arith) named count refl)
   component_is source is component (link.Declared file index) entity names =
       let target = names.is_target in
       let owned = target.names.owned in
       let named = target.named names.index (link.Declared file index) names.part_is in
-      let counts = named_file_counts (link.Declared file index) (seen is owned.gives.sees owned.present) named file index
-      refl in
-      subst (IsEntityOf files) (sym names.entity_is.is) (of_declaration counts names.entity_is.has)
+      let counts = named_file_counts (link.Declared file index) (seen is owned.gives.sees owned.present) named file
+      index refl in
+      subst (IsEntityOf files ids) (sym names.entity_is.is) (of_declaration counts names.entity_is.has)
 
-  module _ (chosen : Chosen) (ids : Packages) (encoding : Encoding) (source : ℕ) (text : List ℕ) where
+  module _ (chosen : Chosen) (encoding : Encoding) (source : ℕ) (text : List ℕ) where
     -- what an occurrence of a source names is an entity of the files
     pub entity_is : IsSource files source → (o : Occurrence) (occurs : Occurs files chosen ids encoding source text o)
-        → IsEntityOf files (entity_of occurs)
+        → IsEntityOf files ids (entity_of occurs)
     entity_is is _ (rule.of_file numbered) = of_file (source-counts files source is) numbered
     entity_is is _ (rule.of_import {facts = facts} {imported = imported} has listed there) =
         imported_is source is facts imported has listed there
@@ -155,15 +149,15 @@ module _ (files : List File) (origins : HaveOrigins files) (laws : LawsOfNames) 
 
 -- ---- entities and symbols
 
-module _ (files : List File) (origins : HaveOrigins files) (good : HaveGoodPaths files) (clear : NoClash files)
-    (laws : LawsOfNames) where
-  is_entity : (entity : Entity) → IsEntityOf files entity → IsEntity entity
+module _ (files : List File) (ids : Packages) (apart : AreApart files ids) (good : HaveGoodPaths files)
+    (are : ArePackages ids) (laws : LawsOfNames) where
+  is_entity : (entity : Entity) → IsEntityOf files ids entity → IsEntity entity
   is_entity _ (of_file {number = number} {file = file} counts at) = good number file at
   is_entity _ (of_package {number = number} {count = count} {facts = facts} counts has some few) =
-      package-is facts count (laws.named facts (origins number facts has)) some few
+      package-is facts count (laws.named facts (apart.origins number facts has)) some few
   is_entity _ (of_declaration {number = number} {index = index} {facts = facts} {declared = declared} counts has) =
-      let origin = origins number facts has.has_facts in
-      declaration-is facts declared (laws.named facts origin) (laws.paths facts origin)
+      let origin = apart.origins number facts has.has_facts in
+      declaration-is (home_of_file files ids number) facts declared (laws.named facts origin) (laws.paths facts origin)
       (contained facts.declarations index declared has.numbered)
 
   -- a declaration is one of the facts of a file that counts
@@ -173,13 +167,13 @@ module _ (files : List File) (origins : HaveOrigins files) (good : HaveGoodPaths
     counted : AreCounted files number facts
     declared : Declaration
     listed : Contains facts.declarations declared
-    is : declaration_at facts declared ≡ entity
+    is : declaration_in (home_of_file files ids number) facts declared ≡ entity
 
   -- no declaration, so that any declarations will do
   IsElse : Entity → Type 0
   IsElse entity = (declarations : List Entity) → IsAmong declarations entity
 
-  kind_of : (entity : Entity) → IsEntityOf files entity → IsDeclared entity ⊎ IsElse entity
+  kind_of : (entity : Entity) → IsEntityOf files ids entity → IsDeclared entity ⊎ IsElse entity
   unfolding IsElse
   kind_of _ (of_file counts at) = inr (λ declarations. tt)
   kind_of _ (of_package counts has some few) = inr (λ declarations. tt)
@@ -193,183 +187,169 @@ module _ (files : List File) (origins : HaveOrigins files) (good : HaveGoodPaths
         is = refl;
       })
 
-  among : (entity : Entity) (is : IsDeclared entity) (all : List Facts) → Contains all is.facts
-      → IsAmong (declarations_of all) entity
-  among entity is all there = subst (IsAmong (declarations_of all)) is.is (put all is.facts is.declared there is.listed)
+  -- the declarations of two files that count
+  abbrev both_of : {a b : Entity} → IsDeclared a → IsDeclared b → List Entity
+  both_of a b = both files ids apart a.number b.number a.facts b.facts a.counted b.counted
 
-  no_facts : AreWithoutClash []
-  no_facts = record {
-    held = All-nil (λ (x : Facts). AreHeld x.package_name x.declarations);
-    one_name = λ facts others d e there also listed its same. absurd (in_nothing facts there);
+  first_in : {a b : Entity} (x : IsDeclared a) (y : IsDeclared b) → IsAmong (both_of x y) a
+  first_in x y = subst (IsAmong (both_of x y)) x.is
+      (in-first files ids apart x.number y.number x.facts y.facts x.counted y.counted x.declared x.listed)
+
+  second_in : {a b : Entity} (x : IsDeclared a) (y : IsDeclared b) → IsAmong (both_of x y) b
+  second_in x y = subst (IsAmong (both_of x y)) y.is
+      (in-second files ids apart x.number y.number x.facts y.facts x.counted y.counted y.declared y.listed)
+
+  no_clash : IsWithoutClash []
+  no_clash = record {
+    holder = λ components outer inner some there. absurd (in_nothing (OfDeclaration components (outer ++ inner)) there);
+    one_name = λ components outer step other there also same.
+        absurd (in_nothing (OfDeclaration components (outer ++ step ∷ [])) there);
   }
 
   module _ (id its_id : Package) (is_package : IsPackage id) (is_fine : IsPackage its_id) where
     -- two entities, each of facts that count, or of none
-    one_of : (m n : ℕ) (f g : Facts) → AreCounted files m f → AreCounted files n g → (entity other : Entity)
-        → IsEntity entity → IsEntity other
-        → IsAmong (declarations_of (f ∷ (g ∷ []))) entity → IsAmong (declarations_of (f ∷ (g ∷ []))) other
+    one_of : {a b : Entity} (x : IsDeclared a) (y : IsDeclared b) (entity other : Entity) → IsEntity entity
+        → IsEntity other → IsAmong (both_of x y) entity → IsAmong (both_of x y) other
         → text_of id entity ≡ text_of its_id other → entity ≡ other
-    one_of m n f g a b entity other its also here there same =
-        one-text files origins clear laws.one_name (spelled laws) laws.symbols laws.unclashed m n f g a b id its_id
-        is_package is_fine entity other its also here there same
+    one_of x y entity other its also here there same =
+        one-text files ids apart x.number y.number x.facts y.facts x.counted y.counted id its_id is_package is_fine
+        entity other its also here there same
 
     one_else : (entity other : Entity) → IsEntity entity → IsEntity other → IsElse entity → IsElse other
         → text_of id entity ≡ text_of its_id other → entity ≡ other
     unfolding text_of IsElse
     one_else entity other its also here there same =
-        laws.symbols id its_id (declarations_of []) is_package is_fine (laws.unclashed [] no_facts) entity other its
-        also (here (declarations_of [])) (there (declarations_of [])) same
+        laws.symbols id its_id [] is_package is_fine no_clash entity other its also (here []) (there []) same
 
     one_by : (entity other : Entity) → IsEntity entity → IsEntity other → IsDeclared entity ⊎ IsElse entity
         → IsDeclared other ⊎ IsElse other
         → text_of id entity ≡ text_of its_id other → entity ≡ other
     unfolding IsElse
     one_by entity other its also (inl a) (inl b) same =
-        let all : List Facts = a.facts ∷ (b.facts ∷ []) in
-        one_of a.number b.number a.facts b.facts a.counted b.counted entity other its also
-        (among entity a all (in_front a.facts (b.facts ∷ [])))
-        (among other b all (behind_it a.facts (b.facts ∷ []) b.facts (in_front b.facts []))) same
+        one_of a b entity other its also (first_in a b) (second_in a b) same
     one_by entity other its also (inl a) (inr b) same =
-        let all : List Facts = a.facts ∷ (a.facts ∷ []) in
-        one_of a.number a.number a.facts a.facts a.counted a.counted entity other its also
-        (among entity a all (in_front a.facts (a.facts ∷ []))) (b (declarations_of all)) same
+        one_of a a entity other its also (first_in a a) (b (both_of a a)) same
     one_by entity other its also (inr a) (inl b) same =
-        let all : List Facts = b.facts ∷ (b.facts ∷ []) in
-        one_of b.number b.number b.facts b.facts b.counted b.counted entity other its also (a (declarations_of all))
-        (among other b all (in_front b.facts (b.facts ∷ []))) same
+        one_of b b entity other its also (a (both_of b b)) (first_in b b) same
     one_by entity other its also (inr a) (inr b) same = one_else entity other its also a b same
 
-    one_text_one : (entity other : Entity) → IsEntityOf files entity → IsEntityOf files other
+    one_text_one : (entity other : Entity) → IsEntityOf files ids entity → IsEntityOf files ids other
         → text_of id entity ≡ text_of its_id other → entity ≡ other
     one_text_one entity other its also same =
         one_by entity other (is_entity entity its) (is_entity other also) (kind_of entity its) (kind_of other also) same
 
   -- ---- a declaration's entity is its own
 
-  abbrev full_name_in : Entity → List ℕ
-  full_name_in (OfFile path) = []
-  full_name_in (OfPackage components) = []
-  full_name_in (OfDeclaration components way) = dotted (components ++ names_of way)
-
-  full_name_is : (number index : ℕ) (facts : Facts) (declared : Declaration)
-      → HasDeclaration files number index facts declared
-      → declared.full_name ≡ full_name_in (declaration_at facts declared)
-  full_name_is number index facts declared has =
-      let Is : Declaration → Type 0 =
-      λ d. d.full_name ≡ dotted (component_names facts.package_name ++ names_of d.path) in
-      All-contains Is facts.declarations declared (laws.held facts (origins number facts has.has_facts)).full_names
-      (contained facts.declarations index declared has.numbered)
-
   pub own_entity : (number index other its : ℕ) (facts more : Facts) (a b : Declaration) → IsReachable files number
       → IsReachable files other
       → HasDeclaration files number index facts a → HasDeclaration files other its more b
-      → declaration_at facts a ≡ declaration_at more b → (number ≡ other) × (index ≡ its)
+      → declaration_in (home_of_file files ids number) facts a ≡ declaration_in (home_of_file files ids other) more b
+      → (number ≡ other) × (index ≡ its)
   own_entity number index other its facts more a b counts also has there same =
-      laws.one_name files origins clear number index other its a b
-      (record { facts = facts; is_reachable = counts; known = has.has_facts; stands = has.numbered })
-      (record { facts = more; is_reachable = also; known = there.has_facts; stands = there.numbered })
-      (full_name_is number index facts a has ∙ (ap full_name_in same ∙ sym (full_name_is other its more b there)))
+      one-declared files ids apart number other facts more (record { is_reachable = counts; known = has.has_facts })
+      (record { is_reachable = also; known = there.has_facts }) ids.run ids.run are.run are.run index its a b
+      has.numbered there.numbered (ap (text_of ids.run) same)
 
   -- ---- an entity has one package
 
-  module _ (ids : Packages) where
-    -- the package of an entity is one of the packages
-    home_good : ArePackages ids → (entity : Entity) (is : IsEntityOf files entity)
-        → IsPackage (package_of_entity files ids is)
-    home_good are _ (of_file {number = number} counts at) = file_good files ids number are
-    home_good are _ (of_package counts has some few) = are.run
-    home_good are _ (of_declaration {number = number} counts has) = file_good files ids number are
+  -- the package of an entity is one of the packages
+  home_good : (entity : Entity) (is : IsEntityOf files ids entity)
+      → IsPackage (package_of_entity files ids is)
+  home_good _ (of_file {number = number} counts at) = file_good files ids number are
+  home_good _ (of_package counts has some few) = are.run
+  home_good _ (of_declaration {number = number} counts has) = file_good files ids number are
 
-    path_of : (a b : List ℕ) → OfFile a ≡ OfFile b → a ≡ b
-    path_of a b e = cc
+  path_of : (a b : List ℕ) → OfFile a ≡ OfFile b → a ≡ b
+  path_of a b e = cc
 
-    -- of a file it goes by the path
-    file_home : (path : List ℕ) (entity : Entity) (is : IsEntityOf files entity) → entity ≡ OfFile path
-        → package_of_entity files ids is ≡ package_of_path ids path
-    file_home path _ (of_file {number = number} {file = file} counts at) same =
-        by_path files ids number file at ∙ ap (package_of_path ids) (path_of file.path path same)
-    file_home path _ (of_package counts has some few) same = absurd cc
-    file_home path _ (of_declaration counts has) same = absurd cc
+  -- of a file it goes by the path
+  file_home : (path : List ℕ) (entity : Entity) (is : IsEntityOf files ids entity) → entity ≡ OfFile path
+      → package_of_entity files ids is ≡ package_of_path ids path
+  file_home path _ (of_file {number = number} {file = file} counts at) same =
+      by_path files ids number file at ∙ ap (package_of_path ids) (path_of file.path path same)
+  file_home path _ (of_package counts has some few) same = absurd cc
+  file_home path _ (of_declaration counts has) same = absurd cc
 
-    -- of a package it is the run's
-    package_home : (components : List (List ℕ)) (entity : Entity) (is : IsEntityOf files entity)
-        → entity ≡ OfPackage components → package_of_entity files ids is ≡ ids.run
-    package_home components _ (of_file counts at) same = absurd cc
-    package_home components _ (of_package counts has some few) same = refl
-    package_home components _ (of_declaration counts has) same = absurd cc
+  -- of a package it is the run's
+  package_home : (components : List (List ℕ)) (entity : Entity) (is : IsEntityOf files ids entity)
+      → entity ≡ OfPackage components → package_of_entity files ids is ≡ ids.run
+  package_home components _ (of_file counts at) same = absurd cc
+  package_home components _ (of_package counts has some few) same = refl
+  package_home components _ (of_declaration counts has) same = absurd cc
 
-    -- of a declaration it is that of the file
-    declaration_home : (number index : ℕ) (facts : Facts) (declared : Declaration) → IsReachable files number
-        → HasDeclaration files number index facts declared → (entity : Entity) (is : IsEntityOf files entity)
-        → entity ≡ declaration_at facts declared → package_of_entity files ids is ≡ package_of_file files ids number
-    declaration_home number index facts declared counts has _ (of_file also at) same = absurd cc
-    declaration_home number index facts declared counts has _ (of_package also its some few) same = absurd cc
-    declaration_home number index facts declared counts has _
-        (of_declaration {number = other} {index = its} {facts = more} {declared = declaration} also there) same =
-        ap (package_of_file files ids)
-        (own_entity other its number index more facts declaration declared also counts there has same).0
+  -- of a declaration it is that of the file
+  declaration_home : (number index : ℕ) (facts : Facts) (declared : Declaration) → IsReachable files number
+      → HasDeclaration files number index facts declared → (entity : Entity) (is : IsEntityOf files ids entity)
+      → entity ≡ declaration_in (home_of_file files ids number) facts declared
+      → package_of_entity files ids is ≡ package_of_file files ids number
+  declaration_home number index facts declared counts has _ (of_file also at) same = absurd cc
+  declaration_home number index facts declared counts has _ (of_package also its some few) same = absurd cc
+  declaration_home number index facts declared counts has _
+      (of_declaration {number = other} {index = its} {facts = more} {declared = declaration} also there) same =
+      ap (package_of_file files ids)
+      (own_entity other its number index more facts declaration declared also counts there has same).0
 
-    pub one_home : (entity other : Entity) (is : IsEntityOf files entity) (its : IsEntityOf files other)
-        → entity ≡ other → package_of_entity files ids is ≡ package_of_entity files ids its
-    one_home entity _ is (of_file {number = number} {file = file} counts at) same =
-        file_home file.path entity is same ∙ sym (by_path files ids number file at)
-    one_home entity _ is (of_package {count = count} {facts = facts} counts has some few) same =
-        package_home (component_names (take count facts.package_name)) entity is same
-    one_home entity _ is
-        (of_declaration {number = number} {index = index} {facts = facts} {declared = declared} counts has) same =
-        declaration_home number index facts declared counts has entity is same
+  pub one_home : (entity other : Entity) (is : IsEntityOf files ids entity) (its : IsEntityOf files ids other)
+      → entity ≡ other → package_of_entity files ids is ≡ package_of_entity files ids its
+  one_home entity _ is (of_file {number = number} {file = file} counts at) same =
+      file_home file.path entity is same ∙ sym (by_path files ids number file at)
+  one_home entity _ is (of_package {count = count} {facts = facts} counts has some few) same =
+      package_home (component_names (take count facts.package_name)) entity is same
+  one_home entity _ is
+      (of_declaration {number = number} {index = index} {facts = facts} {declared = declared} counts has) same =
+      declaration_home number index facts declared counts has entity is same
 
-    -- entities of the files with one symbol are one
-    pub one_entity : ArePackages ids → (entity other : Entity) (is : IsEntityOf files entity)
-        (its : IsEntityOf files other)
-        → text_of (package_of_entity files ids is) entity ≡ text_of (package_of_entity files ids its) other
-        → entity ≡ other
-    one_entity are entity other is its same =
-        one_text_one (package_of_entity files ids is) (package_of_entity files ids its) (home_good are entity is)
-        (home_good are other its) entity other is its same
+  -- entities of the files with one symbol are one
+  pub one_entity : (entity other : Entity) (is : IsEntityOf files ids entity)
+      (its : IsEntityOf files ids other)
+      → text_of (package_of_entity files ids is) entity ≡ text_of (package_of_entity files ids its) other
+      → entity ≡ other
+  one_entity entity other is its same =
+      one_text_one (package_of_entity files ids is) (package_of_entity files ids its) (home_good entity is)
+      (home_good other its) entity other is its same
 
-    -- and have one symbol
-    pub one_symbol : (entity other : Entity) (is : IsEntityOf files entity) (its : IsEntityOf files other)
-        → entity ≡ other
-        → text_of (package_of_entity files ids is) entity ≡ text_of (package_of_entity files ids its) other
-    one_symbol entity other is its same =
-        ap (λ (id : Package). text_of id entity) (one_home entity other is its same)
-        ∙ ap (text_of (package_of_entity files ids its)) same
+  -- and have one symbol
+  pub one_symbol : (entity other : Entity) (is : IsEntityOf files ids entity) (its : IsEntityOf files ids other)
+      → entity ≡ other
+      → text_of (package_of_entity files ids is) entity ≡ text_of (package_of_entity files ids its) other
+  one_symbol entity other is its same =
+      ap (λ (id : Package). text_of id entity) (one_home entity other is its same)
+      ∙ ap (text_of (package_of_entity files ids its)) same
 
-    -- ---- the symbol of an occurrence
+  -- ---- the symbol of an occurrence
 
-    module _ (source : ℕ) (is_source : IsSource files source) where
-      part_home : (component : Component) (part : Part) (entity : Entity) → NamesIn files source component part entity
-          → (is : IsEntityOf files entity) → package_of_part files ids part ≡ package_of_entity files ids is
-      part_home component (link.Package count) entity names is =
-          sym (package_home (take count (components_of names.target.name)) entity is names.entity_is)
-      part_home component (link.Declared number index) entity names is =
-          let target = names.is_target in
-          let owned = target.names.owned in
-          let named = target.named names.index (link.Declared number index) names.part_is in
-          let counts = named_file_counts files origins laws (link.Declared number index)
-          (seen is_source owned.gives.sees owned.present) named number index refl in
-          let of = names.entity_is in
-          sym (declaration_home number index of.facts of.declaration counts of.has entity is of.is)
+  module _ (source : ℕ) (is_source : IsSource files source) where
+    part_home : (component : Component) (part : Part) (entity : Entity) → NamesIn files ids source component part entity
+        → (is : IsEntityOf files ids entity) → package_of_part files ids part ≡ package_of_entity files ids is
+    part_home component (link.Package count) entity names is =
+        sym (package_home (take count (components_of names.target.name)) entity is names.entity_is)
+    part_home component (link.Declared number index) entity names is =
+        let target = names.is_target in
+        let owned = target.names.owned in
+        let named = target.named names.index (link.Declared number index) names.part_is in
+        let counts = named_file_counts files ids apart.origins laws (link.Declared number index)
+        (seen is_source owned.gives.sees owned.present) named number index refl in
+        let of = names.entity_is in
+        sym (declaration_home number index of.facts of.declaration counts of.has entity is of.is)
 
-      -- it is that of the entity, in its package
-      pub symbol_is : (chosen : Chosen) (encoding : Encoding) (text : List ℕ) (o : Occurrence)
-          (occurs : Occurs files chosen ids encoding source text o) (is : IsEntityOf files (entity_of occurs))
-          → o.symbol ≡ text_of (package_of_entity files ids is) (entity_of occurs)
-      symbol_is chosen encoding text _ (rule.of_file {file = file} numbered) is =
-          ap (λ (id : Package). text_of id (OfFile file.path))
-          (by_path files ids source file numbered ∙ sym (file_home file.path (OfFile file.path) is refl))
-      symbol_is chosen encoding text _ (rule.of_import {imported = imported} has listed there) is =
-          ap (λ (id : Package). text_of id (OfFile imported.path))
-          (sym (file_home imported.path (OfFile imported.path) is refl))
-      symbol_is chosen encoding text _ (rule.of_package {facts = facts} index has stands) is =
-          let entity = package_at facts (index + 1) in
-          ap (λ (id : Package). text_of id entity)
-          (sym (package_home (component_names (take (index + 1) facts.package_name)) entity is refl))
-      symbol_is chosen encoding text _ (rule.of_declaration {facts = facts} index {declared = declared} has kept) is =
-          let entity = declaration_at facts declared in
-          ap (λ (id : Package). text_of id entity)
-          (sym (declaration_home source index facts declared (source-counts files source is_source) has entity is refl))
-      symbol_is chosen encoding text _ (rule.of_component {component = component} {part = part} {entity = entity} names
-          shown) is =
-          ap (λ (id : Package). text_of id entity) (part_home component part entity names is)
+    -- it is that of the entity, in its package
+    pub symbol_is : (chosen : Chosen) (encoding : Encoding) (text : List ℕ) (o : Occurrence)
+        (occurs : Occurs files chosen ids encoding source text o) (is : IsEntityOf files ids (entity_of occurs))
+        → o.symbol ≡ text_of (package_of_entity files ids is) (entity_of occurs)
+    symbol_is chosen encoding text _ (rule.of_file {file = file} numbered) is =
+        ap (λ (id : Package). text_of id (OfFile file.path))
+        (by_path files ids source file numbered ∙ sym (file_home file.path (OfFile file.path) is refl))
+    symbol_is chosen encoding text _ (rule.of_import {imported = imported} has listed there) is =
+        ap (λ (id : Package). text_of id (OfFile imported.path))
+        (sym (file_home imported.path (OfFile imported.path) is refl))
+    symbol_is chosen encoding text _ (rule.of_package {facts = facts} index has stands) is =
+        let entity = package_at facts (index + 1) in
+        ap (λ (id : Package). text_of id entity)
+        (sym (package_home (component_names (take (index + 1) facts.package_name)) entity is refl))
+    symbol_is chosen encoding text _ (rule.of_declaration {facts = facts} index {declared = declared} has kept) is =
+        let entity = declaration_in (home_of_file files ids source) facts declared in
+        ap (λ (id : Package). text_of id entity)
+        (sym (declaration_home source index facts declared (source-counts files source is_source) has entity is refl))
+    symbol_is chosen encoding text _ (rule.of_component {component = component} {part = part} {entity = entity} names
+        shown) is =
+        ap (λ (id : Package). text_of id entity) (part_home component part entity names is)

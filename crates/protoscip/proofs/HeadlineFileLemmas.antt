@@ -1,5 +1,5 @@
 -- The files that a fault of a build names are files of its tree.
-use Rattle.std.proofs.Common.{◌≡◌, ◌∙◌, inl, inr, ℕ, ◌<◌, false, List, length, Option, Some, None, sym, subst}
+use Rattle.std.proofs.Common.{◌≡◌, ◌∙◌, inl, inr, ℕ, ◌<◌, false, List, length, Some, sym, subst}
 use Rattle.std.specs.List.{Contains, slice_get}
 use Rattle.std.proofs.lemmas.List.Elements.{All-contains_itself, All-weaker}
 use Rattle.std.proofs.lemmas.Option.{slice_get_within}
@@ -10,6 +10,9 @@ use Rattle.proto_decl.specs.Values.{Seen}
 use Rattle.proto_visibility.specs.declared.files.FilePlace.{FilePlace}
 use Rattle.proto_visibility.specs.declared.omissions.FileOmission.{FileOmission}
 use Rattle.proto_visibility.specs.declared.omissions.FileOmission.TheVariants as left_for
+use Rattle.proto_visibility.specs.declared.clash.Duplicates.{Duplicates}
+use Rattle.proto_visibility.specs.declared.clash.Duplicates.TheVariants as names
+use Rattle.proto_visibility.specs.Clashes.{Clash}
 use Rattle.proto_visibility.specs.Files.{File, IsPresent}
 use Rattle.proto_visibility.specs.Sees.IsReachable.{seen}
 use Rattle.proto_visibility.proofs.ItemAllLemmas.{file_within}
@@ -21,7 +24,7 @@ use Rattle.index_hooks.specs.declared.choice.Choice.{Choice}
 use Rattle.source_tree.specs.Files.{TreeFile}
 use Rattle.scip_build.specs.Builds.{IsBuilt, IsBuildFault}
 use Rattle.scip_build.specs.Kept.{IsLeftFor, IsTold}
-use Rattle.scip_build.specs.Kept.IsTold.{of_file, of_import as told_import, of_use}
+use Rattle.scip_build.specs.Kept.IsTold.{of_file, of_import as told_import, of_use, of_ambiguous}
 use Rattle.scip_build.specs.Files.{ReadFile}
 use Rattle.scip_build.specs.Keeping.{linked_of}
 use Rattle.scip_build.specs.Linking.{linked_file, linked_files, HasFault}
@@ -47,16 +50,36 @@ of_import files number import (of_source source has listed) = slice_get_within f
 of_import files number import (of_included counts has listed public) =
     slice_get_within files number has.file has.numbered
 
-module _ (allows : Seen → Choice → Type 0) (faulty : Faulty) (dialect : Dialect) (form : CommentForm)
-    (tree : List TreeFile) where
-  pub in_tree : (mode : Faulty) (parsed : List ReadFile) (number : ℕ)
-      → AreParsedFiles mode dialect form allows tree parsed → number < length (linked_files parsed)
-      → HasFile tree number
-  in_tree mode parsed number are within =
-      let count : length (linked_files parsed) ≡ length tree = length-map parsed linked_file ∙ are.one_each in
-      subst (λ (n : ℕ). number < n) count within
+-- the files of a clash
+clash_within : (duplicates : Duplicates) (files : List File) (first second : FilePlace)
+    → Clash duplicates files first second → (first.file < length files) × (second.file < length files)
+clash_within names.Refuse files first second clash =
+    let Within : FilePlace → Type 0 = λ place. place.file < length files in (
+      subst Within clash.first_is (file_within clash.earlier clash.exclude.first_is),
+      subst Within clash.second_is (file_within clash.later clash.exclude.second_is),
+    )
+clash_within names.Keep files first second own =
+    let clash = own.clash in
+    let Within : FilePlace → Type 0 = λ place. place.file < length files in (
+      subst Within clash.first_is (file_within clash.earlier clash.exclude.first_is),
+      subst Within clash.second_is (file_within clash.later clash.exclude.second_is),
+    )
 
-  pub files_of_build : (workers : ℕ) (e : BuildFault) → IsBuildFault allows faulty dialect form tree workers e
+pub in_tree : (allows : Seen → Choice → Type 0) (mode : Faulty) (dialect : Dialect) (form : CommentForm)
+    (tree : List TreeFile) (parsed : List ReadFile) (number : ℕ)
+    → AreParsedFiles mode dialect form allows tree parsed → number < length (linked_files parsed)
+    → HasFile tree number
+in_tree allows mode dialect form tree parsed number are within =
+    let count : length (linked_files parsed) ≡ length tree = length-map parsed linked_file ∙ are.one_each in
+    subst (λ (n : ℕ). number < n) count within
+
+module _ (allows : Seen → Choice → Type 0) (settings : Settings) (tree : List TreeFile) where
+  in_parsed : (parsed : List ReadFile) (number : ℕ)
+      → AreParsedFiles Refuse settings.dialect settings.comments allows tree parsed
+      → number < length (linked_files parsed) → HasFile tree number
+  in_parsed = in_tree allows Refuse settings.dialect settings.comments tree
+
+  pub files_of_build : (workers : ℕ) (e : BuildFault) → IsBuildFault allows settings tree workers e
       → HasFilesOf tree (fault_of_build e)
   files_of_build workers build.Spawn is = tt
   files_of_build workers build.Memory is = tt
@@ -69,30 +92,27 @@ module _ (allows : Seen → Choice → Type 0) (faulty : Faulty) (dialect : Dial
   files_of_build workers (build.File number (file.Syntax e)) (refuse, inr (parsed, are, is_unread none has)) =
       subst (λ (n : ℕ). number < n) are.one_each (slice_get_within parsed number has.parsed_file has.numbered)
   files_of_build workers (build.Duplicate first second) (refuse, (parsed, are, is_duplicate (clashing read clash))) =
-      let files = linked_files parsed in
-      let earlier = file_within clash.earlier clash.exclude.first_is in
-      let later = file_within clash.later clash.exclude.second_is in
-      let Within : FilePlace → Type 0 = λ place. place.file < length files in (
-        in_tree Refuse parsed first.file are (subst Within clash.first_is earlier),
-        in_tree Refuse parsed second.file are (subst Within clash.second_is later),
-      )
+      let both = clash_within settings.duplicates (linked_files parsed) first second clash in
+      (in_parsed parsed first.file are both.0, in_parsed parsed second.file are both.1)
   files_of_build workers (build.MissingImport place)
       (refuse, (parsed, are, is_missing (absent_import read clear absent))) =
       let missing = absent.missing in
-      in_tree Refuse parsed place.file are
+      in_parsed parsed place.file are
       (of_import (linked_files parsed) place.file missing.import missing.needed)
   files_of_build workers (build.Unresolved place) (refuse, is) =
       let source = is.2.1.source in
-      in_tree Refuse is.0 place.file is.1 (slice_get_within (linked_files is.0) place.file source.file source.numbered)
+      in_parsed is.0 place.file is.1 (slice_get_within (linked_files is.0) place.file source.file source.numbered)
+  files_of_build workers (build.Ambiguous place) (refuse, is) =
+      let source = is.2.1.source in
+      in_parsed is.0 place.file is.1 (slice_get_within (linked_files is.0) place.file source.file source.numbered)
 
 -- ---- the files of what is told
 
 module _ (allows : Seen → Choice → Type 0) (faulty : Faulty) (dialect : Dialect) (form : CommentForm)
     (tree : List TreeFile) (all : List ReadFile) (read : AreParsedFiles faulty dialect form allows tree all)
-    (omissions : Omissions)
-    (are : AreOmissions (linked_files all) omissions) where
+    (duplicates : Duplicates) (omissions : Omissions) (are : AreOmissions duplicates (linked_files all) omissions) where
   within : (number : ℕ) → number < length (linked_files all) → HasFile tree number
-  within number = in_tree allows faulty dialect form tree faulty all number read
+  within number = in_tree allows faulty dialect form tree all number read
 
   abbrev linked : List File
   linked = linked_files (linked_of omissions all)
@@ -112,7 +132,7 @@ module _ (allows : Seen → Choice → Type 0) (faulty : Faulty) (dialect : Dial
       subst (λ (n : ℕ). number < n) read.one_each (slice_get_within all number has.parsed_file has.numbered)
 
   of_left : (number : ℕ) (omission : FileOmission) (told : Omission)
-      → IsOmission (linked_files all) omissions number (Some omission) → IsLeftFor all number omission told
+      → IsOmission duplicates (linked_files all) omissions number (Some omission) → IsLeftFor all number omission told
       → HasFilesOf tree (fault_of_omission told)
   of_left number left_for.Broken told out left =
       let Has : Omission → Type 0 = λ o. HasFilesOf tree (fault_of_omission o) in
@@ -137,7 +157,9 @@ module _ (allows : Seen → Choice → Type 0) (faulty : Faulty) (dialect : Dial
   file_of_told told (of_file n o at left) = of_left n o told (are.each n (Some o) at) left
   file_of_told _ (told_import p missing) =
       let at = needed_at p.file missing.import missing.needed in kept_within p.file at.file at.numbered at.present
-  file_of_told _ (of_use p is) = kept_within p.file is.source.file is.source.numbered is.source.present
+  file_of_told _ (of_use p is) = let source = is.0 in kept_within p.file source.file source.numbered source.present
+  file_of_told _ (of_ambiguous p is) =
+      let source = is.0 in kept_within p.file source.file source.numbered source.present
 
   pub files_of_told : (told : List Omission)
       → ((omission : Omission) → Contains told omission → IsTold all omissions omission)
@@ -151,5 +173,5 @@ pub files_of_built : (allows : Seen → Choice → Type 0) (settings : Settings)
     → IsBuilt allows settings tree built → HaveFilesOf tree built.told
 files_of_built allows settings tree built is =
     let kept = is.of_files.kept in
-    files_of_told allows settings.faulty settings.dialect settings.comments tree is.all is.read kept.omissions
-    kept.left_out built.told (λ fault there. (kept.told_is.exact fault).0 there)
+    files_of_told allows settings.faulty settings.dialect settings.comments tree is.all is.read settings.duplicates
+    kept.omissions kept.left_out built.told (λ fault there. (kept.told_is.exact fault).0 there)

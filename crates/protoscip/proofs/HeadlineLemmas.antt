@@ -8,9 +8,11 @@ use Rattle.proto_lex.specs.declared.position.Encoding.{Encoding}
 use Rattle.proto_decl.specs.Values.{Seen}
 use Rattle.proto_decl.specs.Facts.{Facts}
 use Rattle.proto_decl.specs.declared.uses.Use.{Use}
-use Rattle.proto_visibility.specs.Files.{File, HasFacts, IsSource, HaveOrigins}
+use Rattle.proto_visibility.specs.Files.{File, HasFacts, IsSource, HaveOrigins, HaveOwnPaths}
 use Rattle.proto_visibility.specs.Kept.{Omissions}
+use Rattle.proto_visibility.proofs.DuplicateLemmas.{clear_each}
 use Rattle.proto_visibility.proofs.KeptAmongLemmas.{origin}
+use Rattle.proto_visibility.proofs.KeptLemmas.{kept_are_clear}
 use Rattle.basics.proofs.FirstLemmas.{contained}
 use Rattle.index_hooks.specs.declared.choice.Choice.{Choice}
 use Rattle.source_tree.specs.Files.{TreeFile}
@@ -24,6 +26,7 @@ use Rattle.scip_model.specs.Indexes.{HasDocument, IsAscendingListOf}
 use Rattle.scip_model.specs.Named.{text_of}
 use Rattle.scip_model.specs.Occurs.{Occurs}
 use Rattle.scip_model.specs.Occurs as rule
+use Rattle.scip_model.proofs.NamedApartLemmas.{AreApart}
 use Rattle.scip_records.specs.declared.records.Document.{Document}
 use Rattle.scip_records.specs.declared.records.Occurrence.{Occurrence}
 use Rattle.scip_query.specs.OccurrenceAt.{Subject, subject_at, subject_found, subject_of}
@@ -39,9 +42,11 @@ use Rattle.scip_build.specs.declared.built.Built.{Built}
 use Rattle.scip_build.specs.declared.faulty.Faulty.{Faulty}
 use Rattle.scip_build.specs.declared.faulty.Faulty.TheVariants.{Refuse, Skip}
 use Rattle.scip_build.specs.declared.settings.Settings.{Settings}
+use Rattle.scip_build.proofs.KeptTreeLemmas.{linked_is}
+use Rattle.scip_build.proofs.LinkingLemmas.{own_paths}
 use Rattle.protoscip.specs.Headline.{IsEntityOf, package_of_entity, entity_of, defines, IsSite, site_cmp, IsOf}
 use Rattle.protoscip.specs.Headline.{IsSiteOf, IsDefinitionOf}
-use Rattle.protoscip.specs.Headline.{IsAt, Answers, AnswersNames, Headline, linked}
+use Rattle.protoscip.specs.Headline.{IsAt, Answers, AnswersNames, Headline, linked, ids}
 use Rattle.protoscip.specs.NameLaws.{LawsOfNames}
 use Rattle.protoscip.proofs.HeadlineEntityLemmas.{entity_is, symbol_is, one_entity, one_symbol, own_entity}
 use Rattle.protoscip.proofs.HeadlineLinkedLemmas.{linked_origin, have_origins, good_paths}
@@ -106,10 +111,8 @@ kept_paths omissions all good number file at =
     subst IsGoodPath o.path (good (origin (linked_files all) omissions number) o.original o.numbered)
 
 module _ {allows : Seen → Choice → Type 0} {settings : Settings} {tree : List TreeFile} {result : Built}
-    (built : IsBuilt allows settings tree result)
-    (origins : HaveOrigins (linked built))
-    (good : HaveGoodPaths (linked built))
-    (are_packages : ArePackages settings.package) (laws : LawsOfNames) where
+    (built : IsBuilt allows settings tree result) (apart : AreApart (linked built) (ids built))
+    (good : HaveGoodPaths (linked built)) (are_packages : ArePackages (ids built)) (laws : LawsOfNames) where
   Files : List File
   Files = linked built
 
@@ -117,7 +120,7 @@ module _ {allows : Seen → Choice → Type 0} {settings : Settings} {tree : Lis
 
   source_of : (document : Document)
       (has : HasDocument (linked built)
-      (texts_of built.of_files.parsed) result.choices settings.package settings.encoding document)
+      (texts_of built.of_files.parsed) result.choices (ids built) settings.encoding document)
       → IsSource (linked built) has.source
   source_of document has = record {
     file = has.is.file;
@@ -127,26 +130,24 @@ module _ {allows : Seen → Choice → Type 0} {settings : Settings} {tree : Lis
   }
 
   of_files : (entity : Entity) (document : Document) (o : Occurrence) → IsOf built entity document o
-      → IsEntityOf (linked built) entity
+      → IsEntityOf (linked built) (ids built) entity
   of_files entity document o is =
-      subst (IsEntityOf (linked built)) is.is
-      (entity_is (linked built) origins laws result.choices settings.package
-      settings.encoding is.of_source.source is.of_source.text (source_of document is.of_source) o is.occurs)
+      subst (IsEntityOf (linked built) (ids built)) is.is
+      (entity_is (linked built) (ids built) apart.origins laws result.choices settings.encoding is.of_source.source
+      is.of_source.text (source_of document is.of_source) o is.occurs)
 
   -- the text of an entity's symbol
-  symbol_in : (entity : Entity) → IsEntityOf (linked built) entity → List ℕ
-  symbol_in entity of = text_of (package_of_entity (linked built) settings.package of) entity
+  symbol_in : (entity : Entity) → IsEntityOf (linked built) (ids built) entity → List ℕ
+  symbol_in entity of = text_of (package_of_entity (linked built) (ids built) of) entity
 
-  symbol_of : (entity : Entity) (of : IsEntityOf (linked built) entity) (document : Document)
+  symbol_of : (entity : Entity) (of : IsEntityOf (linked built) (ids built) entity) (document : Document)
       (o : Occurrence) → IsOf built entity document o → o.symbol ≡ symbol_in entity of
   unfolding symbol_in
   symbol_of entity of document o is =
-      let its = subst (IsEntityOf (linked built)) (sym is.is) of in
-      symbol_is (linked built) origins good built.of_files.clear.clear laws settings.package
-      is.of_source.source (source_of document is.of_source) result.choices settings.encoding is.of_source.text o
-      is.occurs its
-      ∙ one_symbol (linked built) origins good built.of_files.clear.clear laws settings.package
-      (entity_of is.occurs) entity its of is.is
+      let its = subst (IsEntityOf (linked built) (ids built)) (sym is.is) of in
+      symbol_is (linked built) (ids built) apart good are_packages laws is.of_source.source
+      (source_of document is.of_source) result.choices settings.encoding is.of_source.text o is.occurs its
+      ∙ one_symbol (linked built) (ids built) apart good are_packages laws (entity_of is.occurs) entity its of is.is
 
   entity_at : (document : Document) (o : Occurrence) → Contains result.index.documents document
       → Contains document.occurrences o → (entity : Entity) × IsOf built entity document o
@@ -155,12 +156,11 @@ module _ {allows : Seen → Choice → Type 0} {settings : Settings} {tree : Lis
       let occurs = (has.is.occurrences.exact o).0 there in
       (entity_of occurs, record { of_source = has; occurs = occurs; is = refl })
 
-  same_entity : (entity other : Entity) (is : IsEntityOf (linked built) entity)
-      (its : IsEntityOf (linked built) other) → symbol_in entity is ≡ symbol_in other its
+  same_entity : (entity other : Entity) (is : IsEntityOf (linked built) (ids built) entity)
+      (its : IsEntityOf (linked built) (ids built) other) → symbol_in entity is ≡ symbol_in other its
       → entity ≡ other
   unfolding symbol_in
-  same_entity = one_entity
-      (linked built) origins good built.of_files.clear.clear laws settings.package are_packages
+  same_entity = one_entity (linked built) (ids built) apart good are_packages laws
 
   -- occurrences with one symbol are of one entity
   by_symbol : (entity other : Entity) (document another : Document) (o also : Occurrence) → IsOf built entity document o
@@ -172,7 +172,7 @@ module _ {allows : Seen → Choice → Type 0} {settings : Settings} {tree : Lis
       (sym (symbol_of other other_is another also its) ∙ (sym same ∙ symbol_of entity own_is document o is))
 
   each : (site : Site) → IsSite result.index site
-      → (entity : Entity) × IsEntityOf (linked built) entity × IsSiteOf built entity site
+      → (entity : Entity) × IsEntityOf (linked built) (ids built) entity × IsSiteOf built entity site
       × ((other : Entity) → IsSiteOf built other site → other ≡ entity)
   each site there =
       let listed = contained result.index.documents site.place.document site.document there.document_is in
@@ -224,7 +224,7 @@ module _ {allows : Seen → Choice → Type 0} {settings : Settings} {tree : Lis
     is_global subject of entity is =
         let its = of_files entity of.named.document of.occurrence is in
         ap is_local (sym of.symbol ∙ symbol_of entity its of.named.document of.occurrence is)
-        ∙ not_local (package_of_entity (linked built) settings.package its) entity
+        ∙ not_local (package_of_entity (linked built) (ids built) its) entity
 
     at_position : (subject : Subject) (of : IsAsked result.index path line column subject) (entity : Entity)
         → IsOf built entity of.named.document of.occurrence → IsAt built path line column entity
@@ -301,17 +301,15 @@ module _ {allows : Seen → Choice → Type 0} {settings : Settings} {tree : Lis
   unfolding symbol_in
   answers_names = record {
     used = λ source facts type_use component is has listed among named.
-        component_names (linked built) source laws.targets origins facts type_use component is
+        component_names (linked built) (ids built) source laws.targets apart.origins facts type_use component is
         has listed among (resolves built source facts type_use is has listed named);
     each = each;
     symbol = λ entity site of is. symbol_of entity of site.document site.occurrence is.1;
     one_to_one = λ entity other is its. (
       same_entity entity other is its,
-      one_symbol (linked built) origins good built.of_files.clear.clear laws settings.package
-          entity other is
-          its,
+      one_symbol (linked built) (ids built) apart good are_packages laws entity other is its,
     );
-    own = own_entity (linked built) origins good built.of_files.clear.clear laws;
+    own = own_entity (linked built) (ids built) apart good are_packages laws;
     role = role;
     references = references;
     definitions = definitions;
@@ -324,14 +322,30 @@ headline allows laws settings tree is_tree are_packages recorded bytes indexed =
     let kept = built.of_files.kept in
     let Origins : List ReadFile → Type 0 = λ rs. HaveOrigins (linked_files rs) in
     let Good : List ReadFile → Type 0 = λ rs. HaveGoodPaths (linked_files rs) in
+    let own_all = own_paths settings.faulty settings.dialect settings.comments allows tree built.all built.read
+    is_tree.own in
     let of_all = have_origins settings.faulty settings.dialect settings.comments allows tree built.all built.read in
     let good_all = good_paths settings.faulty settings.dialect settings.comments allows tree built.all built.read
     is_tree.good in
     let origins = subst Origins (sym kept.kept) (kept_origins kept.omissions built.all of_all) in
     let good = subst Good (sym kept.kept) (kept_paths kept.omissions built.all good_all) in
+    let own_linked =
+    (kept_are_clear settings.duplicates (linked_files built.all) kept.omissions kept.left_out own_all).0 in
+    let Own : List ReadFile → Type 0 = λ rs. HaveOwnPaths (linked_files rs) in
+    let own = subst Own (sym kept.kept) (subst HaveOwnPaths (sym (linked_is kept.omissions built.all)) own_linked) in
+    let apart : AreApart (linked built) (ids built) = record {
+      own = own;
+      origins = origins;
+      clear = (clear_each settings.duplicates (linked built) built.of_files.clear).clear;
+      repeated = built.of_files.are_repeated;
+      one_name = laws.one_name;
+      spelled = record { named = laws.named; paths = laws.paths; held = laws.held };
+      symbols = laws.symbols;
+    } in
+    let are : ArePackages (ids built) = record { run = are_packages.run; roots = are_packages.roots } in
     record {
       decodes = indexed.spelled.decodes;
       alone = indexed.spelled.alone;
       built = built;
-      names = answers_names built origins good are_packages laws;
+      names = answers_names built apart good are laws;
     }

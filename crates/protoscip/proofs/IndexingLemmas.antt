@@ -111,7 +111,7 @@ module _ (index : Index) (parts : Parts (List ℕ)) (are : ArePartsOf IsRecordOf
 module _ {W : Type 0} (allows : Seen → Choice → Type 0) (settings : Settings) (tree : List TreeFile) (workers : ℕ) where
   -- a tree isn't built
   pub unbuilt : (sink : SinkOf W) (out : W) (e : BuildFault)
-      → IsBuildFault allows settings.faulty settings.dialect settings.comments tree workers e
+      → IsBuildFault allows settings tree workers e
       → Indexes allows settings tree workers (writing sink out out) (Err (fault_of_build e))
   unbuilt sink out build.Spawn is = (is, refl)
   unbuilt sink out build.Memory is = (is, refl)
@@ -120,6 +120,7 @@ module _ {W : Type 0} (allows : Seen → Choice → Type 0) (settings : Settings
   unbuilt sink out (build.Duplicate first second) is = (is, refl)
   unbuilt sink out (build.MissingImport place) is = (is, refl)
   unbuilt sink out (build.Unresolved place) is = (is, refl)
+  unbuilt sink out (build.Ambiguous place) is = (is, refl)
 
   module _ (out : Writer W) (built : Built) (is : IsBuilt allows settings tree built) where
     -- its index isn't written, or cut off

@@ -31,6 +31,7 @@ fault_of (build.File number (file.Syntax because)) = fault.Syntax number because
 fault_of (build.Duplicate first second) = fault.Duplicate first second
 fault_of (build.MissingImport place) = fault.MissingImport place
 fault_of (build.Unresolved place) = fault.Unresolved place
+fault_of (build.Ambiguous place) = fault.Ambiguous place
 
 -- the index of the tree has too many bytes, by some choices
 IsLarge : (Seen → Choice → Type 0) → Settings → List TreeFile → Type 0
@@ -41,7 +42,7 @@ IsLarge allows settings tree =
 record IsOfBuild (allows : Seen → Choice → Type 0) (settings : Settings) (tree : List TreeFile) (workers : ℕ)
     (of : Fault) : Type 0 where
   because : BuildFault
-  is : IsBuildFault allows settings.faulty settings.dialect settings.comments tree workers because
+  is : IsBuildFault allows settings tree workers because
   named : cause_of because ≢ link.Memory
   same : of ≡ fault_of because
 
@@ -61,13 +62,22 @@ split allows settings tree workers (fault.MissingImport place) is named =
     inr (record { because = build.MissingImport place; is = is; named = λ memory. cc; same = refl })
 split allows settings tree workers (fault.Unresolved place) is named =
     inr (record { because = build.Unresolved place; is = is; named = λ memory. cc; same = refl })
+split allows settings tree workers (fault.Ambiguous place) is named =
+    inr (record { because = build.Ambiguous place; is = is; named = λ memory. cc; same = refl })
 split allows settings tree workers fault.TooLarge is named = inl (refl, is)
 split allows settings tree workers (fault.Write count) is named = absurd is
 split allows settings tree workers fault.Read is named = absurd is
 split allows settings tree workers (fault.Answer count) is named = absurd is
 
 set_itself : (settings : Settings) → SetTheSame settings settings
-set_itself settings = record { project_root = refl; id = refl; encoding = refl; dialect = refl; comments = refl }
+set_itself settings = record {
+  project_root = refl;
+  id = refl;
+  encoding = refl;
+  dialect = refl;
+  comments = refl;
+  duplicates = refl;
+}
 
 module _ (allows others : Seen → Choice → Type 0) where
   pub one_fault : OneBuildFault allows others → BuiltHasNoFault allows others → BuiltHasNoFault others allows
@@ -82,8 +92,8 @@ module _ (allows others : Seen → Choice → Type 0) where
         | inr built ↦ elim (split others settings tree more other is_other named_other) [
           | inl larger ↦ absurd (also settings tree workers larger.1.0 built.because larger.1.1 built.is built.named)
           | inr again ↦ built.same
-              ∙ (ap fault_of (one settings.faulty settings.dialect settings.comments tree workers more built.because
-              again.because built.is again.is built.named again.named) ∙ sym again.same)
+              ∙ (ap fault_of (one settings tree workers more built.because again.because built.is again.is built.named
+              again.named) ∙ sym again.same)
         ]
       ]
 
@@ -105,6 +115,9 @@ module _ (allows others : Seen → Choice → Type 0) where
   indexed_has_no_fault none settings tree workers recorded bytes (fault.Unresolved place) indexed is =
       absurd (none settings tree workers (built_of indexed.index recorded)
       (build.Unresolved place) indexed.built is (λ same. cc))
+  indexed_has_no_fault none settings tree workers recorded bytes (fault.Ambiguous place) indexed is =
+      absurd (none settings tree workers (built_of indexed.index recorded)
+      (build.Ambiguous place) indexed.built is (λ same. cc))
   indexed_has_no_fault none settings tree workers recorded bytes fault.TooLarge indexed is = inr refl
   indexed_has_no_fault none settings tree workers recorded bytes (fault.Write count) indexed is = absurd is
   indexed_has_no_fault none settings tree workers recorded bytes fault.Read indexed is = absurd is

@@ -6,20 +6,23 @@ use Rattle.proto_decl.specs.Values.{Seen}
 use Rattle.index_hooks.specs.declared.choice.Choice.{Choice}
 use Rattle.source_tree.specs.Files.{TreeFile}
 use Rattle.scip_records.specs.declared.records.Index.{Index}
-use Rattle.scip_build.specs.Builds.{IsBuilt}
+use Rattle.scip_build.specs.Builds.{IsBuilt, IsBuildFault}
 use Rattle.scip_build.specs.declared.built.Built.{Built}
+use Rattle.scip_build.specs.declared.fault.BuildFault.{BuildFault}
+use Rattle.scip_build.specs.declared.fault.BuildFault.TheVariants as build
+use Rattle.scip_build.specs.declared.fault.FileFault.TheVariants as file
 use Rattle.scip_build.specs.declared.settings.Settings.{Settings}
 use Rattle.scip_query.specs.declared.answer_fault.AnswerFault.{AnswerFault}
 use Rattle.scip_query.specs.declared.manner.Manner.{Manner}
 use Rattle.scip_query.specs.declared.answer_fault.AnswerFault.TheVariants as answer
 use Rattle.scip_wire.specs.Spelling.{spelling_of}
-use Rattle.protoscip.specs.Faults.{fault_of_answering}
+use Rattle.protoscip.specs.Faults.{fault_of_answering, fault_of_build}
 use Rattle.protoscip.specs.FaultLines.{HasFilesOf}
 use Rattle.protoscip.specs.Indexes.{recorded_of, IsSpelled}
 use Rattle.protoscip.specs.Conversing.{AreAnsweredFrom, Converses}
 use Rattle.protoscip.specs.Conversing.Converses.{all_are_answered, reading_stops, writing_stops, answer_lacks_memory}
 use Rattle.protoscip.specs.Conversing.Converses.{first_lacks_memory, has_too_many_bytes}
-use Rattle.protoscip.specs.Sessions.{AreAnswered, MayAnswer, IsServed, Serves}
+use Rattle.protoscip.specs.Sessions.{AreAnswered, AreUntouched, MayAnswer, IsServed, Serves}
 use Rattle.protoscip.specs.declared.fault.Fault.{Fault}
 
 module _ {R W : Type 0} (manner : Manner) (commands : Reader R) (answers : Writer W) where
@@ -51,6 +54,19 @@ module _ {R W : Type 0} (manner : Manner) (commands : Reader R) (answers : Write
   may_answer index (Err answer.Read) are = are
   may_answer index (Err (answer.Write count)) are = are
   may_answer index (Err answer.Memory) are = inr are
+
+  -- a tree isn't indexed
+  pub unbuilt : (allows : Seen → Choice → Type 0) (settings : Settings) (tree : List TreeFile) (workers : ℕ)
+      (e : BuildFault) → IsBuildFault allows settings tree workers e → AreUntouched commands answers
+      → Serves manner commands answers allows settings tree workers (Err (fault_of_build e))
+  unbuilt allows settings tree workers build.Spawn is untouched = (is, untouched)
+  unbuilt allows settings tree workers build.Memory is untouched = inl untouched
+  unbuilt allows settings tree workers (build.File number (file.Lex e)) is untouched = (is, untouched)
+  unbuilt allows settings tree workers (build.File number (file.Syntax e)) is untouched = (is, untouched)
+  unbuilt allows settings tree workers (build.Duplicate first second) is untouched = (is, untouched)
+  unbuilt allows settings tree workers (build.MissingImport place) is untouched = (is, untouched)
+  unbuilt allows settings tree workers (build.Unresolved place) is untouched = (is, untouched)
+  unbuilt allows settings tree workers (build.Ambiguous place) is untouched = (is, untouched)
 
   -- and that index is the one that was built
   module _ (allows : Seen → Choice → Type 0) (settings : Settings) (tree : List TreeFile) (workers : ℕ) (built : Built)

@@ -53,6 +53,7 @@ unlike (fault.Syntax number e) = syntax_unlike e
 unlike (fault.Duplicate first second) = refl
 unlike (fault.MissingImport place) = refl
 unlike (fault.Unresolved place) = refl
+unlike (fault.Ambiguous place) = refl
 unlike fault.TooLarge = refl
 unlike (fault.Write count) = refl
 unlike fault.Read = refl

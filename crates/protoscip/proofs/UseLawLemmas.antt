@@ -24,7 +24,8 @@ use Rattle.basics.proofs.FirstLemmas.{at_contained}
 use Rattle.proto_link.proofs.TargetLemmas.{gives_type, used_fit}
 use Rattle.scip_symbol.specs.Entities.{Entity, OfPackage}
 use Rattle.scip_model.specs.Conditions.{IsResolved}
-use Rattle.scip_model.specs.Named.{NamesIn, IsNamedAs, declaration_at}
+use Rattle.scip_model.specs.Packages.{Packages}
+use Rattle.scip_model.specs.Named.{NamesIn, IsNamedAs, declaration_in, home_of_file}
 use Rattle.protoscip.specs.UseLaws.{EachUseHasATarget}
 
 -- ---- a list of what there is for each place
@@ -100,21 +101,21 @@ each_use_has_a_target fronts files origins file type_use name owner names =
 
 -- ---- the components of a source's uses
 
-module _ (files : List File) (source : ℕ) where
+module _ (files : List File) (ids : Packages) (source : ℕ) where
   -- what is named has a symbol
   named_as : (owner : ℕ) (facts : Facts) → HasFacts files owner facts → (name front : List ℕ) (count : ℕ)
-      (part : Part) → IsNamed owner facts front count part → (entity : Entity) × IsNamedAs files name part entity
+      (part : Part) → IsNamed owner facts front count part → (entity : Entity) × IsNamedAs files ids name part entity
   named_as owner facts has name front count _ (named_package prefix) =
       (OfPackage (take count (components_of name)), refl)
   named_as owner facts has name front count _ (named_declared {declaration = declared} at full) = (
-    declaration_at facts declared,
+    declaration_in (home_of_file files ids owner) facts declared,
     record { facts = facts; declaration = declared; has = record { has_facts = has; numbered = at }; is = refl },
   )
 
   pub component_names : EachUseHasATarget → HaveOrigins files
       → (facts : Facts) (type_use : Use) (component : Component) → IsSource files source → HasFacts files source facts
       → Contains facts.uses type_use → Contains type_use.components component → IsResolved files source type_use
-      → (part : Part) × (entity : Entity) × NamesIn files source component part entity
+      → (part : Part) × (entity : Entity) × NamesIn files ids source component part entity
   component_names targets origins facts type_use component is has listed among type_name =
       let target = targets files origins source type_use type_name.0 type_name.1 type_name.2 in
       let part = item_at target.0.parts among.0 (omega (arith, among.1, target.1.one_each)) in

@@ -12,6 +12,8 @@ use Rattle.source_tree.specs.Files.{TreeFile}
 use Rattle.source_tree.specs.Reading.{kept_bytes}
 use Rattle.streams.specs.Readers.{Reader, known_before, IsReadFault, IsReadThrough, IsUnfailed}
 use Rattle.streams.specs.Writers.{Writer, IsWritten, IsCutOff, IsUntouched}
+use Rattle.proto_visibility.specs.declared.clash.Duplicates.TheVariants as names
+use Rattle.scip_model.specs.Packages.{all_in}
 use Rattle.scip_build.specs.declared.settings.Settings.{Settings}
 use Rattle.scip_build.specs.declared.faulty.Faulty.TheVariants.{Refuse}
 use Rattle.scip_records.specs.declared.records.Index.{Index}
@@ -38,11 +40,12 @@ plain_dialect = Proto3 custom.Refuse
 abbrev pub dump_settings : Dialect → Settings
 dump_settings dialect = record {
   project_root = codes "file:///";
-  «package» = record { run = record { manager = []; name = []; version = [] }; roots = [] };
+  «package» = all_in (record { manager = []; name = []; version = [] });
   encoding = Utf8;
   dialect = dialect;
   comments = Raw;
   faulty = Refuse;
+  duplicates = names.Refuse;
 }
 
 -- each declaration is kept, with its leading text

@@ -21,7 +21,7 @@ use Rattle.protoscip.specs.FaultTexts.{sentence_of, syntax_sentence}
 use Rattle.protoscip.specs.Required.{has_required}
 use Rattle.protoscip.specs.declared.fault.Fault.{Fault}
 use Rattle.protoscip.specs.declared.fault.Fault.TheVariants.{Memory, Lex, Syntax, Duplicate, MissingImport}
-use Rattle.protoscip.specs.declared.fault.Fault.TheVariants.{Unresolved}
+use Rattle.protoscip.specs.declared.fault.Fault.TheVariants.{Unresolved, Ambiguous}
 
 -- ---- sentences
 
@@ -128,6 +128,7 @@ explanation_of tree (Syntax number fault) hints =
 explanation_of tree (Duplicate first second) hints = at_both tree first second (sentence_of (Duplicate first second))
 explanation_of tree (MissingImport place) hints = at_place tree place (sentence_in tree (MissingImport place))
 explanation_of tree (Unresolved place) hints = at_place tree place (sentence_of (Unresolved place))
+explanation_of tree (Ambiguous place) hints = at_place tree place (sentence_of (Ambiguous place))
 explanation_of tree fault hints = codes "\n" ++ sentence_of fault
 
 -- with what a fault is explained, if that is asked for: the dialect in which sources are parsed

@@ -12,7 +12,7 @@ use Rattle.protoscip.specs.Faults.{fault_of_omission}
 use Rattle.protoscip.specs.Lines.{plain_line, line_at, placed_line}
 use Rattle.protoscip.specs.declared.fault.Fault.{Fault}
 use Rattle.protoscip.specs.declared.fault.Fault.TheVariants.{Spawn, Memory, Lex, Syntax, Duplicate, MissingImport}
-use Rattle.protoscip.specs.declared.fault.Fault.TheVariants.{Unresolved, TooLarge, Write, Read, Answer}
+use Rattle.protoscip.specs.declared.fault.Fault.TheVariants.{Unresolved, Ambiguous, TooLarge, Write, Read, Answer}
 
 -- ---- lines
 
@@ -39,6 +39,8 @@ line_with skipped unresolved tree (MissingImport place) =
     line_at (unresolved ++ path_of tree place.file) place.span.start (name_of (MissingImport place))
 line_with skipped unresolved tree (Unresolved place) =
     line_at (unresolved ++ path_of tree place.file) place.span.start (name_of (Unresolved place))
+line_with skipped unresolved tree (Ambiguous place) =
+    line_at (unresolved ++ path_of tree place.file) place.span.start (name_of (Ambiguous place))
 line_with skipped unresolved tree fault = plain_line (name_of fault)
 
 -- that of a run's fault: without words
@@ -59,6 +61,7 @@ HasFilesOf tree (Syntax number fault) = HasFile tree number
 HasFilesOf tree (Duplicate first second) = HasFile tree first.file × HasFile tree second.file
 HasFilesOf tree (MissingImport place) = HasFile tree place.file
 HasFilesOf tree (Unresolved place) = HasFile tree place.file
+HasFilesOf tree (Ambiguous place) = HasFile tree place.file
 HasFilesOf tree TooLarge = ⊤
 HasFilesOf tree (Write count) = ⊤
 HasFilesOf tree Read = ⊤

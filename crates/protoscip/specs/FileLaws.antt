@@ -13,7 +13,6 @@ use Rattle.protoscip.specs.Faults.{fault_of_build}
 -- those of its faults, and those of what it tells
 pub record BuiltHasFiles (allows : Seen → Choice → Type 0) : Type 0 where
   pub of_fault : (settings : Settings) (tree : List TreeFile) (workers : ℕ) (fault : BuildFault)
-      → IsBuildFault allows settings.faulty settings.dialect settings.comments tree workers fault
-      → HasFilesOf tree (fault_of_build fault)
+      → IsBuildFault allows settings tree workers fault → HasFilesOf tree (fault_of_build fault)
   pub of_told : (settings : Settings) (tree : List TreeFile) (built : Built) → IsBuilt allows settings tree built
       → HaveFilesOf tree built.told

@@ -19,7 +19,7 @@ use Rattle.protoscip.specs.Faults.{fault_of_omission}
 use Rattle.protoscip.specs.ToldLines.{is_import, is_skipped, is_skipped_source, is_use, left_out}
 use Rattle.protoscip.specs.Unread.{unread_finding}
 use Rattle.protoscip.specs.declared.fault.Fault.{Fault}
-use Rattle.protoscip.specs.declared.fault.Fault.TheVariants.{Lex, Syntax, Duplicate, MissingImport, Unresolved}
+use Rattle.protoscip.specs.declared.fault.Fault.TheVariants.{Lex, Syntax, Duplicate, MissingImport, Unresolved, Ambiguous}
 
 -- ---- a finding
 
@@ -38,6 +38,7 @@ place_of tree (Syntax number fault) = Some (place_in tree number (syntax_offset 
 place_of tree (Duplicate first second) = Some (place_of_span tree second)
 place_of tree (MissingImport place) = Some (place_of_span tree place)
 place_of tree (Unresolved place) = Some (place_of_span tree place)
+place_of tree (Ambiguous place) = Some (place_of_span tree place)
 place_of tree fault = None
 
 -- and this is the first
@@ -68,6 +69,7 @@ kind_of (omitted.File number fault) = kind.Skipped
 kind_of (omitted.Duplicate first second) = kind.Skipped
 kind_of (omitted.MissingImport place) = kind.Unresolved
 kind_of (omitted.Unresolved place) = kind.Unresolved
+kind_of (omitted.Ambiguous place) = kind.Unresolved
 
 abbrev pub told_finding : List TreeFile → Omission → Found
 told_finding tree omission = finding_of (kind_of omission) tree (fault_of_omission omission)
@@ -102,6 +104,7 @@ is_import_at place fault = false
 
 abbrev pub is_use_at : FilePlace → Fault → Bool
 is_use_at place (Unresolved other) = is_one_place place other
+is_use_at place (Ambiguous other) = is_one_place place other
 is_use_at place fault = false
 
 -- the second tells of the same file, import or use as the first
@@ -111,6 +114,7 @@ tells_same (Syntax number fault) other = leaves_out number other
 tells_same (Duplicate first second) other = leaves_out second.file other
 tells_same (MissingImport place) other = is_import_at place other
 tells_same (Unresolved place) other = is_use_at place other
+tells_same (Ambiguous place) other = is_use_at place other
 tells_same fault other = false
 
 abbrev pub is_other : Fault → Fault → Bool

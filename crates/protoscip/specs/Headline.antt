@@ -18,11 +18,11 @@ use Rattle.source_tree.specs.Files.{TreeFile}
 use Rattle.source_tree.specs.Trees.{IsTree}
 use Rattle.scip_symbol.specs.Entities.{Entity, OfFile}
 use Rattle.scip_symbol.specs.Package.{Package}
-use Rattle.scip_model.specs.Packages.{Packages, ArePackages, package_of_file}
+use Rattle.scip_model.specs.Packages.{Packages, ArePackages, naming, package_of_file}
 use Rattle.scip_model.specs.Chosen.{Chosen}
 use Rattle.scip_model.specs.Conditions.{IsResolved}
 use Rattle.scip_model.specs.Indexes.{HasDocument, IsAscendingListOf}
-use Rattle.scip_model.specs.Named.{HasDeclaration, NamesIn, text_of, package_at, declaration_at}
+use Rattle.scip_model.specs.Named.{HasDeclaration, NamesIn, text_of, package_at, declaration_in, home_of_file}
 use Rattle.scip_model.specs.Occurs.{Occurs}
 use Rattle.scip_model.specs.Occurs as rule
 use Rattle.scip_records.specs.declared.records.Index.{Index}
@@ -44,18 +44,19 @@ use Rattle.protoscip.specs.Indexes.{built_of, IsIndexed}
 -- ---- what is named
 
 -- The entities of linked files: each file that counts, its package with those above it, and what it declares.
-pub data IsEntityOf (files : List File) : Entity → Type 0 where
+pub data IsEntityOf (files : List File) (ids : Packages) : Entity → Type 0 where
   of_file : {number : ℕ} {file : File} → IsReachable files number → slice_get files number ≡ Some file
-      → IsEntityOf files (OfFile file.path)
+      → IsEntityOf files ids (OfFile file.path)
   of_package : {number count : ℕ} {facts : Facts} → IsReachable files number → HasFacts files number facts → 0 < count
       → count ≤ length facts.package_name
-      → IsEntityOf files (package_at facts count)
+      → IsEntityOf files ids (package_at facts count)
   of_declaration : {number index : ℕ} {facts : Facts} {declared : Declaration} → IsReachable files number
       → HasDeclaration files number index facts declared
-      → IsEntityOf files (declaration_at facts declared)
+      → IsEntityOf files ids (declaration_in (home_of_file files ids number) facts declared)
 
 -- the package of an entity: that of the file which it is, or which declares it, and of a proto package the run's
-abbrev pub package_of_entity : (files : List File) → Packages → {entity : Entity} → IsEntityOf files entity → Package
+abbrev pub package_of_entity : (files : List File) (ids : Packages) {entity : Entity} → IsEntityOf files ids entity
+    → Package
 package_of_entity files ids (of_file {number = number} counts numbered) = package_of_file files ids number
 package_of_entity files ids (of_package counts has some few) = ids.run
 package_of_entity files ids (of_declaration {number = number} counts has) = package_of_file files ids number
@@ -67,7 +68,9 @@ abbrev pub entity_of : {files : List File} {chosen : Chosen} {ids : Packages} {e
 entity_of (rule.of_file {file = file} numbered) = OfFile file.path
 entity_of (rule.of_import {imported = imported} has listed there) = OfFile imported.path
 entity_of (rule.of_package {facts = facts} index has stands) = package_at facts (index + 1)
-entity_of (rule.of_declaration {facts = facts} index {declared = declared} has kept) = declaration_at facts declared
+entity_of {files} {chosen} {ids} {encoding} {source}
+    (rule.of_declaration {facts = facts} index {declared = declared} has kept) =
+    declaration_in (home_of_file files ids source) facts declared
 entity_of (rule.of_component {entity = entity} names shown) = entity
 
 -- whether it defines that entity: the file itself does, and each component of its package's name and each declaration
@@ -98,12 +101,16 @@ module _ {allows : Seen → Choice → Type 0} {settings : Settings} {tree : Lis
   abbrev pub linked : List File
   linked = linked_files built.of_files.parsed
 
+  -- the packages of the symbols, with what is repeated among these files
+  abbrev pub ids : Packages
+  ids = naming settings.package built.of_files.repeated
+
   -- An occurrence of a document is one of an entity: the document is that of a source, and a rule by which it occurs
   -- there names this entity.
   pub record IsOf (entity : Entity) (document : Document) (occurrence : Occurrence) : Type 0 where
     pub of_source : HasDocument linked
-        (texts_of built.of_files.parsed) result.choices settings.package settings.encoding document
-    pub occurs : Occurs linked result.choices settings.package settings.encoding
+        (texts_of built.of_files.parsed) result.choices ids settings.encoding document
+    pub occurs : Occurs linked result.choices ids settings.encoding
         of_source.source
         of_source.text occurrence
     pub is : entity_of occurs ≡ entity
@@ -143,24 +150,24 @@ module _ {allows : Seen → Choice → Type 0} {settings : Settings} {tree : Lis
         → Contains facts.uses type_use → Contains type_use.components component
         → (settings.faulty ≡ Skip → IsResolved linked source type_use)
         → (part : Part) × (entity : Entity)
-        × NamesIn linked source component part entity
+        × NamesIn linked ids source component part entity
     pub each : (site : Site) → IsSite result.index site
-        → (entity : Entity) × IsEntityOf linked entity × IsSiteOf entity site
+        → (entity : Entity) × IsEntityOf linked ids entity × IsSiteOf entity site
         × ((other : Entity) → IsSiteOf other site → other ≡ entity)
-    pub symbol : (entity : Entity) (site : Site) (is : IsEntityOf linked entity)
+    pub symbol : (entity : Entity) (site : Site) (is : IsEntityOf linked ids entity)
         → IsSiteOf entity site
-        → site.occurrence.symbol
-        ≡ text_of (package_of_entity linked settings.package is) entity
-    pub one_to_one : (entity other : Entity) (is : IsEntityOf linked entity)
-        (its : IsEntityOf linked other)
-        → (text_of (package_of_entity linked settings.package is) entity
-        ≡ text_of (package_of_entity linked settings.package its) other)
+        → site.occurrence.symbol ≡ text_of (package_of_entity linked ids is) entity
+    pub one_to_one : (entity other : Entity) (is : IsEntityOf linked ids entity)
+        (its : IsEntityOf linked ids other)
+        → (text_of (package_of_entity linked ids is) entity ≡ text_of (package_of_entity linked ids its) other)
         ↔ (entity ≡ other)
     pub own : (number index other its : ℕ) (facts more : Facts) (a b : Declaration)
         → IsReachable linked number → IsReachable linked other
         → HasDeclaration linked number index facts a
         → HasDeclaration linked other its more b
-        → declaration_at facts a ≡ declaration_at more b → (number ≡ other) × (index ≡ its)
+        → declaration_in (home_of_file linked ids number) facts a
+        ≡ declaration_in (home_of_file linked ids other) more b
+        → (number ≡ other) × (index ≡ its)
     pub role : (entity : Entity) (site : Site) → (of : IsSiteOf entity site)
         → is_definition site.occurrence ≡ defines of.1.occurs
     pub references : (path : List ℕ) (line column : ℕ)

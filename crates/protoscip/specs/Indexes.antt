@@ -18,7 +18,7 @@ use Rattle.scip_wire.specs.Spelling.{spelling_of, max_index_len}
 use Rattle.protoscip.specs.declared.recorded.Recorded.{Recorded}
 use Rattle.protoscip.specs.declared.fault.Fault.{Fault}
 use Rattle.protoscip.specs.declared.fault.Fault.TheVariants.{Spawn, Memory, Lex, Syntax, Duplicate, MissingImport}
-use Rattle.protoscip.specs.declared.fault.Fault.TheVariants.{Unresolved, TooLarge, Write, Read, Answer}
+use Rattle.protoscip.specs.declared.fault.Fault.TheVariants.{Unresolved, Ambiguous, TooLarge, Write, Read, Answer}
 
 -- the bytes of an index: its spelling, which isn't too long, and which decodes to it and to no other index
 pub record IsSpelled (index : Index) (bytes : List ℕ) : Type 0 where
@@ -50,17 +50,17 @@ abbrev pub IsRefused : (allows : Seen → Choice → Type 0) → Settings → Li
 IsRefused allows settings tree workers Spawn = 1 < workers
 IsRefused allows settings tree workers Memory = ⊤
 IsRefused allows settings tree workers (Lex number fault) =
-    IsBuildFault allows settings.faulty settings.dialect settings.comments tree workers
-    (build.File number (file.Lex fault))
+    IsBuildFault allows settings tree workers (build.File number (file.Lex fault))
 IsRefused allows settings tree workers (Syntax number fault) =
-    IsBuildFault allows settings.faulty settings.dialect settings.comments tree workers
-    (build.File number (file.Syntax fault))
+    IsBuildFault allows settings tree workers (build.File number (file.Syntax fault))
 IsRefused allows settings tree workers (Duplicate first second) =
-    IsBuildFault allows settings.faulty settings.dialect settings.comments tree workers (build.Duplicate first second)
+    IsBuildFault allows settings tree workers (build.Duplicate first second)
 IsRefused allows settings tree workers (MissingImport place) =
-    IsBuildFault allows settings.faulty settings.dialect settings.comments tree workers (build.MissingImport place)
+    IsBuildFault allows settings tree workers (build.MissingImport place)
 IsRefused allows settings tree workers (Unresolved place) =
-    IsBuildFault allows settings.faulty settings.dialect settings.comments tree workers (build.Unresolved place)
+    IsBuildFault allows settings tree workers (build.Unresolved place)
+IsRefused allows settings tree workers (Ambiguous place) =
+    IsBuildFault allows settings tree workers (build.Ambiguous place)
 IsRefused allows settings tree workers TooLarge =
     (built : Built) × IsBuilt allows settings tree built × (max_index_len < length (spelling_of built.index))
 IsRefused allows settings tree workers (Write count) = ⊥

@@ -47,6 +47,7 @@ is_import omission = false
 -- a use has none
 abbrev pub is_use : Omission → Bool
 is_use (omitted.Unresolved place) = true
+is_use (omitted.Ambiguous place) = true
 is_use omission = false
 
 -- `protoscip: N sources indexed, N skipped, N imports and N uses without a target`

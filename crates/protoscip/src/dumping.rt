@@ -30,7 +30,7 @@ use index_pool::{NoGate, Workers};
 use proto_decl::DeclView;
 use proto_lex::Encoding;
 use proto_parse::{CustomOptions, Dialect};
-use scip_build::{Faulty, Run, Settings, build};
+use scip_build::{Duplicates, Faulty, Run, Settings, build};
 use scip_model::FilePackages;
 use scip_records::Index;
 use scip_symbol::PackageId;
@@ -87,6 +87,7 @@ pub(crate) fn dump_settings(alloc: Global, dialect: Dialect) -> Result<Settings,
         dialect,
         comments: CommentForm::Raw,
         faulty: Faulty::Refuse,
+        duplicates: Duplicates::Refuse,
     })
 }
 

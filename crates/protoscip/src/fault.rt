@@ -43,6 +43,10 @@ pub enum Fault {
     /// The first use that names no type, of the first source that has one, by the place of the whole use.
     #[error("a use that names no type, {0}")]
     Unresolved(FilePlace),
+    /// The same, if it names no type since several of the files declare it which are seen. It never comes if no two files
+    /// may give one name.
+    #[error("a use that names several types, {0}")]
+    Ambiguous(FilePlace),
     /// The index would have more than `MAX_INDEX_LEN` bytes.
     #[error("an index has at most {most} bytes", most = MAX_INDEX_LEN)]
     TooLarge,
@@ -81,6 +85,7 @@ impl From<BuildFault> for Fault {
             BuildFault::Duplicate(first, second) => Fault::Duplicate(first, second),
             BuildFault::MissingImport(place) => Fault::MissingImport(place),
             BuildFault::Unresolved(place) => Fault::Unresolved(place),
+            BuildFault::Ambiguous(place) => Fault::Ambiguous(place),
         }
     }
 }
@@ -97,6 +102,7 @@ impl From<Omission> for Fault {
             Omission::Duplicate(first, second) => Fault::Duplicate(first, second),
             Omission::MissingImport(place) => Fault::MissingImport(place),
             Omission::Unresolved(place) => Fault::Unresolved(place),
+            Omission::Ambiguous(place) => Fault::Ambiguous(place),
         }
     }
 }

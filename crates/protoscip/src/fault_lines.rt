@@ -52,6 +52,7 @@ pub(crate) fn line_with(
         ),
         Fault::MissingImport(place) => line_at_place(alloc, unresolved, tree, place, name),
         Fault::Unresolved(place) => line_at_place(alloc, unresolved, tree, place, name),
+        Fault::Ambiguous(place) => line_at_place(alloc, unresolved, tree, place, name),
         Fault::Spawn
         | Fault::Memory
         | Fault::TooLarge

@@ -135,6 +135,10 @@ impl Fault {
                 let sentence = "no type that this source sees has this name";
                 refused("Unresolved", sentence)
             }
+            Fault::Ambiguous(_) => {
+                let sentence = "several files that this source sees declare a type of this name";
+                refused("Ambiguous", sentence)
+            }
             Fault::TooLarge => {
                 said(
                     "TooLarge",

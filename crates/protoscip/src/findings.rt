@@ -83,6 +83,7 @@ fn place_of<'a>(counter: &mut TreeCounter<'a>, fault: &Fault) -> Option<Place<'a
         Fault::Duplicate(_, second) => Some(place_of_span(counter, second)),
         Fault::MissingImport(place) => Some(place_of_span(counter, place)),
         Fault::Unresolved(place) => Some(place_of_span(counter, place)),
+        Fault::Ambiguous(place) => Some(place_of_span(counter, place)),
         Fault::Spawn
         | Fault::Memory
         | Fault::TooLarge
@@ -155,7 +156,8 @@ fn kind_of(omission: &Omission) -> FindingKind
 {
     match omission {
         Omission::File(..) | Omission::Duplicate(..) => FindingKind::Skipped,
-        Omission::MissingImport(_) | Omission::Unresolved(_) => FindingKind::Unresolved,
+        Omission::MissingImport(_) => FindingKind::Unresolved,
+        Omission::Unresolved(_) | Omission::Ambiguous(_) => FindingKind::Unresolved,
     }
 }
 
@@ -257,6 +259,7 @@ fn is_use_at(place: &FilePlace, fault: &Fault) -> bool
 {
     match fault {
         Fault::Unresolved(other) => is_one_place(place, other),
+        Fault::Ambiguous(other) => is_one_place(place, other),
         _ => false,
     }
 }
@@ -270,6 +273,7 @@ fn tells_same(fault: &Fault, other: &Fault) -> bool
         Fault::Duplicate(_, second) => leaves_out(second.file, other),
         Fault::MissingImport(place) => is_import_at(place, other),
         Fault::Unresolved(place) => is_use_at(place, other),
+        Fault::Ambiguous(place) => is_use_at(place, other),
         _ => false,
     }
 }

@@ -95,6 +95,7 @@ pub(crate) fn sentence_in(tree: &Tree, fault: &Fault) -> &'static str
         | Fault::Lex(..)
         | Fault::Duplicate(..)
         | Fault::Unresolved(_)
+        | Fault::Ambiguous(_)
         | Fault::TooLarge
         | Fault::Write(_)
         | Fault::Read

@@ -65,7 +65,7 @@ fn is_import(omission: &Omission) -> bool
 fn is_use(omission: &Omission) -> bool
     ensures { result ≡ is_use omission.now }
 {
-    matches!(omission, Omission::Unresolved(_))
+    matches!(omission, Omission::Unresolved(_) | Omission::Ambiguous(_))
 }
 
 /// How many files are left out.

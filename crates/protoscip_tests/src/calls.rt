@@ -8,7 +8,7 @@ use index_pool::{NoGate, Workers};
 use proto_lex::Encoding;
 use proto_parse::{CustomOptions, Dialect};
 use protoscip::Fault;
-use scip_build::{Faulty, Run, Settings};
+use scip_build::{Duplicates, Faulty, Run, Settings};
 use scip_model::FilePackages;
 use scip_symbol::PackageId;
 use source_tree::Tree;
@@ -35,6 +35,23 @@ pub(crate) struct Given<'a> {
     pub(crate) registry: &'a Registry,
 }
 
+impl<'a> Given<'a> {
+    /// The same, with this done with names that several files give.
+    pub(crate) fn naming(self, duplicates: Duplicates) -> Given<'a> {
+        let Given {
+            tree,
+            mut settings,
+            registry,
+        } = self;
+        settings.duplicates = duplicates;
+        Given {
+            tree,
+            settings,
+            registry,
+        }
+    }
+}
+
 /// The plain settings, with this unit of columns, and with this done with faults.
 fn settings_of(
     rt: &impl Abort,
@@ -51,6 +68,7 @@ fn settings_of(
         dialect: Dialect::Proto3(CustomOptions::Refuse),
         comments: CommentForm::Raw,
         faulty,
+        duplicates: Duplicates::Refuse,
     })
 }
 

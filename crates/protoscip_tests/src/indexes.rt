@@ -4,7 +4,7 @@ use crate::calls::{COUNTS, Desk, Due, Given, Told, dues_of, is_due, paced_writer
 use index_hooks::Registry;
 use proto_lex::Encoding;
 use protoscip::index_tree;
-use scip_build::Faulty;
+use scip_build::{Duplicates, Faulty};
 use std::alloc::AllocError;
 use std::process::Abort;
 use std::sync::Wait;
@@ -158,10 +158,13 @@ impl<'a, R: Threads + Wait + Abort> Desk<'a, R> {
         Ok(())
     }
 
-    /// Sees that the index of a row's tree has the bytes that are due.
+    /// Sees that the index of a row's tree has the bytes that are due: no name is given twice in it, so they are the same
+    /// where several files may give one.
     fn see_index(&self, registry: &Registry, row: &Row) -> Result<(), AllocError> {
         let given = self.given(registry, row.files, row.encoding, Faulty::Refuse)?;
-        self.see_bytes(&given, row.due)
+        self.see_bytes(&given, row.due)?;
+        let kept = given.naming(Duplicates::Keep);
+        self.see_bytes(&kept, row.due)
     }
 
     /// Sees that of each row.

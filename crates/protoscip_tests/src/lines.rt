@@ -6,6 +6,7 @@ ghost use Rattle.protoscip.specs.FaultLines.{HasFilesOf, HaveFilesOf};
 use crate::calls::{COUNTS, Desk, Given, WANT, see, writer};
 use index_hooks::Registry;
 use proto_lex::Encoding;
+use proto_link::Duplicates;
 use protoscip::{Fault, fault_line, index_tree, told_text};
 use scip_build::{Faulty, Omission};
 use source_tree::Tree;
@@ -18,9 +19,10 @@ use std::thread::Threads;
 /// The most bytes of an index in these tests.
 const ROOM: usize = 4096;
 
-/// Files, as `test_kit` takes them; the line that is said where they are refused; and the text that is said
-/// where faults are skipped.
+/// Whether several files may give one name; files, as `test_kit` takes them; the line that is said where they are
+/// refused; and the text that is said where faults are skipped.
 struct Row {
+    duplicates: Duplicates,
     files: &'static str,
     line: &'static str,
     told: &'static str,
@@ -28,14 +30,16 @@ struct Row {
 
 // The first row reads: in `a.proto`, the value `ZERO` at byte 65 has the full name of the one at byte 42; so the file
 // is left out, and nothing is left.
-static ROWS: [Row; 7] = [
+static ROWS: [Row; 8] = [
     Row {
+        duplicates: Duplicates::Refuse,
         files: "a.proto\nsyntax = \"proto3\";\nmessage M {\n  enum A { ZERO = 0; }\n  enum B { ZERO = 0; }\n}\n",
         line: "protoscip: a.proto@65: Duplicate of a.proto@42",
         told: "protoscip: skipped: a.proto@65: Duplicate of a.proto@42
 protoscip: 0 sources indexed, 1 skipped, 0 imports and 0 uses without a target",
     },
     Row {
+        duplicates: Duplicates::Refuse,
         files: "b.proto\n@|\
 a.proto\nsyntax = \"proto3\";\nmessage {}\n|\
 c.proto\nsyntax = \"proto3\";\n",
@@ -45,6 +49,7 @@ protoscip: skipped: b.proto@0: BadByte
 protoscip: 1 sources indexed, 2 skipped, 0 imports and 0 uses without a target",
     },
     Row {
+        duplicates: Duplicates::Refuse,
         files: "b.proto\nsyntax = \"proto3\";\npackage acme.google;\n|\
 a.proto\nsyntax = \"proto3\";\npackage acme;\nimport \"b.proto\";\nimport \"t.proto\";\nmessage M { google.protobuf.Timestamp t = 1; }\n|\
 t.proto\nsyntax = \"proto3\";\npackage google.protobuf;\nmessage Timestamp {}\n",
@@ -53,6 +58,7 @@ t.proto\nsyntax = \"proto3\";\npackage google.protobuf;\nmessage Timestamp {}\n"
 protoscip: 3 sources indexed, 0 skipped, 0 imports and 1 uses without a target",
     },
     Row {
+        duplicates: Duplicates::Refuse,
         files: "a.proto\nsyntax = \"proto3\";\nimport \"b.proto\";\nmessage M { D d = 1; M m = 2; }\nimport \"e.proto\";\n|\
 b.proto\nsyntax = \"proto3\";\nimport public \"c.proto\";\n|\
 c.proto\nsyntax = \"proto3\";\nimport public \"d.proto\";\n",
@@ -63,6 +69,7 @@ protoscip: no target: c.proto@33: MissingImport
 protoscip: 3 sources indexed, 0 skipped, 2 imports and 1 uses without a target",
     },
     Row {
+        duplicates: Duplicates::Refuse,
         files: "a.proto\nsyntax = \"proto3\";\nimport \"b.proto\";\nmessage A { D d = 1; }\n|\
 b.proto\nsyntax = \"proto3\";\nimport public \"c.proto\";\n|\
 c.proto\nsyntax = \"proto3\";\nimport public \"d.proto\";\nmessage {}\n|\
@@ -74,6 +81,7 @@ protoscip: skipped: c.proto@52: Grammar
 protoscip: 3 sources indexed, 1 skipped, 1 imports and 1 uses without a target",
     },
     Row {
+        duplicates: Duplicates::Refuse,
         files: "a.proto\nsyntax = \"proto3\";\nimport \"t.proto\";\nmessage M { lib.T t = 1; }\nimport \"u.proto\";\n|\
 +t.proto\nsyntax = \"proto3\";\npackage lib;\n// A thing.\nmessage T { int32 n = 1; }\n|\
 +u.proto\nsyntax = \"proto2\";\n|\
@@ -84,12 +92,23 @@ protoscip: skipped: u.proto@9: NotProto3
 protoscip: 1 sources indexed, 1 skipped, 1 imports and 0 uses without a target",
     },
     Row {
+        duplicates: Duplicates::Refuse,
         files: "a.proto\nsyntax = \"proto3\";\nimport \"t.proto\";\nmessage M {}\n|\
 +t.proto\nsyntax = \"proto3\";\nmessage M {}\n",
         line: "protoscip: t.proto@27: Duplicate of a.proto@45",
         told: "protoscip: no target: a.proto@26: MissingImport
 protoscip: skipped: t.proto@27: Duplicate of a.proto@45
 protoscip: 1 sources indexed, 1 skipped, 1 imports and 0 uses without a target",
+    },
+    Row {
+        duplicates: Duplicates::Keep,
+        files: "a.proto\nsyntax = \"proto3\";\nmessage M {}\n|\
+b.proto\nsyntax = \"proto3\";\nmessage M {}\n|\
+c.proto\nsyntax = \"proto3\";\nimport \"a.proto\";\nimport \"b.proto\";\nmessage U { M m = 1; N n = 2; }\n",
+        line: "protoscip: c.proto@67: Ambiguous",
+        told: "protoscip: no target: c.proto@67: Ambiguous
+protoscip: no target: c.proto@76: Unresolved
+protoscip: 3 sources indexed, 0 skipped, 0 imports and 2 uses without a target",
     },
 ];
 
@@ -154,13 +173,15 @@ impl<'a, R: Threads + Wait + Abort> Desk<'a, R> {
     /// Sees what is said of the tree of a row where it is refused.
     fn see_refused(&self, registry: &Registry, row: &Row) -> Result<(), AllocError> {
         let given = self.given(registry, row.files, Encoding::Utf8, Faulty::Refuse)?;
-        self.see_said(&given, row.line, 1)
+        let named = given.naming(row.duplicates);
+        self.see_said(&named, row.line, 1)
     }
 
     /// Sees what is said of it where faults are skipped.
     fn see_skipped(&self, registry: &Registry, row: &Row) -> Result<(), AllocError> {
         let given = self.given(registry, row.files, Encoding::Utf8, Faulty::Skip)?;
-        self.see_said(&given, row.told, 0)
+        let named = given.naming(row.duplicates);
+        self.see_said(&named, row.told, 0)
     }
 
     /// Sees that of each row.

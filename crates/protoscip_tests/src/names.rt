@@ -21,7 +21,7 @@ const OTHER: FilePlace = FilePlace {
 };
 
 /// Faults, their names and their texts.
-const FAULTS: [(Fault, &str, &str); 11] = [
+const FAULTS: [(Fault, &str, &str); 12] = [
     (Fault::Spawn, "Spawn", "a thread could not be started"),
     (Fault::Memory, "Memory", "memory ran out"),
     (
@@ -48,6 +48,11 @@ const FAULTS: [(Fault, &str, &str); 11] = [
         Fault::Unresolved(OTHER),
         "Unresolved",
         "a use that names no type, at byte 5 of file 4",
+    ),
+    (
+        Fault::Ambiguous(PLACE),
+        "Ambiguous",
+        "a use that names several types, at byte 2 of file 1",
     ),
     (
         Fault::TooLarge,

@@ -5,7 +5,7 @@ use crate::faulty_streams::{Dripping, drip, resting};
 use index_hooks::{DocAlways, DocChoice, Registry};
 use proto_lex::Encoding;
 use protoscip::{Fault, Manner, Talk as Held, session, session_in};
-use scip_build::Faulty;
+use scip_build::{Duplicates, Faulty};
 use std::alloc::{AllocError, Global};
 use std::process::Abort;
 use std::sync::Wait;
@@ -122,6 +122,18 @@ impl<'a, R: Threads + Wait + Abort> Desk<'a, R> {
         self.see_talk(&given, &talk, by)
     }
 
+    /// The same, where several files may give one name.
+    fn see_kept_row(&self, registry: &Registry, row: &Row) -> Result<(), AllocError> {
+        let talk = Talk {
+            manner: Manner::Plain,
+            commands: drip(row.commands.as_bytes(), 1, usize::MAX),
+            due: whole(row.answers.as_bytes()),
+        };
+        let given = self.given(registry, row.files, Encoding::Utf8, Faulty::Refuse)?;
+        let kept = given.naming(Duplicates::Keep);
+        self.see_talk(&kept, &talk, &COUNTS)
+    }
+
     /// Sees that the commands of each row are answered as is due.
     fn see_rows(&self, registry: &Registry) -> Result<(), AllocError> {
         for row in &ROWS {
@@ -135,6 +147,21 @@ impl<'a, R: Threads + Wait + Abort> Desk<'a, R> {
 fn answers_to_commands(rt: HostRuntime) -> Result<(), Fail> {
     let registry = Registry::new(rt.alloc());
     Ok(Desk::new(&rt, rt.alloc()).see_rows(&registry)?)
+}
+
+// Two files declare one name, and the third means that which it imports.
+static KEPT: Row<'static> = Row {
+    files: "a.proto\nsyntax = \"proto3\";\npackage p;\nmessage M { message A {} }\n|\
+b.proto\nsyntax = \"proto3\";\npackage p;\nmessage M { message B {} }\n|\
+c.proto\nsyntax = \"proto3\";\npackage p;\nimport \"b.proto\";\nmessage U { M.B x = 1; }\n",
+    commands: "def 3 12 c.proto\nref 2 8 a.proto\nref 2 8 b.proto\nsym b.proto\n",
+    answers: "2 8 2 9 1 b.proto\n= 1\n2 8 2 9 1 a.proto\n= 1\n2 8 2 9 1 b.proto\n3 12 3 13 0 c.proto\n= 2\nscip-protobuf . . . `b.proto`/\nscip-protobuf . . . `b.proto`/p/M#\nscip-protobuf . . . `b.proto`/p/M#B#\nscip-protobuf . . . p/\n= 4\n",
+};
+
+#[test]
+fn answers_about_names_given_twice(rt: HostRuntime) -> Result<(), Fail> {
+    let registry = Registry::new(rt.alloc());
+    Ok(Desk::new(&rt, rt.alloc()).see_kept_row(&registry, &KEPT)?)
 }
 
 // A package is around its messages, and a message around its fields; no kind and no signature is known.

@@ -1,5 +1,5 @@
 -- Nothing is told of a tree without faults, and of no other.
-use Rattle.std.proofs.Common.{◌≡◌, ◌∙◌, ◌⊎◌, inl, inr, ℕ, ◌<◌, List, [], ◌∷◌, length, map, get_or, Option}
+use Rattle.std.proofs.Common.{◌≡◌, ◌≢◌, ◌∙◌, ◌⊎◌, inl, inr, ℕ, ◌<◌, List, [], ◌∷◌, length, map, get_or, Option}
 use Rattle.std.proofs.Common.{Some, None, Result, Ok, Err, Bool, true, false, ap, sym, refl, subst, arith}
 use Rattle.std.specs.List.{Contains, slice_get}
 use Rattle.std.specs.Option.{option_map}
@@ -9,6 +9,7 @@ use Rattle.std.proofs.lemmas.Option.{get_or_from_slice_get}
 use Rattle.basics.proofs.ListLemmas.{in_front, in_nothing}
 use Rattle.proto_visibility.specs.declared.omissions.FileOmission.{FileOmission}
 use Rattle.proto_visibility.specs.declared.omissions.FileOmission.TheVariants as left_for
+use Rattle.proto_visibility.specs.declared.clash.Duplicates.{Duplicates}
 use Rattle.proto_visibility.specs.Files.{File}
 use Rattle.proto_visibility.specs.Absences.{IsUnreadBy}
 use Rattle.proto_visibility.specs.Linked.{CanBeLinked, HaveClearNames}
@@ -16,12 +17,11 @@ use Rattle.proto_visibility.specs.Kept.{Omissions, IsOmission, AreOmissions, Are
 use Rattle.proto_visibility.specs.Kept.{NothingIsLeftOutOfGoodFiles}
 use Rattle.proto_visibility.proofs.KeptLemmas.{clear_pairs, clear_read}
 use Rattle.proto_lex.specs.declared.position.Encoding.{Encoding}
-use Rattle.comment_texts.specs.declared.form.CommentForm.{CommentForm}
 use Rattle.proto_decl.specs.Values.{Seen}
 use Rattle.proto_visibility.specs.Sees.IsReachable.{seen}
 use Rattle.proto_visibility.specs.Sees.SeesBy.{itself}
 use Rattle.index_hooks.specs.declared.choice.Choice.{Choice}
-use Rattle.scip_model.specs.Packages.{Packages}
+use Rattle.scip_model.specs.Packages.{Packages, naming}
 use Rattle.scip_model.specs.Conditions.{AllResolve}
 use Rattle.scip_model.specs.Indexes.{IsIndexOf}
 use Rattle.source_tree.specs.Files.{TreeFile}
@@ -35,11 +35,16 @@ use Rattle.scip_build.specs.Files.{FileContents, ReadFile}
 use Rattle.scip_build.specs.Linking.{facts_in, linked_file, linked_files, HasFault}
 use Rattle.scip_build.specs.Parsed.{IsUnreadable}
 use Rattle.scip_build.specs.ParsedFiles.{AreContentsOf, may_be_unread, HasContents, AreParsedFiles}
-use Rattle.scip_build.specs.Documents.{texts_of, AllAreDecided}
+use Rattle.scip_build.specs.Documents.{texts_of, AllAreDecided, IsToldUse, IsUnresolvedAt}
+use Rattle.proto_visibility.specs.declared.files.FilePlace.{FilePlace}
+use Rattle.proto_visibility.specs.declared.fault.LinkFault.{LinkFault}
+use Rattle.proto_visibility.specs.declared.fault.LinkFault.TheVariants as link
+use Rattle.proto_link.specs.Targets.{MayRefuseUse}
 use Rattle.scip_build.specs.BuildLaws.{SetTheSame, BuiltWhereNothingIsTold}
 use Rattle.scip_build.specs.Keeping.{linked_of}
-use Rattle.scip_build.specs.Kept.{IsTold, NothingIsToldOfAGoodTree}
-use Rattle.scip_build.specs.Kept.IsTold.{of_file, of_import, of_use}
+use Rattle.scip_build.specs.Kept.{IsTold, AreKept, NothingIsToldOfAGoodTree}
+use Rattle.scip_build.specs.Kept.IsTold.{of_file, of_import, of_use, of_ambiguous}
+use Rattle.scip_build.proofs.ToldUseLemmas.{unresolved_there, ambiguous_there}
 use Rattle.scip_build.proofs.LinkingLemmas.{mapped_at}
 use Rattle.scip_build.proofs.KeptTreeLemmas.{all_linked}
 
@@ -52,8 +57,9 @@ abbrev pub all_kept : List File → Omissions
 all_kept files = map not_one files
 
 -- of files without a clash nothing is left out
-pub good_files_are_kept : (files : List File) → HaveClearNames files → AreOmissions files (all_kept files)
-good_files_are_kept files good = record {
+pub good_files_are_kept : (duplicates : Duplicates) (files : List File) → HaveClearNames duplicates files
+    → AreOmissions duplicates files (all_kept files)
+good_files_are_kept duplicates files good = record {
   one_each = length-map files not_one;
   each = λ number omission out.
       by number omission (none_is (slice_get files number) omission (sym (slice_get-map not_one files number) ∙ out));
@@ -65,12 +71,12 @@ good_files_are_kept files good = record {
     none_is (Some file) omission e = same_Some None omission e
 
     by : (number : ℕ) (omission : Option FileOmission) → None ≡ omission
-        → IsOmission files (all_kept files) number omission
+        → IsOmission duplicates files (all_kept files) number omission
     by number omission is =
-        let Is : Option FileOmission → Type 0 = λ o. IsOmission files (all_kept files) number o in
+        let Is : Option FileOmission → Type 0 = λ o. IsOmission duplicates files (all_kept files) number o in
         let kept : Is None = (
-          clear_read files (all_kept files) good number,
-          clear_pairs files (all_kept files) good number,
+          clear_read duplicates files (all_kept files) good number,
+          clear_pairs duplicates files (all_kept files) good number,
         ) in
         subst Is is kept
 
@@ -84,6 +90,12 @@ are_all_kept files k d within =
     file : File
     file = record { path = []; facts = None; is_included = false; is_left_out = false }
 
+-- each use of a source names a type
+all_are_named : (files : List File) → AllResolve files → (p : FilePlace) → IsUnresolvedAt files p → ⊥
+all_are_named files resolve p is =
+    let named = resolve p.file is.facts is.type_use is.source is.known is.listed in
+    is.unresolved named.0 named.1 named.2
+
 -- ---- what is told where nothing is left out
 
 module _ (all : List ReadFile) (omissions : Omissions) (one_each : length omissions ≡ length all)
@@ -96,16 +108,20 @@ module _ (all : List ReadFile) (omissions : Omissions) (one_each : length omissi
   all_are : linked_of omissions all ≡ all
   all_are = all_linked omissions all one_each none
 
-  pub none_told : CanBeLinked (linked_files all) → AllResolve (linked_files all) → (told : Omission)
-      → IsTold all omissions told → ⊥
-  none_told can resolve told (of_file n o at left) = none-some o (sym (kept_at n (Some o) at))
-  none_told can resolve _ (of_import p missing) =
-      let Can : List ReadFile → Type 0 = λ rs. CanBeLinked (linked_files rs) in
+  pub none_told : (duplicates : Duplicates) → CanBeLinked duplicates (linked_files all)
+      → AllResolve (linked_files all) → (told : Omission) → IsTold all omissions told → ⊥
+  none_told duplicates can resolve told (of_file n o at left) = none-some o (sym (kept_at n (Some o) at))
+  none_told duplicates can resolve _ (of_import p missing) =
+      let Can : List ReadFile → Type 0 = λ rs. CanBeLinked duplicates (linked_files rs) in
       (subst Can (sym all_are) can).complete p missing
-  none_told can resolve _ (of_use p is) =
+  none_told duplicates can resolve _ (of_use p is) =
       let Resolve : List ReadFile → Type 0 = λ rs. AllResolve (linked_files rs) in
-      let named = subst Resolve (sym all_are) resolve p.file is.facts is.type_use is.source is.known is.listed in
-      is.unresolved named.0 named.1 named.2
+      let files = linked_files (linked_of omissions all) in
+      all_are_named files (subst Resolve (sym all_are) resolve) p (unresolved_there files p is)
+  none_told duplicates can resolve _ (of_ambiguous p is) =
+      let Resolve : List ReadFile → Type 0 = λ rs. AllResolve (linked_files rs) in
+      let files = linked_files (linked_of omissions all) in
+      all_are_named files (subst Resolve (sym all_are) resolve) p (ambiguous_there files p is)
 
 none_listed : (told : List Omission) → ((fault : Omission) → Contains told fault → ⊥) → told ≡ []
 none_listed [] none = refl
@@ -130,31 +146,34 @@ fault_of all number unread =
         (fault, record { parsed_file = parsed_file; numbered = at; unread = is })
 
 -- what is left out is told
-pub left_told : (all : List ReadFile) (omissions : Omissions) → AreOmissions (linked_files all) omissions → (number : ℕ)
-    (omission : Option FileOmission) → slice_get omissions number ≡ Some omission
+pub left_told : (duplicates : Duplicates) (all : List ReadFile) (omissions : Omissions)
+    → AreOmissions duplicates (linked_files all) omissions → (number : ℕ) (omission : Option FileOmission)
+    → slice_get omissions number ≡ Some omission
     → (omission ≡ None) ⊎ ((told : Omission) × IsTold all omissions told)
-left_told all omissions are number None at = inl refl
-left_told all omissions are number (Some left_for.Broken) at =
+left_told duplicates all omissions are number None at = inl refl
+left_told duplicates all omissions are number (Some left_for.Broken) at =
     let fault = fault_of all number (are.each number (Some left_for.Broken) at) in
     inr (omitted.File number fault.0, of_file number left_for.Broken at (fault.0, fault.1, refl))
-left_told all omissions are number (Some (left_for.Duplicate first second)) at =
+left_told duplicates all omissions are number (Some (left_for.Duplicate first second)) at =
     inr (omitted.Duplicate first second, of_file number (left_for.Duplicate first second) at refl)
 
 module _ (good : NothingIsLeftOutOfGoodFiles) where
   pub nothing_is_told : NothingIsToldOfAGoodTree
-  nothing_is_told all parsed told kept = (where_none, where_good)
+  nothing_is_told duplicates all parsed told kept = (where_none, where_good)
     where
       one_each : length kept.omissions ≡ length all
       one_each = kept.left_out.one_each ∙ length-map all linked_file
 
-      where_good : CanBeLinked (linked_files all) × AllResolve (linked_files all) → told ≡ []
+      where_good : CanBeLinked duplicates (linked_files all) × AllResolve (linked_files all) → told ≡ []
       where_good (can, resolve) =
-          let clear : HaveClearNames (linked_files all) = record { read = can.read; clear = can.clear } in
-          let all_kept = (good (linked_files all) kept.omissions kept.left_out).1 clear in
+          let clear : HaveClearNames duplicates (linked_files all) =
+          record { read = can.read; clear = can.clear } in
+          let all_kept = (good duplicates (linked_files all) kept.omissions kept.left_out).1 clear in
           none_listed told (λ fault there.
-          none_told all kept.omissions one_each all_kept can resolve fault ((kept.told_is.exact fault).0 there))
+          none_told all kept.omissions one_each all_kept duplicates can resolve fault
+          ((kept.told_is.exact fault).0 there))
 
-      where_none : told ≡ [] → CanBeLinked (linked_files all) × AllResolve (linked_files all)
+      where_none : told ≡ [] → CanBeLinked duplicates (linked_files all) × AllResolve (linked_files all)
       where_none none = (
         record {
           read = clear.read;
@@ -164,16 +183,33 @@ module _ (good : NothingIsLeftOutOfGoodFiles) where
         λ source facts type_use is known listed.
             elim (decided source facts type_use is known listed) [
               | inl resolved ↦ resolved
-              | inr unresolved ↦ absurd
-                  (none_is _ (of_use (record { file = source; span = type_use.span }) (rw all_are (record {
-                    source = is;
-                    facts = facts;
-                    known = known;
-                    type_use = type_use;
-                    listed = listed;
-                    stands = refl;
-                    unresolved = unresolved;
-                  }))))
+              | inr unresolved ↦ absurd (
+                  let place : FilePlace = record { file = source; span = type_use.span } in
+                  let At : (LinkFault → Type 0) = λ of.
+                  MayRefuseUse (linked_files all) source type_use of → of ≢ link.Memory
+                  → IsToldUse (linked_files all) place of in
+                  let told_of : (of : LinkFault) → At of = λ of refused no_memory. (
+                    is,
+                    record {
+                      facts = facts;
+                      known = known;
+                      among = record {
+                        type_use = type_use;
+                        listed = listed;
+                        is = record { refused = refused; of_use = no_memory };
+                      };
+                    },
+                  ) in
+                  let Told : LinkFault → Type 0 = λ of.
+                  IsToldUse (linked_files (linked_of kept.omissions all)) place of in
+                  let there : (of : LinkFault) → IsToldUse (linked_files all) place of → Told of = λ of.
+                  subst (λ (rs : List ReadFile). IsToldUse (linked_files rs) place of) (sym all_are) in
+                  none_is _ (of_use place (there (link.Unresolved place) (told_of (link.Unresolved place) (
+                    unresolved,
+                    λ ambiguous. none_is _ (of_ambiguous place (there (link.Ambiguous place)
+                        (told_of (link.Ambiguous place) (ambiguous, refl) (λ e. cc)))),
+                    refl,
+                  ) (λ e. cc)))))
             ],
       )
         where
@@ -185,7 +221,7 @@ module _ (good : NothingIsLeftOutOfGoodFiles) where
           all_kept : AreAllKept kept.omissions
           all_kept k d within =
               let at = slice_get-get_or kept.omissions k d within in
-              elim (left_told all kept.omissions kept.left_out k (get_or kept.omissions k d) at) [
+              elim (left_told duplicates all kept.omissions kept.left_out k (get_or kept.omissions k d) at) [
                 | inl is ↦ is
                 | inr told_ ↦ absurd (none_is told_.0 told_.1)
               ]
@@ -193,8 +229,8 @@ module _ (good : NothingIsLeftOutOfGoodFiles) where
           all_are : linked_of kept.omissions all ≡ all
           all_are = all_linked kept.omissions all one_each all_kept
 
-          clear : HaveClearNames (linked_files all)
-          clear = (good (linked_files all) kept.omissions kept.left_out).0 all_kept
+          clear : HaveClearNames duplicates (linked_files all)
+          clear = (good duplicates (linked_files all) kept.omissions kept.left_out).0 all_kept
 
           decided : AllAreDecided (linked_files all)
           decided = subst (λ (rs : List ReadFile). AllAreDecided (linked_files rs)) (kept.kept ∙ all_are) kept.decided
@@ -204,7 +240,7 @@ module _ (good : NothingIsLeftOutOfGoodFiles) where
   module _ (allows : Seen → Choice → Type 0) (settings another : Settings) (tree : List TreeFile)
       (same : SetTheSame settings another) (all : List ReadFile)
       (read : AreParsedFiles settings.faulty settings.dialect settings.comments allows tree all)
-      (clear : HaveClearNames (linked_files all)) where
+      (clear : HaveClearNames settings.duplicates (linked_files all)) where
     may_be : (faulty : Faulty) → may_be_unread faulty true ≡ true
     may_be Refuse = refl
     may_be Skip = refl
@@ -262,34 +298,42 @@ module _ (good : NothingIsLeftOutOfGoodFiles) where
     read = read_by allows settings another tree same is.all is.read (record { read = can.read; clear = can.clear });
     of_files = record {
       parsed = is.of_files.parsed;
-      kept = is.of_files.kept;
-      clear = is.of_files.clear;
-      refused = λ refuse. record { none = none; all_kept = all_are; linked = can; resolved = good_tree.1 };
+      kept = subst (λ d. AreKept d is.all is.of_files.parsed built.told) same.duplicates is.of_files.kept;
+      clear = subst (λ d. HaveClearNames d (linked_files is.of_files.parsed)) same.duplicates is.of_files.clear;
+      refused = λ refuse. record {
+        none = none;
+        all_kept = all_are;
+        linked = subst (λ d. CanBeLinked d (linked_files is.all)) same.duplicates can;
+        resolved = good_tree.1;
+      };
       choices = is.of_files.choices;
+      repeated = is.of_files.repeated;
+      are_repeated = is.of_files.are_repeated;
       index = index;
     };
   }
     where
-      good_tree : CanBeLinked (linked_files is.all) × AllResolve (linked_files is.all)
-      good_tree = (nothing_is_told is.all is.of_files.parsed built.told is.of_files.kept).0 none
+      good_tree : CanBeLinked settings.duplicates (linked_files is.all) × AllResolve (linked_files is.all)
+      good_tree = (nothing_is_told settings.duplicates is.all is.of_files.parsed built.told is.of_files.kept).0 none
 
-      can : CanBeLinked (linked_files is.all)
+      can : CanBeLinked settings.duplicates (linked_files is.all)
       can = good_tree.0
 
       all_are : is.of_files.parsed ≡ is.all
       all_are =
           let kept = is.of_files.kept in
           kept.kept ∙ all_linked kept.omissions is.all (kept.left_out.one_each ∙ length-map is.all linked_file)
-          ((good (linked_files is.all) kept.omissions kept.left_out).1
+          ((good settings.duplicates (linked_files is.all) kept.omissions kept.left_out).1
           (record { read = can.read; clear = can.clear }))
 
       index : IsIndexOf (linked_files is.of_files.parsed) (texts_of is.of_files.parsed) built.choices
-          another.package another.encoding another.project_root built.index
+          (naming another.package is.of_files.repeated) another.encoding another.project_root built.index
       index =
           let fs = linked_files is.of_files.parsed in
           let ts = texts_of is.of_files.parsed in
           let Is : Packages → Encoding → List ℕ → Type 0 =
-          λ ids encoding root. IsIndexOf fs ts built.choices ids encoding root built.index in
+          λ ids encoding root. IsIndexOf fs ts built.choices (naming ids is.of_files.repeated) encoding root built.index
+          in
           subst (λ x. Is another.package another.encoding x) same.project_root
           (subst (λ x. Is another.package x settings.project_root) same.encoding
           (subst (λ x. Is x settings.encoding settings.project_root) same.id is.of_files.index))

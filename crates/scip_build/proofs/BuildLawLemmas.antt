@@ -7,14 +7,16 @@ use Rattle.std.proofs.lemmas.Option.{same_Some, slice_get_within}
 use Rattle.std.proofs.lemmas.List.Elements.{All-head, All-tail, Contains-push, Contains-append_left}
 use Rattle.std.proofs.lemmas.List.Elements.{Contains-append_right}
 use Rattle.basics.proofs.ListLemmas.{item_at}
-use Rattle.comment_texts.specs.declared.form.CommentForm.{CommentForm}
 use Rattle.proto_parse.specs.dialect.Dialect.{Dialect}
 use Rattle.proto_lex.specs.declared.span.Span.{Span}
 use Rattle.proto_decl.specs.Facts.{Facts}
 use Rattle.proto_decl.specs.Values.{Seen}
 use Rattle.proto_decl.specs.declared.uses.Use.{Use}
 use Rattle.index_hooks.specs.declared.choice.Choice.{Choice}
+use Rattle.proto_visibility.specs.declared.clash.Duplicates.{Duplicates}
 use Rattle.proto_visibility.specs.Files.{File, HaveOrigins}
+use Rattle.proto_visibility.specs.declared.clash.Duplicates.TheVariants as names
+use Rattle.proto_visibility.specs.Clashes.{Clash, NoClash}
 use Rattle.proto_link.specs.Laws.{OneRefusal}
 use Rattle.proto_visibility.specs.Linked.{CanBeLinked, MayRefuse}
 use Rattle.proto_visibility.specs.Linked.MayRefuse.{broken_file, clashing, absent_import, lacks_memory}
@@ -23,6 +25,7 @@ use Rattle.proto_visibility.specs.declared.fault.LinkFault.{LinkFault}
 use Rattle.proto_visibility.specs.declared.fault.LinkFault.TheVariants as link
 use Rattle.scip_model.specs.Conditions.{IsResolved, AllResolve, IsFirstUnresolved, UsesResolve}
 use Rattle.source_tree.specs.Files.{TreeFile}
+use Rattle.scip_build.specs.declared.settings.Settings.{Settings}
 use Rattle.scip_build.specs.declared.faulty.Faulty.{Faulty}
 use Rattle.scip_build.specs.declared.faulty.Faulty.TheVariants.{Refuse}
 use Rattle.scip_build.specs.declared.fault.FileFault.{FileFault}
@@ -33,7 +36,7 @@ use Rattle.scip_build.specs.Files.{FileContents}
 use Rattle.scip_build.specs.ParsedFiles.{HasContents, AreParsedFiles, IsFirstFaulty}
 use Rattle.scip_build.specs.Linking.{linked_files}
 use Rattle.scip_build.specs.Linking.MayRefuseParsed.{is_unread, is_duplicate, is_missing}
-use Rattle.scip_build.specs.Documents.{IsLeastUnresolved}
+use Rattle.scip_build.specs.Documents.{IsAmbiguousAt, IsLeastUnresolved}
 use Rattle.scip_build.specs.Builds.{OfParsed, IsBuildFault}
 use Rattle.scip_build.specs.Laws.{OneFileFault, OneFirstFaulty, OneLinking, NoParsedFilesWhereFaulty}
 use Rattle.scip_build.specs.BuildLaws.{cause_of, BuiltHasNoFault, OneBuildFault}
@@ -63,6 +66,13 @@ one_first P (z ∷ before) x behind [] y others all also not nor same =
 one_first P (z ∷ before) x behind (w ∷ other) y others all also not nor same =
     one_first P before x behind other y others (All-tail P z before all) (All-tail P w other also) not nor
     (ap tail_of same)
+
+-- files without a clash have no first one
+no_clash : (duplicates : Duplicates) (files : List File) (first second : FilePlace) → NoClash duplicates files
+    → Clash duplicates files first second → ⊥
+no_clash names.Refuse files first second clear clash = clear clash.earlier clash.later clash.exclude
+no_clash names.Keep files first second clear clash =
+    clear clash.number clash.is_reachable clash.clash.earlier clash.clash.later clash.clash.exclude
 
 module _ (files : List File) where
   -- a file of which each use names a type has no first one that doesn't
@@ -112,94 +122,115 @@ module _ (files : List File) where
       let span = one_span place.file place.span other.span first.first (subst There (sym file) second.first) in
       λ i. record { file = file i; span = span i }
 
+  -- why the use at a place is refused
+  abbrev IsReasonAt : FilePlace → LinkFault → Type 0
+  IsReasonAt place fault = ((fault ≡ link.Unresolved place) × (IsAmbiguousAt files place → ⊥))
+      ⊎ ((fault ≡ link.Ambiguous place) × IsAmbiguousAt files place)
+
+  one_reason : (place other : FilePlace) (a b : LinkFault) → place ≡ other → IsReasonAt place a → IsReasonAt other b
+      → a ≡ b
+  one_reason place other a b same (inl first) (inl second) = first.0 ∙ (ap link.Unresolved same ∙ sym second.0)
+  one_reason place other a b same (inl first) (inr second) =
+      absurd (first.1 (subst (IsAmbiguousAt files) (sym same) second.1))
+  one_reason place other a b same (inr first) (inl second) =
+      absurd (second.1 (subst (IsAmbiguousAt files) same first.1))
+  one_reason place other a b same (inr first) (inr second) = first.0 ∙ (ap link.Ambiguous same ∙ sym second.0)
+
+module _ (duplicates : Duplicates) (files : List File) where
   -- why the files make no index
   abbrev Refuses : LinkFault → Type 0
-  Refuses fault = MayRefuse files fault
-      ⊎ (CanBeLinked files × (place : FilePlace) × (fault ≡ link.Unresolved place) × IsLeastUnresolved files place)
+  Refuses fault = MayRefuse duplicates files fault
+      ⊎ (CanBeLinked duplicates files × (place : FilePlace) × IsReasonAt files place fault
+      × IsLeastUnresolved files place)
 
-  linked_is_linked : CanBeLinked files → (fault : LinkFault) → MayRefuse files fault → fault ≢ link.Memory → ⊥
+  linked_is_linked : CanBeLinked duplicates files → (fault : LinkFault) → MayRefuse duplicates files fault
+      → fault ≢ link.Memory → ⊥
   linked_is_linked can _ (broken_file {number = number} wrong) other = can.read number wrong.unread
-  linked_is_linked can _ (clashing read clash) other = can.clear clash.earlier clash.later clash.exclude
+  linked_is_linked can _ (clashing {first = first} {second = second} read clash) other =
+      no_clash duplicates files first second can.clear clash
   linked_is_linked can _ (absent_import {place = place} read clear absent) other = can.complete place absent.missing
   linked_is_linked can _ lacks_memory other = absurd (other refl)
 
   one_cause : OneRefusal → HaveOrigins files → (a b : LinkFault) → Refuses a → Refuses b → a ≢ link.Memory
       → b ≢ link.Memory → a ≡ b
-  one_cause one origins a b (inl first) (inl second) not nor = one files origins a b first second not nor
+  one_cause one origins a b (inl first) (inl second) not nor = one duplicates files origins a b first second not nor
   one_cause one origins a b (inl first) (inr second) not nor = absurd (linked_is_linked second.0 a first not)
   one_cause one origins a b (inr first) (inl second) not nor = absurd (linked_is_linked first.0 b second nor)
   one_cause one origins a b (inr first) (inr second) not nor =
-      first.2 ∙ (ap link.Unresolved (one_place first.1 second.1 first.3 second.3) ∙ sym second.2)
+      one_reason files first.1 second.1 a b (one_place files first.1 second.1 first.3 second.3) first.2 second.2
 
   -- and why they do make one
-  none_refuses : CanBeLinked files → AllResolve files → (fault : LinkFault) → Refuses fault → fault ≢ link.Memory → ⊥
+  none_refuses : CanBeLinked duplicates files → AllResolve files → (fault : LinkFault) → Refuses fault
+      → fault ≢ link.Memory → ⊥
   none_refuses can all fault (inl first) not = linked_is_linked can fault first not
-  none_refuses can all fault (inr later) not = all_resolve all later.1 later.3
+  none_refuses can all fault (inr later) not = all_resolve files all later.1 later.3
 
 -- a fault's reason: the first source that can't be read, or one of files that were read
-abbrev Reason : Dialect → CommentForm → (allows : Seen → Choice → Type 0) → List TreeFile → LinkFault → Type 0
-Reason dialect form allows tree cause =
-    ((number : ℕ) × (fault : FileFault) × (cause ≡ link.Broken number) × IsFirstFaulty dialect tree number fault)
-    ⊎ OfParsed dialect form allows tree (λ parsed. Refuses (linked_files parsed) cause)
+abbrev Reason : Settings → (allows : Seen → Choice → Type 0) → List TreeFile → LinkFault → Type 0
+Reason settings allows tree cause =
+    ((number : ℕ) × (fault : FileFault) × (cause ≡ link.Broken number)
+    × IsFirstFaulty settings.dialect tree number fault)
+    ⊎ OfParsed settings.dialect settings.comments allows tree
+    (λ parsed. Refuses settings.duplicates (linked_files parsed) cause)
 
-reason : (faulty : Faulty) (dialect : Dialect) (form : CommentForm) (allows : Seen → Choice → Type 0)
-    (tree : List TreeFile) (workers : ℕ) (fault : BuildFault)
-    → IsBuildFault allows faulty dialect form tree workers fault
-    → cause_of fault ≢ link.Memory → (faulty ≡ Refuse) × Reason dialect form allows tree (cause_of fault)
-reason faulty dialect form allows tree workers build.Spawn is not = absurd (not refl)
-reason faulty dialect form allows tree workers build.Memory is not = absurd (not refl)
-reason faulty dialect form allows tree workers (build.File number fault) (refuse, inl first) not =
+reason : (settings : Settings) (allows : Seen → Choice → Type 0) (tree : List TreeFile) (workers : ℕ)
+    (fault : BuildFault) → IsBuildFault allows settings tree workers fault
+    → cause_of fault ≢ link.Memory → (settings.faulty ≡ Refuse) × Reason settings allows tree (cause_of fault)
+reason settings allows tree workers build.Spawn is not = absurd (not refl)
+reason settings allows tree workers build.Memory is not = absurd (not refl)
+reason settings allows tree workers (build.File number fault) (refuse, inl first) not =
     (refuse, inl (number, fault, refl, first))
-reason faulty dialect form allows tree workers (build.File number fault)
+reason settings allows tree workers (build.File number fault)
     (refuse, inr (parsed, are, is_unread broken has)) not = (refuse, inr (parsed, are, inl (broken_file broken)))
-reason faulty dialect form allows tree workers (build.Duplicate first second) (refuse, (parsed, are, is_duplicate is))
+reason settings allows tree workers (build.Duplicate first second) (refuse, (parsed, are, is_duplicate is))
     not = (refuse, inr (parsed, are, inl is))
-reason faulty dialect form allows tree workers (build.MissingImport place) (refuse, (parsed, are, is_missing is)) not =
+reason settings allows tree workers (build.MissingImport place) (refuse, (parsed, are, is_missing is)) not =
     (refuse, inr (parsed, are, inl is))
-reason faulty dialect form allows tree workers (build.Unresolved place) (refuse, is) not =
-    (refuse, inr (is.0, is.1, inr (is.2.0, place, refl, is.2.1)))
+reason settings allows tree workers (build.Unresolved place) (refuse, is) not =
+    (refuse, inr (is.0, is.1, inr (is.2.0, place, inl (refl, is.2.2), is.2.1)))
+reason settings allows tree workers (build.Ambiguous place) (refuse, is) not =
+    (refuse, inr (is.0, is.1, inr (is.2.0, place, inr (refl, is.2.2), is.2.1)))
 
 -- two faults of a build have one cause
 abbrev OneCause : (allows others : Seen → Choice → Type 0) → Type 0
 OneCause allows others =
-    (faulty : Faulty) (dialect : Dialect) (form : CommentForm) (tree : List TreeFile) (workers more : ℕ)
-    (fault other : BuildFault)
-    → IsBuildFault allows faulty dialect form tree workers fault
-    → IsBuildFault others faulty dialect form tree more other
+    (settings : Settings) (tree : List TreeFile) (workers more : ℕ) (fault other : BuildFault)
+    → IsBuildFault allows settings tree workers fault → IsBuildFault others settings tree more other
     → cause_of fault ≢ link.Memory → cause_of other ≢ link.Memory → cause_of fault ≡ cause_of other
 
 module _ (allows others : Seen → Choice → Type 0) (one_linking : OneLinking allows others)
     (none : NoParsedFilesWhereFaulty allows) (none_others : NoParsedFilesWhereFaulty others) where
   pub built_has_no_fault : BuiltHasNoFault allows others
   built_has_no_fault settings tree workers built fault is wrong not =
-      let why = reason settings.faulty settings.dialect settings.comments others tree workers fault wrong not in
+      let why = reason settings others tree workers fault wrong not in
       let Read : Faulty → Type 0 = λ f. AreParsedFiles f settings.dialect settings.comments allows tree is.all in
       let read : Read Refuse = subst Read why.0 is.read in
       let good = is.of_files.refused why.0 in
       elim why.1 [
         | inl first ↦ none settings.dialect settings.comments tree is.all first.0 first.1 read first.3
         | inr later ↦ (
-            let Here : List File → Type 0 = λ files. Refuses files (cause_of fault) in
+            let Here : List File → Type 0 = λ files. Refuses settings.duplicates files (cause_of fault) in
             let here = subst Here (sym
             (one_linking Refuse Refuse settings.dialect settings.comments tree is.all later.0 read later.1)) later.2 in
-            none_refuses (linked_files is.all) good.linked good.resolved (cause_of fault) here not)
+            none_refuses settings.duplicates (linked_files is.all) good.linked good.resolved (cause_of fault) here not)
       ]
 
   cause_is_one : OneFirstFaulty → OneRefusal → OneCause allows others
-  cause_is_one one_first one_refusal faulty dialect form tree workers more fault other is also not nor =
-      both (reason faulty dialect form allows tree workers fault is not).1
-      (reason faulty dialect form others tree more other also nor).1
+  cause_is_one one_first one_refusal settings tree workers more fault other is also not nor =
+      both (reason settings allows tree workers fault is not).1 (reason settings others tree more other also nor).1
     where
-      both : Reason dialect form allows tree (cause_of fault) → Reason dialect form others tree (cause_of other)
+      both : Reason settings allows tree (cause_of fault) → Reason settings others tree (cause_of other)
           → cause_of fault ≡ cause_of other
-      both (inl a) (inl b) = a.2 ∙ (ap link.Broken (one_first dialect tree a.0 b.0 a.1 b.1 a.3 b.3) ∙ sym b.2)
-      both (inl a) (inr b) = absurd (none_others dialect form tree b.0 a.0 a.1 b.1 a.3)
-      both (inr a) (inl b) = absurd (none dialect form tree a.0 b.0 b.1 a.1 b.3)
+      both (inl a) (inl b) = a.2 ∙ (ap link.Broken (one_first settings.dialect tree a.0 b.0 a.1 b.1 a.3 b.3) ∙ sym b.2)
+      both (inl a) (inr b) = absurd (none_others settings.dialect settings.comments tree b.0 a.0 a.1 b.1 a.3)
+      both (inr a) (inl b) = absurd (none settings.dialect settings.comments tree a.0 b.0 b.1 a.1 b.3)
       both (inr a) (inr b) =
-          let Here : List File → Type 0 = λ files. Refuses files (cause_of other) in
-          let here = subst Here (sym (one_linking Refuse Refuse dialect form tree a.0 b.0 a.1 b.1)) b.2 in
-          let origins = have_origins a.0 (whole_at Refuse dialect form allows tree a.0 a.1) in
-          one_cause (linked_files a.0) one_refusal origins (cause_of fault) (cause_of other) a.2 here not nor
+          let Here : List File → Type 0 = λ files. Refuses settings.duplicates files (cause_of other) in
+          let here = subst Here
+          (sym (one_linking Refuse Refuse settings.dialect settings.comments tree a.0 b.0 a.1 b.1)) b.2 in
+          let origins = have_origins a.0 (whole_at Refuse settings.dialect settings.comments allows tree a.0 a.1) in
+          one_cause settings.duplicates (linked_files a.0) one_refusal origins (cause_of fault) (cause_of other) a.2
+          here not nor
 
 -- the file that is named can't be read, for the fault that is told
 record IsNamed (dialect : Dialect) (tree : List TreeFile) (number : ℕ) (fault : FileFault) : Type 0 where
@@ -207,30 +238,31 @@ record IsNamed (dialect : Dialect) (tree : List TreeFile) (number : ℕ) (fault 
   numbered : slice_get tree number ≡ Some file
   unreadable : IsUnreadable dialect file.bytes fault
 
-named : (faulty : Faulty) (dialect : Dialect) (form : CommentForm) (allows : Seen → Choice → Type 0)
-    (tree : List TreeFile) (workers number : ℕ) (fault : FileFault)
-    → IsBuildFault allows faulty dialect form tree workers (build.File number fault) → IsNamed dialect tree number fault
-named faulty dialect form allows tree workers number fault (refuse, inl first) =
+named : (settings : Settings) (allows : Seen → Choice → Type 0) (tree : List TreeFile) (workers number : ℕ)
+    (fault : FileFault) → IsBuildFault allows settings tree workers (build.File number fault)
+    → IsNamed settings.dialect tree number fault
+named settings allows tree workers number fault (refuse, inl first) =
     record { file = first.file; numbered = first.numbered; unreadable = first.faulty.unreadable }
-named faulty dialect form allows tree workers number fault (refuse, inr (parsed, are, is_unread broken has)) =
+named settings allows tree workers number fault (refuse, inr (parsed, are, is_unread broken has)) =
     let within : number < length tree =
     rw (sym are.one_each) (slice_get_within parsed number has.parsed_file has.numbered) in
     let there = item_at tree number within in
-    let Contents : Result FileContents FileFault → Type 0 = HasContents Refuse dialect form allows number there.0 in
+    let Contents : Result FileContents FileFault → Type 0 =
+    HasContents Refuse settings.dialect settings.comments allows number there.0 in
     let contents = subst Contents has.unread (are.each number there.0 has.parsed_file there.1 has.numbered).contents in
     record { file = there.0; numbered = there.1; unreadable = contents.1 }
 
 -- two faults of the file that is named are one
-file_fault_is_one : OneFileFault → (allows others : Seen → Choice → Type 0) (faulty : Faulty) (dialect : Dialect)
-    (form : CommentForm) (tree : List TreeFile) (workers more number : ℕ) (fault other : FileFault)
-    → IsBuildFault allows faulty dialect form tree workers (build.File number fault)
-    → IsBuildFault others faulty dialect form tree more (build.File number other) → fault ≡ other
-file_fault_is_one one allows others faulty dialect form tree workers more number fault other is also =
-    let first = named faulty dialect form allows tree workers number fault is in
-    let second = named faulty dialect form others tree more number other also in
+file_fault_is_one : OneFileFault → (allows others : Seen → Choice → Type 0) (settings : Settings)
+    (tree : List TreeFile) (workers more number : ℕ) (fault other : FileFault)
+    → IsBuildFault allows settings tree workers (build.File number fault)
+    → IsBuildFault others settings tree more (build.File number other) → fault ≡ other
+file_fault_is_one one allows others settings tree workers more number fault other is also =
+    let first = named settings allows tree workers number fault is in
+    let second = named settings others tree more number other also in
     let same : first.file ≡ second.file = same_Some first.file second.file (sym first.numbered ∙ second.numbered) in
-    let Of : TreeFile → Type 0 = λ file. IsUnreadable dialect file.bytes other in
-    one dialect first.file.bytes fault other first.unreadable (subst Of (sym same) second.unreadable)
+    let Of : TreeFile → Type 0 = λ file. IsUnreadable settings.dialect file.bytes other in
+    one settings.dialect first.file.bytes fault other first.unreadable (subst Of (sym same) second.unreadable)
 
 -- the fault that a cause says, but of a file
 of_cause : LinkFault → BuildFault
@@ -238,6 +270,7 @@ of_cause (link.Broken number) = build.Memory
 of_cause (link.Duplicate first second) = build.Duplicate first second
 of_cause (link.MissingImport place) = build.MissingImport place
 of_cause (link.Unresolved place) = build.Unresolved place
+of_cause (link.Ambiguous place) = build.Ambiguous place
 of_cause link.Memory = build.Memory
 
 -- a fault is the one that its cause says, or that of a file
@@ -250,6 +283,7 @@ by_cause (build.File number of) not = inr (number, of, refl)
 by_cause (build.Duplicate first second) not = inl refl
 by_cause (build.MissingImport place) not = inl refl
 by_cause (build.Unresolved place) not = inl refl
+by_cause (build.Ambiguous place) not = inl refl
 
 -- the fault that its cause says hasn't the cause of one of a file
 of_no_file : (fault other : BuildFault) (number : ℕ) (of : FileFault) → cause_of fault ≢ link.Memory
@@ -263,20 +297,20 @@ same_number e = cc
 same_file_fault : {n m : ℕ} {f g : FileFault} → n ≡ m → f ≡ g → build.File n f ≡ build.File m g
 same_file_fault e h = cc
 
-module _ (one : OneFileFault) (allows others : Seen → Choice → Type 0) (faulty : Faulty) (dialect : Dialect)
-    (form : CommentForm) (tree : List TreeFile) (workers more : ℕ) where
+module _ (one : OneFileFault) (allows others : Seen → Choice → Type 0) (settings : Settings) (tree : List TreeFile)
+    (workers more : ℕ) where
   -- two faults of files with one cause are one
   of_files : (number again : ℕ) (fault other : FileFault)
-      → IsBuildFault allows faulty dialect form tree workers (build.File number fault)
-      → IsBuildFault others faulty dialect form tree more (build.File again other)
+      → IsBuildFault allows settings tree workers (build.File number fault)
+      → IsBuildFault others settings tree more (build.File again other)
       → number ≡ again → build.File number fault ≡ build.File again other
   of_files number again fault other is also same =
-      let here = subst (λ (n : ℕ). IsBuildFault allows faulty dialect form tree workers (build.File n fault)) same is in
+      let here = subst (λ (n : ℕ). IsBuildFault allows settings tree workers (build.File n fault)) same is in
       same_file_fault same
-      (file_fault_is_one one allows others faulty dialect form tree workers more again fault other here also)
+      (file_fault_is_one one allows others settings tree workers more again fault other here also)
 
-  of_one_cause : (fault other : BuildFault) → IsBuildFault allows faulty dialect form tree workers fault
-      → IsBuildFault others faulty dialect form tree more other
+  of_one_cause : (fault other : BuildFault) → IsBuildFault allows settings tree workers fault
+      → IsBuildFault others settings tree more other
       → cause_of fault ≢ link.Memory → cause_of other ≢ link.Memory → cause_of fault ≡ cause_of other
       → fault ≡ other
   of_one_cause fault other is also not nor same = elim (by_cause fault not) [
@@ -287,8 +321,8 @@ module _ (one : OneFileFault) (allows others : Seen → Choice → Type 0) (faul
     | inr of ↦ elim (by_cause other nor) [
       | inl says ↦ absurd (of_no_file other fault of.0 of.1 nor says of.2 (sym same))
       | inr more_of ↦ of.2 ∙ (of_files of.0 more_of.0 of.1 more_of.1
-          (subst (IsBuildFault allows faulty dialect form tree workers) of.2 is)
-          (subst (IsBuildFault others faulty dialect form tree more) more_of.2 also)
+          (subst (IsBuildFault allows settings tree workers) of.2 is)
+          (subst (IsBuildFault others settings tree more) more_of.2 also)
           (same_number (sym (ap cause_of of.2) ∙ (same ∙ ap cause_of more_of.2))) ∙ sym more_of.2)
     ]
   ]
@@ -296,7 +330,7 @@ module _ (one : OneFileFault) (allows others : Seen → Choice → Type 0) (faul
 module _ (allows others : Seen → Choice → Type 0) (one_linking : OneLinking allows others)
     (none : NoParsedFilesWhereFaulty allows) (none_others : NoParsedFilesWhereFaulty others) where
   pub one_build_fault : OneFirstFaulty → OneRefusal → OneFileFault → OneBuildFault allows others
-  one_build_fault one_first one_refusal one faulty dialect form tree workers more fault other is also not nor =
-      of_one_cause one allows others faulty dialect form tree workers more fault other is also not nor
-      (cause_is_one allows others one_linking none none_others one_first one_refusal faulty dialect form tree workers
-      more fault other is also not nor)
+  one_build_fault one_first one_refusal one settings tree workers more fault other is also not nor =
+      of_one_cause one allows others settings tree workers more fault other is also not nor
+      (cause_is_one allows others one_linking none none_others one_first one_refusal settings tree workers more fault
+      other is also not nor)

@@ -1,5 +1,5 @@
 -- What is built by the same choices is one, and where one choice alone may come for what is seen, the choices are.
-use Rattle.std.proofs.Common.{◌≡◌, ◌∙◌, ℕ, ◌<◌, List, [], ◌∷◌, ◌++◌, length, map, Option, Some, None, Result, Ok, Err, ap}
+use Rattle.std.proofs.Common.{◌≡◌, ◌∙◌, ℕ, ◌<◌, List, [], ◌∷◌, ◌++◌, length, map, Some, Result, Ok, Err, ap}
 use Rattle.std.proofs.Common.{sym}
 use Rattle.std.proofs.Common.{refl, subst}
 use Rattle.std.specs.declared.cmp.Ordering.{Ordering}
@@ -20,12 +20,13 @@ use Rattle.proto_lex.specs.declared.position.Encoding.{Encoding}
 use Rattle.proto_visibility.specs.declared.omissions.FileOmission.{FileOmission}
 use Rattle.proto_visibility.specs.declared.omissions.FileOmission.TheVariants as left_for
 use Rattle.proto_visibility.specs.Files.{File}
-use Rattle.proto_visibility.specs.Absences.{IsUnread, IsMissing}
+use Rattle.proto_visibility.specs.Absences.{IsMissing}
 use Rattle.proto_visibility.specs.Kept.{Omissions, IsOmission, AreOmissions, kept_of, left_of}
 use Rattle.proto_visibility.specs.Kept as link
 use Rattle.basics.proofs.FirstLemmas.{contained}
 use Rattle.proto_link.specs.Laws.{OneOmissionList}
-use Rattle.scip_model.specs.Packages.{Packages}
+use Rattle.scip_model.specs.Packages.{Packages, naming}
+use Rattle.scip_model.specs.Repeated.{AreRepeated}
 use Rattle.index_hooks.specs.declared.choice.Choice.{Choice}
 use Rattle.scip_model.specs.Chosen.{Chosen}
 use Rattle.scip_model.specs.Indexes.{IsIndexOf}
@@ -42,16 +43,18 @@ use Rattle.scip_build.specs.Parsed.{IsUnreadable}
 use Rattle.scip_build.specs.Files.{FileContents, ReadFile}
 use Rattle.scip_build.specs.ParsedFiles.{seen_of, AreChosen, AreContentsOf, HasContents, AreParsedFiles}
 use Rattle.scip_build.specs.Linking.{linked_file, linked_files, choices_in, choices_of, HasFault}
-use Rattle.scip_build.specs.Documents.{text_in, text_of, texts_of, IsUnresolvedAt}
+use Rattle.scip_build.specs.Documents.{text_in, text_of, texts_of, IsToldUse}
 use Rattle.scip_build.specs.Keeping.{as_left_out, linked_of}
 use Rattle.scip_build.specs.Kept.{IsLeftFor, place_among_all, IsTold, Key, told_key, key_cmp}
-use Rattle.scip_build.specs.Kept.IsTold.{of_file, of_import, of_use}
+use Rattle.scip_build.specs.Kept.IsTold.{of_file, of_import, of_use, of_ambiguous}
+use Rattle.proto_visibility.specs.declared.fault.LinkFault.TheVariants as link_fault
 use Rattle.scip_build.specs.Builds.{IsBuilt}
 use Rattle.scip_build.specs.Laws.{OneListOfFacts, NoFactsWhereUnreadable, OneFileFault}
 use Rattle.scip_build.specs.BuildLaws.{SetTheSame, AllowOne, OneBuiltOfChoices, OneBuilt}
 use Rattle.scip_model.proofs.IndexSortLemmas.{one-ascending}
 use Rattle.scip_build.proofs.LinkingLemmas.{same_mapped, one_linking}
 use Rattle.scip_build.proofs.ReadyLemmas.{whole_at, have_origins}
+use Rattle.scip_build.proofs.SameNamesLemmas.{same_index, same_names}
 use Rattle.scip_build.proofs.KeptTreeLemmas.{map_kept, map_left}
 use Rattle.scip_build.proofs.KeptToldLemmas.{key_total, of_same, one_told}
 use Rattle.scip_build.proofs.BuildLawGoodTreeLemmas.{fault_of}
@@ -192,10 +195,12 @@ module _ (one : OneListOfFacts) (apart : NoFactsWhereUnreadable) (one_fault : On
 
   same_omissions : a ≡ b
   same_omissions =
-      let Are : List File → Type 0 = λ files. AreOmissions files b in
-      one_list (linked_files all)
+      let Are : List File → Type 0 = λ files. AreOmissions settings.duplicates files b in
+      let also_left = subst (λ d. AreOmissions d (linked_files again) b) (sym same.duplicates)
+      also.of_files.kept.left_out in
+      one_list settings.duplicates (linked_files all)
       (have_origins all (whole_at settings.faulty settings.dialect settings.comments allows tree all is.read)) a b
-      is.of_files.kept.left_out (subst Are (sym all_linked) also.of_files.kept.left_out)
+      is.of_files.kept.left_out (subst Are (sym all_linked) also_left)
 
   kept_alike : {Y : Type 0} (f : ReadFile → Y) (g : Y → Y) → IsSaidOfLeft f g → map f all ≡ map f again
       → map f is.of_files.parsed ≡ map f also.of_files.parsed
@@ -215,10 +220,15 @@ module _ (one : OneListOfFacts) (apart : NoFactsWhereUnreadable) (one_fault : On
       (same_texts apart allows others settings.faulty another.faulty settings.dialect settings.comments tree all again
       is.read read_again)
 
+  -- what is repeated of the files of the one is what is of those of the other
+  names_are : AreRepeated (linked_files is.of_files.parsed) also.of_files.repeated
+  names_are = subst (λ fs. AreRepeated fs also.of_files.repeated) (sym same_files) also.of_files.are_repeated
+
   index_is : built.choices ≡ other.choices → built.index ≡ other.index
   index_is choices =
+      let names = also.of_files.repeated in
       let Is : List File → List (List ℕ) → Chosen → Packages → Encoding → List ℕ → Type 0 =
-      λ fs ts chosen ids encoding root. IsIndexOf fs ts chosen ids encoding root other.index in
+      λ fs ts chosen ids encoding root. IsIndexOf fs ts chosen (naming ids names) encoding root other.index in
       let files = linked_files is.of_files.parsed in
       let texts = texts_of is.of_files.parsed in
       let lines = texts_of also.of_files.parsed in
@@ -232,8 +242,12 @@ module _ (one : OneListOfFacts) (apart : NoFactsWhereUnreadable) (one_fault : On
       let e = subst (λ x. Is files texts built.choices settings.package x another.project_root) (sym same.encoding) p in
       let r = subst (λ x. Is files texts built.choices settings.package settings.encoding x) (sym same.project_root) e
       in
-      one_index files texts built.choices settings.package settings.encoding settings.project_root built.index
-      other.index is.of_files.index r
+      let n = same_index settings.package files texts built.choices settings.encoding names is.of_files.repeated
+      (same_names files names is.of_files.repeated names_are is.of_files.are_repeated) settings.project_root
+      other.index r
+      in
+      one_index files texts built.choices (naming settings.package is.of_files.repeated) settings.encoding
+      settings.project_root built.index other.index is.of_files.index n
 
   -- ---- what is told
 
@@ -249,7 +263,7 @@ module _ (one : OneListOfFacts) (apart : NoFactsWhereUnreadable) (one_fault : On
       (subst (λ c. IsUnreadable c x.0.bytes more) (sym same.dialect) bytes)
 
   of_left : (number : ℕ) (omission : FileOmission) (told : Omission) → slice_get b number ≡ Some (Some omission)
-      → IsOmission (linked_files again) b number (Some omission) → IsLeftFor all number omission told
+      → IsOmission another.duplicates (linked_files again) b number (Some omission) → IsLeftFor all number omission told
       → IsTold again b told
   of_left number left_for.Broken told at out left =
       let fault = fault_of again number out in
@@ -274,8 +288,12 @@ module _ (one : OneListOfFacts) (apart : NoFactsWhereUnreadable) (one_fault : On
       subst (IsTold again b) (ap omitted.MissingImport (sym place)) (of_import p missing_too)
   told_too _ (of_use p is_use) =
       let place : place_among_all a p ≡ place_among_all b p = ap (λ o. place_among_all o p) same_omissions in
-      let use_too = subst (λ fs. IsUnresolvedAt fs p) kept_files is_use in
+      let use_too = subst (λ fs. IsToldUse fs p (link_fault.Unresolved p)) kept_files is_use in
       subst (IsTold again b) (ap omitted.Unresolved (sym place)) (of_use p use_too)
+  told_too _ (of_ambiguous p is_use) =
+      let place : place_among_all a p ≡ place_among_all b p = ap (λ o. place_among_all o p) same_omissions in
+      let use_too = subst (λ fs. IsToldUse fs p (link_fault.Ambiguous p)) kept_files is_use in
+      subst (IsTold again b) (ap omitted.Ambiguous (sym place)) (of_ambiguous p use_too)
 
   keys_there : (key : Key) → Contains (map told_key built.told) key → Contains (map told_key other.told) key
   keys_there key there =
@@ -303,6 +321,7 @@ set_the_same settings another same = record {
   encoding = sym same.encoding;
   dialect = sym same.dialect;
   comments = sym same.comments;
+  duplicates = sym same.duplicates;
 }
 
 module _ (one : OneListOfFacts) (apart : NoFactsWhereUnreadable) (one_fault : OneFileFault) (one_list : OneOmissionList)
@@ -338,7 +357,7 @@ module _ (one : OneListOfFacts) (apart : NoFactsWhereUnreadable) (one_fault : On
           let told_y = (also.of_files.kept.told_is.exact y).0 (contained other.told k y and) in
           let too = told_too one apart one_fault one_list one_index allows others settings another tree built
           other same is also x told_x in
-          one_told also.all also.of_files.kept.omissions also.of_files.kept.left_out x y too told_y
+          one_told another.duplicates also.all also.of_files.kept.omissions also.of_files.kept.left_out x y too told_y
           (of_same (told_key x) (told_key y) key)
 
       count : length built.told ≡ length other.told

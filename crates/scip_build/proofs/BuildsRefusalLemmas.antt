@@ -1,10 +1,9 @@
 -- A refusal of a stage is one of the whole.
-use Rattle.std.proofs.Common.{◌≡◌, ℕ, List, Result, Ok, Err, sym, ◌∙◌, inl, inr}
+use Rattle.std.proofs.Common.{◌≡◌, ℕ, List, Result, Ok, Err, sym, ◌∙◌, subst, inl, inr}
 use Rattle.std.specs.Prelude.{MatchResult}
-use Rattle.comment_texts.specs.declared.form.CommentForm.{CommentForm}
-use Rattle.proto_parse.specs.dialect.Dialect.{Dialect}
 use Rattle.proto_decl.specs.Values.{Seen}
 use Rattle.index_hooks.specs.declared.choice.Choice.{Choice}
+use Rattle.proto_visibility.specs.declared.clash.Duplicates.{Duplicates}
 use Rattle.proto_visibility.specs.Files.{File}
 use Rattle.proto_visibility.specs.Linked.{CanBeLinked}
 use Rattle.scip_records.specs.declared.records.Document.{Document}
@@ -18,7 +17,7 @@ use Rattle.scip_build.specs.declared.fault.BuildFault.TheVariants as build
 use Rattle.scip_build.specs.Files.{ReadFile}
 use Rattle.scip_build.specs.ParsedFiles.{AreParsedFiles, MayRefuseFiles}
 use Rattle.scip_build.specs.Linking.{linked_files, MayRefuseParsed}
-use Rattle.scip_build.specs.Documents.{MayRefuseDocuments}
+use Rattle.scip_build.specs.Documents.{IsToldFor, MayRefuseDocuments, MayRefuseLinked}
 use Rattle.scip_build.specs.Making.{MayRefuseMaking, MayRefuseSkipping}
 use Rattle.scip_build.specs.ParsedFiles.MayRefuseFiles.{files_lack_thread, files_lack_memory, first_is_faulty}
 use Rattle.scip_build.specs.Linking.MayRefuseParsed.{linking_lacks_memory, is_unread, is_duplicate, is_missing}
@@ -29,20 +28,32 @@ use Rattle.scip_build.specs.Forms.{IsMadeOf, IsLinkedAndMade}
 use Rattle.scip_build.specs.Builds.{IsBuildFault}
 
 -- why files that were read can't be linked
-pub of_linking : (parsed : List ReadFile) (workers : ℕ) (fault : BuildFault) → MayRefuseParsed parsed fault
-    → MayRefuseMaking parsed workers fault
-of_linking parsed workers _ linking_lacks_memory = tt
-of_linking parsed workers _ (is_unread broken has) = is_unread broken has
-of_linking parsed workers _ (is_duplicate is) = is_duplicate is
-of_linking parsed workers _ (is_missing is) = is_missing is
+pub of_linking : (duplicates : Duplicates) (parsed : List ReadFile) (workers : ℕ) (fault : BuildFault)
+    → MayRefuseParsed duplicates parsed fault → MayRefuseMaking duplicates parsed workers fault
+of_linking duplicates parsed workers _ linking_lacks_memory = tt
+of_linking duplicates parsed workers _ (is_unread broken has) = is_unread broken has
+of_linking duplicates parsed workers _ (is_duplicate is) = is_duplicate is
+of_linking duplicates parsed workers _ (is_missing is) = is_missing is
 
--- why their documents aren't made
-of_documents : (faulty : Faulty) (parsed : List ReadFile) (workers : ℕ) (fault : BuildFault)
-    → CanBeLinked (linked_files parsed) → MayRefuseDocuments faulty (linked_files parsed) workers fault
-    → MayRefuseMaking parsed workers fault
-of_documents faulty parsed workers _ linked (documents_lack_thread more) = more
-of_documents faulty parsed workers _ linked documents_lack_memory = tt
-of_documents faulty parsed workers _ linked (first_is_unresolved refuse least) = (linked, least)
+-- why nothing is made of linked files
+of_linked : (duplicates : Duplicates) (faulty : Faulty) (parsed : List ReadFile) (workers : ℕ) (told : BuildFault)
+    → CanBeLinked duplicates (linked_files parsed) → MayRefuseLinked faulty (linked_files parsed) workers told
+    → MayRefuseMaking duplicates parsed workers told
+of_linked duplicates faulty parsed workers told linked is = by is.fault is.refused is.told_for
+  where
+    files : List File
+    files = linked_files parsed
+
+    by : (fault : BuildFault) → MayRefuseDocuments faulty files workers fault → IsToldFor files fault told
+        → MayRefuseMaking duplicates parsed workers told
+    by _ (documents_lack_thread more) same = subst (MayRefuseMaking duplicates parsed workers) (sym same) more
+    by _ documents_lack_memory same = subst (MayRefuseMaking duplicates parsed workers) (sym same) tt
+    by _ (first_is_unresolved refuse least) (inl plain) =
+        subst (MayRefuseMaking duplicates parsed workers) (sym plain.0) (linked, least, plain.1)
+    by _ (first_is_unresolved refuse least) (inr (inl ambiguous)) =
+        subst (MayRefuseMaking duplicates parsed workers) (sym ambiguous.0) (linked, least, ambiguous.1)
+    by _ (first_is_unresolved refuse least) (inr (inr memory)) =
+        subst (MayRefuseMaking duplicates parsed workers) (sym memory) tt
 
 pub not_both : (faulty : Faulty) → faulty ≡ Skip → faulty ≡ Refuse → ⊥
 not_both faulty skip refuse = apart (sym skip ∙ refuse)
@@ -51,44 +62,49 @@ not_both faulty skip refuse = apart (sym skip ∙ refuse)
     apart e = cc
 
 -- the same, where faults are skipped
-pub of_skipping : (faulty : Faulty) (files : List File) (workers : ℕ) (fault : BuildFault) → faulty ≡ Skip
-    → MayRefuseDocuments faulty files workers fault → MayRefuseSkipping workers fault
-of_skipping faulty files workers _ skip (documents_lack_thread more) = skipping_lacks_thread more
-of_skipping faulty files workers _ skip documents_lack_memory = skipping_lacks_memory
-of_skipping faulty files workers _ skip (first_is_unresolved refuse least) = absurd (not_both faulty skip refuse)
+pub of_skipping : (faulty : Faulty) (files : List File) (workers : ℕ) (told : BuildFault) → faulty ≡ Skip
+    → MayRefuseLinked faulty files workers told → MayRefuseSkipping workers told
+of_skipping faulty files workers told skip is = by is.fault is.refused is.told_for
+  where
+    by : (fault : BuildFault) → MayRefuseDocuments faulty files workers fault → IsToldFor files fault told
+        → MayRefuseSkipping workers told
+    by _ (documents_lack_thread more) same = subst (MayRefuseSkipping workers) (sym same) (skipping_lacks_thread more)
+    by _ documents_lack_memory same = subst (MayRefuseSkipping workers) (sym same) skipping_lacks_memory
+    by _ (first_is_unresolved refuse least) told_for = absurd (not_both faulty skip refuse)
 
 -- files that were linked
 pub linked_of : {Out : Type 0} (Is : Document → Out → Type 0) (parsed : List ReadFile) (settings : Settings)
-    (workers : ℕ) → CanBeLinked (linked_files parsed) → (result : Result (Made Out) BuildFault)
+    (workers : ℕ) → CanBeLinked settings.duplicates (linked_files parsed) → (result : Result (Made Out) BuildFault)
     → MatchResult result (IsMadeOf Is parsed settings)
-    (MayRefuseDocuments settings.faulty (linked_files parsed) workers)
-    → MatchResult result (IsLinkedAndMade Is parsed settings) (MayRefuseMaking parsed workers)
+    (MayRefuseLinked settings.faulty (linked_files parsed) workers)
+    → MatchResult result (IsLinkedAndMade Is parsed settings) (MayRefuseMaking settings.duplicates parsed workers)
 linked_of Is parsed settings workers linked (Ok made) is = record { linked = linked; made_of = is }
 linked_of Is parsed settings workers linked (Err fault) is =
-    of_documents settings.faulty parsed workers fault linked is
+    of_linked settings.duplicates settings.faulty parsed workers fault linked is
 
-module _ (allows : Seen → Choice → Type 0) (faulty : Faulty) (dialect : Dialect) (form : CommentForm)
-    (tree : List TreeFile) (workers : ℕ) where
+module _ (allows : Seen → Choice → Type 0) (settings : Settings) (tree : List TreeFile) (workers : ℕ) where
   -- why files aren't read
-  pub of_parsed_file : (fault : BuildFault) → MayRefuseFiles faulty dialect tree workers fault
-      → IsBuildFault allows faulty dialect form tree workers fault
+  pub of_parsed_file : (fault : BuildFault) → MayRefuseFiles settings.faulty settings.dialect tree workers fault
+      → IsBuildFault allows settings tree workers fault
   of_parsed_file _ (files_lack_thread more) = more
   of_parsed_file _ files_lack_memory = tt
   of_parsed_file _ (first_is_faulty refuse first) = (refuse, inl first)
 
   -- why files that were read make no index
-  pub of_making : faulty ≡ Refuse → (parsed : List ReadFile) → AreParsedFiles Refuse dialect form allows tree parsed
-      → (fault : BuildFault) → MayRefuseMaking parsed workers fault
-      → IsBuildFault allows faulty dialect form tree workers fault
+  pub of_making : settings.faulty ≡ Refuse → (parsed : List ReadFile)
+      → AreParsedFiles Refuse settings.dialect settings.comments allows tree parsed
+      → (fault : BuildFault) → MayRefuseMaking settings.duplicates parsed workers fault
+      → IsBuildFault allows settings tree workers fault
   of_making refuse parsed are build.Spawn is = is
   of_making refuse parsed are build.Memory is = tt
   of_making refuse parsed are (build.File number fault) is = (refuse, inr (parsed, are, is))
   of_making refuse parsed are (build.Duplicate first second) is = (refuse, (parsed, are, is))
   of_making refuse parsed are (build.MissingImport place) is = (refuse, (parsed, are, is))
   of_making refuse parsed are (build.Unresolved place) is = (refuse, (parsed, are, is))
+  of_making refuse parsed are (build.Ambiguous place) is = (refuse, (parsed, are, is))
 
   -- why what is kept of them makes none
   pub of_kept : (fault : BuildFault) → MayRefuseSkipping workers fault
-      → IsBuildFault allows faulty dialect form tree workers fault
+      → IsBuildFault allows settings tree workers fault
   of_kept _ (skipping_lacks_thread more) = more
   of_kept _ skipping_lacks_memory = tt

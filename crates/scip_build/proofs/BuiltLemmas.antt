@@ -6,6 +6,7 @@ use Rattle.std.specs.List.Sorted.{IsStrictlySortedBy}
 use Rattle.std.proofs.lemmas.List.{length-map}
 use Rattle.basics.proofs.ListLemmas.{in_nothing}
 use Rattle.proto_visibility.specs.declared.files.FilePlace.{FilePlace}
+use Rattle.proto_visibility.specs.declared.clash.Duplicates.{Duplicates}
 use Rattle.proto_visibility.specs.Files.{HaveOwnPaths}
 use Rattle.proto_visibility.specs.Absences.{AreMissing}
 use Rattle.proto_visibility.specs.Linked.{HaveClearNames}
@@ -27,7 +28,8 @@ use Rattle.scip_build.specs.Keeping.{linked_of}
 use Rattle.scip_build.specs.Ready.{AreOfTree, ArePresent}
 use Rattle.scip_build.specs.Documents.{IsUnresolvedAt}
 use Rattle.scip_build.specs.Kept.{told_cmp, AreKept}
-use Rattle.scip_build.specs.Telling.{AreInOrder, all_told, AreKeptFiles}
+use Rattle.scip_build.specs.Telling.{AreInOrder, all_told, AreKeptFiles, AreUseFaults}
+use Rattle.proto_visibility.specs.declared.fault.LinkFault.{LinkFault}
 use Rattle.scip_build.specs.Forms.{IsMadeOf, IsLinkedAndMade, IsBuiltOfInForm, IsBuiltInForm}
 use Rattle.scip_build.proofs.BuildsRefusalLemmas.{not_both}
 use Rattle.scip_build.proofs.KeptTreeLemmas.{linked_is, linked_tree, all_linked}
@@ -45,16 +47,16 @@ pub whole_built : {Out : Type 0} (Is : Document → Out → Type 0) (all : List 
     → IsLinkedAndMade Is all settings made → IsBuiltOfInForm Is all settings made.choices told made.parts
 whole_built {Out} Is all settings made told refuse none of =
     let files = linked_files all in
-    let clear : HaveClearNames files = of.made_of.clear in
+    let clear : HaveClearNames settings.duplicates files = of.made_of.clear in
     let in_form = of.made_of.in_form in
     let omissions : Omissions = all_kept files in
     let one_each : length omissions ≡ length all =
-    (good_files_are_kept files clear).one_each ∙ length-map all linked_file in
+    (good_files_are_kept settings.duplicates files clear).one_each ∙ length-map all linked_file in
     let resolved = (in_form.made.refused refuse).0 in
-    let nothing = none_told all omissions one_each (are_all_kept files) of.linked resolved in
-    let kept : AreKept all all [] = record {
+    let nothing = none_told all omissions one_each (are_all_kept files) settings.duplicates of.linked resolved in
+    let kept : AreKept settings.duplicates all all [] = record {
       omissions = omissions;
-      left_out = good_files_are_kept files clear;
+      left_out = good_files_are_kept settings.duplicates files clear;
       kept = sym (all_linked omissions all one_each (are_all_kept files));
       decided = in_form.made.decided;
       told_is = record {
@@ -66,10 +68,12 @@ whole_built {Out} Is all settings made told refuse none of =
       index = in_form.index;
       built = record {
         parsed = all;
-        kept = subst (AreKept all all) (sym none) kept;
+        kept = subst (AreKept settings.duplicates all all) (sym none) kept;
         clear = clear;
         refused = λ _. record { none = none; all_kept = refl; linked = of.linked; resolved = resolved };
         choices = of.made_of.choices;
+        repeated = of.made_of.repeated;
+        are_repeated = of.made_of.are_repeated;
         index = in_form.made.is;
       };
       are = in_form.are;
@@ -78,38 +82,40 @@ whole_built {Out} Is all settings made told refuse none of =
 -- ---- where they are skipped
 
 -- the files that are linked are those of a tree, without a clash
-pub record AreKeptOf (all parsed : List ReadFile) : Type 0 where
+pub record AreKeptOf (duplicates : Duplicates) (all parsed : List ReadFile) : Type 0 where
   pub tree : AreOfTree parsed
-  pub clear : HaveClearNames (linked_files parsed)
+  pub clear : HaveClearNames duplicates (linked_files parsed)
 
-pub kept_ready : KeptFilesAreClear → (all parsed : List ReadFile) (omissions : Omissions) → AreOfTree all
-    → ArePresent all → AreOmissions (linked_files all) omissions → parsed ≡ linked_of omissions all
-    → AreKeptOf all parsed
-kept_ready kept_clear all parsed omissions tree present are kept =
-    let (own, clear) = kept_clear (linked_files all) omissions are tree.own in
+pub kept_ready : KeptFilesAreClear → (duplicates : Duplicates) (all parsed : List ReadFile) (omissions : Omissions)
+    → AreOfTree all → ArePresent all → AreOmissions duplicates (linked_files all) omissions
+    → parsed ≡ linked_of omissions all → AreKeptOf duplicates all parsed
+kept_ready kept_clear duplicates all parsed omissions tree present are kept =
+    let (own, clear) = kept_clear duplicates (linked_files all) omissions are tree.own in
     let files = linked_is omissions all in
-    let of : AreKeptOf all (linked_of omissions all) = record {
+    let of : AreKeptOf duplicates all (linked_of omissions all) = record {
       tree = linked_tree all omissions tree present (subst HaveOwnPaths (sym files) own);
-      clear = subst HaveClearNames (sym files) clear;
+      clear = subst (HaveClearNames duplicates) (sym files) clear;
     } in
-    subst (AreKeptOf all) (sym kept) of
+    subst (AreKeptOf duplicates all) (sym kept) of
 
 pub kept_built : {Out : Type 0} (Is : Document → Out → Type 0) (all parsed : List ReadFile) (settings : Settings)
     (made : Made Out) (numbers : List ℕ) (left once : List Omission) (missing : List FilePlace)
-    → settings.faulty ≡ Skip → (of_files : AreKeptFiles all parsed numbers left)
+    (faults : List LinkFault) → settings.faulty ≡ Skip → (of_files : AreKeptFiles settings.duplicates all parsed numbers left)
     → IsMadeOf Is parsed settings made → AreMissing (linked_files parsed) missing
-    → AreInOrder (all_told left numbers missing made.unresolved_uses) once
-    → IsBuiltOfInForm Is all settings made.choices once made.parts
-kept_built Is all parsed settings made numbers left once missing skip kept of missing_are order =
+    → AreUseFaults (linked_files parsed) made.unresolved_uses faults
+    → AreInOrder (all_told left numbers missing faults) once → IsBuiltOfInForm Is all settings made.choices once made.parts
+kept_built Is all parsed settings made numbers left once missing faults skip kept of missing_are faults_are order =
     let omissions = kept.omissions in
     let missing_too = subst (λ (rs : List ReadFile). AreMissing (linked_files rs) missing) kept.kept missing_are in
     let Gaps : List ReadFile → Type 0 = λ rs. (place : FilePlace)
     → Contains made.unresolved_uses place ↔ IsUnresolvedAt (linked_files rs) place in
     let unresolved_too = subst Gaps kept.kept of.in_form.made.unresolved in
-    let order_too = subst (λ ns. AreInOrder (all_told left ns missing made.unresolved_uses) once)
+    let faults_too = subst (λ (rs : List ReadFile). AreUseFaults (linked_files rs) made.unresolved_uses faults) kept.kept
+    faults_are in
+    let order_too = subst (λ ns. AreInOrder (all_told left ns missing faults) once)
     kept.numbers_are order in
-    let own = own_keys all omissions kept.left_out left missing made.unresolved_uses kept.left_are missing_too
-    unresolved_too in
+    let own = own_keys settings.duplicates all omissions kept.left_out left missing made.unresolved_uses faults
+    kept.left_are missing_too unresolved_too faults_too in
     record {
       index = of.in_form.index;
       built = record {
@@ -121,11 +127,10 @@ kept_built Is all parsed settings made numbers left once missing skip kept of mi
           decided = of.in_form.made.decided;
           told_is = record {
             exact = λ fault. (
-              λ there. is_told all omissions kept.left_out left missing made.unresolved_uses kept.left_are missing_too
-                  unresolved_too
-                  fault ((order_too.same own fault).0 there),
-              λ is. (order_too.same own fault).1 (told_is all omissions kept.left_out left missing made.unresolved_uses
-                  kept.left_are missing_too unresolved_too fault is),
+              λ there. is_told settings.duplicates all omissions kept.left_out left missing made.unresolved_uses faults
+                  kept.left_are missing_too unresolved_too faults_too fault ((order_too.same own fault).0 there),
+              λ is. (order_too.same own fault).1 (told_is settings.duplicates all omissions kept.left_out left missing
+                  made.unresolved_uses faults kept.left_are missing_too unresolved_too faults_too fault is),
             );
             ascends = order_too.rising;
           };
@@ -133,6 +138,8 @@ kept_built Is all parsed settings made numbers left once missing skip kept of mi
         clear = of.clear;
         refused = λ refuse. absurd (not_both settings.faulty skip refuse);
         choices = of.choices;
+        repeated = of.repeated;
+        are_repeated = of.are_repeated;
         index = of.in_form.made.is;
       };
       are = of.in_form.are;

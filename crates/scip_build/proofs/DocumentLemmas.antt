@@ -10,7 +10,7 @@ use Rattle.basics.proofs.FirstLemmas.{contained, at_contained}
 use Rattle.index_pool.specs.Phase.{AnswersEach, IsLeastFault}
 use Rattle.scip_records.specs.declared.records.Document.{Document}
 use Rattle.scip_model.specs.Chosen.{Chosen}
-use Rattle.scip_model.specs.Conditions.{IsFirstUnresolved, UsesResolve}
+use Rattle.scip_model.specs.Conditions.{UsesResolve}
 use Rattle.scip_model.specs.Indexes.{IsAscendingListOf, IsDocumentOf, HasDocument, HaveDocuments, document_cmp}
 use Rattle.scip_model.specs.declared.source_document.SourceDocument.{SourceDocument}
 use Rattle.scip_model.proofs.ConditionUnresolvedLemmas.{all_resolve}

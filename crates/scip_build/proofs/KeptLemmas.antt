@@ -12,6 +12,8 @@ use Rattle.scip_records.specs.declared.records.Document.{Document}
 use Rattle.scip_records.specs.declared.records.Index.{Index}
 use Rattle.scip_model.specs.Chosen.{Chosen}
 use Rattle.scip_model.specs.Conditions.{AllResolve}
+use Rattle.scip_model.specs.Packages.{Packages, naming}
+use Rattle.scip_model.specs.Repeated.{AreRepeated, HasRepeated, Naming}
 use Rattle.scip_model.specs.Indexes.{metadata_of, AreExternals}
 use Rattle.scip_model.specs.Laws.{OneDocument}
 use Rattle.scip_model.specs.declared.source_document.SourceDocument.{SourceDocument}
@@ -29,6 +31,7 @@ use Rattle.scip_build.specs.Linking.{linked_files, choices_of}
 use Rattle.scip_build.specs.Making.{IsMade}
 use Rattle.scip_build.specs.Forms.{index_of, ArePartsOf, GivesKept, AreMade, IsMadeInForm, IsMadeOf}
 use Rattle.scip_build.specs.Made.{place_in, unresolved_from}
+use Rattle.scip_build.specs.Repeating.{with_packages}
 use Rattle.scip_build.proofs.DocumentLemmas.{document_in, made_at, is_source_at, list_of, each_of, resolves, refused_of}
 use Rattle.scip_build.proofs.UnresolvedUseLemmas.{use_decided, unresolved_at, unresolved_listed, place_at, listed_from}
 use Rattle.scip_build.proofs.UnresolvedUseLemmas.{none_from}
@@ -236,16 +239,24 @@ parts_of {Out} Is parsed files chosen settings outs parts unresolved_uses are te
       };
     }
 
--- of files that were linked
-pub in_form_of : {Out : Type 0} (Is : Document → Out → Type 0) (parsed : List ReadFile) (files : List File)
-    (settings : Settings) (made : Made Out) → files ≡ linked_files parsed → HaveClearNames files
-    → made.choices ≡ map choices_of parsed
-    → IsMadeInForm Is parsed files made.choices settings made.parts made.unresolved_uses
+-- of files that were linked, by the packages that their symbols were made from
+pub in_form_of : {Out : Type 0} (Is : Document → Out → Type 0) (parsed : List ReadFile) (named : Naming)
+    (settings : Settings) (made : Made Out) → named.files ≡ linked_files parsed
+    → named.ids ≡ naming settings.package named.ids.repeated → HasRepeated named
+    → HaveClearNames settings.duplicates (linked_files parsed) → made.choices ≡ map choices_of parsed
+    → IsMadeInForm Is parsed named.files made.choices (with_packages settings named.ids) made.parts made.unresolved_uses
     → IsMadeOf Is parsed settings made
-in_form_of Is parsed files settings made linked clear choices is =
-    let In : List File → Type 0 = λ fs. IsMadeInForm Is parsed fs made.choices settings made.parts
-    made.unresolved_uses in
-    record { clear = subst HaveClearNames linked clear; choices = choices; in_form = subst In linked is }
+in_form_of Is parsed named settings made linked ids has clear choices is =
+    let In : List File → Packages → Type 0 = λ fs ps. IsMadeInForm Is parsed fs made.choices (with_packages settings ps)
+    made.parts made.unresolved_uses in
+    let named_so = subst (In named.files) ids is in
+    record {
+      clear = clear;
+      choices = choices;
+      repeated = named.ids.repeated;
+      are_repeated = subst (λ fs. AreRepeated fs named.ids.repeated) linked has;
+      in_form = subst (λ fs. In fs (naming settings.package named.ids.repeated)) linked named_so;
+    }
 
 -- ---- where the documents are kept as they are, the parts are the index
 

@@ -1,20 +1,25 @@
 -- What is told of a tree: just what is left out and what has no target, each once.
-use Rattle.std.proofs.Common.{◌≡◌, ◌∙◌, ◌↔◌, inl, inr, ℕ, ◌+◌, ◌-◌, ◌<◌, ◌++◌, Bool, true, false, true≢false, List, []}
+use Rattle.std.proofs.Common.{◌≡◌, ◌∙◌, ◌↔◌, inl, inr, ℕ, ◌-◌, ◌++◌, false, true≢false, List, []}
 use Rattle.std.proofs.Common.{length, map, Option, Some, None, Result, Err, ap, sym, refl, subst, arith}
-use Rattle.std.specs.List.{Contains, slice_get}
+use Rattle.std.specs.List.{Contains, flat_map, slice_get}
 use Rattle.std.specs.declared.cmp.Ordering.TheVariants.{Equal}
-use Rattle.std.specs.Ordering.{nat_cmp, bool_cmp, ordering_then, is_lt}
-use Rattle.std.specs.Cmp.{IsTotalOrder, IsStrictWeakOrder, bool_cmp_total}
+use Rattle.std.specs.Ordering.{nat_cmp, ordering_then, is_lt}
+use Rattle.std.specs.Cmp.{IsTotalOrder, IsStrictWeakOrder}
 use Rattle.std.proofs.lemmas.Cmp.{on_total, then_total, nat_cmp_total}
 use Rattle.std.proofs.lemmas.List.Sorted.{ranks_by}
 use Rattle.std.proofs.lemmas.Map.Lookups.{exact_unsigned}
 use Rattle.std.proofs.lemmas.Bool.{cases_lt}
 use Rattle.std.proofs.lemmas.Option.{same_Some, slice_get_within}
 use Rattle.std.proofs.lemmas.List.Elements.{Contains-append_right, Contains-append_left, Contains-append_cases}
-use Rattle.basics.proofs.ListLemmas.{contains_map, in_nothing}
+use Rattle.basics.proofs.ListLemmas.{contains_map, in_front, in_nothing, only}
 use Rattle.proto_visibility.specs.declared.files.FilePlace.{FilePlace}
+use Rattle.proto_visibility.specs.declared.fault.LinkFault.{LinkFault}
+use Rattle.proto_visibility.specs.declared.fault.LinkFault.TheVariants as link
+use Rattle.proto_link.specs.Targets.{IsUseFault}
 use Rattle.proto_visibility.specs.declared.omissions.FileOmission.{FileOmission}
 use Rattle.proto_visibility.specs.declared.omissions.FileOmission.TheVariants as left_for
+use Rattle.proto_visibility.specs.declared.clash.Duplicates.{Duplicates}
+use Rattle.proto_visibility.specs.declared.clash.Duplicates.TheVariants as names
 use Rattle.proto_visibility.specs.Files as files
 use Rattle.proto_visibility.specs.Clashes.{ClashBy}
 use Rattle.proto_visibility.specs.Sees.IsReachable.{seen}
@@ -28,14 +33,18 @@ use Rattle.proto_visibility.proofs.KeptOrderLemmas.{taken_one_way}
 use Rattle.proto_visibility.proofs.SeeingLemmas.{slice_get_prefix}
 use Rattle.scip_build.specs.declared.fault.FileFault.{FileFault}
 use Rattle.scip_build.specs.declared.omission.Omission.{Omission}
-use Rattle.scip_build.specs.declared.omission.Omission.TheVariants.{File, Duplicate, MissingImport, Unresolved}
+use Rattle.scip_build.specs.declared.omission.Omission.TheVariants.{File, MissingImport, Unresolved}
+use Rattle.scip_build.specs.declared.omission.Omission.TheVariants.{Ambiguous}
 use Rattle.scip_build.specs.Files.{FileContents, ReadFile}
 use Rattle.scip_build.specs.Linking.{linked_file, linked_files, HasFault}
 use Rattle.scip_build.specs.Documents.{IsUnresolvedAt}
 use Rattle.scip_build.specs.Kept.{IsLeftFor, place_among_all, IsTold, Key, told_key, key_cmp, told_cmp}
-use Rattle.scip_build.specs.Kept.IsTold.{of_file, of_import, of_use}
+use Rattle.scip_build.specs.Kept.IsTold.{of_file, of_import, of_use, of_ambiguous}
 use Rattle.scip_build.specs.Keeping.{kept_numbers, as_left_out, linked_of}
 use Rattle.scip_build.specs.Telling.{Adds, FromFront, IsLeftIf, place_by, told_import, told_use, HaveOwnKeys}
+use Rattle.scip_build.specs.Telling.{AreUseFaults, IsFaultAt}
+use Rattle.scip_build.proofs.ToldUseLemmas.{from_lists, to_lists, unresolved_file, ambiguous_file}
+use Rattle.scip_build.proofs.ToldUseLemmas.{unresolved_there, ambiguous_there}
 use Rattle.scip_build.proofs.LinkingLemmas.{mapped_at}
 use Rattle.scip_build.proofs.KeptTreeLemmas.{number_of}
 use Rattle.source_tree.proofs.TreeLemmas.{mapped_from}
@@ -46,7 +55,7 @@ use Rattle.scip_model.proofs.OccurrenceOrderLemmas.{both_equal}
 pub key_total : IsTotalOrder key_cmp
 key_total = then_total
     (then_total (on_total (λ (x : Key). x.0.0) nat_cmp_total) (on_total (λ (x : Key). x.0.1) nat_cmp_total))
-    (then_total (on_total (λ (x : Key). x.1.0) nat_cmp_total) (on_total (λ (x : Key). x.1.1) bool_cmp_total))
+    (then_total (on_total (λ (x : Key). x.1.0) nat_cmp_total) (on_total (λ (x : Key). x.1.1) nat_cmp_total))
 
 pub told_total : IsTotalOrder told_cmp
 told_total = on_total told_key key_total
@@ -54,30 +63,24 @@ told_total = on_total told_key key_total
 pub told_rank : IsStrictWeakOrder (λ x y. is_lt (told_cmp x y))
 told_rank = ranks_by told_total (λ (fault : Omission). fault)
 
-one_bool : (a b : Bool) → bool_cmp a b ≡ Equal → a ≡ b
-one_bool false false e = refl
-one_bool true true e = refl
-one_bool false true e = cc
-one_bool true false e = cc
-
 -- two keys are one
 pub record AreOneKey (x y : Key) : Type 0 where
   pub file : x.0.0 ≡ y.0.0
   pub start : x.0.1 ≡ y.0.1
   pub end : x.1.0 ≡ y.1.0
-  pub is_use : x.1.1 ≡ y.1.1
+  pub what : x.1.1 ≡ y.1.1
 
 pub one_key : (x y : Key) → key_cmp x y ≡ Equal → AreOneKey x y
 one_key x y e =
     let halves = both_equal (ordering_then (nat_cmp x.0.0 y.0.0) (nat_cmp x.0.1 y.0.1))
-    (ordering_then (nat_cmp x.1.0 y.1.0) (bool_cmp x.1.1 y.1.1)) e in
+    (ordering_then (nat_cmp x.1.0 y.1.0) (nat_cmp x.1.1 y.1.1)) e in
     let first = both_equal (nat_cmp x.0.0 y.0.0) (nat_cmp x.0.1 y.0.1) halves.0 in
-    let second = both_equal (nat_cmp x.1.0 y.1.0) (bool_cmp x.1.1 y.1.1) halves.1 in
+    let second = both_equal (nat_cmp x.1.0 y.1.0) (nat_cmp x.1.1 y.1.1) halves.1 in
     record {
       file = exact_unsigned x.0.0 y.0.0 first.0;
       start = exact_unsigned x.0.1 y.0.1 first.1;
       end = exact_unsigned x.1.0 y.1.0 second.0;
-      is_use = one_bool x.1.1 y.1.1 second.1;
+      what = exact_unsigned x.1.1 y.1.1 second.1;
     }
 
 pub of_same : (x y : Key) → x ≡ y → AreOneKey x y
@@ -85,7 +88,7 @@ of_same x y e = record {
   file = ap (λ (k : Key). k.0.0) e;
   start = ap (λ (k : Key). k.0.1) e;
   end = ap (λ (k : Key). k.1.0) e;
-  is_use = ap (λ (k : Key). k.1.1) e;
+  what = ap (λ (k : Key). k.1.1) e;
 }
 
 one_place : (a b : FilePlace) → a.file ≡ b.file → a.span.start ≡ b.span.start → a.span.end ≡ b.span.end → a ≡ b
@@ -109,41 +112,47 @@ one_left all number left_for.Broken a b first second =
     first.2 ∙ (ap (File number) (one_fault all number first.0 second.0 first.1 second.1) ∙ sym second.2)
 one_left all number (left_for.Duplicate p q) a b first second = first ∙ sym second
 
-module _ (all : List ReadFile) (omissions : Omissions) (are : AreOmissions (linked_files all) omissions) where
+-- the later place of a clash is one of the file that is left out for it
+second_in : (duplicates : Duplicates) (all : List ReadFile) (omissions : Omissions)
+    → AreOmissions duplicates (linked_files all) omissions → (number : ℕ) (first second : FilePlace)
+    → ClashBy (Precedes (linked_files all)) (IsMet duplicates (linked_files all) omissions number) first second
+    → second.file ≡ number
+second_in names.Refuse all omissions are number first second clash = elim clash.exclude.second_is.meets [
+  | inl own ↦ sym (ap (λ (p : FilePlace). p.file) clash.second_is) ∙ own
+  | inr before ↦ (
+      let there = clash.later.place.file in
+      let met : IsMet names.Refuse (linked_files all) omissions there clash.earlier = record {
+        is_item = clash.exclude.first_is.is_item;
+        meets = elim clash.exclude.ordered [
+          | inl taken ↦ elim clash.exclude.first_is.meets [
+            | inl own ↦ absurd (taken_one_way (linked_files all) number there
+                (subst (λ n. IsTakenBefore (linked_files all) n there) own taken) before.0)
+            | inr is ↦ inr (taken, is.1)
+          ]
+          | inr same ↦ inl same.0
+        ];
+      } in
+      let itself : IsMet names.Refuse (linked_files all) omissions there clash.later =
+      record { is_item = clash.exclude.second_is.is_item; meets = inl refl } in
+      absurd ((are.each there None before.1).1 clash.earlier clash.later
+      (excludes_as clash.earlier clash.later (λ _. met) (λ _. itself) clash.exclude)))
+]
+second_in names.Keep all omissions are number first second clash = elim clash.exclude.second_is.meets [
+  | inl own ↦ sym (ap (λ (p : FilePlace). p.file) clash.second_is) ∙ own
+  | inr before ↦ absurd before.0
+]
+
+module _ (duplicates : Duplicates) (all : List ReadFile) (omissions : Omissions)
+    (are : AreOmissions duplicates (linked_files all) omissions) where
   abbrev linked : List files.File
   linked = linked_files (linked_of omissions all)
 
-  -- the later place of a clash is one of the file that is left out for it
-  second_in : (number : ℕ) (first second : FilePlace)
-      → ClashBy (Precedes (linked_files all)) (IsMet (linked_files all) omissions number) first second
-      → second.file ≡ number
-  second_in number first second clash = elim clash.exclude.second_is.meets [
-    | inl own ↦ sym (ap (λ (p : FilePlace). p.file) clash.second_is) ∙ own
-    | inr before ↦ (
-        let there = clash.later.place.file in
-        let met : IsMet (linked_files all) omissions there clash.earlier = record {
-          is_item = clash.exclude.first_is.is_item;
-          meets = elim clash.exclude.ordered [
-            | inl taken ↦ elim clash.exclude.first_is.meets [
-              | inl own ↦ absurd (taken_one_way (linked_files all) number there
-                  (subst (λ n. IsTakenBefore (linked_files all) n there) own taken) before.0)
-              | inr is ↦ inr (taken, is.1)
-            ]
-            | inr same ↦ inl same.0
-          ];
-        } in
-        let itself : IsMet (linked_files all) omissions there clash.later =
-        record { is_item = clash.exclude.second_is.is_item; meets = inl refl } in
-        absurd ((are.each there None before.1).1 clash.earlier clash.later
-        (excludes_as clash.earlier clash.later (λ _. met) (λ _. itself) clash.exclude)))
-  ]
-
   left_in : (number : ℕ) (omission : FileOmission) (told : Omission)
-      → IsOmission (linked_files all) omissions number (Some omission) → IsLeftFor all number omission told
+      → IsOmission duplicates (linked_files all) omissions number (Some omission) → IsLeftFor all number omission told
       → (told_key told).0.0 ≡ number
   left_in number left_for.Broken told is left = ap (λ (o : Omission). (told_key o).0.0) left.2
   left_in number (left_for.Duplicate first second) told is left =
-      ap (λ (o : Omission). (told_key o).0.0) left ∙ second_in number first second is
+      ap (λ (o : Omission). (told_key o).0.0) left ∙ second_in duplicates all omissions are number first second is
 
   -- the number of a file that is left out is none of a file that is kept
   not_kept : (number : ℕ) (omission : FileOmission) → slice_get omissions number ≡ Some (Some omission)
@@ -181,9 +190,9 @@ module _ (all : List ReadFile) (omissions : Omissions) (are : AreOmissions (link
       by number (of_included (seen is sees present) has listed public) =
           parsed_file_at number present.file present.numbered present.present
 
-  pub use_at : (place : FilePlace) → IsUnresolvedAt linked place
+  pub use_at : (place : FilePlace) → files.IsSource linked place.file
       → (parsed_file : ReadFile) × (slice_get (kept_of omissions all) place.file ≡ Some parsed_file)
-  use_at place is = parsed_file_at place.file is.source.file is.source.numbered is.source.present
+  use_at place source = parsed_file_at place.file source.file source.numbered source.present
 
   -- ---- no two are told at one key
 
@@ -204,7 +213,10 @@ module _ (all : List ReadFile) (omissions : Omissions) (are : AreOmissions (link
       let there = import_at q missing in
       absurd (not_kept n o at q.file there.0 there.1 (sym (left_of n o a at left) ∙ same.file))
   one_told a _ (of_file n o at left) (of_use q is) same =
-      let there = use_at q is in
+      let there = use_at q is.0 in
+      absurd (not_kept n o at q.file there.0 there.1 (sym (left_of n o a at left) ∙ same.file))
+  one_told a _ (of_file n o at left) (of_ambiguous q is) same =
+      let there = use_at q is.0 in
       absurd (not_kept n o at q.file there.0 there.1 (sym (left_of n o a at left) ∙ same.file))
   one_told _ b (of_import p missing) (of_file m o and right) same =
       let there = import_at p missing in
@@ -212,19 +224,23 @@ module _ (all : List ReadFile) (omissions : Omissions) (are : AreOmissions (link
   one_told _ _ (of_import p missing) (of_import q also) same =
       ap MissingImport (one_place (place_among_all omissions p) (place_among_all omissions q) same.file same.start
       same.end)
-  one_told _ _ (of_import p missing) (of_use q is) same = absurd (apart same.is_use)
-    where
-      apart : false ≡ true → ⊥
-      apart e = cc
+  one_told _ _ (of_import p missing) (of_use q is) same = absurd (omega (arith, same.what))
+  one_told _ _ (of_import p missing) (of_ambiguous q is) same = absurd (omega (arith, same.what))
   one_told _ b (of_use p is) (of_file m o and right) same =
-      let there = use_at p is in
+      let there = use_at p is.0 in
       absurd (not_kept m o and p.file there.0 there.1 (sym (left_of m o b and right) ∙ sym same.file))
-  one_told _ _ (of_use p is) (of_import q missing) same = absurd (apart same.is_use)
-    where
-      apart : true ≡ false → ⊥
-      apart e = cc
+  one_told _ _ (of_use p is) (of_import q missing) same = absurd (omega (arith, same.what))
   one_told _ _ (of_use p is) (of_use q also) same =
       ap Unresolved (one_place (place_among_all omissions p) (place_among_all omissions q) same.file same.start
+      same.end)
+  one_told _ _ (of_use p is) (of_ambiguous q also) same = absurd (omega (arith, same.what))
+  one_told _ b (of_ambiguous p is) (of_file m o and right) same =
+      let there = use_at p is.0 in
+      absurd (not_kept m o and p.file there.0 there.1 (sym (left_of m o b and right) ∙ sym same.file))
+  one_told _ _ (of_ambiguous p is) (of_import q missing) same = absurd (omega (arith, same.what))
+  one_told _ _ (of_ambiguous p is) (of_use q also) same = absurd (omega (arith, same.what))
+  one_told _ _ (of_ambiguous p is) (of_ambiguous q also) same =
+      ap Ambiguous (one_place (place_among_all omissions p) (place_among_all omissions q) same.file same.start
       same.end)
 
   -- ---- what is told
@@ -240,15 +256,45 @@ module _ (all : List ReadFile) (omissions : Omissions) (are : AreOmissions (link
       let to : ℕ → FilePlace = λ n. record { file = n; span = place.span } in
       ap to (number_of omissions all place.file parsed_file at)
 
-  module _ (left : List Omission) (missing unresolved_uses : List FilePlace)
+  module _ (left : List Omission) (missing unresolved_uses : List FilePlace) (faults : List LinkFault)
       (left_are : Adds (FromFront (IsLeftIf all) omissions (length omissions)) [] left)
       (missing_are : AreMissing linked missing)
-      (unresolved_are : (place : FilePlace) → Contains unresolved_uses place ↔ IsUnresolvedAt linked place) where
+      (unresolved_are : (place : FilePlace) → Contains unresolved_uses place ↔ IsUnresolvedAt linked place)
+      (faults_are : AreUseFaults linked unresolved_uses faults) where
     abbrev imports : List Omission
     imports = map (told_import (kept_numbers 0 omissions)) missing
 
     abbrev uses : List Omission
-    uses = map (told_use (kept_numbers 0 omissions)) unresolved_uses
+    uses = flat_map (told_use (kept_numbers 0 omissions)) faults
+
+    -- a use that names nothing for this is told
+    told_by : (of : LinkFault) (x : Omission) → IsFaultAt linked unresolved_uses of
+        → Contains (told_use (kept_numbers 0 omissions) of) x → IsTold all omissions x
+    told_by (link.Unresolved p) x at there =
+        let same : p.file ≡ at.place.file = unresolved_file linked at.place.file p at.is in
+        let is = subst (λ n. IsUseFault linked n (link.Unresolved p)) (sym same) at.is in
+        let source = subst (files.IsSource linked) (sym same) ((unresolved_are at.place).0 at.listed).source in
+        let kept = use_at p source in
+        subst (IsTold all omissions) (ap Unresolved (sym (moved p kept.0 kept.1))
+        ∙ only (Unresolved (place_by (kept_numbers 0 omissions) p)) x there) (of_use p (source, is))
+    told_by (link.Ambiguous p) x at there =
+        let same : p.file ≡ at.place.file = ambiguous_file linked at.place.file p at.is in
+        let is = subst (λ n. IsUseFault linked n (link.Ambiguous p)) (sym same) at.is in
+        let source = subst (files.IsSource linked) (sym same) ((unresolved_are at.place).0 at.listed).source in
+        let kept = use_at p source in
+        subst (IsTold all omissions) (ap Ambiguous (sym (moved p kept.0 kept.1))
+        ∙ only (Ambiguous (place_by (kept_numbers 0 omissions) p)) x there) (of_ambiguous p (source, is))
+    told_by (link.Broken number) x at there = absurd (in_nothing x there)
+    told_by (link.Duplicate first second) x at there = absurd (in_nothing x there)
+    told_by (link.MissingImport place) x at there = absurd (in_nothing x there)
+    told_by link.Memory x at there = absurd (in_nothing x there)
+
+    -- and of such a use this is told
+    use_told : (p : FilePlace) (of : LinkFault) (x : Omission) → IsUnresolvedAt linked p → IsUseFault linked p.file of
+        → Contains (told_use (kept_numbers 0 omissions) of) x → Contains uses x
+    use_told p of x unresolved is there =
+        to_lists (told_use (kept_numbers 0 omissions)) faults of x
+        ((faults_are of).1 (record { place = p; listed = (unresolved_are p).1 unresolved; is = is })) there
 
     pub is_told : (fault : Omission) → Contains ((left ++ imports) ++ uses) fault → IsTold all omissions fault
     is_told fault there = elim (Contains-append_cases (left ++ imports) uses fault there) [
@@ -264,10 +310,8 @@ module _ (all : List ReadFile) (omissions : Omissions) (are : AreOmissions (link
             subst (IsTold all omissions) (ap MissingImport (sym (moved of.0 at.0 at.1)) ∙ of.2) (of_import of.0 is))
       ]
       | inr use_ ↦ (
-          let of = mapped_from (told_use (kept_numbers 0 omissions)) unresolved_uses fault use_ in
-          let is = (unresolved_are of.0).0 of.1 in
-          let at = use_at of.0 is in
-          subst (IsTold all omissions) (ap Unresolved (sym (moved of.0 at.0 at.1)) ∙ of.2) (of_use of.0 is))
+          let of = from_lists (told_use (kept_numbers 0 omissions)) faults fault use_ in
+          told_by of.0 fault ((faults_are of.0).0 of.1) of.2)
     ]
 
     pub told_is : (fault : Omission) → IsTold all omissions fault → Contains ((left ++ imports) ++ uses) fault
@@ -287,11 +331,19 @@ module _ (all : List ReadFile) (omissions : Omissions) (are : AreOmissions (link
         Contains-append_left (left ++ imports) uses fault (Contains-append_right left imports fault
         (subst (Contains imports) (ap MissingImport (moved p at.0 at.1)) there))
     told_is _ (of_use p is) =
-        let at = use_at p is in
-        let there = contains_map (told_use (kept_numbers 0 omissions)) unresolved_uses p ((unresolved_are p).1 is) in
+        let at = use_at p is.0 in
+        let its : Omission = Unresolved (place_by (kept_numbers 0 omissions) p) in
+        let there = use_told p (link.Unresolved p) its (unresolved_there linked p is) is.1 (in_front its []) in
         let fault : Omission = Unresolved (place_among_all omissions p) in
         Contains-append_right (left ++ imports) uses fault
         (subst (Contains uses) (ap Unresolved (moved p at.0 at.1)) there)
+    told_is _ (of_ambiguous p is) =
+        let at = use_at p is.0 in
+        let its : Omission = Ambiguous (place_by (kept_numbers 0 omissions) p) in
+        let there = use_told p (link.Ambiguous p) its (ambiguous_there linked p is) is.1 (in_front its []) in
+        let fault : Omission = Ambiguous (place_among_all omissions p) in
+        Contains-append_right (left ++ imports) uses fault
+        (subst (Contains uses) (ap Ambiguous (moved p at.0 at.1)) there)
 
     pub own_keys : HaveOwnKeys ((left ++ imports) ++ uses)
     own_keys a b first second equal =

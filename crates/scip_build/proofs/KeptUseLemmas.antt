@@ -1,6 +1,6 @@
 -- A use of a kept file names, as files are linked, what it names in the whole tree.
-use Rattle.std.proofs.Common.{◌≡◌, ◌∙◌, ◌↔◌, ◌⊎◌, inl, inr, ℕ, ◌+◌, ◌-◌, ◌<◌, ◌≤◌, zero, suc, Bool, true, List, [], ◌∷◌}
-use Rattle.std.proofs.Common.{◌++◌, length, map, Option, Some, None, ap, sym, refl, subst, arith}
+use Rattle.std.proofs.Common.{◌≡◌, ◌∙◌, ◌↔◌, ◌⊎◌, inl, inr, ℕ, ◌+◌, ◌<◌, ◌≤◌, zero, suc, Bool, true, List, [], ◌∷◌}
+use Rattle.std.proofs.Common.{length, map, Option, Some, None, ap, sym, refl, subst, arith}
 use Rattle.std.specs.List.{slice_get}
 use Rattle.std.proofs.lemmas.Bool.{cases_lt}
 use Rattle.std.proofs.lemmas.Option.{same_Some, none-some, slice_get_within}
@@ -11,18 +11,18 @@ use Rattle.proto_decl.specs.declared.uses.Use.{Use}
 use Rattle.proto_visibility.specs.declared.lookup.Entity.{Entity}
 use Rattle.proto_visibility.specs.declared.lookup.Entity.TheVariants as link
 use Rattle.proto_visibility.specs.declared.omissions.FileOmission.{FileOmission}
-use Rattle.proto_visibility.specs.Files.{File, HasFacts, Imports, IsPresent}
+use Rattle.proto_visibility.specs.Files.{File, HasFacts, Imports}
 use Rattle.proto_visibility.specs.Sees.{LeadsTo, Sees}
 use Rattle.proto_visibility.specs.Sees.LeadsTo.{at_once, through}
 use Rattle.proto_visibility.specs.Sees.SeesBy.{itself, import}
-use Rattle.proto_visibility.specs.Knows.{NameKind, Knows, KnowsAs, IsGiving, SeesGiving, IsOwner, IsEntityOf}
+use Rattle.proto_visibility.specs.Knows.{NameKind, Knows, KnowsAs, SeesGiving, IsOwner, IsEntityOf}
 use Rattle.proto_visibility.specs.Knows.Knows.{declared, packaged}
 use Rattle.proto_visibility.specs.Knows.IsEntityOf.{packaged as packaged_entity, declared as declared_entity}
 use Rattle.proto_visibility.specs.Kept.{Omissions, IsKeptFile, kept_of, left_of, as_left_out, linked_of}
 use Rattle.proto_visibility.specs.Kept.{number_among_all}
-use Rattle.proto_visibility.proofs.KeptAmongLemmas.{at_all, facts_among, from_mapped, imports_among, is_kept}
+use Rattle.proto_visibility.proofs.KeptAmongLemmas.{at_all, facts_among, from_mapped, is_kept}
 use Rattle.proto_visibility.proofs.KeptAmongLemmas.{left_among_all}
-use Rattle.proto_visibility.proofs.KeptAmongLemmas.{IsOrigin, one_origin, origin, origin_kept, original, place}
+use Rattle.proto_visibility.proofs.KeptAmongLemmas.{one_origin, origin, origin_kept, original, place}
 use Rattle.proto_visibility.proofs.KeptAmongLemmas.{present_kept, sees_among}
 use Rattle.proto_visibility.proofs.SeeingLemmas.{slice_get_prefix}
 use Rattle.basics.proofs.ListLemmas.{item_at}
@@ -32,7 +32,7 @@ use Rattle.proto_link.specs.Resolves.Innermost.{here, farther}
 use Rattle.proto_link.specs.Resolves.ResolvesIn.{absolute, single, extended, compound}
 use Rattle.proto_link.specs.Targets.{Names, IsTarget}
 use Rattle.scip_build.specs.Keeping.{kept_numbers}
-use Rattle.scip_build.specs.Linking.{linked_file, linked_files}
+use Rattle.scip_build.specs.Linking.{linked_files}
 use Rattle.scip_build.specs.KeptUses.{entity_among_all, target_among_all, IsTargetOfKept, NamesTheSame, ResolveAlike}
 use Rattle.scip_build.specs.KeptUses.{KeptResolvesAlike}
 use Rattle.scip_build.proofs.KeptTreeLemmas.{linked_is}
@@ -474,7 +474,7 @@ module _ (files : List File) (omissions : Omissions) (size : length omissions �
       }
 
 pub kept_resolves_alike : KeptResolvesAlike
-kept_resolves_alike all parsed told kept number type_use is_kept_one =
+kept_resolves_alike duplicates all parsed told kept number type_use is_kept_one =
     let files : List File = linked_files all in
     let same : linked_files parsed ≡ linked_of kept.omissions files =
     ap linked_files kept.kept ∙ linked_is kept.omissions all in

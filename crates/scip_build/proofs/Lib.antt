@@ -1,6 +1,8 @@
 -- Each file is named after the spec or source that it serves.
 -- Nothing is told of a tree without faults, and of no other
 mod BuildLawGoodTreeLemmas
+-- Where nothing is left out for a name that is given twice, the same is built if several files may give one name
+mod BuildLawKeepLemmas
 -- A tree is built, or has one fault of its files
 mod BuildLawLemmas
 -- What is built by the same choices is one, and where one choice alone may come for what is seen, the choices are
@@ -31,7 +33,11 @@ pub mod LinkingRefusalRules
 mod ParsedFileLemmas
 -- Files that were read are ready for their documents
 mod ReadyLemmas
+-- What is made by two lists of what is repeated that have the same names is the same
+mod SameNamesLemmas
 -- What is added to a list of what is told
 mod TellingAddLemmas
 -- The uses that name no type, of all sources
 mod UnresolvedUseLemmas
+-- Uses that are told, each by why it names nothing
+mod ToldUseLemmas

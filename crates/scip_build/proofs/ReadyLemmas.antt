@@ -1,5 +1,5 @@
 -- Files that were read are ready for their documents.
-use Rattle.std.proofs.Common.{◌≡◌, ◌∙◌, ℕ, ◌+◌, ◌<◌, ◌≤◌, zero, suc, Bool, false, true, not, ◌&&◌, List, [], ◌∷◌}
+use Rattle.std.proofs.Common.{◌≡◌, ◌∙◌, ℕ, ◌+◌, ◌<◌, ◌≤◌, zero, suc, Bool, false, true, not, List, [], ◌∷◌}
 use Rattle.std.proofs.Common.{length}
 use Rattle.std.proofs.Common.{map, Some, Result, Ok, Err, ap, sym, refl, subst, arith}
 use Rattle.std.specs.List.{slice_get, prefix_len}
@@ -20,6 +20,7 @@ use Rattle.index_hooks.specs.declared.choice.Choice.{Choice}
 use Rattle.proto_visibility.specs.Files.{File, HasFacts, HaveOrigins, IsSource}
 use Rattle.proto_visibility.specs.Sees.IsReachable.{seen}
 use Rattle.proto_visibility.specs.Sees.SeesBy.{itself}
+use Rattle.proto_visibility.specs.declared.clash.Duplicates.{Duplicates}
 use Rattle.proto_visibility.specs.Linked.{HaveClearNames}
 use Rattle.scip_symbol.specs.Path.{IsGoodPath}
 use Rattle.scip_model.specs.Chosen.{HaveChoices}
@@ -315,7 +316,8 @@ by_path a b first second less =
     let three = subst (λ z. There a b false false z b.is_included) first.source two in
     subst (λ z. There a b false false false z) second.source three
 
-module _ (parsed : List ReadFile) (tree : AreOfTree parsed) (clear : HaveClearNames (linked_files parsed)) where
+module _ (duplicates : Duplicates) (parsed : List ReadFile) (tree : AreOfTree parsed)
+    (clear : HaveClearNames duplicates (linked_files parsed)) where
   abbrev count : ℕ
   count = prefix_len is_source parsed
 

@@ -1,18 +1,18 @@
 -- What the definitions say about builds, whatever the code does.
-use Rattle.std.specs.Prelude.{◌≡◌, ◌≢◌, ℕ, List, []}
-use Rattle.comment_texts.specs.declared.form.CommentForm.{CommentForm}
-use Rattle.proto_parse.specs.dialect.Dialect.{Dialect}
+use Rattle.std.specs.Prelude.{◌≡◌, ◌≢◌, ℕ, List, [], Contains}
 use Rattle.proto_decl.specs.Values.{Seen}
+use Rattle.proto_visibility.specs.declared.clash.Duplicates.TheVariants.{Keep}
+use Rattle.proto_visibility.specs.declared.files.FilePlace.{FilePlace}
 use Rattle.proto_visibility.specs.declared.fault.LinkFault.{LinkFault}
 use Rattle.proto_visibility.specs.declared.fault.LinkFault.TheVariants as link
 use Rattle.index_hooks.specs.declared.choice.Choice.{Choice}
 use Rattle.source_tree.specs.Files.{TreeFile}
 use Rattle.scip_build.specs.declared.settings.Settings.{Settings}
 use Rattle.scip_build.specs.declared.built.Built.{Built}
-use Rattle.scip_build.specs.declared.faulty.Faulty.{Faulty}
 use Rattle.scip_build.specs.declared.fault.BuildFault.{BuildFault}
 use Rattle.scip_build.specs.declared.fault.BuildFault.TheVariants.{Spawn, Memory, File, Duplicate, MissingImport}
-use Rattle.scip_build.specs.declared.fault.BuildFault.TheVariants.{Unresolved}
+use Rattle.scip_build.specs.declared.fault.BuildFault.TheVariants.{Unresolved, Ambiguous}
+use Rattle.scip_build.specs.declared.omission.Omission.TheVariants as omitted
 use Rattle.scip_build.specs.Builds.{IsBuilt, IsBuildFault}
 
 -- What a fault names, as the linker would: of a file that can't be read its number. Lack of memory or of a thread
@@ -24,22 +24,20 @@ cause_of (File number fault) = link.Broken number
 cause_of (Duplicate first second) = link.Duplicate first second
 cause_of (MissingImport place) = link.MissingImport place
 cause_of (Unresolved place) = link.Unresolved place
+cause_of (Ambiguous place) = link.Ambiguous place
 
 -- the files of a tree that is built have no fault, whatever was chosen
 abbrev pub BuiltHasNoFault : (allows others : Seen → Choice → Type 0) → Type 0
 BuiltHasNoFault allows others =
     (settings : Settings) (tree : List TreeFile) (workers : ℕ) (built : Built) (fault : BuildFault)
     → IsBuilt allows settings tree built
-    → IsBuildFault others settings.faulty settings.dialect settings.comments tree workers fault
-    → cause_of fault ≢ link.Memory → ⊥
+    → IsBuildFault others settings tree workers fault → cause_of fault ≢ link.Memory → ⊥
 
 -- and those of any tree one at most
 abbrev pub OneBuildFault : (allows others : Seen → Choice → Type 0) → Type 0
 OneBuildFault allows others =
-    (faulty : Faulty) (dialect : Dialect) (form : CommentForm) (tree : List TreeFile) (workers more : ℕ)
-    (fault other : BuildFault)
-    → IsBuildFault allows faulty dialect form tree workers fault
-    → IsBuildFault others faulty dialect form tree more other
+    (settings : Settings) (tree : List TreeFile) (workers more : ℕ) (fault other : BuildFault)
+    → IsBuildFault allows settings tree workers fault → IsBuildFault others settings tree more other
     → cause_of fault ≢ link.Memory → cause_of other ≢ link.Memory → fault ≡ other
 
 -- they set the same, but for what is done with faults
@@ -49,6 +47,7 @@ pub record SetTheSame (settings other : Settings) : Type 0 where
   pub encoding : settings.encoding ≡ other.encoding
   pub dialect : settings.dialect ≡ other.dialect
   pub comments : settings.comments ≡ other.comments
+  pub duplicates : settings.duplicates ≡ other.duplicates
 
 -- Once the choices are recorded, what is built depends only on the tree, these choices and the settings, whatever else
 -- may be chosen. If faults are refused and there is none, the same is built as if they were skipped.
@@ -75,3 +74,14 @@ abbrev pub BuiltWhereNothingIsTold : (allows : Seen → Choice → Type 0) → T
 BuiltWhereNothingIsTold allows =
     (settings another : Settings) (tree : List TreeFile) (built : Built) → SetTheSame settings another
     → IsBuilt allows settings tree built → built.told ≡ [] → IsBuilt allows another tree built
+
+-- the same settings, by which several files may give one name
+abbrev pub keeping : Settings → Settings
+keeping settings = record settings { duplicates = Keep }
+
+-- If no file is left out for a name that is given twice, the same is built where several files may give one name.
+abbrev pub BuiltAlikeIfKept : (allows : Seen → Choice → Type 0) → Type 0
+BuiltAlikeIfKept allows =
+    (settings : Settings) (tree : List TreeFile) (built : Built)
+    → ((first second : FilePlace) → Contains built.told (omitted.Duplicate first second) → ⊥)
+    → IsBuilt allows settings tree built → IsBuilt allows (keeping settings) tree built

@@ -6,31 +6,34 @@ use Rattle.proto_decl.specs.Values.{Seen}
 use Rattle.index_hooks.specs.declared.choice.Choice.{Choice}
 use Rattle.proto_visibility.specs.Linked.{CanBeLinked, HaveClearNames}
 use Rattle.scip_model.specs.Indexes.{IsIndexOf}
+use Rattle.scip_model.specs.Packages.{RepeatedNames, naming}
+use Rattle.scip_model.specs.Repeated.{AreRepeated}
 use Rattle.source_tree.specs.Files.{TreeFile}
 use Rattle.scip_build.specs.declared.settings.Settings.{Settings}
-use Rattle.scip_build.specs.declared.faulty.Faulty.{Faulty}
 use Rattle.scip_build.specs.declared.faulty.Faulty.TheVariants.{Refuse}
 use Rattle.scip_build.specs.declared.built.Built.{Built}
 use Rattle.scip_build.specs.declared.fault.BuildFault.{BuildFault}
 use Rattle.scip_build.specs.declared.fault.BuildFault.TheVariants.{Spawn, Memory, File, Duplicate, MissingImport}
-use Rattle.scip_build.specs.declared.fault.BuildFault.TheVariants.{Unresolved}
+use Rattle.scip_build.specs.declared.fault.BuildFault.TheVariants.{Unresolved, Ambiguous}
 use Rattle.scip_build.specs.Files.{ReadFile}
 use Rattle.scip_build.specs.ParsedFiles.{AreParsedFiles, IsFirstFaulty}
 use Rattle.scip_build.specs.Linking.{linked_files, choices_of, MayRefuseParsed}
-use Rattle.scip_build.specs.Documents.{texts_of, IsLeastUnresolved}
+use Rattle.scip_build.specs.Documents.{texts_of, IsAmbiguousAt, IsLeastUnresolved}
 use Rattle.scip_build.specs.Kept.{AreKept, IsWithoutFault}
 
 -- What is built of files that were read: some are kept, and it is the index of these files, their texts, the recorded
--- choices, and the settings; of the rest it is told why. If faults are refused, nothing is told: so all files are
--- kept, they can be linked, and each use of each source names a type.
+-- choices, the settings, and what is repeated among them; of the rest it is told why. If faults are refused, nothing is
+-- told: so all files are kept, they can be linked, and each use of each source names a type.
 pub record IsBuiltOf (all : List ReadFile) (settings : Settings) (built : Built) : Type 0 where
   pub parsed : List ReadFile
-  pub kept : AreKept all parsed built.told
-  pub clear : HaveClearNames (linked_files parsed)
-  pub refused : settings.faulty ≡ Refuse → IsWithoutFault all parsed built.told
+  pub kept : AreKept settings.duplicates all parsed built.told
+  pub clear : HaveClearNames settings.duplicates (linked_files parsed)
+  pub refused : settings.faulty ≡ Refuse → IsWithoutFault settings.duplicates all parsed built.told
   pub choices : built.choices ≡ map choices_of parsed
-  pub index : IsIndexOf (linked_files parsed)
-      (texts_of parsed) built.choices settings.package settings.encoding settings.project_root built.index
+  pub repeated : RepeatedNames
+  pub are_repeated : AreRepeated (linked_files parsed) repeated
+  pub index : IsIndexOf (linked_files parsed) (texts_of parsed) built.choices (naming settings.package repeated)
+      settings.encoding settings.project_root built.index
 
 -- The index of a tree, the choices that it is made by, and what is told of files that have no part in it.
 pub record IsBuilt (allows : Seen → Choice → Type 0) (settings : Settings) (tree : List TreeFile)
@@ -46,19 +49,27 @@ OfParsed dialect form allows tree Holds =
     (parsed : List ReadFile) × AreParsedFiles Refuse dialect form allows tree parsed × Holds parsed
 
 -- Why a tree has no index: the first source that can't be read; else what the linking of its files refuses; else the
--- first use that names no type; all this only if faults are refused. A thread is refused only if one is to be
+-- first use that names no type, or several; all this only if faults are refused. A thread is refused only if one is to be
 -- started; nothing is said about memory.
-abbrev pub IsBuildFault : (allows : Seen → Choice → Type 0) → Faulty → (dialect : Dialect) → CommentForm
-    → List TreeFile → (workers : ℕ) → BuildFault → Type 0
-IsBuildFault allows faulty dialect form tree workers Spawn = 1 < workers
-IsBuildFault allows faulty dialect form tree workers Memory = ⊤
-IsBuildFault allows faulty dialect form tree workers (File number fault) =
-    (faulty ≡ Refuse) × (IsFirstFaulty dialect tree number fault
-    ⊎ OfParsed dialect form allows tree (λ parsed. MayRefuseParsed parsed (File number fault)))
-IsBuildFault allows faulty dialect form tree workers (Duplicate first second) =
-    (faulty ≡ Refuse) × OfParsed dialect form allows tree (λ parsed. MayRefuseParsed parsed (Duplicate first second))
-IsBuildFault allows faulty dialect form tree workers (MissingImport place) =
-    (faulty ≡ Refuse) × OfParsed dialect form allows tree (λ parsed. MayRefuseParsed parsed (MissingImport place))
-IsBuildFault allows faulty dialect form tree workers (Unresolved place) =
-    (faulty ≡ Refuse) × OfParsed dialect form allows tree
-    (λ parsed. CanBeLinked (linked_files parsed) × IsLeastUnresolved (linked_files parsed) place)
+abbrev pub IsBuildFault : (allows : Seen → Choice → Type 0) → Settings → List TreeFile → (workers : ℕ) → BuildFault
+    → Type 0
+IsBuildFault allows settings tree workers Spawn = 1 < workers
+IsBuildFault allows settings tree workers Memory = ⊤
+IsBuildFault allows settings tree workers (File number fault) =
+    (settings.faulty ≡ Refuse) × (IsFirstFaulty settings.dialect tree number fault
+    ⊎ OfParsed settings.dialect settings.comments allows tree
+    (λ parsed. MayRefuseParsed settings.duplicates parsed (File number fault)))
+IsBuildFault allows settings tree workers (Duplicate first second) =
+    (settings.faulty ≡ Refuse) × OfParsed settings.dialect settings.comments allows tree
+    (λ parsed. MayRefuseParsed settings.duplicates parsed (Duplicate first second))
+IsBuildFault allows settings tree workers (MissingImport place) =
+    (settings.faulty ≡ Refuse) × OfParsed settings.dialect settings.comments allows tree
+    (λ parsed. MayRefuseParsed settings.duplicates parsed (MissingImport place))
+IsBuildFault allows settings tree workers (Unresolved place) =
+    (settings.faulty ≡ Refuse) × OfParsed settings.dialect settings.comments allows tree
+    (λ parsed. CanBeLinked settings.duplicates (linked_files parsed) × IsLeastUnresolved (linked_files parsed) place
+    × (IsAmbiguousAt (linked_files parsed) place → ⊥))
+IsBuildFault allows settings tree workers (Ambiguous place) =
+    (settings.faulty ≡ Refuse) × OfParsed settings.dialect settings.comments allows tree
+    (λ parsed. CanBeLinked settings.duplicates (linked_files parsed) × IsLeastUnresolved (linked_files parsed) place
+    × IsAmbiguousAt (linked_files parsed) place)

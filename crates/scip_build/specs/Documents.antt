@@ -7,7 +7,9 @@ use Rattle.std.specs.Cmp.Lexicographic.{slice_cmp}
 use Rattle.std.specs.List.{slice_get}
 use Rattle.proto_decl.specs.Facts.{Facts}
 use Rattle.proto_decl.specs.declared.uses.Use.{Use}
-use Rattle.proto_link.specs.Targets.{IsUnresolved}
+use Rattle.proto_link.specs.Targets.{IsUnresolved, IsUseFault}
+use Rattle.proto_visibility.specs.declared.fault.LinkFault.{LinkFault}
+use Rattle.proto_visibility.specs.declared.fault.LinkFault.TheVariants as link
 use Rattle.proto_visibility.specs.declared.files.FilePlace.{FilePlace}
 use Rattle.proto_visibility.specs.Files.{File, HasFacts, IsSource}
 use Rattle.scip_records.specs.declared.records.Document.{Document}
@@ -83,6 +85,10 @@ abbrev pub MayRefuseSource : Faulty → List File → (number : ℕ) → NoDocum
 MayRefuseSource faulty files number lacking.Memory = ⊤
 MayRefuseSource faulty files number (lacking.Unresolved span) = (faulty ≡ Refuse) × IsFirstUnresolved files number span
 
+-- some use at this place is ambiguous
+abbrev pub IsAmbiguousAt : List File → FilePlace → Type 0
+IsAmbiguousAt files place = IsUseFault files place.file (link.Ambiguous place)
+
 -- the fault of a build that stops since the source with this number has no document
 abbrev pub fault_of_source : (number : ℕ) → NoDocument → BuildFault
 fault_of_source number lacking.Memory = build.Memory
@@ -111,6 +117,10 @@ pub record IsUnresolvedAt (files : List File) (place : FilePlace) : Type 0 where
   pub stands : type_use.span ≡ place.span
   pub unresolved : IsUnresolved files place.file type_use
 
+-- a use of the source in which this place is names nothing, for this
+abbrev pub IsToldUse : List File → FilePlace → LinkFault → Type 0
+IsToldUse files place fault = IsSource files place.file × IsUseFault files place.file fault
+
 -- The documents of all sources, one of each, by path, and all uses of the sources that name no type; none if such are
 -- refused.
 pub record AreDocuments (parsed : List ReadFile) (files : List File) (chosen : Chosen) (settings : Settings)
@@ -135,3 +145,16 @@ pub data MayRefuseDocuments (faulty : Faulty) (files : List File) (workers : ℕ
   documents_lack_memory : MayRefuseDocuments faulty files workers build.Memory
   first_is_unresolved : {place : FilePlace} → faulty ≡ Refuse → IsLeastUnresolved files place
       → MayRefuseDocuments faulty files workers (build.Unresolved place)
+
+-- Of a use that names nothing it is told whether it is ambiguous; nothing is said about memory.
+abbrev pub IsToldFor : List File → (fault told : BuildFault) → Type 0
+IsToldFor files (build.Unresolved place) told =
+    ((told ≡ build.Unresolved place) × (IsAmbiguousAt files place → ⊥))
+    ⊎ (((told ≡ build.Ambiguous place) × IsAmbiguousAt files place) ⊎ (told ≡ build.Memory))
+IsToldFor files fault told = told ≡ fault
+
+-- why linked files make nothing
+pub record MayRefuseLinked (faulty : Faulty) (files : List File) (workers : ℕ) (told : BuildFault) : Type 0 where
+  pub fault : BuildFault
+  pub refused : MayRefuseDocuments faulty files workers fault
+  pub told_for : IsToldFor files fault told

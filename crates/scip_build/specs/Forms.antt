@@ -10,7 +10,10 @@ use Rattle.scip_records.specs.declared.records.Document.{Document}
 use Rattle.scip_records.specs.declared.records.Index.{Index}
 use Rattle.scip_model.specs.Chosen.{Chosen}
 use Rattle.scip_model.specs.declared.source_document.SourceDocument.{SourceDocument}
+use Rattle.scip_model.specs.Packages.{RepeatedNames}
+use Rattle.scip_model.specs.Repeated.{AreRepeated}
 use Rattle.source_tree.specs.Files.{TreeFile}
+use Rattle.scip_build.specs.Repeating.{repeating}
 use Rattle.scip_build.specs.declared.settings.Settings.{Settings}
 use Rattle.scip_build.specs.declared.parts.Parts.{Parts}
 use Rattle.scip_build.specs.declared.made.Made.{Made}
@@ -62,13 +65,16 @@ module _ {Out : Type 0} (Is : Document → Out → Type 0) where
 
   -- it is made by the choices for the files that were read
   pub record IsMadeOf (parsed : List ReadFile) (settings : Settings) (made : Made Out) : Type 0 where
-    pub clear : HaveClearNames (linked_files parsed)
+    pub clear : HaveClearNames settings.duplicates (linked_files parsed)
     pub choices : made.choices ≡ map choices_of parsed
-    pub in_form : IsMadeInForm parsed (linked_files parsed) made.choices settings made.parts made.unresolved_uses
+    pub repeated : RepeatedNames
+    pub are_repeated : AreRepeated (linked_files parsed) repeated
+    pub in_form : IsMadeInForm parsed (linked_files parsed) made.choices (repeating settings repeated) made.parts
+        made.unresolved_uses
 
   -- the files can be linked, too
   pub record IsLinkedAndMade (parsed : List ReadFile) (settings : Settings) (made : Made Out) : Type 0 where
-    pub linked : CanBeLinked (linked_files parsed)
+    pub linked : CanBeLinked settings.duplicates (linked_files parsed)
     pub made_of : IsMadeOf parsed settings made
 
   -- there is an index of what is kept of files that were read, made by these choices, this is told of the rest, and

@@ -1,11 +1,12 @@
 -- What is kept of a tree that was read, and what is told of the rest.
-use Rattle.std.specs.Prelude.{◌≡◌, ◌↔◌, ℕ, Bool, true, false, Option, Some, List, []}
+use Rattle.std.specs.Prelude.{◌≡◌, ◌↔◌, ℕ, Some, List, []}
 use Rattle.std.specs.declared.cmp.Ordering.{Ordering}
-use Rattle.std.specs.Ordering.{nat_cmp, bool_cmp, on, ordering_then}
+use Rattle.std.specs.Ordering.{nat_cmp, on, ordering_then}
 use Rattle.std.specs.List.{slice_get}
 use Rattle.proto_visibility.specs.declared.files.FilePlace.{FilePlace}
 use Rattle.proto_visibility.specs.declared.omissions.FileOmission.{FileOmission}
 use Rattle.proto_visibility.specs.declared.omissions.FileOmission.TheVariants as left_for
+use Rattle.proto_visibility.specs.declared.clash.Duplicates.{Duplicates}
 use Rattle.proto_visibility.specs.Absences.{IsMissing}
 use Rattle.proto_visibility.specs.Linked.{CanBeLinked}
 use Rattle.proto_visibility.specs.Kept.{Omissions, AreOmissions, number_among_all}
@@ -14,10 +15,12 @@ use Rattle.scip_model.specs.Indexes.{IsAscendingListOf}
 use Rattle.scip_build.specs.declared.fault.FileFault.{FileFault}
 use Rattle.scip_build.specs.declared.omission.Omission.{Omission}
 use Rattle.scip_build.specs.declared.omission.Omission.TheVariants.{File, Duplicate, MissingImport, Unresolved}
+use Rattle.scip_build.specs.declared.omission.Omission.TheVariants.{Ambiguous}
 use Rattle.scip_build.specs.Files.{ReadFile}
 use Rattle.scip_build.specs.Keeping.{linked_of}
 use Rattle.scip_build.specs.Linking.{linked_files, HasFault}
-use Rattle.scip_build.specs.Documents.{AllAreDecided, IsUnresolvedAt}
+use Rattle.proto_visibility.specs.declared.fault.LinkFault.TheVariants as link
+use Rattle.scip_build.specs.Documents.{AllAreDecided, IsToldUse}
 
 -- Why the file with this number is left out, as it is told: it can't be read, or one of its names clashes with another
 -- of its own, or with one of a file kept before it.
@@ -39,45 +42,50 @@ pub data IsTold (all : List ReadFile) (omissions : Omissions) : Omission → Typ
   -- an import that has to be there names no file that is kept;
   of_import : (place : FilePlace) → IsMissing (linked_files (linked_of omissions all)) place
       → IsTold all omissions (MissingImport (place_among_all omissions place))
-  -- a use of a source that is kept names nothing, or what a file that is left out declares.
-  of_use : (place : FilePlace) → IsUnresolvedAt (linked_files (linked_of omissions all)) place
+  -- a use of a source that is kept names nothing, or what a file that is left out declares;
+  of_use : (place : FilePlace) → IsToldUse (linked_files (linked_of omissions all)) place (link.Unresolved place)
       → IsTold all omissions (Unresolved (place_among_all omissions place))
+  -- such a use is ambiguous.
+  of_ambiguous : (place : FilePlace) → IsToldUse (linked_files (linked_of omissions all)) place (link.Ambiguous place)
+      → IsTold all omissions (Ambiguous (place_among_all omissions place))
 
--- Where it is told: the file, the place's start and end, and whether it is a use. Of a file that is left out nothing
+-- Where it is told: the file, the place's start and end, and a number for what it is. Of a file that is left out nothing
 -- else is told, so where in the file doesn't matter.
 abbrev pub Key : Type 0
-Key = (ℕ × ℕ) × (ℕ × Bool)
+Key = (ℕ × ℕ) × (ℕ × ℕ)
 
 abbrev pub told_key : Omission → Key
-told_key (File number fault) = ((number, 0), (0, false))
-told_key (Duplicate first second) = ((second.file, 0), (0, false))
-told_key (MissingImport place) = ((place.file, place.span.start), (place.span.end, false))
-told_key (Unresolved place) = ((place.file, place.span.start), (place.span.end, true))
+told_key (File number fault) = ((number, 0), (0, 0))
+told_key (Duplicate first second) = ((second.file, 0), (0, 0))
+told_key (MissingImport place) = ((place.file, place.span.start), (place.span.end, 0))
+told_key (Unresolved place) = ((place.file, place.span.start), (place.span.end, 1))
+told_key (Ambiguous place) = ((place.file, place.span.start), (place.span.end, 2))
 
--- by file, then by where it begins and ends
+-- by file, then by where it begins and ends, then by what it is
 abbrev pub key_cmp : Key → Key → Ordering
 key_cmp x y = ordering_then (ordering_then (nat_cmp x.0.0 y.0.0) (nat_cmp x.0.1 y.0.1))
-    (ordering_then (nat_cmp x.1.0 y.1.0) (bool_cmp x.1.1 y.1.1))
+    (ordering_then (nat_cmp x.1.0 y.1.0) (nat_cmp x.1.1 y.1.1))
 
 abbrev pub told_cmp : Omission → Omission → Ordering
 told_cmp = on told_key key_cmp
 
 -- Of all that was read this is linked, and this is told of what is left out, each once, in order of file and place.
-pub record AreKept (all parsed : List ReadFile) (told : List Omission) : Type 0 where
+pub record AreKept (duplicates : Duplicates) (all parsed : List ReadFile) (told : List Omission) : Type 0 where
   pub omissions : Omissions
-  pub left_out : AreOmissions (linked_files all) omissions
+  pub left_out : AreOmissions duplicates (linked_files all) omissions
   pub kept : parsed ≡ linked_of omissions all
   pub decided : AllAreDecided (linked_files parsed)
   pub told_is : IsAscendingListOf told_cmp (IsTold all omissions) told
 
 -- nothing is told: all are kept, they can be linked, and each use of each source names a type
-pub record IsWithoutFault (all parsed : List ReadFile) (told : List Omission) : Type 0 where
+pub record IsWithoutFault (duplicates : Duplicates) (all parsed : List ReadFile) (told : List Omission) : Type 0 where
   pub none : told ≡ []
   pub all_kept : parsed ≡ all
-  pub linked : CanBeLinked (linked_files all)
+  pub linked : CanBeLinked duplicates (linked_files all)
   pub resolved : AllResolve (linked_files all)
 
 -- Nothing is told if and only if a tree wouldn't be refused.
 abbrev pub NothingIsToldOfAGoodTree : Type 0
-NothingIsToldOfAGoodTree = (all parsed : List ReadFile) (told : List Omission) → AreKept all parsed told
-    → (told ≡ []) ↔ (CanBeLinked (linked_files all) × AllResolve (linked_files all))
+NothingIsToldOfAGoodTree = (duplicates : Duplicates) (all parsed : List ReadFile) (told : List Omission)
+    → AreKept duplicates all parsed told
+    → (told ≡ []) ↔ (CanBeLinked duplicates (linked_files all) × AllResolve (linked_files all))

@@ -3,6 +3,7 @@ use Rattle.std.specs.Prelude.{◌≡◌, ◌<◌, ℕ, List, length, map}
 use Rattle.proto_decl.specs.declared.uses.Use.{Use}
 use Rattle.proto_visibility.specs.declared.lookup.Entity.{Entity}
 use Rattle.proto_visibility.specs.declared.lookup.Entity.TheVariants.{Package, Declared}
+use Rattle.proto_visibility.specs.declared.clash.Duplicates.{Duplicates}
 use Rattle.proto_visibility.specs.Files.{File}
 use Rattle.proto_visibility.specs.Kept.{Omissions, IsKeptFile, number_among_all}
 use Rattle.proto_link.specs.declared.target.Target.{Target}
@@ -47,6 +48,7 @@ pub record ResolveAlike (all linked : List File) (omissions : Omissions) (number
       → NamesTheSame linked omissions number type_use target
 
 abbrev pub KeptResolvesAlike : Type 0
-KeptResolvesAlike = (all parsed : List ReadFile) (told : List Omission) (kept : AreKept all parsed told)
+KeptResolvesAlike = (duplicates : Duplicates) (all parsed : List ReadFile) (told : List Omission)
+    (kept : AreKept duplicates all parsed told)
     → (number : ℕ) (type_use : Use) → number < length (kept_numbers 0 kept.omissions)
     → ResolveAlike (linked_files all) (linked_files parsed) kept.omissions number type_use

@@ -10,6 +10,8 @@ pub mod FileFaults
 pub mod Linking
 -- what holds of files that were read from a tree
 pub mod Ready
+-- the settings with what is repeated
+pub mod Repeating
 -- the documents of sources that were read
 pub mod Documents
 -- what is kept of a tree, and what is told of the rest
@@ -31,3 +33,5 @@ pub mod Works
 -- the laws
 pub mod Laws
 pub mod BuildLaws
+-- faults of uses
+pub mod UseFaults

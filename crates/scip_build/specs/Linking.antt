@@ -2,6 +2,7 @@
 use Rattle.std.specs.Prelude.{◌≡◌, ℕ, ⊤, Option, Some, None, Result, Ok, Err, List, [], map}
 use Rattle.std.specs.List.{slice_get}
 use Rattle.proto_decl.specs.Facts.{Facts}
+use Rattle.proto_visibility.specs.declared.clash.Duplicates.{Duplicates}
 use Rattle.proto_visibility.specs.declared.fault.LinkFault.TheVariants as link
 use Rattle.proto_visibility.specs.declared.files.FilePlace.{FilePlace}
 use Rattle.proto_visibility.specs.Files.{File}
@@ -51,15 +52,15 @@ pub record HasFault (parsed : List ReadFile) (number : ℕ) (fault : FileFault) 
 -- Why files that were read can't be linked: the least of the sources and included sources that has no contents, and
 -- the fault of that; else what the linker refuses. Nothing is said about memory, and threads and uses are no matter
 -- of it.
-pub data MayRefuseParsed (parsed : List ReadFile) : BuildFault → Type 0 where
-  linking_lacks_memory : MayRefuseParsed parsed build.Memory
+pub data MayRefuseParsed (duplicates : Duplicates) (parsed : List ReadFile) : BuildFault → Type 0 where
+  linking_lacks_memory : MayRefuseParsed duplicates parsed build.Memory
   is_unread : {number : ℕ} {fault : FileFault} → Broken (linked_files parsed) number
-      → HasFault parsed number fault → MayRefuseParsed parsed (build.File number fault)
-  is_duplicate : {first second : FilePlace} → MayRefuse (linked_files parsed) (link.Duplicate first second)
-      → MayRefuseParsed parsed (build.Duplicate first second)
-  is_missing : {place : FilePlace} → MayRefuse (linked_files parsed) (link.MissingImport place)
-      → MayRefuseParsed parsed (build.MissingImport place)
+      → HasFault parsed number fault → MayRefuseParsed duplicates parsed (build.File number fault)
+  is_duplicate : {first second : FilePlace} → MayRefuse duplicates (linked_files parsed) (link.Duplicate first second)
+      → MayRefuseParsed duplicates parsed (build.Duplicate first second)
+  is_missing : {place : FilePlace} → MayRefuse duplicates (linked_files parsed) (link.MissingImport place)
+      → MayRefuseParsed duplicates parsed (build.MissingImport place)
 
 -- the files can be linked, and are those of the linker
-abbrev pub AreLinked : List ReadFile → List File → Type 0
-AreLinked parsed files = (files ≡ linked_files parsed) × CanBeLinked (linked_files parsed)
+abbrev pub AreLinked : Duplicates → List ReadFile → List File → Type 0
+AreLinked duplicates parsed files = (files ≡ linked_files parsed) × CanBeLinked duplicates (linked_files parsed)

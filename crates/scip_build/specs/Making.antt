@@ -1,6 +1,7 @@
 -- What is made of files that were read, and why it isn't.
 use Rattle.std.specs.Prelude.{◌≡◌, ◌↔◌, ◌<◌, ℕ, ⊤, List, [], Contains}
 use Rattle.proto_visibility.specs.Files.{File}
+use Rattle.proto_visibility.specs.declared.clash.Duplicates.{Duplicates}
 use Rattle.proto_visibility.specs.Linked.{CanBeLinked}
 use Rattle.scip_records.specs.declared.records.Index.{Index}
 use Rattle.scip_model.specs.Chosen.{Chosen}
@@ -13,7 +14,7 @@ use Rattle.scip_build.specs.declared.fault.BuildFault.{BuildFault}
 use Rattle.scip_build.specs.declared.fault.BuildFault.TheVariants as build
 use Rattle.scip_build.specs.Files.{ReadFile}
 use Rattle.scip_build.specs.Linking.{linked_files, MayRefuseParsed}
-use Rattle.scip_build.specs.Documents.{texts_of, AllAreDecided, IsUnresolvedAt, IsLeastUnresolved}
+use Rattle.scip_build.specs.Documents.{texts_of, AllAreDecided, IsAmbiguousAt, IsUnresolvedAt, IsLeastUnresolved}
 
 -- The index is that of the files, and these are the uses of sources that name no type: none if such are refused.
 pub record IsMade (parsed : List ReadFile) (files : List File) (chosen : Chosen) (settings : Settings)
@@ -24,15 +25,21 @@ pub record IsMade (parsed : List ReadFile) (files : List File) (chosen : Chosen)
   pub is : IsIndexOf files (texts_of parsed) chosen settings.package settings.encoding settings.project_root index
 
 -- why files that were read make no index
-abbrev pub MayRefuseMaking : List ReadFile → (workers : ℕ) → BuildFault → Type 0
-MayRefuseMaking parsed workers build.Spawn = 1 < workers
-MayRefuseMaking parsed workers build.Memory = ⊤
-MayRefuseMaking parsed workers (build.File number fault) = MayRefuseParsed parsed (build.File number fault)
-MayRefuseMaking parsed workers (build.Duplicate first second) =
-    MayRefuseParsed parsed (build.Duplicate first second)
-MayRefuseMaking parsed workers (build.MissingImport place) = MayRefuseParsed parsed (build.MissingImport place)
-MayRefuseMaking parsed workers (build.Unresolved place) =
-    CanBeLinked (linked_files parsed) × IsLeastUnresolved (linked_files parsed) place
+abbrev pub MayRefuseMaking : Duplicates → List ReadFile → (workers : ℕ) → BuildFault → Type 0
+MayRefuseMaking duplicates parsed workers build.Spawn = 1 < workers
+MayRefuseMaking duplicates parsed workers build.Memory = ⊤
+MayRefuseMaking duplicates parsed workers (build.File number fault) =
+    MayRefuseParsed duplicates parsed (build.File number fault)
+MayRefuseMaking duplicates parsed workers (build.Duplicate first second) =
+    MayRefuseParsed duplicates parsed (build.Duplicate first second)
+MayRefuseMaking duplicates parsed workers (build.MissingImport place) =
+    MayRefuseParsed duplicates parsed (build.MissingImport place)
+MayRefuseMaking duplicates parsed workers (build.Unresolved place) =
+    CanBeLinked duplicates (linked_files parsed) × IsLeastUnresolved (linked_files parsed) place
+    × (IsAmbiguousAt (linked_files parsed) place → ⊥)
+MayRefuseMaking duplicates parsed workers (build.Ambiguous place) =
+    CanBeLinked duplicates (linked_files parsed) × IsLeastUnresolved (linked_files parsed) place
+    × IsAmbiguousAt (linked_files parsed) place
 
 -- why what is kept of a tree makes no index
 pub data MayRefuseSkipping (workers : ℕ) : BuildFault → Type 0 where

@@ -1,15 +1,20 @@
 -- What is added to a list of what is told.
-use Rattle.std.specs.Prelude.{◌≡◌, ◌↔◌, ◌⊎◌, ◌<◌, ◌++◌, ℕ, Option, Some, List, [], length, map, MatchOption, Contains}
+use Rattle.std.specs.Prelude.{◌≡◌, ◌↔◌, ◌⊎◌, ◌<◌, ◌++◌, ◌∷◌, ℕ, Option, Some, None, List, [], length, map, MatchOption}
+use Rattle.std.specs.Prelude.{Bool, false, ◌&&◌, nat_eq, Contains}
 use Rattle.std.specs.declared.cmp.Ordering.TheVariants.{Equal}
-use Rattle.std.specs.List.{slice_get}
+use Rattle.std.specs.List.{flat_map, slice_get}
 use Rattle.std.specs.List.Sorted.{IsStrictlySortedBy}
 use Rattle.std.specs.Option.{unwrap_or}
 use Rattle.proto_visibility.specs.declared.files.FilePlace.{FilePlace}
 use Rattle.proto_visibility.specs.declared.omissions.FileOmission.{FileOmission}
+use Rattle.proto_visibility.specs.declared.fault.LinkFault.{LinkFault}
+use Rattle.proto_visibility.specs.declared.fault.LinkFault.TheVariants as link
+use Rattle.proto_visibility.specs.declared.clash.Duplicates.{Duplicates}
 use Rattle.proto_visibility.specs.Files.{File}
+use Rattle.proto_link.specs.Targets.{IsUseFault}
 use Rattle.proto_visibility.specs.Kept.{Omissions, IsOmission, AreOmissions}
 use Rattle.scip_build.specs.declared.omission.Omission.{Omission}
-use Rattle.scip_build.specs.declared.omission.Omission.TheVariants.{MissingImport, Unresolved}
+use Rattle.scip_build.specs.declared.omission.Omission.TheVariants.{MissingImport, Unresolved, Ambiguous}
 use Rattle.scip_build.specs.Files.{ReadFile}
 use Rattle.scip_build.specs.Linking.{linked_files}
 use Rattle.scip_build.specs.Kept.{IsLeftFor, told_cmp}
@@ -34,7 +39,12 @@ IsLeftIf all number omission told = MatchOption omission ⊥ (λ left. IsLeftFor
 
 -- a file may be left out for this
 abbrev pub IsSomeOmission : List File → (number : ℕ) → Option FileOmission → Type 0
-IsSomeOmission files number omission = (omissions : Omissions) × IsOmission files omissions number omission
+IsSomeOmission files number omission =
+    (duplicates : Duplicates) × (omissions : Omissions) × IsOmission duplicates files omissions number omission
+
+-- and these may be what is left out
+abbrev pub AreSomeOmissions : List File → Omissions → Type 0
+AreSomeOmissions files omissions = (duplicates : Duplicates) × AreOmissions duplicates files omissions
 
 -- what a list of numbers has at a number; the number itself after its end
 abbrev pub number_in : List ℕ → ℕ → ℕ
@@ -46,8 +56,33 @@ place_by numbers place = record { file = number_in numbers place.file; span = pl
 abbrev pub told_import : List ℕ → FilePlace → Omission
 told_import numbers place = MissingImport (place_by numbers place)
 
-abbrev pub told_use : List ℕ → FilePlace → Omission
-told_use numbers place = Unresolved (place_by numbers place)
+-- what is told of a use that names nothing for this
+abbrev pub told_use : List ℕ → LinkFault → List Omission
+told_use numbers (link.Unresolved place) = Unresolved (place_by numbers place) ∷ []
+told_use numbers (link.Ambiguous place) = Ambiguous (place_by numbers place) ∷ []
+told_use numbers (link.Broken number) = []
+told_use numbers (link.Duplicate first second) = []
+told_use numbers (link.MissingImport place) = []
+told_use numbers link.Memory = []
+
+-- a file in which one of these places is has a use that names nothing for this
+pub record IsFaultAt (files : List File) (places : List FilePlace) (fault : LinkFault) : Type 0 where
+  pub place : FilePlace
+  pub listed : Contains places place
+  pub is : IsUseFault files place.file fault
+
+-- whether a place is in the file with this number
+abbrev pub is_in : FilePlace → Option ℕ → Bool
+is_in place None = false
+is_in place (Some number) = nat_eq number place.file
+
+-- whether two places are one
+abbrev pub is_one_place : FilePlace → FilePlace → Bool
+is_one_place a b = nat_eq a.file b.file && (nat_eq a.span.start b.span.start && nat_eq a.span.end b.span.end)
+
+-- of the files in which these places are just these are why a use names nothing
+abbrev pub AreUseFaults : List File → List FilePlace → List LinkFault → Type 0
+AreUseFaults files places faults = (fault : LinkFault) → Contains faults fault ↔ IsFaultAt files places fault
 
 -- no two of a list are told at one key
 abbrev pub HaveOwnKeys : List Omission → Type 0
@@ -58,14 +93,15 @@ pub record AreInOrder (told once : List Omission) : Type 0 where
   pub same : HaveOwnKeys told → (omission : Omission) → Contains once omission ↔ Contains told omission
   pub rising : IsStrictlySortedBy told_cmp once
 
-abbrev pub all_told : (left : List Omission) → (numbers : List ℕ) → (imports uses : List FilePlace) → List Omission
-all_told left numbers imports uses =
-    (left ++ map (told_import numbers) imports) ++ map (told_use numbers) uses
+abbrev pub all_told : (left : List Omission) → (numbers : List ℕ) → List FilePlace → List LinkFault → List Omission
+all_told left numbers imports faults =
+    (left ++ map (told_import numbers) imports) ++ flat_map (told_use numbers) faults
 
 -- the files that are kept, their numbers among all, and what is told of the others
-pub record AreKeptFiles (all parsed : List ReadFile) (numbers : List ℕ) (left : List Omission) : Type 0 where
+pub record AreKeptFiles (duplicates : Duplicates) (all parsed : List ReadFile) (numbers : List ℕ)
+    (left : List Omission) : Type 0 where
   pub omissions : Omissions
-  pub left_out : AreOmissions (linked_files all) omissions
+  pub left_out : AreOmissions duplicates (linked_files all) omissions
   pub kept : parsed ≡ linked_of omissions all
   pub numbers_are : numbers ≡ kept_numbers 0 omissions
   pub left_are : Adds (FromFront (IsLeftIf all) omissions (length omissions)) [] left

@@ -10,6 +10,7 @@ use Rattle.scip_model.specs.declared.source_document.SourceDocument.{SourceDocum
 use Rattle.proto_visibility.specs.declared.files.FilePlace.{FilePlace}
 use Rattle.scip_build.specs.Documents.{AreReady, GivesDocument, HasReadText, IsRead, MayRefuseDocuments, SourceWork}
 use Rattle.scip_build.specs.Forms.{AreMade, IsMadeInForm}
+use Rattle.scip_build.specs.Repeating.{with_packages}
 use Rattle.scip_build.specs.declared.fault.BuildFault.{BuildFault}
 use Rattle.scip_build.specs.declared.linked_sources.LinkedSources.{LinkedSources}
 use Rattle.scip_build.specs.declared.made.MadeDocument.{MadeDocument}
@@ -20,46 +21,49 @@ module _ (sources : LinkedSources) where
   abbrev pub work_of : SourceWork
   work_of = record {
     parsed = sources.parsed.now;
-    files = sources.linker.now;
+    files = sources.package.now.files;
     chosen = sources.choices.now;
-    settings = sources.settings.now;
+    settings = with_packages sources.settings.now sources.package.now.ids;
     count = sources.count;
   }
 
   -- ---- one source
 
   abbrev pub HasSource : (number : ℕ) → Type 0
-  HasSource = IsSource sources.linker.now
+  HasSource = IsSource sources.package.now.files
 
   abbrev pub HasReadSource : (number : ℕ) → Type 0
   HasReadSource = IsRead sources.parsed.now
 
   abbrev pub HasTextRead : (number : ℕ) → Type 0
   HasTextRead number =
-      (text : List ℕ) → HasReadText sources.parsed.now number text → HasText sources.linker.now number text
+      (text : List ℕ) → HasReadText sources.parsed.now number text → HasText sources.package.now.files number text
 
   abbrev pub GivesDocumentOf : (number : ℕ) → Result SourceDocument NoDocument → Type 0
-  GivesDocumentOf = GivesDocument sources.parsed.now sources.linker.now sources.choices.now sources.settings.now
+  GivesDocumentOf = GivesDocument sources.parsed.now sources.package.now.files sources.choices.now
+      (with_packages sources.settings.now sources.package.now.ids)
 
   -- ---- all of them
 
   abbrev pub HasGoodPaths : Type 0
-  HasGoodPaths = HaveGoodPaths sources.linker.now
+  HasGoodPaths = HaveGoodPaths sources.package.now.files
 
   abbrev pub HasChosen : Type 0
-  HasChosen = HaveChoices sources.linker.now sources.choices.now
+  HasChosen = HaveChoices sources.package.now.files sources.choices.now
 
   abbrev pub IsReady : Type 0
-  IsReady = AreReady sources.parsed.now sources.linker.now sources.choices.now sources.count
+  IsReady = AreReady sources.parsed.now sources.package.now.files sources.choices.now sources.count
 
   abbrev pub MayRefuseAny : (workers : ℕ) → BuildFault → Type 0
-  MayRefuseAny = MayRefuseDocuments sources.settings.now.faulty sources.linker.now
+  MayRefuseAny = MayRefuseDocuments sources.settings.now.faulty sources.package.now.files
 
   module _ {Out : Type 0} (Is : Document → Out → Type 0) where
     abbrev pub AreMadeFrom : List (MadeDocument Out) → Type 0
     AreMadeFrom =
-        AreMade Is sources.parsed.now sources.linker.now sources.choices.now sources.settings.now
+        AreMade Is sources.parsed.now sources.package.now.files sources.choices.now
+        (with_packages sources.settings.now sources.package.now.ids)
 
     abbrev pub IsMadeFrom : Parts Out → List FilePlace → Type 0
     IsMadeFrom =
-        IsMadeInForm Is sources.parsed.now sources.linker.now sources.choices.now sources.settings.now
+        IsMadeInForm Is sources.parsed.now sources.package.now.files sources.choices.now
+        (with_packages sources.settings.now sources.package.now.ids)

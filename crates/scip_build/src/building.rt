@@ -7,7 +7,8 @@ ghost use Rattle.proto_visibility.specs.Linked.{HaveClearNames};
 ghost use Rattle.scip_model.specs.Indexes.{metadata_of};
 ghost use Rattle.scip_build.specs.declared.faulty.Faulty.TheVariants.{Refuse, Skip};
 ghost use Rattle.scip_build.specs.Linking.{linked_files};
-ghost use Rattle.scip_build.specs.Documents.{MayRefuseDocuments};
+ghost use Rattle.scip_build.specs.Documents.{MayRefuseLinked};
+ghost use Rattle.scip_build.specs.Telling.{AreUseFaults};
 ghost use Rattle.scip_build.specs.Ready.{AreOfTree, ArePresent};
 ghost use Rattle.scip_build.specs.Making.{MayRefuseMaking, MayRefuseSkipping};
 ghost use Rattle.scip_build.specs.Forms.{index_of, IsMadeOf, IsLinkedAndMade, IsBuiltOfInForm};
@@ -23,7 +24,7 @@ use crate::faulty::Faulty;
 use crate::keeping::{keep_files, sources_among};
 use crate::linked_sources::LinkedSources;
 use crate::linking::{link, linked_files};
-use crate::made::Made;
+use crate::made::{KeptParts, Made};
 use crate::parsed_file::ParsedFile;
 use crate::parts::{BuiltParts, Parts};
 use crate::phase_one::parse_files;
@@ -32,12 +33,13 @@ use crate::run::Run;
 use crate::settings::Settings;
 use crate::telling::tell;
 use crate::unresolved_uses::{documents_of, unresolved_of};
+use crate::use_faults::{faults_at, refusal_by};
 use basics::tool::{NAME, VERSION};
 use basics::{OwnedText, Sequence};
 use index_hooks::Chooses;
 use index_pool::Gate;
 use proto_link::{FilePlace, Linker, kept_files_are_clear};
-use scip_model::{Choices, externals_in_packages};
+use scip_model::{Choices, SymbolPackages, externals_in_packages};
 use scip_records::{Document, Index, Metadata, ToolInfo};
 use source_tree::Tree;
 use std::alloc::{AllocError, Global};
@@ -75,16 +77,11 @@ fn make_parts<R: Threads + Wait, G: Gate, F: DocumentForm + Sync>(
         (λ made. IsMadeFrom sources.now F.is_kept made.0 made.1)
         (MayRefuseAny sources.now run.now.workers) }
 {
-    let settings = sources.settings;
     let made = make_documents(run, sources, form)?;
     let unresolved_uses = unresolved_of(run.alloc, made.as_slice())?;
     let documents = documents_of(run.alloc, made)?;
-    let external_symbols = externals_in_packages(
-        run.alloc,
-        sources.linker,
-        sources.choices,
-        &settings.package,
-    )?;
+    let external_symbols = externals_in_packages(run.alloc, sources.package, sources.choices)?;
+    let settings = sources.settings;
     let metadata = metadata(run.alloc, &settings.project_root)?;
     let parts = Parts {
         metadata: Some(metadata),
@@ -95,7 +92,7 @@ fn make_parts<R: Threads + Wait, G: Gate, F: DocumentForm + Sync>(
 }
 
 /// What is made of linked files that were read.
-#[tactic(auto, using(crate::proofs::LinkingRefusalRules::of_documents))]
+#[tactic(auto, using(crate::proofs::LinkingRefusalRules::of_linked))]
 fn make_linked<R: Threads + Wait, G: Gate, F: DocumentForm + Sync>(
     run: &Run<'_, R, G>,
     linker: &Linker<'_, '_>,
@@ -105,22 +102,25 @@ fn make_linked<R: Threads + Wait, G: Gate, F: DocumentForm + Sync>(
 ) -> Result<Made<F::Kept>, BuildFault>
     requires files { linker.now ≡ linked_files parsed.now }
     requires tree { AreOfTree parsed.now }
+    requires clear { HaveClearNames settings.now.duplicates (linked_files parsed.now) }
     ensures { MatchResult result
         (IsMadeOf F.is_kept parsed.now settings.now)
-        (MayRefuseDocuments settings.now.faulty (linked_files parsed.now) run.now.workers) }
+        (MayRefuseLinked settings.now.faulty (linked_files parsed.now) run.now.workers) }
 {
-    // From here on it is known that no names of the files clash, and that their facts are those of texts.
-    linker.linked();
     let choices = Choices::new(chosen_lists(run.alloc, parsed)?);
+    let package = SymbolPackages::of(run.alloc, linker, &settings.package)?;
     let sources = LinkedSources {
         alloc: run.alloc,
-        linker,
+        package: &package,
         parsed,
         choices: &choices,
         settings,
         count: sources_among(parsed),
     };
-    let made = make_parts(run, &sources, form)?;
+    let made = match make_parts(run, &sources, form) {
+        Ok(made) => made,
+        Err(fault) => return Err(refusal_by(run.alloc, linker, fault)),
+    };
     Ok(Made {
         parts: made.0,
         choices,
@@ -139,34 +139,40 @@ fn make_whole<R: Threads + Wait, G: Gate, F: DocumentForm + Sync>(
     requires refuse { settings.now.faulty ≡ Refuse }
     ensures { MatchResult result
         (IsLinkedAndMade F.is_kept parsed.now settings.now)
-        (MayRefuseMaking parsed.now run.now.workers) }
+        (MayRefuseMaking settings.now.duplicates parsed.now run.now.workers) }
 {
     let files = linked_files(run.alloc, parsed)?;
-    let linker = link(run, parsed, files.as_slice())?;
+    let linker = link(run, parsed, files.as_slice(), settings.duplicates)?;
     make_linked(run, &linker, parsed, settings, form)
 }
 
-/// What is made of the files that are kept, and the imports of them that name no file.
+/// What is made of the files that are kept, the imports of them that name no file, and why uses of them name nothing.
 #[tactic(auto, using(crate::proofs::LinkingRefusalRules::of_skipping))]
 fn make_kept<R: Threads + Wait, G: Gate, F: DocumentForm + Sync>(
     run: &Run<'_, R, G>,
     parsed: &[ParsedFile<'_>],
     settings: &Settings,
     form: &F,
-) -> Result<(Made<F::Kept>, Vec<FilePlace>), BuildFault>
+) -> Result<KeptParts<F::Kept>, BuildFault>
     requires tree { AreOfTree parsed.now }
-    requires clear { HaveClearNames (linked_files parsed.now) }
+    requires clear { HaveClearNames settings.now.duplicates (linked_files parsed.now) }
     requires skip { settings.now.faulty ≡ Skip }
     ensures { MatchResult result
-        (λ made. IsMadeOf F.is_kept parsed.now settings.now made.0 × AreMissing (linked_files parsed.now)
-        made.1.items)
+        (λ kept. IsMadeOf F.is_kept parsed.now settings.now kept.made
+        × AreMissing (linked_files parsed.now) kept.missing.items
+        × AreUseFaults (linked_files parsed.now) kept.made.unresolved_uses kept.faults.items)
         (MayRefuseSkipping run.now.workers) }
 {
     let files = linked_files(run.alloc, parsed)?;
-    let linker = Linker::of_kept(run.alloc, files.as_slice())?;
+    let linker = Linker::of_kept(run.alloc, files.as_slice(), settings.duplicates)?;
     let missing = linker.missing_imports(run.alloc)?;
     let made = make_linked(run, &linker, parsed, settings, form)?;
-    Ok((made, missing))
+    let faults = faults_at(run.alloc, &linker, made.unresolved_uses.as_slice())?;
+    Ok(KeptParts {
+        made,
+        missing,
+        faults,
+    })
 }
 
 /// The parts of the index of a tree that was read, if faults are refused.
@@ -180,7 +186,7 @@ fn build_whole<'a, R: Threads + Wait, G: Gate, F: DocumentForm + Sync>(
     requires refuse { settings.now.faulty ≡ Refuse }
     ensures { MatchResult result
         (λ built. IsBuiltOfInForm F.is_kept all.entry.items settings.now built.choices built.told built.parts)
-        (MayRefuseMaking all.entry.items run.now.workers) }
+        (MayRefuseMaking settings.now.duplicates all.entry.items run.now.workers) }
 {
     let made = make_whole(run, all.as_slice(), settings, form)?;
     Ok(BuiltParts {
@@ -207,17 +213,17 @@ fn build_kept<'a, R: Threads + Wait, G: Gate, F: DocumentForm + Sync>(
         (MayRefuseSkipping run.now.workers) }
 {
     kept_files_are_clear();
-    let kept = keep_files(run.alloc, all)?;
-    let made = make_kept(run, kept.parsed.as_slice(), settings, form)?;
+    let kept = keep_files(run.alloc, all, settings.duplicates)?;
+    let of_kept = make_kept(run, kept.parsed.as_slice(), settings, form)?;
     let told = tell(
         kept.told,
         kept.numbers.as_slice(),
-        made.1.as_slice(),
-        made.0.unresolved_uses.as_slice(),
+        of_kept.missing.as_slice(),
+        of_kept.faults.as_slice(),
     )?;
     Ok(BuiltParts {
-        parts: made.0.parts,
-        choices: made.0.choices,
+        parts: of_kept.made.parts,
+        choices: of_kept.made.choices,
         parsed: kept.parsed,
         told: Sequence::from_vec(told),
     })
@@ -234,8 +240,7 @@ pub fn build_in_form<'a, R: Threads + Wait, C: Chooses + Sync, G: Gate, F: Docum
 ) -> Result<BuiltParts<'a, F::Kept>, BuildFault>
     ensures built { IfOk result (λ built. IsBuiltInForm F.is_kept (C.allows chooser.now) settings.now tree.now
         built.choices built.told built.parts) }
-    ensures refused { IfErr result (IsBuildFault (C.allows chooser.now) settings.now.faulty settings.now.dialect
-        settings.now.comments tree.now run.now.workers) }
+    ensures refused { IfErr result (IsBuildFault (C.allows chooser.now) settings.now tree.now run.now.workers) }
 {
     // From here on it is known that the files are those of a tree.
     tree.file_count();
@@ -281,8 +286,7 @@ pub fn build<R: Threads + Wait, C: Chooses + Sync, G: Gate>(
     settings: &Settings,
 ) -> Result<Built, BuildFault>
     ensures built { IfOk result (IsBuilt (C.allows chooser.now) settings.now tree.now) }
-    ensures refused { IfErr result (IsBuildFault (C.allows chooser.now) settings.now.faulty settings.now.dialect
-        settings.now.comments tree.now run.now.workers) }
+    ensures refused { IfErr result (IsBuildFault (C.allows chooser.now) settings.now tree.now run.now.workers) }
 {
     let built = build_in_form(run, tree, chooser, settings, &AsRecords)?;
     let index = index_of(built.parts);

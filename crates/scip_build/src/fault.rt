@@ -47,6 +47,10 @@ pub enum BuildFault {
     /// The first use that names no type, of the first source that has one, by the place of the whole use.
     #[error("a use that names no type, {0}")]
     Unresolved(FilePlace),
+    /// The same, if it names no type since several of the files declare it which are seen. It never comes if no two files
+    /// may give one name.
+    #[error("a use that names several types, {0}")]
+    Ambiguous(FilePlace),
 }
 
 impl From<AllocError> for BuildFault {

@@ -12,19 +12,20 @@ use crate::linking::linked_files;
 use crate::omission::Omission;
 use crate::parsed_file::ParsedFile;
 use crate::telling::push_omissions;
-use proto_link::{FileOmission, left_out};
+use proto_link::{Duplicates, FileOmission, left_out};
 use std::alloc::{AllocError, Global};
 
 /// For each of the files that were read, by its number, why it is left out; `None` of a file that is kept.
 fn omissions_of(
     alloc: Global,
     parsed: &[ParsedFile<'_>],
+    duplicates: Duplicates,
 ) -> Result<Vec<Option<FileOmission>>, AllocError>
     requires { HaveOwnPaths (linked_files parsed.now) }
-    ensures { IfOk result (λ omissions. AreOmissions (linked_files parsed.now) omissions.items) }
+    ensures { IfOk result (λ omissions. AreOmissions duplicates (linked_files parsed.now) omissions.items) }
 {
     let files = linked_files(alloc, parsed)?;
-    left_out(alloc, files.as_slice())
+    left_out(alloc, files.as_slice(), duplicates)
 }
 
 /// The numbers of the files that are kept, in order.
@@ -76,13 +77,14 @@ pub(crate) struct KeptFiles<'a> {
 pub(crate) fn keep_files<'a>(
     alloc: Global,
     all: Vec<ParsedFile<'a>>,
+    duplicates: Duplicates,
 ) -> Result<KeptFiles<'a>, AllocError>
     requires { HaveOwnPaths (linked_files all.items) }
-    ensures { IfOk result (λ kept. AreKeptFiles all.entry.items kept.parsed.items kept.numbers.items
+    ensures { IfOk result (λ kept. AreKeptFiles duplicates all.entry.items kept.parsed.items kept.numbers.items
         kept.told.items) }
 {
     let mut told = Vec::new(alloc);
-    let omissions = omissions_of(alloc, all.as_slice())?;
+    let omissions = omissions_of(alloc, all.as_slice(), duplicates)?;
     push_omissions(&mut told, all.as_slice(), omissions.as_slice())?;
     let numbers = kept_numbers(alloc, omissions.as_slice())?;
     let parsed = linked_parsed(alloc, all, omissions)?;

@@ -1,7 +1,7 @@
 //! Laws: what the definitions say about parsed files and faults, whatever the code does.
 
 ghost use Rattle.scip_build.specs.BuildLaws.{BuiltHasNoFault, OneBuildFault, OneBuilt};
-ghost use Rattle.scip_build.specs.BuildLaws.{OneBuiltOfChoices, BuiltWhereNothingIsTold};
+ghost use Rattle.scip_build.specs.BuildLaws.{OneBuiltOfChoices, BuiltWhereNothingIsTold, BuiltAlikeIfKept};
 ghost use Rattle.scip_build.specs.Kept.{NothingIsToldOfAGoodTree};
 ghost use Rattle.scip_build.specs.KeptUses.{KeptResolvesAlike};
 ghost use Rattle.scip_build.specs.Laws.{OneListOfFacts, NoFactsWhereUnreadable, LexedWhereUnparsed, OneFileFault};
@@ -100,8 +100,13 @@ pub fn nothing_is_left_out_of_a_good_tree<C: Chooses>(chooser: &C)
     nothing_is_left_out_of_good_files();
 }
 
-/// Though files are left out, a use of a kept file that names something names what it names in the whole tree; and what it
-/// names there it names, if the file that declares that is kept.
+/// If no file is left out for a name that is given twice, the same is built where several files may give one name.
+pub fn built_alike_if_kept<C: Chooses>(chooser: &C)
+    ensures { BuiltAlikeIfKept (C.allows chooser.now) }
+{}
+
+/// Though files are left out, a use of a kept file that names something names what it names in the whole tree; and what
+/// it names there it names, if the file that declares that is kept.
 pub fn kept_resolves_alike()
     ensures { KeptResolvesAlike }
 {}

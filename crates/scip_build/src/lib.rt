@@ -34,6 +34,7 @@ mod source_document;
 mod made;
 mod parts;
 mod unresolved_uses;
+mod use_faults;
 
 // The laws.
 mod laws;
@@ -48,7 +49,7 @@ pub use document_form::{AsRecords, DocumentForm};
 pub use fault::{BuildFault, FileFault};
 pub use faulty::Faulty;
 pub use laws::{
-    built_has_no_fault, faults_exclude_facts, kept_resolves_alike,
+    built_alike_if_kept, built_has_no_fault, faults_exclude_facts, kept_resolves_alike,
     nothing_is_left_out_of_a_good_tree, one_build_fault, one_built, one_fault_a_file,
     one_first_faulty, one_linking, one_list_of_facts_a_file, parsed_files_exclude_faults,
     parsed_files_have_own_paths,
@@ -58,5 +59,6 @@ pub use omission::Omission;
 pub use parsed_file::{Contents, ParsedFile};
 pub use parts::{BuiltParts, Parts};
 pub use phase_one::parse_files;
+pub use proto_link::Duplicates;
 pub use run::Run;
 pub use settings::Settings;

@@ -2,8 +2,7 @@
 
 use crate::parsed_file::ParsedFile;
 use crate::settings::Settings;
-use proto_link::Linker;
-use scip_model::Choices;
+use scip_model::{Choices, SymbolPackages};
 use std::alloc::Global;
 
 /// Files that were read and linked, and what the documents of the sources among them are made by. The
@@ -11,7 +10,7 @@ use std::alloc::Global;
 #[derive(Drop)]
 pub(crate) struct LinkedSources<'a, 'l, 'f, 'r> {
     pub(crate) alloc: Global,
-    pub(crate) linker: &'a Linker<'l, 'f>,
+    pub(crate) package: &'a SymbolPackages<'a, 'l, 'f>,
     pub(crate) parsed: &'a [ParsedFile<'r>],
     pub(crate) choices: &'a Choices,
     pub(crate) settings: &'a Settings,

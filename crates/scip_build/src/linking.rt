@@ -2,6 +2,7 @@
 
 ghost use Rattle.std.specs.Prelude.{◌≡◌, IfOk, IfErr, MatchResult};
 ghost use Rattle.proto_visibility.specs.Files.{HaveOwnPaths};
+ghost use Rattle.proto_visibility.specs.declared.clash.Duplicates.{Duplicates};
 ghost use Rattle.proto_visibility.specs.Linked.{CanBeLinked, MayRefuse};
 ghost use Rattle.scip_build.specs.Linking.{linked_file, linked_files, IsUnreadAt, HasFault, MayRefuseParsed, AreLinked};
 
@@ -9,7 +10,7 @@ use crate::fault::{BuildFault, FileFault};
 use crate::parsed_file::ParsedFile;
 use crate::run::Run;
 use index_pool::Workers;
-use proto_link::{CheckedFiles, LinkFault, LinkFile, Linker, ListedNames};
+use proto_link::{CheckedFiles, Duplicates, LinkFault, LinkFile, Linker, ListedNames};
 use std::alloc::{AllocError, Global};
 use std::thread::{Threads, join};
 
@@ -58,15 +59,16 @@ pub(crate) fn fault_at(parsed: &[ParsedFile<'_>], number: usize) -> FileFault
 /// Why files that were read can't be linked, by the linker's fault.
 #[tactic(auto, using(crate::proofs::LinkingRefusalRules::of_linking))]
 fn refusal(parsed: &[ParsedFile<'_>], fault: LinkFault) -> BuildFault
-    requires { MayRefuse (linked_files parsed.now) fault }
-    ensures { MayRefuseParsed parsed.now result }
+    requires { (duplicates : Duplicates) × MayRefuse duplicates (linked_files parsed.now) fault }
+    ensures { (duplicates : Duplicates) → MayRefuse duplicates (linked_files parsed.now) fault
+        → MayRefuseParsed duplicates parsed.now result }
 {
     match fault {
         LinkFault::Broken(number) => BuildFault::File(number, fault_at(parsed, number)),
         LinkFault::Duplicate(first, second) => BuildFault::Duplicate(first, second),
         LinkFault::MissingImport(place) => BuildFault::MissingImport(place),
         LinkFault::Memory => BuildFault::Memory,
-        LinkFault::Unresolved(_) => unreachable!(),
+        LinkFault::Unresolved(_) | LinkFault::Ambiguous(_) => unreachable!(),
     }
 }
 
@@ -77,18 +79,19 @@ fn linker_in_parts<'a, 'r, R: Threads>(
     rt: &R,
     alloc: Global,
     files: &'a [LinkFile<'a, 'r>],
+    duplicates: Duplicates,
 ) -> Result<Linker<'a, 'r>, LinkFault>
     requires { HaveOwnPaths files.now }
     ensures linked { IfOk result (λ linker. linker ≡ files.now) }
-    ensures can_be { IfOk result (λ _. CanBeLinked files.now) }
-    ensures refused { IfErr result (MayRefuse files.now) }
+    ensures can_be { IfOk result (λ _. CanBeLinked duplicates files.now) }
+    ensures refused { IfErr result (MayRefuse duplicates files.now) }
 {
     let check = move || -> Result<CheckedFiles<'_, '_>, LinkFault>
         requires { HaveOwnPaths files.now }
         ensures checked { IfOk result (λ checked. checked ≡ files.entry.now) }
-        ensures can_be { IfOk result (λ _. CanBeLinked files.entry.now) }
-        ensures refused { IfErr result (MayRefuse files.entry.now) }
-    { CheckedFiles::of(alloc, files) };
+        ensures can_be { IfOk result (λ _. CanBeLinked duplicates files.entry.now) }
+        ensures refused { IfErr result (MayRefuse duplicates files.entry.now) }
+    { CheckedFiles::of(alloc, files, duplicates) };
     let list = move || -> Result<ListedNames<'_, '_>, AllocError>
         ensures { IfOk result (λ listed. listed ≡ files.entry.now) }
     { ListedNames::of(alloc, files) };
@@ -104,16 +107,17 @@ fn linker_of<'a, 'r, R: Threads>(
     alloc: Global,
     workers: Workers,
     files: &'a [LinkFile<'a, 'r>],
+    duplicates: Duplicates,
 ) -> Result<Linker<'a, 'r>, LinkFault>
     requires { HaveOwnPaths files.now }
     ensures linked { IfOk result (λ linker. linker ≡ files.now) }
-    ensures can_be { IfOk result (λ _. CanBeLinked files.now) }
-    ensures refused { IfErr result (MayRefuse files.now) }
+    ensures can_be { IfOk result (λ _. CanBeLinked duplicates files.now) }
+    ensures refused { IfErr result (MayRefuse duplicates files.now) }
 {
     if workers.count() > 1 {
-        linker_in_parts(rt, alloc, files)
+        linker_in_parts(rt, alloc, files, duplicates)
     } else {
-        Linker::new(alloc, files)
+        Linker::new(alloc, files, duplicates)
     }
 }
 
@@ -128,12 +132,13 @@ pub fn link<'a, 'r, R: Threads, G>(
     run: &Run<'_, R, G>,
     parsed: &[ParsedFile<'_>],
     files: &'a [LinkFile<'a, 'r>],
+    duplicates: Duplicates,
 ) -> Result<Linker<'a, 'r>, BuildFault>
     requires same { files.now ≡ linked_files parsed.now }
     requires own { HaveOwnPaths files.now }
-    ensures { MatchResult result (AreLinked parsed.now) (MayRefuseParsed parsed.now) }
+    ensures { MatchResult result (AreLinked duplicates parsed.now) (MayRefuseParsed duplicates parsed.now) }
 {
-    match linker_of(run.rt, run.alloc, run.workers, files) {
+    match linker_of(run.rt, run.alloc, run.workers, files, duplicates) {
         Ok(linker) => Ok(linker),
         Err(fault) => Err(refusal(parsed, fault)),
     }

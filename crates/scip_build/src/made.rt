@@ -3,7 +3,7 @@
 use crate::parts::Parts;
 use basics::Sequence;
 use proto_lex::Span;
-use proto_link::FilePlace;
+use proto_link::{FilePlace, LinkFault};
 use scip_model::Choices;
 
 /// What is kept of a source's document, and the places of its uses that name no type, in order.
@@ -21,4 +21,14 @@ pub(crate) struct Made<T> {
     pub(crate) choices: Choices,
     /// The places of the uses of sources that name no type; none if such are refused.
     pub(crate) unresolved_uses: Sequence<FilePlace>,
+}
+
+/// What is made of the files that are kept of a tree, and what of them is told.
+#[derive(Drop)]
+pub(crate) struct KeptParts<T> {
+    pub(crate) made: Made<T>,
+    /// The imports that name no file.
+    pub(crate) missing: Vec<FilePlace>,
+    /// Why uses name nothing.
+    pub(crate) faults: Vec<LinkFault>,
 }

@@ -20,4 +20,7 @@ pub enum Omission {
     MissingImport(FilePlace),
     /// A use that names no type, or one that a file that is left out declares, by the place of the whole use.
     Unresolved(FilePlace),
+    /// A use of a type that several of the files declare which are seen, by the place of the whole use. It never comes if
+    /// no two files may give one name.
+    Ambiguous(FilePlace),
 }

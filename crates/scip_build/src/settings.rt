@@ -4,6 +4,7 @@ use crate::faulty::Faulty;
 use basics::OwnedText;
 use comment_texts::CommentForm;
 use proto_lex::Encoding;
+use proto_link::Duplicates;
 use proto_parse::Dialect;
 use scip_model::FilePackages;
 
@@ -22,4 +23,6 @@ pub struct Settings {
     pub comments: CommentForm,
     /// Whether a tree with faults is refused, or what has one is left out and reported.
     pub faulty: Faulty,
+    /// Whether several files may give one name.
+    pub duplicates: Duplicates,
 }

@@ -73,9 +73,8 @@ pub(crate) fn make_document<'a, 'f>(
     let text = text_at(sources.parsed, number);
     let maker = DocumentMaker {
         alloc: sources.alloc,
-        linker: sources.linker,
         choices: sources.choices,
-        package: &sources.settings.package,
+        package: sources.package,
         encoding: sources.settings.encoding,
         source: number,
         text,

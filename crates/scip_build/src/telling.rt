@@ -1,17 +1,17 @@
 //! What is told of a tree with faults.
 
 ghost use Rattle.std.specs.Prelude.{◌≡◌, ◌++◌, IfOk, OnOk, Some, length, map};
+ghost use Rattle.std.specs.List.{flat_map};
 ghost use Rattle.std.specs.Ordering.{eq_by_cmp};
-ghost use Rattle.proto_visibility.specs.Kept.{AreOmissions};
 ghost use Rattle.scip_build.specs.Linking.{linked_files};
 ghost use Rattle.scip_build.specs.Kept.{IsLeftFor, told_key, told_cmp};
-ghost use Rattle.scip_build.specs.Telling.{Adds, FromFront, IsLeftIf, IsSomeOmission, number_in, told_import, told_use};
-ghost use Rattle.scip_build.specs.Telling.{AreInOrder, all_told};
+ghost use Rattle.scip_build.specs.Telling.{Adds, FromFront, IsLeftIf, IsSomeOmission, AreSomeOmissions};
+ghost use Rattle.scip_build.specs.Telling.{number_in, told_import, told_use, AreInOrder, all_told};
 
 use crate::linking::fault_at;
 use crate::omission::Omission;
 use crate::parsed_file::ParsedFile;
-use proto_link::{FileOmission, FilePlace};
+use proto_link::{FileOmission, FilePlace, LinkFault};
 use std::alloc::AllocError;
 use std::cmp::Ordering;
 
@@ -48,7 +48,7 @@ pub(crate) fn push_omissions(
     parsed: &[ParsedFile<'_>],
     omissions: &[Option<FileOmission>],
 ) -> Result<(), AllocError>
-    requires { AreOmissions (linked_files parsed.now) omissions.now }
+    requires { AreSomeOmissions (linked_files parsed.now) omissions.now }
     ensures { OnOk result (Adds
         (FromFront (IsLeftIf parsed.now) omissions.now (length omissions.now)) told.old.items told.new.items) }
 {
@@ -87,34 +87,54 @@ fn push_imports(
     Ok(())
 }
 
-/// Adds the uses at these places of kept files.
+/// Adds a use of a kept file that names nothing.
+fn push_use(
+    told: &mut Vec<Omission>,
+    numbers: &[usize],
+    fault: &LinkFault,
+) -> Result<(), AllocError>
+    ensures { OnOk result (told.new.items ≡ told.old.items ++ told_use numbers.now fault.now) }
+{
+    match fault {
+        LinkFault::Unresolved(place) => told.push(Omission::Unresolved(moved(numbers, place)))?,
+        LinkFault::Ambiguous(place) => told.push(Omission::Ambiguous(moved(numbers, place)))?,
+        _ => {}
+    }
+    Ok(())
+}
+
+/// Adds the uses of kept files that name nothing.
 fn push_uses(
     told: &mut Vec<Omission>,
     numbers: &[usize],
-    places: &[FilePlace],
+    faults: &[LinkFault],
 ) -> Result<(), AllocError>
-    ensures { OnOk result (told.new.items ≡ told.old.items ++ map (told_use numbers.now) places.now) }
+    ensures { OnOk result (told.new.items ≡ told.old.items ++ flat_map (told_use numbers.now) faults.now) }
 {
-    for place in places {
-        told.push(Omission::Unresolved(moved(numbers, place)))?;
+    for fault in faults {
+        push_use(told, numbers, fault)?;
     }
     Ok(())
 }
 
 /// Where in the tree an omission is told.
-fn told_key(omission: &Omission) -> ((usize, usize), (usize, bool))
+fn told_key(omission: &Omission) -> ((usize, usize), (usize, usize))
     ensures { result ≡ told_key omission.now }
 {
     match omission {
-        Omission::File(number, _) => ((*number, 0), (0, false)),
-        Omission::Duplicate(_, second) => ((second.file, 0), (0, false)),
+        Omission::File(number, _) => ((*number, 0), (0, 0)),
+        Omission::Duplicate(_, second) => ((second.file, 0), (0, 0)),
         Omission::MissingImport(place) => (
             (place.file, place.span.start as usize),
-            (place.span.end as usize, false),
+            (place.span.end as usize, 0),
         ),
         Omission::Unresolved(place) => (
             (place.file, place.span.start as usize),
-            (place.span.end as usize, true),
+            (place.span.end as usize, 1),
+        ),
+        Omission::Ambiguous(place) => (
+            (place.file, place.span.start as usize),
+            (place.span.end as usize, 2),
         ),
     }
 }
@@ -143,18 +163,18 @@ fn in_order(told: Vec<Omission>) -> Result<Vec<Omission>, AllocError>
     Ok(told)
 }
 
-/// All that is told: what is left out, and the imports and uses of kept files without a target, which have
-/// these numbers among all.
+/// All that is told: what is left out, the imports of kept files without a target, and why uses of them name nothing;
+/// kept files have these numbers among all.
 pub(crate) fn tell(
     left: Vec<Omission>,
     numbers: &[usize],
     imports: &[FilePlace],
-    uses: &[FilePlace],
+    faults: &[LinkFault],
 ) -> Result<Vec<Omission>, AllocError>
-    ensures { IfOk result (λ once. AreInOrder (all_told left.items numbers.now imports.now uses.now) once.items) }
+    ensures { IfOk result (λ once. AreInOrder (all_told left.items numbers.now imports.now faults.now) once.items) }
 {
     let mut told = left;
     push_imports(&mut told, numbers, imports)?;
-    push_uses(&mut told, numbers, uses)?;
+    push_uses(&mut told, numbers, faults)?;
     in_order(told)
 }

@@ -7,7 +7,7 @@ use index_hooks::Registry;
 use index_pool::{Gate, Workers};
 use proto_lex::Encoding;
 use proto_parse::{CustomOptions, Dialect};
-use scip_build::{BuildFault, Built, Faulty, Omission, Run, Settings, build};
+use scip_build::{BuildFault, Built, Duplicates, Faulty, Omission, Run, Settings, build};
 use scip_model::FilePackages;
 use scip_records::{Document, Occurrence};
 use scip_symbol::PackageId;
@@ -91,7 +91,11 @@ pub(crate) struct Site<'a> {
 }
 
 /// Plain settings, with this done with faults.
-fn settings_of(rt: &impl Abort, alloc: Global, faulty: Faulty) -> Result<Settings, AllocError> {
+pub(crate) fn settings_of(
+    rt: &impl Abort,
+    alloc: Global,
+    faulty: Faulty,
+) -> Result<Settings, AllocError> {
     let parts = [String::new(alloc), String::new(alloc), String::new(alloc)];
     let id = PackageId::new(parts).ok().expect(rt, "good parts");
     Ok(Settings {
@@ -101,6 +105,7 @@ fn settings_of(rt: &impl Abort, alloc: Global, faulty: Faulty) -> Result<Setting
         dialect: Dialect::Proto3(CustomOptions::Refuse),
         comments: CommentForm::Raw,
         faulty,
+        duplicates: Duplicates::Refuse,
     })
 }
 
@@ -113,6 +118,17 @@ pub(crate) fn site_of<'a>(
     faulty: Faulty,
 ) -> Result<Site<'a>, AllocError> {
     let settings = settings_of(rt, alloc, faulty)?;
+    site_with(rt, registry, alloc, files, settings)
+}
+
+/// The same with these settings.
+pub(crate) fn site_with<'a>(
+    rt: &impl Abort,
+    registry: &'a Registry,
+    alloc: Global,
+    files: &str,
+    settings: Settings,
+) -> Result<Site<'a>, AllocError> {
     let tree = tree_of(alloc, files)?.expect(rt, "files with good paths of their own");
     Ok(Site {
         tree,

@@ -6,6 +6,8 @@ mod asking;
 #[cfg(test)]
 mod built;
 #[cfg(test)]
+mod duplicates;
+#[cfg(test)]
 mod gates;
 #[cfg(test)]
 mod hooks;

@@ -21,7 +21,7 @@ const SECOND: FilePlace = FilePlace {
 };
 
 /// Faults, and their texts.
-const FAULTS: [(BuildFault, &str); 7] = [
+const FAULTS: [(BuildFault, &str); 8] = [
     (BuildFault::Spawn, "a thread could not be started"),
     (BuildFault::Memory, "memory ran out"),
     (
@@ -43,6 +43,10 @@ const FAULTS: [(BuildFault, &str); 7] = [
     (
         BuildFault::Unresolved(FIRST),
         "a use that names no type, at byte 2 of file 1",
+    ),
+    (
+        BuildFault::Ambiguous(SECOND),
+        "a use that names several types, at byte 5 of file 4",
     ),
 ];
 

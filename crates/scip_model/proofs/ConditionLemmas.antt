@@ -1,7 +1,7 @@
 -- What the facts of a source give to the functions that list its occurrences.
-use Rattle.std.proofs.Common.{◌≡◌, ◌↔◌, sym, refl, subst, ℕ, zero, suc, ◌<◌, Bool, true, false, IsTrue, Some, List, []}
+use Rattle.std.proofs.Common.{◌≡◌, ◌↔◌, sym, refl, subst, ℕ, zero, suc, ◌<◌, Bool, true, false, IsTrue, List, []}
 use Rattle.std.proofs.Common.{◌∷◌, ◌++◌, ◌∙◌, ◌&&◌, not, inl, inr, ap, length, map}
-use Rattle.std.specs.List.{All, slice_get}
+use Rattle.std.specs.List.{All}
 use Rattle.std.specs.Str.{bytes_eq}
 use Rattle.std.proofs.lemmas.Bool.{and_parts, false_from_ne_true, false≢true, not-true, or_cases}
 use Rattle.std.proofs.lemmas.Option.{get_or_from_slice_get, same_Some, slice_get_within}

@@ -1,9 +1,9 @@
 -- Sources of files that can be linked: they count, and have facts.
-use Rattle.std.proofs.Common.{◌≡◌, ◌∙◌, ℕ, Bool, true, false, not, Option, Some, None, List, refl, sym}
+use Rattle.std.proofs.Common.{◌≡◌, ◌∙◌, ℕ, Bool, true, not, Option, Some, None, List, refl, sym}
 use Rattle.std.proofs.lemmas.Bool.{and_parts, not-true}
 use Rattle.std.specs.List.{slice_get}
 use Rattle.proto_decl.specs.Facts.{Facts}
-use Rattle.proto_visibility.specs.Files.{File, HasFacts, IsSource, IsSourceAt, IsPresent}
+use Rattle.proto_visibility.specs.Files.{File, HasFacts, IsSource, IsSourceAt}
 use Rattle.proto_visibility.specs.Sees.{IsReachable}
 use Rattle.proto_visibility.specs.Sees.SeesBy.{itself}
 use Rattle.proto_visibility.specs.Sees.IsReachable.{seen}

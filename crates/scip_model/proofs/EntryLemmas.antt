@@ -15,6 +15,7 @@ use Rattle.proto_decl.specs.declared.declaration.Declaration.{Declaration}
 use Rattle.scip_records.specs.declared.records.SymbolInformation.{SymbolInformation}
 use Rattle.scip_symbol.specs.Package.{Package}
 use Rattle.scip_model.specs.Chosen.{Chosen, IsChosen}
+use Rattle.scip_model.specs.Named.{Home}
 use Rattle.scip_model.specs.Entries.{package_entry, declaration_entry}
 use Rattle.scip_model.specs.Tables.EntryLists.{package_entries_up_to, entry_if_kept, kept_entries, choices_for}
 
@@ -40,7 +41,7 @@ module _ (id : Package) (facts : Facts) where
 -- ---- declarations that are kept
 
 -- the entry of one of these declarations, which is kept
-pub record IsOfKept (id : Package) (facts : Facts) (ds : List Declaration) (cs : List Choice)
+pub record IsOfKept (home : Home) (facts : Facts) (ds : List Declaration) (cs : List Choice)
     (entry : SymbolInformation) : Type 0 where
   pub index : ℕ
   pub declared : Declaration
@@ -48,27 +49,27 @@ pub record IsOfKept (id : Package) (facts : Facts) (ds : List Declaration) (cs :
   pub stands : slice_get ds index ≡ Some declared
   pub chosen : slice_get cs index ≡ Some choice
   pub keeps : choice.keep ≡ true
-  pub is : entry ≡ declaration_entry id facts declared choice
+  pub is : entry ≡ declaration_entry home facts declared choice
 
-module _ (id : Package) (facts : Facts) where
+module _ (home : Home) (facts : Facts) where
   -- one declaration more
   more-kept : (ds : List Declaration) (cs : List Choice) (i : ℕ) (d : Declaration) (c : Choice)
       → slice_get ds i ≡ Some d → slice_get cs i ≡ Some c
-      → kept_entries id facts (take (suc i) ds) cs ≡ kept_entries id facts (take i ds) cs ++ entry_if_kept id facts d c
+      → kept_entries home facts (take (suc i) ds) cs ≡ kept_entries home facts (take i ds) cs ++ entry_if_kept home facts d c
   more-kept [] cs i d c at chosen = absurd (none-some d at)
   more-kept (x ∷ ds) [] i d c at chosen = absurd (none-some c chosen)
   more-kept (x ∷ ds) (y ∷ cs) zero d c at chosen =
-      append-nil (entry_if_kept id facts x y)
-      ∙ (ap (λ (e : Declaration). entry_if_kept id facts e y) (same_Some x d at)
-      ∙ ap (entry_if_kept id facts d) (same_Some y c chosen))
+      append-nil (entry_if_kept home facts x y)
+      ∙ (ap (λ (e : Declaration). entry_if_kept home facts e y) (same_Some x d at)
+      ∙ ap (entry_if_kept home facts d) (same_Some y c chosen))
   more-kept (x ∷ ds) (y ∷ cs) (suc i) d c at chosen =
-      ap (λ (l : List SymbolInformation). entry_if_kept id facts x y ++ l) (more-kept ds cs i d c at chosen)
-      ∙ sym (append_assoc (entry_if_kept id facts x y) (kept_entries id facts (take i ds) cs)
-      (entry_if_kept id facts d c))
+      ap (λ (l : List SymbolInformation). entry_if_kept home facts x y ++ l) (more-kept ds cs i d c at chosen)
+      ∙ sym (append_assoc (entry_if_kept home facts x y) (kept_entries home facts (take i ds) cs)
+      (entry_if_kept home facts d c))
 
   pub kept-more : (ds : List Declaration) (cs : List Choice) (i : ℕ) (d : Declaration) (c : Choice)
       → slice_get ds i ≡ Some d → slice_get cs i ≡ Some c
-      → kept_entries id facts (take (i + 1) ds) cs ≡ kept_entries id facts (take i ds) cs ++ entry_if_kept id facts d c
+      → kept_entries home facts (take (i + 1) ds) cs ≡ kept_entries home facts (take i ds) cs ++ entry_if_kept home facts d c
   kept-more ds cs i d c at chosen = rw add-one (more-kept ds cs i d c at chosen)
 
   -- that of one declaration
@@ -81,13 +82,13 @@ module _ (id : Package) (facts : Facts) where
   one-in false y kept = absurd (false≢true kept)
 
   pub in-kept : (ds : List Declaration) (cs : List Choice) (x : SymbolInformation)
-      → Contains (kept_entries id facts ds cs) x → IsOfKept id facts ds cs x
+      → Contains (kept_entries home facts ds cs) x → IsOfKept home facts ds cs x
   in-kept [] cs x there = absurd (in_nothing x there)
   in-kept (d ∷ ds) [] x there = absurd (in_nothing x there)
   in-kept (d ∷ ds) (c ∷ cs) x there =
-      elim (Contains-append_cases (entry_if_kept id facts d c) (kept_entries id facts ds cs) x there) [
+      elim (Contains-append_cases (entry_if_kept home facts d c) (kept_entries home facts ds cs) x there) [
         | inl here ↦ (
-            let one = in-one c.keep (declaration_entry id facts d c) x here in
+            let one = in-one c.keep (declaration_entry home facts d c) x here in
             record { index = 0; declared = d; choice = c; stands = refl; chosen = refl; keeps = one.0; is = one.1 })
         | inr later ↦ (
             let rest = in-kept ds cs x later in
@@ -104,17 +105,17 @@ module _ (id : Package) (facts : Facts) where
 
   pub kept-in : (ds : List Declaration) (cs : List Choice) (i : ℕ) (d : Declaration) (c : Choice)
       → slice_get ds i ≡ Some d → slice_get cs i ≡ Some c → c.keep ≡ true
-      → Contains (kept_entries id facts ds cs) (declaration_entry id facts d c)
+      → Contains (kept_entries home facts ds cs) (declaration_entry home facts d c)
   kept-in [] cs i d c at chosen kept = absurd (none-some d at)
   kept-in (x ∷ ds) [] i d c at chosen kept = absurd (none-some c chosen)
   kept-in (x ∷ ds) (y ∷ cs) zero d c at chosen kept =
-      Contains-append_left (entry_if_kept id facts x y) (kept_entries id facts ds cs) (declaration_entry id facts d c)
-      (subst (λ (e : Declaration). Contains (entry_if_kept id facts e y) (declaration_entry id facts d c))
+      Contains-append_left (entry_if_kept home facts x y) (kept_entries home facts ds cs) (declaration_entry home facts d c)
+      (subst (λ (e : Declaration). Contains (entry_if_kept home facts e y) (declaration_entry home facts d c))
       (sym (same_Some x d at))
-      (subst (λ (e : Choice). Contains (entry_if_kept id facts d e) (declaration_entry id facts d c))
-      (sym (same_Some y c chosen)) (one-in c.keep (declaration_entry id facts d c) kept)))
+      (subst (λ (e : Choice). Contains (entry_if_kept home facts d e) (declaration_entry home facts d c))
+      (sym (same_Some y c chosen)) (one-in c.keep (declaration_entry home facts d c) kept)))
   kept-in (x ∷ ds) (y ∷ cs) (suc i) d c at chosen kept =
-      Contains-append_right (entry_if_kept id facts x y) (kept_entries id facts ds cs) (declaration_entry id facts d c)
+      Contains-append_right (entry_if_kept home facts x y) (kept_entries home facts ds cs) (declaration_entry home facts d c)
       (kept-in ds cs i d c at chosen kept)
 
 -- ---- choices

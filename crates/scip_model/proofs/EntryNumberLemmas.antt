@@ -19,7 +19,7 @@ use Rattle.proto_decl.specs.declared.declaration.Declaration.{Declaration}
 use Rattle.scip_records.specs.Details.{no_details}
 use Rattle.scip_records.specs.declared.records.SymbolInformation.{SymbolInformation}
 use Rattle.scip_symbol.specs.Package.{Package}
-use Rattle.scip_model.specs.Named.{text_of, package_at, declaration_at}
+use Rattle.scip_model.specs.Named.{Home, text_of, package_at, declaration_in}
 use Rattle.scip_model.specs.Entries.{file_entry, package_entry}
 use Rattle.scip_model.specs.Indexes.{info_cmp}
 use Rattle.scip_model.specs.Tables.EntryLists.{package_entries, kept_entries, source_entries}
@@ -100,13 +100,13 @@ module _ (texts : List (List ℕ)) (path : List ℕ) (names : List (List ℕ)) (
       sorted_map entry info_cmp numbers (λ i d low within.
       ap is_lt (sym (order_is (get_or numbers (i + 1) d) (get_or numbers i d))) ∙ up i d low within)
 
-module _ (id run : Package) (path : List ℕ) (facts : Facts) (choices : List Choice) (texts : List (List ℕ))
-    (grown : Grown (own_texts id run path facts) texts) where
+module _ (home : Home) (run : Package) (facts : Facts) (choices : List Choice) (texts : List (List ℕ))
+    (grown : Grown (own_texts home run facts) texts) where
   abbrev names : List (List ℕ)
   names = package_names facts.package_name
 
   abbrev one : ℕ → SymbolInformation
-  one = entry_of texts path names facts choices
+  one = entry_of texts home.path names facts choices
 
   abbrev name_of : ℕ → List ℕ
   name_of index = package_of facts.package_name (index + 1)
@@ -114,20 +114,20 @@ module _ (id run : Package) (path : List ℕ) (facts : Facts) (choices : List Ch
   names_count : length names ≡ length facts.package_name
   names_count = length-map-range_with_len name_of 0 (length facts.package_name)
 
-  file_is : file_entry id path ≡ one 0
+  file_is : file_entry home.id home.path ≡ one 0
   file_is =
       ap (λ (text : List ℕ).
-      record { symbol = text; documentation = []; display_name = path; details = no_details })
-      (sym (file_number id run path facts texts grown))
-      ∙ sym (front_is texts path names facts choices 0 (omega arith))
+      record { symbol = text; documentation = []; display_name = home.path; details = no_details })
+      (sym (file_number home run facts texts grown))
+      ∙ sym (front_is texts home.path names facts choices 0 (omega arith))
 
   package_is : (index : ℕ) → index < length facts.package_name → package_entry run facts (index + 1) ≡ one (suc index)
   package_is index within =
       let symbol : text_at texts (suc index) ≡ text_of run (package_at facts (index + 1)) =
-      package_number id run path facts index (suc index) within (omega arith) texts grown in
+      package_number home run facts index (suc index) within (omega arith) texts grown in
       let name : text_at names index ≡ name_of index =
       get_or-map-range_with_len name_of 0 (length facts.package_name) index index [] within (omega arith) in
-      sym (front_is texts path names facts choices (suc index) (omega (arith, within, names_count))
+      sym (front_is texts home.path names facts choices (suc index) (omega (arith, within, names_count))
       ∙ (ap (λ (text : List ℕ).
       record { symbol = text; documentation = []; display_name = text_at names index; details = no_details }) symbol
       ∙ ap (λ (text : List ℕ). record {
@@ -138,20 +138,20 @@ module _ (id run : Package) (path : List ℕ) (facts : Facts) (choices : List Ch
       }) name))
 
   first_each : (number : ℕ) → number < 1 + length facts.package_name
-      → get_or (file_entry id path ∷ package_entries run facts) number (file_entry id path) ≡ one number
+      → get_or (file_entry home.id home.path ∷ package_entries run facts) number (file_entry home.id home.path) ≡ one number
   first_each zero within = file_is
   first_each (suc index) within =
       let few : index < length facts.package_name = omega (arith, within) in
       get_or-map-range_with_len (λ (i : ℕ). package_entry run facts (i + 1)) 0 (length facts.package_name) index index
-      (file_entry id path) few (omega arith)
+      (file_entry home.id home.path) few (omega arith)
       ∙ package_is index few
 
   -- the file's and its packages'
   pub first_are : map one (range_with_len 0 (1 + length facts.package_name))
-      ≡ file_entry id path ∷ package_entries run facts
+      ≡ file_entry home.id home.path ∷ package_entries run facts
   first_are =
-      sym (fill_by_all one (file_entry id path ∷ package_entries run facts) (1 + length facts.package_name)
-      (file_entry id path)
+      sym (fill_by_all one (file_entry home.id home.path ∷ package_entries run facts) (1 + length facts.package_name)
+      (file_entry home.id home.path)
       (omega (
         arith,
         length-map-range_with_len (λ (i : ℕ). package_entry run facts (i + 1)) 0
@@ -159,22 +159,22 @@ module _ (id run : Package) (path : List ℕ) (facts : Facts) (choices : List Ch
       )) first_each)
 
   -- those of its declarations
-  pub are_numbered : AreNumbered id facts choices one
+  pub are_numbered : AreNumbered home facts choices one
   are_numbered index declared choice there chosen =
       let number = declaration_number facts index in
-      let text : List ℕ = text_of id (declaration_at facts declared) in
-      behind_is texts path names facts choices number index (omega (arith, names_count))
+      let text : List ℕ = text_of home.id (declaration_in home facts declared) in
+      behind_is texts home.path names facts choices number index (omega (arith, names_count))
       ∙ (ap (λ (its : List ℕ). shown_as its (slice_get facts.declarations index) (slice_get choices index))
-      (declared_number id run path facts index number declared there refl texts grown)
+      (declared_number home run facts index number declared there refl texts grown)
       ∙ (ap (λ (d : Option Declaration). shown_as text d (slice_get choices index)) there
       ∙ ap (shown_as text (Some declared)) chosen))
 
   -- all of them
   pub all_are : (first numbers : List ℕ)
       → map one first ≡ map one (range_with_len 0 (1 + length facts.package_name))
-      → map one numbers ≡ map one first ++ kept_entries id facts facts.declarations choices
-      → map one numbers ≡ source_entries id run path facts choices
+      → map one numbers ≡ map one first ++ kept_entries home facts facts.declarations choices
+      → map one numbers ≡ source_entries home run facts choices
   all_are first numbers front added =
       added
-      ∙ ap (λ (entries : List SymbolInformation). entries ++ kept_entries id facts facts.declarations choices)
+      ∙ ap (λ (entries : List SymbolInformation). entries ++ kept_entries home facts facts.declarations choices)
       (front ∙ first_are)

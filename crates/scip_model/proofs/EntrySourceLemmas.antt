@@ -16,26 +16,23 @@ use Rattle.std.proofs.lemmas.List.Elements.{Contains-append_left, Contains-appen
 use Rattle.std.proofs.lemmas.List.Sorted.{ranks_by}
 use Rattle.std.proofs.lemmas.Map.Keys.{IsDistinct-from_apart}
 use Rattle.std.proofs.lemmas.Map.Lookups.{exact_bytes}
-use Rattle.std.proofs.lemmas.Option.{same_Some, slice_get_within}
+use Rattle.std.proofs.lemmas.Option.{slice_get_within}
 use Rattle.basics.proofs.ListLemmas.{in_front, behind_it, item_at, only}
 use Rattle.index_hooks.specs.declared.choice.Choice.{Choice}
 use Rattle.proto_decl.specs.Facts.{Facts}
 use Rattle.proto_decl.specs.declared.declaration.Declaration.{Declaration}
 use Rattle.proto_decl.specs.declared.uses.Component.{Component}
-use Rattle.proto_visibility.specs.Files.{File, HaveOrigins}
-use Rattle.proto_visibility.specs.Clashes.{NoClash}
-use Rattle.proto_link.specs.Laws.{OneDeclarationAName}
+use Rattle.proto_visibility.specs.Files.{File}
 use Rattle.proto_visibility.proofs.FileFactLemmas.{one_list_of_facts}
 use Rattle.scip_records.specs.declared.records.SymbolInformation.{SymbolInformation}
 use Rattle.scip_symbol.specs.Path.{IsGoodPath}
 use Rattle.scip_symbol.specs.Package.{Package, IsPackage}
 use Rattle.scip_symbol.specs.Entities.{Entity, OfFile, OfPackage, OfDeclaration, IsEntity}
-use Rattle.scip_symbol.specs.OneEntity.{IsAmong, declarations_of}
-use Rattle.scip_symbol.proofs.OneEntityClashLemmas.{put}
+use Rattle.scip_symbol.specs.OneEntity.{IsAmong}
 use Rattle.basics.proofs.FirstLemmas.{contained}
-use Rattle.scip_model.specs.Packages.{Packages, package_of_file}
+use Rattle.scip_model.specs.Packages.{Packages, ArePackages, path_at, path_if_there}
 use Rattle.scip_model.specs.Chosen.{Chosen}
-use Rattle.scip_model.specs.Named.{text_of, package_at, declaration_at}
+use Rattle.scip_model.specs.Named.{Home, home_of_file, text_of, package_at, declaration_in}
 use Rattle.scip_model.specs.Entries.{file_entry, package_entry, declaration_entry, HasEntry}
 use Rattle.scip_model.specs.Entries.HasEntry.{of_file, of_package, of_declaration}
 use Rattle.scip_model.specs.Tables.EntryLists.{package_entries_up_to, package_entries, entry_if_kept, kept_entries}
@@ -45,8 +42,8 @@ use Rattle.scip_model.proofs.NamedEntityLemmas.{package-is, declaration-is}
 use Rattle.scip_model.proofs.EntryLemmas.{in-packages, package-in, in-one}
 use Rattle.scip_model.proofs.EntryLemmas.{in-kept, kept-in, chosen-for, is-chosen}
 use Rattle.scip_model.proofs.IndexSortLemmas.{ascending-list, distinct-cons, distinct-append}
-use Rattle.scip_model.proofs.NamedApartLemmas.{SymbolsNameOne, WithoutClash, AreIdentifiers, AreCounted, one-text}
-use Rattle.scip_model.proofs.NamedApartLemmas.{one-declared}
+use Rattle.scip_model.proofs.PackageLemmas.{file_good}
+use Rattle.scip_model.proofs.NamedApartLemmas.{AreApart, AreCounted, both, in-first, one-text, one-declared}
 
 pub infos_total : IsTotalOrder info_cmp
 infos_total = on_total (λ (i : SymbolInformation). i.symbol) nat_list_cmp_total
@@ -67,20 +64,20 @@ one-distinct true entry = (tt, tt)
 one-distinct false entry = tt
 
 -- declarations with texts of their own have entries that differ
-pub kept-distinct : (id : Package) (facts : Facts) (ds : List Declaration) (cs : List Choice)
+pub kept-distinct : (home : Home) (facts : Facts) (ds : List Declaration) (cs : List Choice)
     → ((i j : ℕ) (d e : Declaration) → i < j → slice_get ds i ≡ Some d → slice_get ds j ≡ Some e
-    → text_of id (declaration_at facts d) ≢ text_of id (declaration_at facts e))
-    → IsDistinct (eq_by_cmp info_cmp) (kept_entries id facts ds cs)
+    → text_of home.id (declaration_in home facts d) ≢ text_of home.id (declaration_in home facts e))
+    → IsDistinct (eq_by_cmp info_cmp) (kept_entries home facts ds cs)
 unfolding IsDistinct
-kept-distinct id facts [] cs apart = tt
-kept-distinct id facts (d ∷ ds) [] apart = tt
-kept-distinct id facts (d ∷ ds) (c ∷ cs) apart =
-    distinct-append (eq_by_cmp info_cmp) (entry_if_kept id facts d c) (kept_entries id facts ds cs)
-    (one-distinct c.keep (declaration_entry id facts d c))
-    (kept-distinct id facts ds cs (λ i j x y less at there. apart (suc i) (suc j) x y (omega (arith, less)) at there))
+kept-distinct home facts [] cs apart = tt
+kept-distinct home facts (d ∷ ds) [] apart = tt
+kept-distinct home facts (d ∷ ds) (c ∷ cs) apart =
+    distinct-append (eq_by_cmp info_cmp) (entry_if_kept home facts d c) (kept_entries home facts ds cs)
+    (one-distinct c.keep (declaration_entry home facts d c))
+    (kept-distinct home facts ds cs (λ i j x y less at there. apart (suc i) (suc j) x y (omega (arith, less)) at there))
     (λ x y here later.
-    let one = in-one id facts c.keep (declaration_entry id facts d c) x here in
-    let other = in-kept id facts ds cs y later in
+    let one = in-one home facts c.keep (declaration_entry home facts d c) x here in
+    let other = in-kept home facts ds cs y later in
     differ x y (λ same. apart 0 (suc other.index) d other.declared (omega arith) refl other.stands
     (sym (ap (λ (i : SymbolInformation). i.symbol) one.1)
     ∙ (same ∙ ap (λ (i : SymbolInformation). i.symbol) other.is))))
@@ -90,48 +87,53 @@ size-of (OfFile path) = 0
 size-of (OfPackage components) = length components
 size-of (OfDeclaration components way) = 0
 
-module _ (files : List File) (origins : HaveOrigins files) (clear : NoClash files) (one_name : OneDeclarationAName)
-    (spelled : AreIdentifiers)
-    (symbols : SymbolsNameOne) (unclashed : WithoutClash) (id run : Package) (good : IsPackage id)
-    (fine : IsPackage run) (source : ℕ) (file : File) (facts : Facts)
-    (numbered : slice_get files source ≡ Some file) (reachable : AreCounted files source facts)
-    (path : IsGoodPath file.path) where
+module _ (files : List File) (ids : Packages) (known : AreApart files ids) (good : ArePackages ids) (source : ℕ)
+    (facts : Facts) (reachable : AreCounted files source facts) (path : IsGoodPath (path_at files source)) where
+  -- where the declarations of the source belong, and the package of the run
+  abbrev home : Home
+  home = home_of_file files ids source
+
+  abbrev run : Package
+  run = ids.run
+
+  home-good : IsPackage home.id
+  home-good = file_good files ids source good
+
   package-entity : (index : ℕ) → index < length facts.package_name → IsEntity (package_at facts (index + 1))
   package-entity index within =
-      package-is facts (index + 1) (spelled.named facts (origins source facts reachable.known)) (omega arith)
+      package-is facts (index + 1) (known.spelled.named facts (known.origins source facts reachable.known)) (omega arith)
       (omega (arith, within))
 
-  declaration-entity : (d : Declaration) → Contains facts.declarations d → IsEntity (declaration_at facts d)
+  declaration-entity : (d : Declaration) → Contains facts.declarations d → IsEntity (declaration_in home facts d)
   declaration-entity d listed =
-      declaration-is facts d (spelled.named facts (origins source facts reachable.known))
-      (spelled.paths facts (origins source facts reachable.known)) listed
+      declaration-is home facts d (known.spelled.named facts (known.origins source facts reachable.known))
+      (known.spelled.paths facts (known.origins source facts reachable.known)) listed
 
   same-text : (p q : Package) → IsPackage p → IsPackage q → (a b : Entity) → IsEntity a → IsEntity b
-      → IsAmong (declarations_of (facts ∷ (facts ∷ []))) a
-      → IsAmong (declarations_of (facts ∷ (facts ∷ []))) b → text_of p a ≡ text_of q b → a ≡ b
-  same-text = one-text files origins clear one_name spelled symbols unclashed source source facts facts
-      reachable reachable
+      → IsAmong (both files ids known source source facts facts reachable reachable) a
+      → IsAmong (both files ids known source source facts facts reachable reachable) b → text_of p a ≡ text_of q b → a ≡ b
+  same-text = one-text files ids known source source facts facts reachable reachable
 
   among : (d : Declaration) → Contains facts.declarations d
-      → IsAmong (declarations_of (facts ∷ (facts ∷ []))) (declaration_at facts d)
-  among d listed = put (facts ∷ (facts ∷ [])) facts d (in_front facts (facts ∷ [])) listed
+      → IsAmong (both files ids known source source facts facts reachable reachable) (declaration_in home facts d)
+  among d listed = in-first files ids known source source facts facts reachable reachable d listed
 
   file-package : (index : ℕ) → index < length facts.package_name
-      → text_of id (OfFile file.path) ≢ text_of run (package_at facts (index + 1))
+      → text_of home.id (OfFile home.path) ≢ text_of run (package_at facts (index + 1))
   file-package index within same = let one =
-      same-text id run good fine (OfFile file.path) (package_at facts (index + 1)) path (package-entity index within)
+      same-text home.id run home-good good.run (OfFile home.path) (package_at facts (index + 1)) path (package-entity index within)
       tt tt same in cc
 
   file-declaration : (d : Declaration) → Contains facts.declarations d
-      → text_of id (OfFile file.path) ≢ text_of id (declaration_at facts d)
+      → text_of home.id (OfFile home.path) ≢ text_of home.id (declaration_in home facts d)
   file-declaration d listed same = let one =
-      same-text id id good good (OfFile file.path) (declaration_at facts d) path (declaration-entity d listed) tt
+      same-text home.id home.id home-good home-good (OfFile home.path) (declaration_in home facts d) path (declaration-entity d listed) tt
       (among d listed) same in cc
 
   package-declaration : (index : ℕ) (d : Declaration) → index < length facts.package_name
-      → Contains facts.declarations d → text_of run (package_at facts (index + 1)) ≢ text_of id (declaration_at facts d)
+      → Contains facts.declarations d → text_of run (package_at facts (index + 1)) ≢ text_of home.id (declaration_in home facts d)
   package-declaration index d within listed same =
-      let one = same-text run id fine good (package_at facts (index + 1)) (declaration_at facts d)
+      let one = same-text run home.id good.run home-good (package_at facts (index + 1)) (declaration_in home facts d)
       (package-entity index within)
       (declaration-entity d listed) tt (among d listed) same in cc
 
@@ -145,16 +147,16 @@ module _ (files : List File) (origins : HaveOrigins files) (clear : NoClash file
   package-package : (i j : ℕ) → i < j → j < length facts.package_name
       → text_of run (package_at facts (i + 1)) ≢ text_of run (package_at facts (j + 1))
   package-package i j less within same =
-      let one = same-text run run fine fine (package_at facts (i + 1)) (package_at facts (j + 1))
+      let one = same-text run run good.run good.run (package_at facts (i + 1)) (package_at facts (j + 1))
       (package-entity i (omega (arith, less, within))) (package-entity j within) tt tt same in
       omega (arith, less, ap size-of one, package-size i (omega (arith, less, within)), package-size j within)
 
   declaration-declaration : (i j : ℕ) (d e : Declaration) → i < j → slice_get facts.declarations i ≡ Some d
       → slice_get facts.declarations j ≡ Some e
-      → text_of id (declaration_at facts d) ≢ text_of id (declaration_at facts e)
+      → text_of home.id (declaration_in home facts d) ≢ text_of home.id (declaration_in home facts e)
   declaration-declaration i j d e less at there same =
-      let one = one-declared files origins clear one_name spelled symbols unclashed source source facts facts reachable
-      reachable id id good good i j d e at there same in
+      let one = one-declared files ids known source source facts facts reachable
+      reachable home.id home.id home-good home-good i j d e at there same in
       omega (arith, less, one.1)
 
   packages-distinct : (count : ℕ) → count ≤ length facts.package_name
@@ -176,32 +178,32 @@ module _ (files : List File) (origins : HaveOrigins files) (clear : NoClash file
   packages = package_entries run facts
 
   module _ (cs : List Choice) where
-    kept-text : (y : SymbolInformation) → Contains (kept_entries id facts facts.declarations cs) y
-        → (d : Declaration) × Contains facts.declarations d × (y.symbol ≡ text_of id (declaration_at facts d))
+    kept-text : (y : SymbolInformation) → Contains (kept_entries home facts facts.declarations cs) y
+        → (d : Declaration) × Contains facts.declarations d × (y.symbol ≡ text_of home.id (declaration_in home facts d))
     kept-text y there =
-        let of = in-kept id facts facts.declarations cs y there in (
+        let of = in-kept home facts facts.declarations cs y there in (
           of.declared,
           contained facts.declarations of.index of.declared of.stands,
           ap (λ (i : SymbolInformation). i.symbol) of.is,
         )
 
-    pub distinct : IsDistinct (eq_by_cmp info_cmp) (source_entries id run file.path facts cs)
+    pub distinct : IsDistinct (eq_by_cmp info_cmp) (source_entries home run facts cs)
     distinct =
-        distinct-cons (eq_by_cmp info_cmp) (file_entry id file.path)
-        (package_entries run facts ++ kept_entries id facts facts.declarations cs)
+        distinct-cons (eq_by_cmp info_cmp) (file_entry home.id home.path)
+        (package_entries run facts ++ kept_entries home facts facts.declarations cs)
         (λ y there. elim (Contains-append_cases (package_entries run facts)
-        (kept_entries id facts facts.declarations cs) y there) [
+        (kept_entries home facts facts.declarations cs) y there) [
           | inl package_of ↦ (
               let of = in-packages run facts (length facts.package_name) y package_of in
-              differ (file_entry id file.path) y
+              differ (file_entry home.id home.path) y
               (λ same. file-package of.0 of.1 (same ∙ ap (λ (i : SymbolInformation). i.symbol) of.2)))
           | inr kept ↦ (
               let of = kept-text y kept in
-              differ (file_entry id file.path) y (λ same. file-declaration of.0 of.1 (same ∙ of.2)))
+              differ (file_entry home.id home.path) y (λ same. file-declaration of.0 of.1 (same ∙ of.2)))
         ])
-        (distinct-append (eq_by_cmp info_cmp) (package_entries run facts) (kept_entries id facts facts.declarations cs)
+        (distinct-append (eq_by_cmp info_cmp) (package_entries run facts) (kept_entries home facts facts.declarations cs)
         (packages-distinct (length facts.package_name) (omega arith))
-        (kept-distinct id facts facts.declarations cs declaration-declaration)
+        (kept-distinct home facts facts.declarations cs declaration-declaration)
         (λ x y first second.
         let of = in-packages run facts (length facts.package_name) x first in
         let its = kept-text y second in
@@ -212,21 +214,22 @@ module _ (files : List File) (origins : HaveOrigins files) (clear : NoClash file
 
 module _ (files : List File) (chosen : Chosen) (ids : Packages) (source : ℕ) (file : File) (facts : Facts)
     (numbered : slice_get files source ≡ Some file) (reachable : AreCounted files source facts) where
-  -- the package of the source
-  abbrev id : Package
-  id = package_of_file files ids source
+  -- where the declarations of the source belong
+  abbrev its-home : Home
+  its-home = home_of_file files ids source
 
   abbrev entries : List SymbolInformation
-  entries = source_entries id ids.run file.path facts (choices_for chosen source)
+  entries = source_entries its-home ids.run facts (choices_for chosen source)
 
   abbrev kept-list : List SymbolInformation
-  kept-list = kept_entries id facts facts.declarations (choices_for chosen source)
+  kept-list = kept_entries its-home facts facts.declarations (choices_for chosen source)
 
   listed-is : (x : SymbolInformation) → Contains entries x → HasEntry files chosen ids source x
   listed-is x there = elim
-      (Contains-append_cases (file_entry id file.path ∷ []) (package_entries ids.run facts ++ kept-list) x there) [
-        | inl file_is ↦ subst (HasEntry files chosen ids source) (only (file_entry id file.path) x file_is)
-            (of_file {file = file} numbered)
+      (Contains-append_cases (file_entry its-home.id its-home.path ∷ []) (package_entries ids.run facts ++ kept-list) x there) [
+        | inl file_is ↦ subst (HasEntry files chosen ids source)
+            (ap (file_entry its-home.id) (sym (ap path_if_there numbered))
+            ∙ only (file_entry its-home.id its-home.path) x file_is) (of_file {file = file} numbered)
         | inr others ↦ elim (Contains-append_cases (package_entries ids.run facts) kept-list x others) [
           | inl package_of ↦ (
               let of = in-packages ids.run facts (length facts.package_name) x package_of in
@@ -234,7 +237,7 @@ module _ (files : List File) (chosen : Chosen) (ids : Packages) (source : ℕ) (
               subst (HasEntry files chosen ids source) (sym of.2)
               (of_package {facts = facts} of.0 {component = component.0} reachable.known component.1))
           | inr kept ↦ (
-              let of = in-kept id facts facts.declarations (choices_for chosen source) x kept in
+              let of = in-kept its-home facts facts.declarations (choices_for chosen source) x kept in
               of_declaration of.index (record {
                 facts = facts;
                 declaration = of.declared;
@@ -249,15 +252,15 @@ module _ (files : List File) (chosen : Chosen) (ids : Packages) (source : ℕ) (
 
   is-listed : {x : SymbolInformation} → HasEntry files chosen ids source x → Contains entries x
   is-listed (of_file {file = other} at) =
-      subst (λ (f : File). Contains entries (file_entry id f.path)) (same_Some file other (sym numbered ∙ at))
-      (in_front (file_entry id file.path) (package_entries ids.run facts ++ kept-list))
+      subst (λ (p : List ℕ). Contains entries (file_entry its-home.id p)) (ap path_if_there at)
+      (in_front (file_entry its-home.id its-home.path) (package_entries ids.run facts ++ kept-list))
   is-listed (of_package {facts = others} index known at) =
       let same : facts ≡ others = one_list_of_facts files source facts others reachable.known known in
       let within : index < length facts.package_name =
       subst (λ (f : Facts). index < length f.package_name) (sym same)
       (slice_get_within others.package_name index _ at) in
       subst (λ (f : Facts). Contains entries (package_entry ids.run f (index + 1))) same
-      (behind_it (file_entry id file.path) (package_entries ids.run facts ++ kept-list)
+      (behind_it (file_entry its-home.id its-home.path) (package_entries ids.run facts ++ kept-list)
       (package_entry ids.run facts (index + 1))
       (Contains-append_left (package_entries ids.run facts) kept-list (package_entry ids.run facts (index + 1))
       (package-in ids.run facts (length facts.package_name) index within)))
@@ -266,14 +269,14 @@ module _ (files : List File) (chosen : Chosen) (ids : Packages) (source : ℕ) (
       one_list_of_facts files source kept.facts facts kept.has.has_facts reachable.known in
       let at : slice_get facts.declarations index ≡ Some kept.declaration =
       subst (λ (f : Facts). slice_get f.declarations index ≡ Some kept.declaration) same kept.has.numbered in
-      let is : x ≡ declaration_entry id facts kept.declaration kept.choice =
-      kept.is ∙ ap (λ (f : Facts). declaration_entry id f kept.declaration kept.choice) same in
+      let is : x ≡ declaration_entry its-home facts kept.declaration kept.choice =
+      kept.is ∙ ap (λ (f : Facts). declaration_entry its-home f kept.declaration kept.choice) same in
       subst (Contains entries) (sym is)
-      (behind_it (file_entry id file.path) (package_entries ids.run facts ++ kept-list)
-      (declaration_entry id facts kept.declaration kept.choice)
+      (behind_it (file_entry its-home.id its-home.path) (package_entries ids.run facts ++ kept-list)
+      (declaration_entry its-home facts kept.declaration kept.choice)
       (Contains-append_right (package_entries ids.run facts) kept-list
-      (declaration_entry id facts kept.declaration kept.choice)
-      (kept-in id facts facts.declarations (choices_for chosen source) index kept.declaration kept.choice at
+      (declaration_entry its-home facts kept.declaration kept.choice)
+      (kept-in its-home facts facts.declarations (choices_for chosen source) index kept.declaration kept.choice at
       (chosen-for chosen source index kept.choice kept.is_chosen) kept.keeps)))
 
   -- sorted, it is the list of them, where no two have one symbol

@@ -12,11 +12,9 @@ use Rattle.basics.proofs.ListLemmas.{in_front, behind_it, item_at, only, in_noth
 use Rattle.index_hooks.specs.declared.choice.Choice.{Choice}
 use Rattle.proto_decl.specs.Facts.{Facts}
 use Rattle.proto_decl.specs.declared.declaration.Declaration.{Declaration}
-use Rattle.proto_visibility.specs.Files.{File, HasFacts, HaveOrigins, IsIncludedAt, IsSource}
+use Rattle.proto_visibility.specs.Files.{File, HasFacts, IsIncludedAt}
 use Rattle.proto_visibility.specs.Sees.{IsReachable}
 use Rattle.proto_visibility.specs.Sees.IsReachable.{seen}
-use Rattle.proto_visibility.specs.Clashes.{NoClash}
-use Rattle.proto_link.specs.Laws.{OneDeclarationAName}
 use Rattle.proto_visibility.specs.Knows.{IsEntityOf}
 use Rattle.proto_visibility.specs.Knows.IsEntityOf.{packaged, declared}
 use Rattle.proto_visibility.specs.declared.lookup.Entity.{Entity}
@@ -24,10 +22,9 @@ use Rattle.proto_visibility.specs.declared.lookup.Entity.TheVariants as link
 use Rattle.proto_visibility.proofs.FileFactLemmas.{one_list_of_facts}
 use Rattle.basics.proofs.FirstLemmas.{contained, contained_at}
 use Rattle.scip_records.specs.declared.records.SymbolInformation.{SymbolInformation}
-use Rattle.scip_symbol.specs.Package.{Package}
 use Rattle.scip_model.specs.Packages.{Packages, ArePackages, package_of_file}
 use Rattle.scip_model.specs.Chosen.{Chosen, HaveChoices, HasChoice, IsChosen}
-use Rattle.scip_model.specs.Named.{HasDeclaration, declaration_at}
+use Rattle.scip_model.specs.Named.{Home, HasDeclaration, declaration_in, home_of_file}
 use Rattle.scip_model.specs.Entries.{declaration_entry, IsKeptEntry, HasExternal}
 use Rattle.scip_model.specs.Tables.ExternalLists.{Pair, pair_cmp, Adds, IsEntryAt, IsEntryOf, IsExternal}
 use Rattle.scip_model.specs.Tables.ExternalLists.{NoneIncluded}
@@ -36,7 +33,7 @@ use Rattle.scip_model.proofs.PackageLemmas.{file_good}
 use Rattle.scip_model.proofs.ExternalSymbolPairLemmas.{pairs_total}
 use Rattle.scip_model.proofs.IndexSortLemmas.{ascending-list, distinct-cons, not-below}
 use Rattle.scip_model.proofs.EntrySourceLemmas.{infos_total, differ}
-use Rattle.scip_model.proofs.NamedApartLemmas.{SymbolsNameOne, WithoutClash, AreIdentifiers, one-declared}
+use Rattle.scip_model.proofs.NamedApartLemmas.{AreApart, one-declared}
 
 -- ---- lists that go together
 
@@ -127,7 +124,7 @@ one-choice chosen file index a b x y =
 
 module _ (files : List File) (chosen : Chosen) (ids : Packages) where
   pub kept-entry : (count : ℕ) (x : Pair) (facts : Facts) (entry : SymbolInformation) → IsExternal files chosen count x
-      → HasFacts files x.0 facts → IsEntryAt chosen (package_of_file files ids x.0) facts x.0 x.1 entry
+      → HasFacts files x.0 facts → IsEntryAt chosen (home_of_file files ids x.0) facts x.0 x.1 entry
       → IsKeptEntry files chosen ids x.0 x.1 entry
   kept-entry count x facts entry is known made =
       let kept = is.of_source.of_uses.is.of_parts.is.kept in
@@ -150,11 +147,11 @@ module _ (files : List File) (chosen : Chosen) (ids : Packages) where
       same_Some a.declaration b.declaration
       (sym a.has.numbered ∙ (ap (λ (f : Facts). slice_get f.declarations index) facts ∙ b.has.numbered)) in
       let choice : a.choice ≡ b.choice = one-choice chosen file index a.choice b.choice a.is_chosen b.is_chosen in
-      let id : Package = package_of_file files ids file in
+      let home : Home = home_of_file files ids file in
       a.is
-      ∙ (ap (λ (f : Facts). declaration_entry id f a.declaration a.choice) facts
-      ∙ (ap (λ (d : Declaration). declaration_entry id b.facts d a.choice) declaration
-      ∙ (ap (λ (c : Choice). declaration_entry id b.facts b.declaration c) choice ∙ sym b.is)))
+      ∙ (ap (λ (f : Facts). declaration_entry home f a.declaration a.choice) facts
+      ∙ (ap (λ (d : Declaration). declaration_entry home b.facts d a.choice) declaration
+      ∙ (ap (λ (c : Choice). declaration_entry home b.facts b.declaration c) choice ∙ sym b.is)))
 
   -- ---- the entries are those of such declarations
 
@@ -213,7 +210,7 @@ module _ (files : List File) (chosen : Chosen) (ids : Packages) where
         source = is.source;
         is_source = source.is_source;
         component = component.0;
-        entity = declaration_at kept.facts kept.declaration;
+        entity = declaration_in (home_of_file files ids x.0) kept.facts kept.declaration;
         number = x.0;
         index = x.1;
         names = record {
@@ -278,16 +275,14 @@ none-tie : IsDistinct (eq_by_cmp info_cmp) []
 unfolding IsDistinct
 none-tie = tt
 
-module _ (files : List File) (origins : HaveOrigins files) (clear : NoClash files) (one_name : OneDeclarationAName)
-    (spelled : AreIdentifiers)
-    (symbols : SymbolsNameOne) (unclashed : WithoutClash) (ids : Packages) (good : ArePackages ids)
+module _ (files : List File) (ids : Packages) (known : AreApart files ids) (good : ArePackages ids)
     (chosen : Chosen) where
   -- declarations that differ have entries of different symbols
   symbols-differ : (p q : Pair) (x y : SymbolInformation) → IsThere files p.0 p.1 → IsThere files q.0 q.1
       → IsEntryOf files chosen ids p x → IsEntryOf files chosen ids q y
       → x.symbol ≡ y.symbol → (p.0 ≡ q.0) × (p.1 ≡ q.1)
   symbols-differ p q x y there its a b same =
-      one-declared files origins clear one_name spelled symbols unclashed p.0 q.0 a.facts b.facts
+      one-declared files ids known p.0 q.0 a.facts b.facts
       (record { is_reachable = there.is_reachable; known = a.has.has_facts })
       (record { is_reachable = its.is_reachable; known = b.has.has_facts }) (package_of_file files ids p.0)
       (package_of_file files ids q.0) (file_good files ids p.0 good) (file_good files ids q.0 good)

@@ -8,6 +8,7 @@ use Rattle.proto_decl.specs.Facts.{Facts}
 use Rattle.proto_decl.specs.declared.uses.Use.{Use}
 use Rattle.proto_visibility.specs.Files.{File, HasFacts, IsSource, HaveOrigins}
 use Rattle.proto_visibility.specs.Clashes.{NoClash}
+use Rattle.proto_visibility.specs.declared.clash.Duplicates.TheVariants.{Keep}
 use Rattle.proto_link.specs.Laws.{OneTargetAUse}
 use Rattle.proto_link.specs.Targets.{IsTarget}
 use Rattle.proto_visibility.specs.Knows.{IsEntityOf}
@@ -111,7 +112,7 @@ module _ (files : List File) (chosen : Chosen) where
       (is.named k (get_or target.parts k d) (slice_get-get_or target.parts k d within))
 
   -- by the use's only target
-  pub of-use : (one : OneTargetAUse) (origins : HaveOrigins files) (clear : NoClash files) (source : ℕ) (type_use : Use)
+  pub of-use : (one : OneTargetAUse) (origins : HaveOrigins files) (clear : NoClash Keep files) (source : ℕ) (type_use : Use)
       (target : Target) (old new : List Pair) → IsSource files source
       → IsTarget files source type_use target
       → Adds (FromFront (IsOfPart files chosen) target.parts (length target.parts)) old new
@@ -121,10 +122,10 @@ module _ (files : List File) (chosen : Chosen) where
       (IsOfUse files chosen source type_use) old new
       (λ x front. record { target = target; is_target = is; of_parts = front })
       (λ x used. subst (λ (t : Target). FromFront (IsOfPart files chosen) t.parts (length t.parts) x)
-      (one files origins clear source is_source type_use used.target target used.is_target is) used.of_parts)
+      (one Keep files origins clear source is_source type_use used.target target used.is_target is) used.of_parts)
 
   -- a use that names no type names none of them
-  pub of-found : (one : OneTargetAUse) (origins : HaveOrigins files) (clear : NoClash files) (source : ℕ) (type_use : Use)
+  pub of-found : (one : OneTargetAUse) (origins : HaveOrigins files) (clear : NoClash Keep files) (source : ℕ) (type_use : Use)
       (found : Option Target) (old new : List Pair) → IsSource files source
       → IsFound files source type_use found
       → Adds (FromFront (IsOfPart files chosen) (parts_of found) (length (parts_of found))) old new

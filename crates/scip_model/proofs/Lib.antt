@@ -55,6 +55,12 @@ pub mod PieceOneListLemmas
 pub mod PieceRefusalLemmas
 -- Texts with numbers, and what is planned by them
 pub mod PlanLemmas
+-- Which outermost declarations an earlier file has, too, as files are taken one after the other
+pub mod RepeatedLemmas
+-- The full names of outermost declarations, as they are spelled
+pub mod RepeatedNameLemmas
+-- No two files have one namespace, and none is an identifier
+pub mod RepeatedNamespaceLemmas
 -- The order of texts in two parts
 pub mod SymbolTableOrderLemmas
 -- Lists that go side by side, and what is found by the linker's answer

@@ -1,5 +1,5 @@
 -- Of a source's facts: its lists of occurrences ascend, and merged they are the list of what occurs.
-use Rattle.std.proofs.Common.{◌≡◌, ap, refl, subst, inl, inr, ℕ, ◌≤◌, Bool, true, false, Option, Some, None, List, []}
+use Rattle.std.proofs.Common.{◌≡◌, ap, refl, subst, inl, inr, ℕ, Bool, true, false, Option, Some, None, List, []}
 use Rattle.std.proofs.Common.{◌∷◌, ◌++◌, map, arith, ⊎_elim}
 use Rattle.std.specs.Prelude.{if◌then◌else◌}
 use Rattle.std.specs.List.{AllZip, Contains, slice_get, flat_map}
@@ -24,7 +24,8 @@ use Rattle.proto_visibility.specs.Files.{File, HasFacts}
 use Rattle.proto_link.specs.Targets.{IsTarget}
 use Rattle.proto_link.specs.declared.target.Target.{Target}
 use Rattle.proto_visibility.specs.declared.lookup.Entity.{Entity}
-use Rattle.scip_model.specs.Packages.{Packages, package_of_file, package_of_part}
+use Rattle.scip_model.specs.Packages.{Packages, package_of_part}
+use Rattle.scip_model.specs.Named.{Home, home_of_file}
 use Rattle.scip_model.specs.Chosen.{Chosen}
 use Rattle.scip_model.specs.Conditions.{IsFound}
 use Rattle.scip_model.specs.Occurs.{Occurs}
@@ -85,11 +86,11 @@ module _ (ids : Packages) (encoding : Encoding) (text : List ℕ) where
       each_single (at_import ids encoding text files) (λ (imported : Imported). imported.span)
       (λ index x. stands_if (has_path files x.path) x.span _ (stands_here refl stands_none)) imports
 
-  names_stand : (id : Package) (chosen : Chosen) (source : ℕ) (facts : Facts)
+  names_stand : (home : Home) (chosen : Chosen) (source : ℕ) (facts : Facts)
       → Stands (name_spans facts.declarations)
-      (each_from (at_declaration id encoding text chosen source facts) 0 facts.declarations)
-  names_stand id chosen source facts =
-      each_single (at_declaration id encoding text chosen source facts)
+      (each_from (at_declaration home encoding text chosen source facts) 0 facts.declarations)
+  names_stand home chosen source facts =
+      each_single (at_declaration home encoding text chosen source facts)
       (λ (declaration : Declaration). declaration.name)
       (λ index x. stands_if (keeps chosen source index) x.name _ (stands_here refl stands_none)) facts.declarations
 
@@ -107,7 +108,7 @@ module _ (ids : Packages) (encoding : Encoding) (text : List ℕ) where
   part_stands files chosen name span None = stands_skip stands_none
   part_stands files chosen name span (Some part) =
       stands_if (is_shown chosen part) span _
-      (entity_stands (package_of_part files ids part) span (entity_of files name part))
+      (entity_stands (package_of_part files ids part) span (entity_of files ids name part))
 
   target_stands : (files : List File) (chosen : Chosen) (target : Option Target) (type_use : Use)
       → Stands (component_spans type_use.components) (at_target ids encoding text files chosen target type_use)
@@ -138,12 +139,12 @@ module _ (ids : Packages) (encoding : Encoding) (text : List ℕ) where
     abbrev Wanted : Occurrence → Type 0
     Wanted o = Occurs files chosen ids encoding source text o
 
-    -- the package of the source
-    abbrev id : Package
-    id = package_of_file files ids source
+    -- where the declarations of the source belong
+    abbrev home : Home
+    home = home_of_file files ids source
 
     abbrev own_list : List Occurrence
-    own_list = own_occurrence id file.path ∷ []
+    own_list = own_occurrence home.id file.path ∷ []
 
     abbrev import_list : List Occurrence
     import_list = each_from (at_import ids encoding text files) 0 facts.imports
@@ -152,7 +153,7 @@ module _ (ids : Packages) (encoding : Encoding) (text : List ℕ) where
     package_list = each_from (at_package ids.run encoding text facts) 0 facts.package_name
 
     abbrev name_list : List Occurrence
-    name_list = each_from (at_declaration id encoding text chosen source facts) 0 facts.declarations
+    name_list = each_from (at_declaration home encoding text chosen source facts) 0 facts.declarations
 
     abbrev use_list : List Occurrence
     use_list = each_from (at_use ids encoding text files chosen found) 0 facts.uses
@@ -209,7 +210,7 @@ module _ (ids : Packages) (encoding : Encoding) (text : List ℕ) where
                 let by_package = ascends encoding text rise 0 (component_spans facts.package_name) package_list
                 (package_order facts package_name) stands.package_name (package_stands ids.run facts) in
                 let by_names = ascends encoding text rise 0 (name_spans facts.declarations) name_list names stands.names
-                (names_stand id chosen source facts) in
+                (names_stand home chosen source facts) in
                 let by_uses = ascends encoding text rise 0 (use_spans facts.uses) use_list uses stands.uses
                 (uses_stand files chosen found facts.uses) in
                 fourth.ascends (third.ascends

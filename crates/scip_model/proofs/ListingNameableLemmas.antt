@@ -6,14 +6,14 @@ use Rattle.std.proofs.lemmas.Bool.{and_parts}
 use Rattle.std.proofs.lemmas.Bool.Decides.{nat_tests}
 use Rattle.std.proofs.lemmas.List.Elements.{All-nil, All-cons, All-head, All-tail, All-append, All-take, All-contains}
 use Rattle.std.proofs.lemmas.List.Splits.{slice_split_none, slice_split_at, length-slice_split}
-use Rattle.proto_link.proofs.TargetLemmas.{known_there as innermost_known, is_of_type as resolved_known}
+use Rattle.proto_link.proofs.TargetLemmas.{is_of_type as resolved_known}
 use Rattle.proto_lex.specs.Bytes.{is_letter, is_word}
 use Rattle.proto_lex.specs.Lexes.{Spells}
 use Rattle.proto_lex.specs.Lexes.Spells.{literal, sign, identifier, integer, float}
 use Rattle.proto_lex.specs.declared.token.TokenKind.{TokenKind}
 use Rattle.proto_lex.specs.declared.token.TokenKind.TheVariants.{Identifier}
 use Rattle.proto_lex.proofs.PieceFound.{sign_cases}
-use Rattle.proto_decl.specs.Names.{qualified, dotted, components_of}
+use Rattle.proto_decl.specs.Names.{dotted, components_of}
 use Rattle.proto_decl.specs.Facts.{Facts, AreOfSomeFile}
 use Rattle.proto_decl.specs.Laws.{scoped, names_of, component_names}
 use Rattle.proto_decl.specs.declared.declaration.DeclarationKind.{DeclarationKind}
@@ -25,17 +25,14 @@ use Rattle.proto_decl.specs.declared.uses.Use.{Use}
 use Rattle.basics.proofs.BoolLemmas.{never}
 use Rattle.scip_symbol.specs.Entities.{IsIdentifier}
 use Rattle.proto_visibility.specs.Files.{File, HasFacts, HaveOrigins}
-use Rattle.proto_visibility.specs.Knows.{NameKind, Knows, KnowsAs, IsEntityOf, is_type}
+use Rattle.proto_visibility.specs.Knows.{NameKind, Knows, IsEntityOf, is_type}
 use Rattle.proto_visibility.specs.Knows.Knows.{declared as known_declared, packaged as known_packaged}
-use Rattle.proto_link.specs.Resolves.{Innermost, ResolvesIn}
-use Rattle.proto_link.specs.Resolves.Innermost.{here, farther}
-use Rattle.proto_link.specs.Resolves.ResolvesIn.{absolute, single, compound}
 use Rattle.proto_link.specs.Targets.{IsTarget}
 use Rattle.proto_visibility.specs.Knows.IsEntityOf.{packaged as named_package, declared as named_declared}
 use Rattle.proto_link.specs.declared.target.Target.{Target}
 use Rattle.proto_visibility.specs.declared.lookup.Entity.{Entity}
 use Rattle.scip_model.specs.Tables.Listing.{IsNameable, AreNameable}
-use Rattle.scip_model.proofs.NamedApartLemmas.{AreIdentifiers}
+use Rattle.scip_model.specs.Tables.KnownFacts.{AreIdentifiers}
 
 -- identifiers have no dots
 
@@ -60,7 +57,7 @@ is_identifier : TokenKind → Bool
 is_identifier Identifier = true
 is_identifier _ = false
 
-spelled_no_dots : {k : TokenKind} {name : List ℕ} → Spells k name → k ≡ Identifier → NoDots name
+pub spelled_no_dots : {k : TokenKind} {name : List ℕ} → Spells k name → k ≡ Identifier → NoDots name
 unfolding is_identifier
 spelled_no_dots (identifier {b} {others} e f) is =
     All-cons (λ (byte : ℕ). is_dot byte ≡ false) b others (letter_no_dot b e) (words_no_dots others f)

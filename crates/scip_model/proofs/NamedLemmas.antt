@@ -4,13 +4,14 @@ use Rattle.std.proofs.Common.{MatchOption, Result, Ok, Err, IfOk}
 use Rattle.std.specs.List.{slice_get}
 use Rattle.std.specs.Option.{IsSome, option_map}
 use Rattle.std.proofs.lemmas.List.{take-map, length-map}
-use Rattle.std.proofs.lemmas.Option.{slice_get_within, same_Some}
+use Rattle.std.proofs.lemmas.Option.{slice_get_within}
 use Rattle.proto_visibility.proofs.FileFactLemmas.{one_list_of_facts as same_facts}
 use denote.Ref.{Bor}
 use Rattle.proto_decl.specs.Facts.{Facts}
 use Rattle.proto_decl.specs.declared.declaration.Declaration.{Declaration}
 use Rattle.proto_visibility.specs.Files.{File, HasFacts}
-use Rattle.scip_model.specs.Named.{HasDeclaration, declaration_at}
+use Rattle.scip_model.specs.Named.{HasDeclaration, declaration_in, home_of_file}
+use Rattle.scip_model.specs.Packages.{Packages}
 use Rattle.scip_model.specs.Tables.Listing.{declared_by}
 
 -- the names of a list's front
@@ -37,6 +38,13 @@ given_facts files number r f e says =
     subst (λ (o : Option (Bor Facts)). MatchOption o ((f : Facts) → HasFacts files number f → ⊥)
     (λ f. HasFacts files number f.now)) e says
 
+pub facts_there : (files linked : List File) (number : ℕ) (r : Option (Bor Facts)) → linked ≡ files
+    → MatchOption r ((f : Facts) → HasFacts linked number f → ⊥) (λ f. HasFacts linked number f.now)
+    → MatchOption r ((f : Facts) → HasFacts files number f → ⊥) (λ f. HasFacts files number f.now)
+facts_there files linked number r same says =
+    subst (λ (list : List File). MatchOption r ((f : Facts) → HasFacts list number f → ⊥)
+    (λ f. HasFacts list number f.now)) same says
+
 -- a declaration that is there
 pub is_within : (files : List File) (number index : ℕ) (facts known : Facts) (declared : Declaration)
     → HasFacts files number facts → HasDeclaration files number index known declared
@@ -46,10 +54,10 @@ is_within files number index facts known declared has there =
     slice_get_within facts.declarations index declared
     (ap (λ (f : Facts). slice_get f.declarations index) same ∙ there.numbered)
 
-pub declared_is : (files : List File) (number index : ℕ) (facts : Facts) (declared : Declaration)
+pub declared_is : (files : List File) (ids : Packages) (number index : ℕ) (facts : Facts) (declared : Declaration)
     → HasFacts files number facts → slice_get facts.declarations index ≡ Some declared
-    → declared_by files number index ≡ Some (declaration_at facts declared)
-declared_is files number index facts declared has e = rw (has.numbered, has.known, e) refl
+    → declared_by files ids number index ≡ Some (declaration_in (home_of_file files ids number) facts declared)
+declared_is files ids number index facts declared has e = rw (has.numbered, has.known, e) refl
 
 -- the text of what is named
 pub if_named : {X T E : Type 0} (f : X → T) (o : Option X) (x : X) (r : Result T E) → o ≡ Some x → IfOk r (λ t. t ≡ f x)

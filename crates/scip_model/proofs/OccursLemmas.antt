@@ -17,17 +17,17 @@ use Rattle.proto_decl.specs.declared.uses.Use.{Use}
 use Rattle.basics.proofs.BoolLemmas.{never}
 use Rattle.scip_symbol.specs.Entities.{OfFile}
 use Rattle.scip_symbol.specs.Entities as symbols
-use Rattle.scip_symbol.specs.Package.{Package}
 use Rattle.proto_visibility.specs.Files.{File, HasFacts}
 use Rattle.proto_link.specs.Targets.{IsTarget}
 use Rattle.proto_link.specs.declared.target.Target.{Target}
 use Rattle.proto_visibility.specs.declared.lookup.Entity.{Entity}
 use Rattle.proto_visibility.specs.declared.lookup.Entity.TheVariants as link
 use Rattle.basics.proofs.FirstLemmas.{contained, contained_at}
-use Rattle.scip_model.specs.Packages.{Packages, package_of_path, package_of_file, package_of_part}
+use Rattle.scip_model.specs.Packages.{Packages, package_of_path, package_of_part}
 use Rattle.scip_model.specs.Chosen.{Chosen, IsKeptDeclaration}
 use Rattle.scip_model.specs.Conditions.{IsFound}
-use Rattle.scip_model.specs.Named.{IsDeclaredAs, IsNamedAs, NamesIn, package_at, declaration_at}
+use Rattle.scip_model.specs.Named.{Home, IsDeclaredAs, IsNamedAs, NamesIn, package_at, declaration_in}
+use Rattle.scip_model.specs.Named.{home_of_file}
 use Rattle.scip_model.specs.Occurs.{Occurs, IsShown, no_role, definition_role, import_role, occurrence_over}
 use Rattle.scip_model.specs.Occurs.Occurs.{of_file, of_import, of_package, of_declaration, of_component}
 use Rattle.scip_model.specs.Tables.Listing.{own_occurrence, each_from, has_path, found_at, keeps_by, keeps, is_shown}
@@ -109,62 +109,63 @@ shown_to chosen (link.Declared file index) shown = kept_to chosen file index sho
 
 -- entities
 
-declared_by_is : (files : List File) (file index : ℕ) (f : File) → slice_get files file ≡ Some f → (facts : Facts)
-    → f.facts ≡ Some facts → (d : Option Declaration) → slice_get facts.declarations index ≡ d
-    → (entity : symbols.Entity) → option_map (declaration_at facts) d ≡ Some entity
-    → IsDeclaredAs files file index entity
-declared_by_is files file index f at facts known None e entity h = absurd (none-some _ h)
-declared_by_is files file index f at facts known (Some d) e entity h =
-    record {
-      facts = facts;
-      declaration = d;
-      has = record { has_facts = record { file = f; numbered = at; known = known }; numbered = e };
-      is =
-          sym (same_Some _ _ h);
-    }
+module _ (files : List File) (ids : Packages) where
+  declared_by_is : (file index : ℕ) (f : File) → slice_get files file ≡ Some f → (facts : Facts)
+      → f.facts ≡ Some facts → (d : Option Declaration) → slice_get facts.declarations index ≡ d
+      → (entity : symbols.Entity)
+      → option_map (declaration_in (home_of_file files ids file) facts) d ≡ Some entity
+      → IsDeclaredAs files ids file index entity
+  declared_by_is file index f at facts known None e entity h = absurd (none-some _ h)
+  declared_by_is file index f at facts known (Some d) e entity h =
+      record {
+        facts = facts;
+        declaration = d;
+        has = record { has_facts = record { file = f; numbered = at; known = known }; numbered = e };
+        is = sym (same_Some _ _ h);
+      }
 
-declared_in_file : (files : List File) (file index : ℕ) (f : File) → slice_get files file ≡ Some f → (o : Option Facts)
-    → f.facts ≡ o → (entity : symbols.Entity)
-    → option_and_then (λ (facts : Facts). declared_in facts index) o ≡ Some entity
-    → IsDeclaredAs files file index entity
-declared_in_file files file index f at None e entity h = absurd (none-some _ h)
-declared_in_file files file index f at (Some facts) e entity h =
-    declared_by_is files file index f at facts e (slice_get facts.declarations index) refl entity h
+  declared_in_file : (file index : ℕ) (f : File) → slice_get files file ≡ Some f → (o : Option Facts)
+      → f.facts ≡ o → (entity : symbols.Entity)
+      → option_and_then (λ (facts : Facts). declared_in (home_of_file files ids file) facts index) o ≡ Some entity
+      → IsDeclaredAs files ids file index entity
+  declared_in_file file index f at None e entity h = absurd (none-some _ h)
+  declared_in_file file index f at (Some facts) e entity h =
+      declared_by_is file index f at facts e (slice_get facts.declarations index) refl entity h
 
-declared_in_files : (files : List File) (file index : ℕ) (o : Option File) → slice_get files file ≡ o
-    → (entity : symbols.Entity)
-    → option_and_then (λ (f : File). option_and_then (λ (facts : Facts). declared_in facts index) f.facts) o
-    ≡ Some entity → IsDeclaredAs files file index entity
-declared_in_files files file index None e entity h = absurd (none-some _ h)
-declared_in_files files file index (Some f) e entity h = declared_in_file files file index f e f.facts refl entity h
+  declared_in_files : (file index : ℕ) (o : Option File) → slice_get files file ≡ o → (entity : symbols.Entity)
+      → option_and_then (λ (f : File). option_and_then
+      (λ (facts : Facts). declared_in (home_of_file files ids file) facts index) f.facts) o
+      ≡ Some entity → IsDeclaredAs files ids file index entity
+  declared_in_files file index None e entity h = absurd (none-some _ h)
+  declared_in_files file index (Some f) e entity h = declared_in_file file index f e f.facts refl entity h
 
-named_from : (files : List File) (name : List ℕ) (part : Entity) (entity : symbols.Entity)
-    → entity_of files name part ≡ Some entity → IsNamedAs files name part entity
-named_from files name (link.Package count) entity e = sym (same_Some _ _ e)
-named_from files name (link.Declared file index) entity e =
-    declared_in_files files file index (slice_get files file) refl entity e
+  named_from : (name : List ℕ) (part : Entity) (entity : symbols.Entity)
+      → entity_of files ids name part ≡ Some entity → IsNamedAs files ids name part entity
+  named_from name (link.Package count) entity e = sym (same_Some _ _ e)
+  named_from name (link.Declared file index) entity e =
+      declared_in_files file index (slice_get files file) refl entity e
 
-named_to : (files : List File) (name : List ℕ) (part : Entity) (entity : symbols.Entity)
-    → IsNamedAs files name part entity → entity_of files name part ≡ Some entity
-named_to files name (link.Package count) entity is = ap Some (sym is)
-named_to files name (link.Declared file index) entity is =
-    declared_is files file index is.facts is.declaration is.has.has_facts is.has.numbered ∙ ap Some (sym is.is)
+  named_to : (name : List ℕ) (part : Entity) (entity : symbols.Entity)
+      → IsNamedAs files ids name part entity → entity_of files ids name part ≡ Some entity
+  named_to name (link.Package count) entity is = ap Some (sym is)
+  named_to name (link.Declared file index) entity is =
+      declared_is files ids file index is.facts is.declaration is.has.has_facts is.has.numbered ∙ ap Some (sym is.is)
 
 module _ (files : List File) (chosen : Chosen) (ids : Packages) (encoding : Encoding) (source : ℕ) (text : List ℕ) where
   abbrev Wanted : Occurrence → Type 0
   Wanted o = Occurs files chosen ids encoding source text o
 
-  -- the package of the source
-  abbrev id : Package
-  id = package_of_file files ids source
+  -- where the declarations of the source belong
+  abbrev home : Home
+  home = home_of_file files ids source
 
   module _ (file : File) (at : slice_get files source ≡ Some file) (facts : Facts) (known : HasFacts files source facts)
       (found : List (Option Target))
       (are_found : AllZip (IsFound files source) facts.uses found)
       (one_target : (type_use : Use) (a b : Target) → IsTarget files source type_use a
       → IsTarget files source type_use b → a ≡ b) where
-    own_occurs : (o : Occurrence) → Contains (own_occurrence id file.path ∷ []) o → Wanted o
-    own_occurs o h = subst Wanted (only (own_occurrence id file.path) o h) (of_file at)
+    own_occurs : (o : Occurrence) → Contains (own_occurrence home.id file.path ∷ []) o → Wanted o
+    own_occurs o h = subst Wanted (only (own_occurrence home.id file.path) o h) (of_file at)
 
     imports_occur : (o : Occurrence) → Contains (each_from (at_import ids encoding text files) 0 facts.imports) o
         → Wanted o
@@ -184,11 +185,11 @@ module _ (files : List File) (chosen : Chosen) (ids : Packages) (encoding : Enco
         subst Wanted (only _ o g.given) (of_package g.at {component = g.item} known g.item_is)
 
     declared_occur : (o : Occurrence)
-        → Contains (each_from (at_declaration id encoding text chosen source facts) 0 facts.declarations) o → Wanted o
+        → Contains (each_from (at_declaration home encoding text chosen source facts) 0 facts.declarations) o → Wanted o
     declared_occur o h =
-        let g = given_at (at_declaration id encoding text chosen source facts) facts.declarations o h in
+        let g = given_at (at_declaration home encoding text chosen source facts) facts.declarations o h in
         let kept = if_so (keeps chosen source g.at)
-        (occurrence_over encoding text id g.item.name (declaration_at facts g.item) definition_role ∷ []) o g.given
+        (occurrence_over encoding text home.id g.item.name (declaration_in home facts g.item) definition_role ∷ []) o g.given
         in
         subst Wanted (only _ o kept.1)
         (of_declaration g.at {declared = g.item} (record { has_facts = known; numbered = g.item_is })
@@ -198,7 +199,7 @@ module _ (files : List File) (chosen : Chosen) (ids : Packages) (encoding : Enco
         (part : Entity) → Contains facts.uses type_use → IsTarget files source type_use target
         → slice_get type_use.components index ≡ Some component → slice_get target.parts index ≡ Some part
         → is_shown chosen part ≡ true
-        → (e : Option symbols.Entity) → entity_of files target.name part ≡ e
+        → (e : Option symbols.Entity) → entity_of files ids target.name part ≡ e
         → Contains (at_entity (package_of_part files ids part) encoding text component.span e) o → Wanted o
     entity_occurs o type_use target index component part listed is c p shown None e h = absurd (not_in_none o h)
     entity_occurs o type_use target index component part listed is c p shown (Some entity) e h =
@@ -213,7 +214,7 @@ module _ (files : List File) (chosen : Chosen) (ids : Packages) (encoding : Enco
           is_target = is;
           component_is = c;
           part_is = p;
-          entity_is = named_from files target.name part entity e;
+          entity_is = named_from files ids target.name part entity e;
         }) (shown_from chosen part shown))
 
     part_occurs : (o : Occurrence) (type_use : Use) (target : Target) (index : ℕ) (component : Component)
@@ -225,9 +226,9 @@ module _ (files : List File) (chosen : Chosen) (ids : Packages) (encoding : Enco
     part_occurs o type_use target index component listed is c (Some part) p h =
         let shown = if_so (is_shown chosen part)
         (at_entity (package_of_part files ids part) encoding text component.span
-        (entity_of files target.name part)) o h in
+        (entity_of files ids target.name part)) o h in
         entity_occurs o type_use target index component part listed is c p shown.0
-        (entity_of files target.name part) refl shown.1
+        (entity_of files ids target.name part) refl shown.1
 
     found_occurs : (o : Occurrence) (type_use : Use) → Contains facts.uses type_use → (its : Option Target)
         → IsFound files source type_use its
@@ -249,10 +250,10 @@ module _ (files : List File) (chosen : Chosen) (ids : Packages) (encoding : Enco
     -- in one of the lists
     abbrev pub InLists : Occurrence → Type 0
     InLists o =
-        (((Contains (own_occurrence id file.path ∷ []) o
+        (((Contains (own_occurrence home.id file.path ∷ []) o
         ⊎ Contains (each_from (at_import ids encoding text files) 0 facts.imports) o)
         ⊎ Contains (each_from (at_package ids.run encoding text facts) 0 facts.package_name) o)
-        ⊎ Contains (each_from (at_declaration id encoding text chosen source facts) 0 facts.declarations) o)
+        ⊎ Contains (each_from (at_declaration home encoding text chosen source facts) 0 facts.declarations) o)
         ⊎ Contains (each_from (at_use ids encoding text files chosen found) 0 facts.uses) o
 
     pub lists_occur : (o : Occurrence) → InLists o → Wanted o
@@ -269,7 +270,7 @@ module _ (files : List File) (chosen : Chosen) (ids : Packages) (encoding : Enco
     is_found type_use target is (Some other) too = ap Some (one_target type_use other target too is)
 
     component_listed : (component : Component) (part : Entity) (entity : symbols.Entity)
-        → NamesIn files source component part entity → IsShown chosen part
+        → NamesIn files ids source component part entity → IsShown chosen part
         → Contains (each_from (at_use ids encoding text files chosen found) 0 facts.uses)
         (occurrence_over encoding text (package_of_part files ids part) component.span entity no_role)
     component_listed component part entity names shown =
@@ -281,8 +282,8 @@ module _ (files : List File) (chosen : Chosen) (ids : Packages) (encoding : Enco
         let there = ap found_at t.1 ∙ is_found names.type_use names.target names.is_target t.0 t.2 in
         let entity_there : Contains
         (at_entity (package_of_part files ids part) encoding text component.span
-        (entity_of files names.target.name part)) o =
-        rw (named_to files names.target.name part entity names.entity_is) (here o) in
+        (entity_of files ids names.target.name part)) o =
+        rw (named_to files ids names.target.name part entity names.entity_is) (here o) in
         let part_there : Contains
         (at_part ids encoding text files chosen names.target.name component.span
         (slice_get names.target.parts names.index)) o =
@@ -296,8 +297,8 @@ module _ (files : List File) (chosen : Chosen) (ids : Packages) (encoding : Enco
     pub occurs_listed : (o : Occurrence) → Wanted o → InLists o
     occurs_listed _ (of_file {file = other} there) =
         let same = same_Some _ _ (sym at ∙ there) in
-        inl (inl (inl (inl (at_head (own_occurrence id other.path) (own_occurrence id file.path) []
-        (ap (λ (f : File). own_occurrence id f.path) same)))))
+        inl (inl (inl (inl (at_head (own_occurrence home.id other.path) (own_occurrence home.id file.path) []
+        (ap (λ (f : File). own_occurrence home.id f.path) same)))))
     occurs_listed _ (of_import {facts = other} {imported = imported} has listed there) =
         let k = contained_at facts.imports imported
         (subst (λ (f : Facts). Contains f.imports imported) (same_facts files source other facts has known) listed)
@@ -313,10 +314,10 @@ module _ (files : List File) (chosen : Chosen) (ids : Packages) (encoding : Enco
     occurs_listed _ (of_declaration {facts = other} index {declared = declared} has kept) =
         let same = same_facts files source other facts has.has_facts known in
         let there = ap (λ (f : Facts). slice_get f.declarations index) (sym same) ∙ has.numbered in
-        inl (inr (gives_at (at_declaration id encoding text chosen source facts) facts.declarations _ index declared
+        inl (inr (gives_at (at_declaration home encoding text chosen source facts) facts.declarations _ index declared
         there
         (so (keeps chosen source index) _ _ (kept_to chosen source index kept)
-        (at_head _ _ [] (ap (λ (f : Facts). occurrence_over encoding text id declared.name
-        (declaration_at f declared) definition_role) (sym same))))))
+        (at_head _ _ [] (ap (λ (f : Facts). occurrence_over encoding text home.id declared.name
+        (declaration_in home f declared) definition_role) (sym same))))))
     occurs_listed _ (of_component {component = component} {part = part} {entity = entity} names shown) =
         inr (component_listed component part entity names shown)

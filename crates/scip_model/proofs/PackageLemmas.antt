@@ -11,14 +11,13 @@ use Rattle.scip_symbol.specs.Parts.{IsSymbol}
 use Rattle.scip_symbol.specs.Package.{Package, IsPackage}
 use Rattle.scip_symbol.specs.SpellsSymbol.{SpellsSymbol}
 use Rattle.scip_symbol.specs.SymbolText.{symbol_text}
-use Rattle.scip_symbol.specs.Entities.{Entity, IsEntity, descriptors_of, scheme_text, global_in, symbol_in}
+use Rattle.scip_symbol.specs.Entities.{Entity, IsEntity, descriptors_of, global_in, symbol_in}
 use Rattle.scip_symbol.specs.declared.symbol.Descriptor.{Descriptor}
 use Rattle.scip_symbol.specs.declared.symbol.SymbolParts.{SymbolParts}
 use Rattle.scip_symbol.specs.declared.symbol.SymbolParts.TheVariants.{Local, Global}
-use Rattle.scip_symbol.proofs.EntityLemmas.{entity-has, global-is}
 use Rattle.proto_visibility.specs.Files.{File, HasPathAt}
 use Rattle.scip_model.specs.Packages.{Root, Packages, package_among, package_of_path, package_if_there}
-use Rattle.scip_model.specs.Packages.{package_of_file, ArePackages}
+use Rattle.scip_model.specs.Packages.{package_of_file, ArePackages, RepeatedNames, naming}
 
 -- ---- texts that are kept as strings
 
@@ -69,6 +68,12 @@ pub by_its_path : (files : List File) (ids : Packages) (path : List ℕ) (number
     → package_of_path ids path ≡ package_of_file files ids number
 by_its_path files ids path number has =
     ap (package_of_path ids) (sym has.2) ∙ sym (by_path files ids number has.0 has.1)
+
+-- what is repeated doesn't matter to it
+pub whatever-repeated : (ids : Packages) (repeated : RepeatedNames) (path : List ℕ)
+    → package_of_path ids path ≡ package_of_path (naming ids repeated) path
+unfolding package_of_path
+whatever-repeated ids repeated path = refl
 
 -- ---- symbols in two packages
 

@@ -27,7 +27,7 @@ use Rattle.scip_records.specs.declared.records.Occurrence.{Occurrence}
 use Rattle.scip_symbol.specs.Entities.{OfFile}
 use Rattle.scip_symbol.specs.Entities as symbols
 use Rattle.scip_symbol.specs.Package.{Package}
-use Rattle.scip_model.specs.Named.{text_of, package_at, declaration_at, HasDeclaration}
+use Rattle.scip_model.specs.Named.{Home, home_of_file, text_of, package_at, declaration_in, HasDeclaration}
 use Rattle.scip_model.specs.Packages.{Packages, package_of_file}
 use Rattle.scip_model.specs.Occurs.{range_over, no_role}
 use Rattle.scip_model.specs.Chosen.{Chosen, IsChosen}
@@ -56,8 +56,7 @@ pub own_then : (files : List File) (ids : Packages) (source : ℕ) (a b : List (
 own_then files ids source a b own grown = (
   own.0,
   own.1,
-  own.2,
-  grown_then (own_texts (package_of_file files ids source) ids.run own.1 own.0) a b own.3 grown,
+  grown_then (own_texts (home_of_file files ids source) ids.run own.0) a b own.2 grown,
 )
 
 -- a text that is there keeps its number
@@ -73,38 +72,38 @@ number_then a b text number is grown = λ later more. is later (grown_then a b l
 
 -- ---- the numbers of what a source has itself
 
-module _ (id run : Package) (path : List ℕ) (facts : Facts) where
+module _ (home : Home) (run : Package) (facts : Facts) where
   abbrev one_text : ℕ → List ℕ
   one_text index = text_of run (package_at facts (index + 1))
 
   abbrev of_declared : Declaration → List ℕ
-  of_declared declared = text_of id (declaration_at facts declared)
+  of_declared declared = text_of home.id (declaration_in home facts declared)
 
   abbrev front : List (List ℕ)
   front = package_texts_up_to run facts (length facts.package_name)
 
   abbrev behind : List (List ℕ)
-  behind = declaration_texts id facts
+  behind = declaration_texts home facts
 
   front_count : length front ≡ length facts.package_name
   front_count = length-map-range_with_len one_text 0 (length facts.package_name)
 
-  pub file_number : IsNumberOf (own_texts id run path facts) (text_of id (OfFile path)) 0
-  file_number = number_within (own_texts id run path facts) (text_of id (OfFile path)) 0 (omega arith) refl
+  pub file_number : IsNumberOf (own_texts home run facts) (text_of home.id (OfFile home.path)) 0
+  file_number = number_within (own_texts home run facts) (text_of home.id (OfFile home.path)) 0 (omega arith) refl
 
   pub package_number : (index number : ℕ) → index < length facts.package_name → number ≡ index + 1
-      → IsNumberOf (own_texts id run path facts) (text_of run (package_at facts (index + 1))) number
+      → IsNumberOf (own_texts home run facts) (text_of run (package_at facts (index + 1))) number
   package_number index number within is =
       let next : number ≡ suc index = omega (arith, is) in
       let few : index < length front = omega (arith, within, front_count) in
-      rw next (number_within (own_texts id run path facts) (one_text index) (suc index)
+      rw next (number_within (own_texts home run facts) (one_text index) (suc index)
       (omega (arith, few, length-append front behind))
       (get_or_append_left front behind [] index few
       ∙ get_or-map-range_with_len one_text 0 (length facts.package_name) index index [] within (omega arith)))
 
   pub declared_number : (index number : ℕ) (declared : Declaration) → slice_get facts.declarations index ≡ Some declared
       → number ≡ declaration_number facts index
-      → IsNumberOf (own_texts id run path facts) (text_of id (declaration_at facts declared)) number
+      → IsNumberOf (own_texts home run facts) (text_of home.id (declaration_in home facts declared)) number
   declared_number index number declared there is =
       let texts : List (List ℕ) = front ++ behind in
       let at : text_at texts (length facts.package_name + index) ≡ of_declared declared =
@@ -118,24 +117,24 @@ module _ (id run : Package) (path : List ℕ) (facts : Facts) where
         length-map facts.declarations of_declared,
       ) in
       let next : number ≡ suc (length facts.package_name + index) = omega (arith, is) in
-      rw next (number_within (own_texts id run path facts) (of_declared declared)
+      rw next (number_within (own_texts home run facts) (of_declared declared)
       (suc (length facts.package_name + index)) (omega (arith, few, front_count, length-append front behind)) at)
 
 -- that of a declaration of the source
 pub own_is : (files : List File) (ids : Packages) (source index number : ℕ) (texts : List (List ℕ)) (facts : Facts)
     (declared : Declaration) → HasOwnTexts files ids source texts → HasDeclaration files source index facts declared
     → ((known : Facts) → HasFacts files source known → number ≡ declaration_number known index)
-    → IsNumberIn texts (package_of_file files ids source) (declared_by files source index) number
+    → IsNumberIn texts (package_of_file files ids source) (declared_by files ids source index) number
 own_is files ids source index number texts facts declared own has numbered =
-    let id = package_of_file files ids source in
+    let home = home_of_file files ids source in
     let known = own.0 in
-    let same = same_facts files source facts known has.has_facts own.2 in
+    let same = same_facts files source facts known has.has_facts own.1 in
     let there : slice_get known.declarations index ≡ Some declared =
     ap (λ (f : Facts). slice_get f.declarations index) (sym same) ∙ has.numbered in (
-      text_of id (declaration_at known declared),
-      ap (option_map (text_of id)) (declared_is files source index known declared own.2 there),
-      number_then (own_texts id ids.run own.1 known) texts (text_of id (declaration_at known declared)) number
-          (declared_number id ids.run own.1 known index number declared there (numbered known own.2)) own.3,
+      text_of home.id (declaration_in home known declared),
+      ap (option_map (text_of home.id)) (declared_is files ids source index known declared own.1 there),
+      number_then (own_texts home ids.run known) texts (text_of home.id (declaration_in home known declared)) number
+          (declared_number home ids.run known index number declared there (numbered known own.1)) own.2,
     )
 
 -- that of what has this text

@@ -11,7 +11,10 @@ use Rattle.proto_decl.specs.declared.uses.Use.{Use}
 use Rattle.basics.proofs.FirstLemmas.{take_next}
 use Rattle.proto_visibility.proofs.SeeingLemmas.{slice_get_prefix}
 use Rattle.proto_visibility.proofs.ItemAllLemmas.{slice_get_last}
-use Rattle.proto_link.specs.Targets.{IsTarget, MayRefuseUse}
+use Rattle.proto_link.specs.Resolves.{wanted}
+use Rattle.proto_link.specs.Targets.{IsAmbiguous, IsTarget, IsUnresolved, MayRefuseUse}
+use Rattle.proto_link.proofs.LawLemmas.{one_name_a_use}
+use Rattle.proto_visibility.specs.Knows.{SeesGiving}
 use Rattle.proto_link.specs.declared.target.Target.{Target}
 use Rattle.proto_visibility.specs.Files.{File}
 use Rattle.proto_visibility.specs.declared.fault.LinkFault.{LinkFault}
@@ -24,6 +27,17 @@ module _ (files : List File) (file : ℕ) (type_use : Use) where
   no_found (Ok target) is = absurd (let never : false ≡ true = is in cc)
   no_found (Err e) is = tt
 
+  -- an ambiguous use names nothing
+  names_nothing : IsAmbiguous files file type_use → IsUnresolved files file type_use
+  names_nothing is name owner names =
+      let same : is.name ≡ name = one_name_a_use files file type_use is.name name is.resolves names.resolves in
+      let Gives : ℕ → List ℕ → Type 0 = λ number n. SeesGiving files file (wanted type_use.is_extended) n number in
+      let first : is.twice.first ≡ owner =
+      names.owned.alone is.twice.first (subst (Gives is.twice.first) same is.twice.first_gives) in
+      let second : is.twice.second ≡ owner =
+      names.owned.alone is.twice.second (subst (Gives is.twice.second) same is.twice.second_gives) in
+      is.twice.apart (first ∙ sym second)
+
   pub finds_found : (answer : Result Target LinkFault) (found : Result (Option Target) AllocError)
       → IfOk answer (IsTarget files file type_use) → IfErr answer (MayRefuseUse files file type_use)
       → Finds answer found → IfOk found (IsFound files file type_use)
@@ -31,6 +45,9 @@ module _ (files : List File) (file : ℕ) (type_use : Use) where
       subst (λ (r : Result (Option Target) AllocError). IfOk r (IsFound files file type_use)) (sym finds) is
   finds_found (Err (fault.Unresolved place)) found is refused finds =
       subst (λ (r : Result (Option Target) AllocError). IfOk r (IsFound files file type_use)) (sym finds) refused.0
+  finds_found (Err (fault.Ambiguous place)) found is refused finds =
+      subst (λ (r : Result (Option Target) AllocError). IfOk r (IsFound files file type_use)) (sym finds)
+      (names_nothing refused.0)
   finds_found (Err (fault.Broken number)) found is refused finds = no_found found finds
   finds_found (Err (fault.Duplicate first second)) found is refused finds = no_found found finds
   finds_found (Err (fault.MissingImport place)) found is refused finds = no_found found finds

@@ -8,7 +8,7 @@ use Rattle.proto_decl.specs.declared.uses.Use.{Use}
 use Rattle.proto_visibility.specs.Files.{File, HasFacts, IsSource}
 use Rattle.proto_visibility.specs.declared.fault.LinkFault.{LinkFault}
 use Rattle.proto_visibility.specs.declared.fault.LinkFault.TheVariants.{Broken, Duplicate, MissingImport, Unresolved}
-use Rattle.proto_visibility.specs.declared.fault.LinkFault.TheVariants.{Memory}
+use Rattle.proto_visibility.specs.declared.fault.LinkFault.TheVariants.{Ambiguous, Memory}
 use Rattle.proto_link.specs.Targets.{Names, IsUnresolved, IsTarget}
 use Rattle.proto_link.specs.declared.target.Target.{Target}
 use Rattle.scip_symbol.specs.Path.{IsGoodPath}
@@ -78,6 +78,7 @@ HasText files file text = (facts : Facts) → HasFacts files file facts → AreO
 -- The document of a source is refused at its first use that names no type, kept or not. Nothing is said about memory.
 abbrev pub MayRefuseDocument : List File → (source : ℕ) → LinkFault → Type 0
 MayRefuseDocument files source (Unresolved place) = (place.file ≡ source) × IsFirstUnresolved files source place.span
+MayRefuseDocument files source (Ambiguous place) = ⊥
 MayRefuseDocument files source (Broken number) = ⊥
 MayRefuseDocument files source (Duplicate first second) = ⊥
 MayRefuseDocument files source (MissingImport place) = ⊥

@@ -19,7 +19,7 @@ use Rattle.scip_symbol.specs.Entities as symbols
 use Rattle.scip_records.specs.declared.records.SymbolInformation.{SymbolInformation}
 use Rattle.scip_model.specs.Packages.{Packages, package_of_file}
 use Rattle.scip_model.specs.Chosen.{Chosen, IsChosen}
-use Rattle.scip_model.specs.Named.{HasDeclaration, NamesIn, text_of, package_at, declaration_at}
+use Rattle.scip_model.specs.Named.{HasDeclaration, NamesIn, Home, text_of, package_at, declaration_in, home_of_file}
 -- an empty text is left out
 pub use Rattle.scip_records.specs.Texts.{unless_empty}
 
@@ -47,9 +47,9 @@ package_entry id facts count = record {
 }
 
 -- of a declaration, with the texts chosen for it, shown by its simple name
-abbrev pub declaration_entry : Package → Facts → Declaration → Choice → SymbolInformation
-declaration_entry id facts declared choice = record {
-  symbol = text_of id (declaration_at facts declared);
+abbrev pub declaration_entry : Home → Facts → Declaration → Choice → SymbolInformation
+declaration_entry home facts declared choice = record {
+  symbol = text_of home.id (declaration_in home facts declared);
   documentation = documentation_of choice.doc declared;
   display_name = simple_name declared.path;
   details = no_details;
@@ -64,7 +64,7 @@ pub record IsKeptEntry (files : List File) (chosen : Chosen) (ids : Packages) (f
   pub has : HasDeclaration files file index facts declaration
   pub is_chosen : IsChosen chosen file index choice
   pub keeps : choice.keep ≡ true
-  pub is : entry ≡ declaration_entry (package_of_file files ids file) facts declaration choice
+  pub is : entry ≡ declaration_entry (home_of_file files ids file) facts declaration choice
 
 -- The entries of a source: the file, each component of its package's name, and each declaration that is kept.
 pub data HasEntry (files : List File) (chosen : Chosen) (ids : Packages) (source : ℕ) : SymbolInformation → Type 0 where
@@ -85,7 +85,7 @@ pub record HasExternal (files : List File) (chosen : Chosen) (ids : Packages) (e
   pub entity : symbols.Entity
   pub number : ℕ
   pub index : ℕ
-  pub names : NamesIn files source component (link.Declared number index) entity
+  pub names : NamesIn files ids source component (link.Declared number index) entity
   pub file : File
   pub numbered : slice_get files number ≡ Some file
   pub included : file.is_included ≡ true

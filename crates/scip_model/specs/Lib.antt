@@ -11,6 +11,7 @@ pub use Rattle.streams.specs.StdStreams
 pub mod Packages
 -- the entities that have symbols, and what was chosen for declarations
 pub mod Named
+pub mod Repeated
 pub mod Chosen
 -- what occurs in the document of a source, in which order, and its symbol entries
 pub mod Occurs

@@ -24,7 +24,7 @@ use Rattle.scip_model.specs.Chosen.{HasChoice, HaveChoices}
 use Rattle.scip_model.specs.Conditions.{HaveGoodPaths, AreUnresolvedUses, IsFound}
 use Rattle.scip_model.specs.Entries.{HasEntry}
 use Rattle.scip_model.specs.Indexes.{IsDocumentOf}
-use Rattle.scip_model.specs.Named.{HasDeclaration, text_of}
+use Rattle.scip_model.specs.Named.{HasDeclaration, Home, home_of_file, text_of}
 use Rattle.scip_model.specs.Occurs.{Occurs}
 use Rattle.scip_model.specs.Packages.{package_of_file, package_of_part}
 use Rattle.scip_model.specs.Conditions.{AreOfText, HasText, MayRefuseDocument, UsesResolve}
@@ -39,19 +39,19 @@ module _ (maker : DocumentMaker) where
   -- ---- its source
 
   abbrev pub IsOfSource : Type 0
-  IsOfSource = IsSource maker.linker.now maker.source
+  IsOfSource = IsSource maker.package.now.files maker.source
 
   abbrev pub IsOfFile : Type 0
-  IsOfFile = maker.source < length maker.linker.now
+  IsOfFile = maker.source < length maker.package.now.files
 
   abbrev pub HasSourcePath : (path : List ℕ) → Type 0
-  HasSourcePath path = HasPathAt maker.linker.now path maker.source
+  HasSourcePath path = HasPathAt maker.package.now.files path maker.source
 
   abbrev pub HasSourceFacts : Facts → Type 0
-  HasSourceFacts = HasFacts maker.linker.now maker.source
+  HasSourceFacts = HasFacts maker.package.now.files maker.source
 
   abbrev pub HasSourceText : Type 0
-  HasSourceText = HasText maker.linker.now maker.source maker.text.now
+  HasSourceText = HasText maker.package.now.files maker.source maker.text.now
 
   abbrev pub HasTextFor : Facts → Type 0
   HasTextFor = AreOfText maker.text.now
@@ -62,10 +62,10 @@ module _ (maker : DocumentMaker) where
   -- ---- its files, and what was chosen for their declarations
 
   abbrev pub HasGoodPaths : Type 0
-  HasGoodPaths = HaveGoodPaths maker.linker.now
+  HasGoodPaths = HaveGoodPaths maker.package.now.files
 
   abbrev pub HasChosen : Type 0
-  HasChosen = HaveChoices maker.linker.now maker.choices.now
+  HasChosen = HaveChoices maker.package.now.files maker.choices.now
 
   abbrev pub HasChosenFor : (index : ℕ) → Type 0
   HasChosenFor = HasChoice maker.choices.now maker.source
@@ -76,85 +76,88 @@ module _ (maker : DocumentMaker) where
   -- ---- what its uses name
 
   abbrev pub Finds : Use → Option Target → Type 0
-  Finds = IsFound maker.linker.now maker.source
+  Finds = IsFound maker.package.now.files maker.source
 
   abbrev pub CanName : (name : List ℕ) → Entity → Type 0
-  CanName = IsNameable maker.linker.now
+  CanName = IsNameable maker.package.now.files
 
   abbrev pub CanNameParts : Target → Type 0
-  CanNameParts = AreNameable maker.linker.now
+  CanNameParts = AreNameable maker.package.now.files
 
   abbrev pub HasDeclared : (file index : ℕ) → Type 0
   HasDeclared file index =
-      (facts : Facts) × (declared : Declaration) × HasDeclaration maker.linker.now file index facts declared
+      (facts : Facts) × (declared : Declaration) × HasDeclaration maker.package.now.files file index facts declared
 
   abbrev pub entity_named : (name : List ℕ) → Entity → Option symbols.Entity
-  entity_named = entity_of maker.linker.now
+  entity_named = entity_of maker.package.now.files maker.package.now.ids
 
   abbrev pub part_package : Entity → Package
-  part_package = package_of_part maker.linker.now maker.package.now
+  part_package = package_of_part maker.package.now.files maker.package.now.ids
 
   -- the text of the symbol of a declaration, and of what a part of a full name names
   abbrev pub declared_symbol : (file index : ℕ) → Option (List ℕ)
   declared_symbol file index =
-      option_map (text_of (package_of_file maker.linker.now maker.package.now file))
-      (declared_by maker.linker.now file index)
+      option_map (text_of (package_of_file maker.package.now.files maker.package.now.ids file))
+      (declared_by maker.package.now.files maker.package.now.ids file index)
 
   abbrev pub part_symbol : (name : List ℕ) → Entity → Option (List ℕ)
   part_symbol name part = option_map (text_of (part_package part)) (entity_named name part)
 
   -- ---- the texts of the symbols of what the source has itself
 
-  abbrev pub source_texts : (path : List ℕ) → Facts → List (List ℕ)
-  source_texts =
-      own_texts (package_of_file maker.linker.now maker.package.now maker.source) maker.package.now.run
+  -- where its declarations belong
+  abbrev pub source_home : Home
+  source_home = home_of_file maker.package.now.files maker.package.now.ids maker.source
+
+  abbrev pub source_texts : Facts → List (List ℕ)
+  source_texts = own_texts source_home maker.package.now.ids.run
 
   abbrev pub HasSourceTexts : (texts : List (List ℕ)) → Type 0
-  HasSourceTexts = HasOwnTexts maker.linker.now maker.package.now maker.source
+  HasSourceTexts = HasOwnTexts maker.package.now.files maker.package.now.ids maker.source
 
   -- ---- what occurs
 
   abbrev pub at_its_import : ℕ → Imported → List Occurrence
-  at_its_import = at_import maker.package.now maker.encoding maker.text.now maker.linker.now
+  at_its_import = at_import maker.package.now.ids maker.encoding maker.text.now maker.package.now.files
 
-  abbrev pub at_its_declaration : Package → Facts → ℕ → Declaration → List Occurrence
-  at_its_declaration id = at_declaration id maker.encoding maker.text.now maker.choices.now maker.source
+  abbrev pub at_its_declaration : Facts → ℕ → Declaration → List Occurrence
+  at_its_declaration = at_declaration source_home maker.encoding maker.text.now maker.choices.now maker.source
 
   abbrev pub at_its_entity : (name : List ℕ) → Span → Entity → List Occurrence
   at_its_entity name span part =
       at_entity (part_package part) maker.encoding maker.text.now span (entity_named name part)
 
   abbrev pub at_its_part : (name : List ℕ) → Span → Option Entity → List Occurrence
-  at_its_part = at_part maker.package.now maker.encoding maker.text.now maker.linker.now maker.choices.now
+  at_its_part = at_part maker.package.now.ids maker.encoding maker.text.now maker.package.now.files maker.choices.now
 
   abbrev pub at_its_component : Target → ℕ → Component → List Occurrence
   at_its_component =
-      at_component maker.package.now maker.encoding maker.text.now maker.linker.now maker.choices.now
+      at_component maker.package.now.ids maker.encoding maker.text.now maker.package.now.files maker.choices.now
 
   abbrev pub at_its_target : Option Target → Use → List Occurrence
-  at_its_target = at_target maker.package.now maker.encoding maker.text.now maker.linker.now maker.choices.now
+  at_its_target = at_target maker.package.now.ids maker.encoding maker.text.now maker.package.now.files maker.choices.now
 
   abbrev pub at_its_use : List (Option Target) → ℕ → Use → List Occurrence
-  at_its_use = at_use maker.package.now maker.encoding maker.text.now maker.linker.now maker.choices.now
+  at_its_use = at_use maker.package.now.ids maker.encoding maker.text.now maker.package.now.files maker.choices.now
 
   abbrev pub OccursIn : Occurrence → Type 0
   OccursIn =
-      Occurs maker.linker.now maker.choices.now maker.package.now maker.encoding maker.source maker.text.now
+      Occurs maker.package.now.files maker.choices.now maker.package.now.ids maker.encoding maker.source maker.text.now
 
   -- ---- its document
 
   abbrev pub IsItsEntry : SymbolInformation → Type 0
-  IsItsEntry = HasEntry maker.linker.now maker.choices.now maker.package.now maker.source
+  IsItsEntry = HasEntry maker.package.now.files maker.choices.now maker.package.now.ids maker.source
 
   abbrev pub IsItsDocument : Document → Type 0
   IsItsDocument =
-      IsDocumentOf maker.linker.now maker.choices.now maker.package.now maker.encoding maker.source maker.text.now
+      IsDocumentOf maker.package.now.files maker.choices.now maker.package.now.ids maker.encoding maker.source maker.text.now
 
   abbrev pub AreItsGaps : List Span → Type 0
-  AreItsGaps = AreUnresolvedUses maker.linker.now maker.source
+  AreItsGaps = AreUnresolvedUses maker.package.now.files maker.source
 
   abbrev pub HasResolvedUses : Type 0
-  HasResolvedUses = UsesResolve maker.linker.now maker.source
+  HasResolvedUses = UsesResolve maker.package.now.files maker.source
 
   abbrev pub MayRefuseIts : LinkFault → Type 0
-  MayRefuseIts = MayRefuseDocument maker.linker.now maker.source
+  MayRefuseIts = MayRefuseDocument maker.package.now.files maker.source

@@ -9,7 +9,6 @@ use Rattle.proto_decl.specs.declared.uses.Component.{Component}
 use Rattle.proto_decl.specs.declared.uses.Use.{Use}
 use Rattle.scip_symbol.specs.Entities.{OfPackage, symbol_in}
 use Rattle.scip_symbol.specs.Entities as symbols
-pub use Rattle.scip_symbol.specs.OneEntity.{declaration_at}
 use Rattle.scip_symbol.specs.Package.{Package}
 use Rattle.scip_symbol.specs.SymbolText.{symbol_text}
 use Rattle.proto_visibility.specs.Files.{File, HasFacts}
@@ -17,6 +16,8 @@ use Rattle.proto_link.specs.Targets.{IsTarget}
 use Rattle.proto_visibility.specs.declared.lookup.Entity.{Entity}
 use Rattle.proto_visibility.specs.declared.lookup.Entity.TheVariants as link
 use Rattle.proto_link.specs.declared.target.Target.{Target}
+use Rattle.scip_model.specs.Packages.{Packages}
+pub use Rattle.scip_model.specs.Repeated.{Home, declaration_in, home_of_file}
 
 -- a declaration of one of the files, by the file's number and its own
 pub record HasDeclaration (files : List File) (file index : ℕ) (facts : Facts)
@@ -33,19 +34,19 @@ abbrev pub package_at : Facts → (count : ℕ) → symbols.Entity
 package_at facts count = OfPackage (component_names (take count facts.package_name))
 
 -- the entity is that of a declaration, by the file's number and its own
-pub record IsDeclaredAs (files : List File) (file index : ℕ) (entity : symbols.Entity) : Type 0 where
+pub record IsDeclaredAs (files : List File) (ids : Packages) (file index : ℕ) (entity : symbols.Entity) : Type 0 where
   pub facts : Facts
   pub declaration : Declaration
   pub has : HasDeclaration files file index facts declaration
-  pub is : entity ≡ declaration_at facts declaration
+  pub is : entity ≡ declaration_in (home_of_file files ids file) facts declaration
 
 -- What a component of a use is the name of, of a use that resolves to this full name.
-abbrev pub IsNamedAs : (files : List File) (name : List ℕ) → Entity → symbols.Entity → Type 0
-IsNamedAs files name (link.Package count) entity = entity ≡ OfPackage (take count (components_of name))
-IsNamedAs files name (link.Declared file index) entity = IsDeclaredAs files file index entity
+abbrev pub IsNamedAs : (files : List File) (ids : Packages) (name : List ℕ) → Entity → symbols.Entity → Type 0
+IsNamedAs files ids name (link.Package count) entity = entity ≡ OfPackage (take count (components_of name))
+IsNamedAs files ids name (link.Declared file index) entity = IsDeclaredAs files ids file index entity
 
 -- A component of a use in a file names an entity: of the linker's, and of those that have symbols.
-pub record NamesIn (files : List File) (file : ℕ) (component : Component) (part : Entity)
+pub record NamesIn (files : List File) (ids : Packages) (file : ℕ) (component : Component) (part : Entity)
     (entity : symbols.Entity) : Type 0 where
   pub facts : Facts
   pub type_use : Use
@@ -56,4 +57,4 @@ pub record NamesIn (files : List File) (file : ℕ) (component : Component) (par
   pub is_target : IsTarget files file type_use target
   pub component_is : slice_get type_use.components index ≡ Some component
   pub part_is : slice_get target.parts index ≡ Some part
-  pub entity_is : IsNamedAs files target.name part entity
+  pub entity_is : IsNamedAs files ids target.name part entity

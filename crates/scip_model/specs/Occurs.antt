@@ -19,7 +19,7 @@ use Rattle.proto_visibility.specs.declared.lookup.Entity.{Entity}
 use Rattle.proto_visibility.specs.declared.lookup.Entity.TheVariants as link
 use Rattle.scip_model.specs.Packages.{Packages, package_of_path, package_of_file, package_of_part}
 use Rattle.scip_model.specs.Chosen.{Chosen, IsKeptDeclaration}
-use Rattle.scip_model.specs.Named.{HasDeclaration, NamesIn, text_of, package_at, declaration_at}
+use Rattle.scip_model.specs.Named.{HasDeclaration, NamesIn, text_of, package_at, declaration_in, home_of_file}
 
 -- (`scip.proto`, SymbolRole: UnspecifiedSymbolRole, Definition and Import)
 abbrev pub no_role : ℤ
@@ -85,10 +85,10 @@ pub data Occurs (files : List File) (chosen : Chosen) (ids : Packages) (encoding
   of_declaration : {facts : Facts} (index : ℕ) {declared : Declaration}
       → HasDeclaration files source index facts declared → IsKeptDeclaration chosen source index
       → Occurs files chosen ids encoding source text
-      (occurrence_over encoding text (package_of_file files ids source) declared.name (declaration_at facts declared)
-      definition_role)
+      (occurrence_over encoding text (package_of_file files ids source) declared.name
+      (declaration_in (home_of_file files ids source) facts declared) definition_role)
   -- each component of a use that names a package, or a declaration that is kept
   of_component : {component : Component} {part : Entity} {entity : symbols.Entity}
-      → NamesIn files source component part entity → IsShown chosen part
+      → NamesIn files ids source component part entity → IsShown chosen part
       → Occurs files chosen ids encoding source text
       (occurrence_over encoding text (package_of_part files ids part) component.span entity no_role)

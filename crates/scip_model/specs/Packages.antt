@@ -14,14 +14,40 @@ pub record Root : Type 0 where
   pub id : Package
   pub paths : List (List ℕ)
 
--- the package of the run, and the included roots that have one of their own
+-- For each file, by its number, the full names of those of its outermost declarations whose symbols have the file before
+-- the package; files behind the end have none.
+abbrev pub RepeatedNames : Type 0
+RepeatedNames = List (List (List ℕ))
+
+-- the package of the run, and the included roots that have one of their own; and what is repeated
 pub record Packages : Type 0 where
   pub run : Package
   pub roots : List Root
+  pub repeated : RepeatedNames
 
--- each file has this package
+-- each file has this package, and nothing is repeated
 abbrev pub all_in : Package → Packages
-all_in id = record { run = id; roots = [] }
+all_in id = record { run = id; roots = []; repeated = [] }
+
+-- the same packages, where this is repeated
+abbrev pub naming : Packages → RepeatedNames → Packages
+naming ids repeated = record { run = ids.run; roots = ids.roots; repeated = repeated }
+
+-- what is repeated of the file with a number
+abbrev pub names_if_there : Option (List (List ℕ)) → List (List ℕ)
+names_if_there None = []
+names_if_there (Some names) = names
+
+abbrev pub names_at : RepeatedNames → (number : ℕ) → List (List ℕ)
+names_at repeated number = names_if_there (slice_get repeated number)
+
+-- the path of the file with a number; none has the empty one
+abbrev pub path_if_there : Option File → List ℕ
+path_if_there None = []
+path_if_there (Some file) = file.path
+
+abbrev pub path_at : List File → (number : ℕ) → List ℕ
+path_at files number = path_if_there (slice_get files number)
 
 -- the paths with one more, which is there once
 abbrev pub with_path : List (List ℕ) → (path : List ℕ) → List (List ℕ)

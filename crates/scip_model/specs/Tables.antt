@@ -10,5 +10,7 @@ pub mod ExternalLists
 -- the texts of own declarations, and numbers for texts
 pub mod OwnTexts
 pub mod Plans
+-- the steps by which repeated names are found
+pub mod Repeats
 -- the marks of paths that pieces have
 pub mod TakenPaths

@@ -4,10 +4,9 @@ ghost use Rattle.std.specs.Prelude.{◌≡◌, length, map};
 ghost use Rattle.scip_model.specs.Chosen.{IsChosen, HasChoice};
 ghost use Rattle.scip_model.specs.Tables.EntryLists.{choices_for};
 
-use crate::packages::FilePackages;
+use crate::naming::SymbolPackages;
 use index_hooks::Choice;
 use proto_lex::{Encoding, Text};
-use proto_link::Linker;
 use std::alloc::Global;
 use std::marker::Model;
 
@@ -16,12 +15,10 @@ use std::marker::Model;
 pub struct DocumentMaker<'a, 'l, 'f, 't> {
     /// Where memory is taken.
     pub alloc: Global,
-    /// The files, which are linked.
-    pub linker: &'a Linker<'l, 'f>,
     /// What was chosen for each declaration of the files.
     pub choices: &'a Choices,
-    /// The packages that the symbols belong to, by their files.
-    pub package: &'a FilePackages,
+    /// The files, which are linked, and the packages that their symbols belong to.
+    pub package: &'a SymbolPackages<'a, 'l, 'f>,
     /// In which code units columns count.
     pub encoding: Encoding,
     /// The number of the source.

@@ -5,7 +5,7 @@ ghost use Rattle.std.specs.Prelude.{if◌then◌else◌};
 ghost use Rattle.std.specs.List.{range_with_len};
 ghost use Rattle.proto_decl.specs.Names.{dotted, package_of};
 ghost use Rattle.proto_decl.specs.Laws.{component_names};
-ghost use Rattle.scip_symbol.specs.Package.{Package};
+ghost use Rattle.scip_model.specs.Named.{Home};
 ghost use Rattle.scip_records.specs.declared.records.SymbolInformation.{SymbolInformation};
 ghost use Rattle.scip_model.specs.Entries.{declaration_entry, documentation_of};
 ghost use Rattle.scip_model.specs.Tables.EntryLists.{kept_entries, package_names, AreNumbered};
@@ -18,6 +18,7 @@ ghost use Rattle.scip_model.specs.Makers.{IsItsEntry, IsOfSource, choices_of, so
 use crate::document_maker::DocumentMaker;
 use crate::entry_order::{compare_texts, put_near};
 use crate::known_facts::symbols_stand_apart;
+use crate::naming::Home;
 use crate::symbol_table::{SymbolTable, declaration_number, number_at};
 use crate::symbol_texts::declaration_text;
 use basics::OwnedText;
@@ -101,15 +102,15 @@ pub(crate) fn ref_entry<'a>(
 /// That of a declaration, with the texts that were chosen.
 pub(crate) fn declaration_entry(
     alloc: Global,
-    id: &PackageId,
+    home: &Home<'_>,
     facts: &FileFacts,
     declaration: &Declaration,
     choice: Choice,
 ) -> Result<SymbolInformation, AllocError>
     requires { Contains facts.now.declarations declaration.now }
-    ensures { IfOk result (λ entry. entry ≡ declaration_entry id.now facts.now declaration.now choice) }
+    ensures { IfOk result (λ entry. entry ≡ declaration_entry home.now facts.now declaration.now choice) }
 {
-    let symbol = declaration_text(alloc, id, facts, declaration)?;
+    let symbol = declaration_text(alloc, home, facts, declaration)?;
     let entry = ref_entry(SymbolRef::whole(symbol.as_str()), declaration, choice);
     entry.to_record(alloc)
 }
@@ -146,10 +147,10 @@ fn push_declarations(
 ) -> Result<(), AllocError>
     requires { (index : ℕ) → index < length facts.now.declarations
         → HasChosenFor maker.now index }
-    ensures { OnOk result ((id : Package) (entry : ℕ → SymbolInformation)
-        → AreNumbered id facts.now (choices_of maker.now) entry
+    ensures { OnOk result ((home : Home) (entry : ℕ → SymbolInformation)
+        → AreNumbered home facts.now (choices_of maker.now) entry
         → map entry numbers.new.items ≡ map entry numbers.old.items
-        ++ kept_entries id facts.now facts.now.declarations (choices_of maker.now)) }
+        ++ kept_entries home facts.now facts.now.declarations (choices_of maker.now)) }
 {
     for index in 0..facts.declarations().len() {
         let choice = maker.choices.of(maker.source, index);
@@ -178,13 +179,13 @@ pub(crate) fn entry_numbers(
     requires known { HasSourceFacts maker.now facts.now }
     requires paths { HasGoodPaths maker.now }
     requires choices { HasChosen maker.now }
-    requires texts { Grown (source_texts maker.now path.now facts.now) texts.now }
+    requires texts { Grown (source_texts maker.now facts.now) texts.now }
     ensures { IfOk result (λ numbers. IsAscendingListOf info_cmp
         (IsItsEntry maker.now)
         (map (entry_of texts.now path.now (package_names facts.now.package_name) facts.now
         (choices_of maker.now)) numbers.items)) }
 {
-    symbols_stand_apart(maker.linker, maker.package);
+    symbols_stand_apart(maker.package);
     let mut numbers = first_numbers(maker.alloc, facts)?;
     push_declarations(&mut numbers, maker, facts)?;
     put_near(maker.alloc, &mut numbers, texts, facts)?;

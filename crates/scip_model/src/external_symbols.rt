@@ -15,13 +15,12 @@ ghost use Rattle.scip_model.specs.Indexes.{AreExternals};
 use crate::document_maker::Choices;
 use crate::entries::{compare_symbols, declaration_entry};
 use crate::known_facts::symbols_stand_apart;
-use crate::packages::{FilePackages, package_of_file};
+use crate::naming::{Home, SymbolPackages};
 use crate::targets::{parts_of, target_of};
 use basics::Sequence;
 use proto_decl::{FileFacts, Use};
 use proto_link::{Entity, Linker, one_target_a_use};
 use scip_records::SymbolInformation;
-use scip_symbol::PackageId;
 use std::alloc::{AllocError, Global};
 
 /// Adds a declaration, if its file is included and it is kept.
@@ -173,7 +172,7 @@ fn without_doubles(named: Vec<(usize, usize)>) -> Result<Vec<(usize, usize)>, Al
 /// The entry of a declaration that is kept.
 fn external_entry(
     alloc: Global,
-    id: &PackageId,
+    home: &Home<'_>,
     choices: &Choices,
     facts: &FileFacts,
     file: usize,
@@ -181,46 +180,45 @@ fn external_entry(
 ) -> Result<SymbolInformation, AllocError>
     requires within { index < length facts.now.declarations }
     requires chosen { HasChoice choices.now file index }
-    ensures { IfOk result (λ entry. IsEntryAt choices.now id.now facts.now file index entry) }
+    ensures { IfOk result (λ entry. IsEntryAt choices.now home.now facts.now file index entry) }
 {
     let declarations = facts.declarations();
     let declaration = &declarations[index];
     let choice = choices.of(file, index);
-    declaration_entry(alloc, id, facts, declaration, choice)
+    declaration_entry(alloc, home, facts, declaration, choice)
 }
 
 /// The entry of a declaration that a use in a source names, of an included file, and that is kept.
 fn entry_of(
     alloc: Global,
-    linker: &Linker<'_, '_>,
+    named: &SymbolPackages<'_, '_, '_>,
     choices: &Choices,
-    packages: &FilePackages,
     pair: (usize, usize),
 ) -> Result<SymbolInformation, AllocError>
-    requires choices { HaveChoices linker.now choices.now }
-    requires named { IsExternal linker.now choices.now (length linker.now) pair }
-    ensures { IfOk result (IsKeptEntry linker.now choices.now packages.now pair.0 pair.1) }
+    requires choices { HaveChoices named.now.files choices.now }
+    requires external { IsExternal named.now.files choices.now (length named.now.files) pair }
+    ensures { IfOk result (IsKeptEntry named.now.files choices.now named.now.ids pair.0 pair.1) }
 {
-    let facts = linker.facts_of(pair.0).unwrap();
-    let id = package_of_file(linker, packages, pair.0);
-    external_entry(alloc, id, choices, facts, pair.0, pair.1)
+    let facts = named.linker().facts_of(pair.0).unwrap();
+    let home = named.home_of(pair.0);
+    external_entry(alloc, &home, choices, facts, pair.0, pair.1)
 }
 
 /// The entry of each such declaration, in their order.
 fn external_entries(
     alloc: Global,
-    linker: &Linker<'_, '_>,
+    named: &SymbolPackages<'_, '_, '_>,
     choices: &Choices,
-    packages: &FilePackages,
     pairs: &[(usize, usize)],
 ) -> Result<Vec<SymbolInformation>, AllocError>
-    requires choices { HaveChoices linker.now choices.now }
-    requires named { All (IsExternal linker.now choices.now (length linker.now)) pairs.now }
-    ensures { IfOk result (λ entries. AllZip (IsEntryOf linker.now choices.now packages.now) pairs.now entries.items) }
+    requires choices { HaveChoices named.now.files choices.now }
+    requires external { All (IsExternal named.now.files choices.now (length named.now.files)) pairs.now }
+    ensures { IfOk result (λ entries.
+        AllZip (IsEntryOf named.now.files choices.now named.now.ids) pairs.now entries.items) }
 {
     let mut entries = Vec::new(alloc);
     for pair in pairs {
-        let entry = entry_of(alloc, linker, choices, packages, *pair)?;
+        let entry = entry_of(alloc, named, choices, *pair)?;
         entries.push(entry)?;
     }
     Ok(entries)
@@ -247,20 +245,20 @@ fn has_included(linker: &Linker<'_, '_>) -> bool
 /// refused.
 pub fn externals_in_packages(
     alloc: Global,
-    linker: &Linker<'_, '_>,
+    named: &SymbolPackages<'_, '_, '_>,
     choices: &Choices,
-    packages: &FilePackages,
 ) -> Result<Sequence<SymbolInformation>, AllocError>
-    requires choices { HaveChoices linker.now choices.now }
-    ensures { IfOk result (AreExternals linker.now choices.now packages.now) }
+    requires choices { HaveChoices named.now.files choices.now }
+    ensures { IfOk result (AreExternals named.now.files choices.now named.now.ids) }
 {
+    let linker = named.linker();
     if !has_included(linker) {
         return Ok(Sequence::new(alloc));
     }
-    symbols_stand_apart(linker, packages);
-    let named = named_externals(alloc, linker, choices)?;
-    let once = without_doubles(named)?;
-    let mut entries = external_entries(alloc, linker, choices, packages, once.as_slice())?;
+    symbols_stand_apart(named);
+    let pairs = named_externals(alloc, linker, choices)?;
+    let once = without_doubles(pairs)?;
+    let mut entries = external_entries(alloc, named, choices, once.as_slice())?;
     entries.sort_by(|a, b| compare_symbols(a, b))?;
     Ok(Sequence::from_vec(entries))
 }

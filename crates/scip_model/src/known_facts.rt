@@ -3,23 +3,23 @@
 ghost use Rattle.proto_decl.specs.Laws.{FactsStandInText};
 ghost use Rattle.proto_lex.specs.PositionLaws.{CharactersRise};
 ghost use Rattle.proto_visibility.specs.Files.{HaveOrigins};
+ghost use Rattle.proto_visibility.specs.declared.clash.Duplicates.TheVariants.{Keep};
 ghost use Rattle.proto_visibility.specs.Linked.{HaveClearNames};
-ghost use Rattle.proto_link.specs.Laws.{OneDeclarationAName, OneTargetAUse};
-ghost use Rattle.scip_model.specs.Laws.{NoTies, SymbolsNameOne};
+ghost use Rattle.proto_link.specs.Laws.{OneTargetAUse};
+ghost use Rattle.scip_model.specs.Laws.{NoTies};
 ghost use Rattle.scip_model.specs.Packages.{ArePackages};
-ghost use Rattle.scip_model.specs.Tables.KnownFacts.{AreIdentifiers, InOrder, WithoutClash};
+ghost use Rattle.scip_model.specs.Tables.KnownFacts.{AreApart, AreIdentifiers, InOrder};
 
 use crate::laws::{no_two_occurrences_tie, symbols_name_one_entity_in_packages};
-use crate::packages::FilePackages;
+use crate::naming::SymbolPackages;
 use proto_decl::{facts_in_order, facts_stand_in_text, names_are_identifiers};
 use proto_lex::positions_rise;
 use proto_link::{Linker, one_declaration_a_name, one_target_a_use};
-use scip_symbol::files_are_without_clash;
 
 /// The places of facts are in order and in the text, a use has one target, and no two occurrences
 /// of a document tie.
 pub(crate) fn facts_occur_in_order(linker: &Linker<'_, '_>)
-    ensures clear { HaveClearNames linker.now }
+    ensures clear { HaveClearNames Keep linker.now }
     ensures origins { HaveOrigins linker.now }
     ensures order { InOrder }
     ensures placed { FactsStandInText }
@@ -39,20 +39,15 @@ pub(crate) fn facts_occur_in_order(linker: &Linker<'_, '_>)
 }
 
 /// The symbols of linked files are those of one entity each.
-pub(crate) fn symbols_stand_apart(linker: &Linker<'_, '_>, packages: &FilePackages)
-    ensures clear { HaveClearNames linker.now }
-    ensures origins { HaveOrigins linker.now }
-    ensures declarations { OneDeclarationAName }
-    ensures spelled { AreIdentifiers }
-    ensures symbols { SymbolsNameOne }
-    ensures unclashed { WithoutClash }
-    ensures packages { ArePackages packages.now }
+pub(crate) fn symbols_stand_apart(named: &SymbolPackages<'_, '_, '_>)
+    ensures known { AreApart named.now.files named.now.ids }
+    ensures packages { ArePackages named.now.ids }
 {
-    // From here on it is known that no names of the files clash, and that their facts are those of texts.
+    // From here on it is known that no names of a file clash, and that their facts are those of texts.
+    let linker = named.linker();
     linker.linked();
     one_declaration_a_name();
     names_are_identifiers();
     symbols_name_one_entity_in_packages();
-    files_are_without_clash();
-    packages.run();
+    named.run();
 }

@@ -1,7 +1,7 @@
 //! Laws of documents and indexes, each the contract of an empty function.
 
 ghost use Rattle.scip_model.specs.Laws.{NoTies, OneDocument, OneListOfExternals, OneIndex};
-ghost use Rattle.scip_model.specs.Laws.{SymbolsNameOne, SymbolsMeet};
+ghost use Rattle.scip_model.specs.Laws.{NothingIsRepeated, SymbolsNameOne, SymbolsMeet};
 ghost use Rattle.scip_model.specs.Pieces.{OneMergeRefusal, OneMergedList};
 
 use proto_decl::{facts_stand_apart, facts_stand_in_text};
@@ -48,6 +48,12 @@ pub fn symbols_name_one_entity_in_packages()
     symbols_have_spellings();
     text_spells_one_symbol();
 }
+
+/// If no names of files clash, nothing is repeated, so documents and entries are the same whether several files may
+/// give one name or not.
+pub fn nothing_is_repeated()
+    ensures { NothingIsRepeated }
+{}
 
 /// A file that two trees have, with one path, the same declarations and one package, has one symbol in both, and so
 /// has each of its declarations: where it is defined in the one, where the other names it, and in the entry that the

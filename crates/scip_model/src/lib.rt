@@ -4,7 +4,9 @@
 // What documents are made from.
 mod document_maker;
 mod known_facts;
+mod naming;
 mod packages;
+mod repeated;
 
 // The document of a source: its plan, with its parts, and how it is made; `occurrences` merges its lists.
 mod document_plan;
@@ -37,9 +39,10 @@ pub use document_maker::{Choices, DocumentMaker};
 pub use document_plan::{DocumentPlan, PlannedDocument};
 pub use external_symbols::externals_in_packages;
 pub use laws::{
-    no_two_occurrences_tie, one_document_a_source, one_index, one_merge_refusal, one_merged_list,
-    symbols_meet, symbols_name_one_entity_in_packages,
+    no_two_occurrences_tie, nothing_is_repeated, one_document_a_source, one_index,
+    one_merge_refusal, one_merged_list, symbols_meet, symbols_name_one_entity_in_packages,
 };
+pub use naming::SymbolPackages;
 pub use one_package::{document, externals};
 pub use packages::{FilePackages, RootPackage};
 pub use pieces::{MergeFault, Unmerged, merge};

@@ -11,12 +11,13 @@ ghost use Rattle.scip_symbol.specs.Entities.{OfFile};
 ghost use Rattle.scip_symbol.specs.Package.{Package};
 ghost use Rattle.scip_symbol.specs.Path.{IsGoodPath};
 ghost use Rattle.scip_model.specs.Conditions.{HaveGoodPaths};
-ghost use Rattle.scip_model.specs.Named.{text_of};
+ghost use Rattle.scip_model.specs.Named.{Home, text_of};
 ghost use Rattle.scip_model.specs.Occurs.{range_over, start_of_text};
 ghost use Rattle.scip_model.specs.Packages.{package_of_path};
 ghost use Rattle.scip_model.specs.Tables.Listing.{own_occurrence, each_from, has_path, at_package};
 ghost use Rattle.scip_model.specs.Tables.Plans.{own_texts, Grown, IsNumberOf, ArePlanned, AreAdded};
 ghost use Rattle.scip_model.specs.Makers.{HasChosenFor, HasGoodPaths, HasPart, at_its_declaration, at_its_import};
+ghost use Rattle.scip_model.specs.Makers.{source_home};
 
 use crate::document_maker::DocumentMaker;
 use crate::document_plan::PlannedOccurrence;
@@ -80,8 +81,8 @@ fn start_of_text() -> Range
 
 /// Only the file's own occurrence, at its start.
 pub(crate) fn own_occurrences(alloc: Global) -> Result<Vec<PlannedOccurrence>, AllocError>
-    ensures { IfOk result (λ list. (id run : Package) (path : List ℕ) (facts : Facts)
-        → ArePlanned (own_texts id run path facts) list.items (own_occurrence id path ∷ [])) }
+    ensures { IfOk result (λ list. (home : Home) (run : Package) (facts : Facts)
+        → ArePlanned (own_texts home run facts) list.items (own_occurrence home.id home.path ∷ [])) }
 {
     let mut list = Vec::with_capacity(alloc, 1)?;
     list.push(PlannedOccurrence {
@@ -110,7 +111,7 @@ fn file_number(
     requires { IsGoodPath path.now }
     ensures grown { OnOk result (Grown texts.old texts.new) }
     ensures number { IfOk result (IsNumberOf texts.new
-        (text_of (package_of_path maker.now.package.now path.now) (OfFile path.now))) }
+        (text_of (package_of_path maker.now.package.now.ids path.now) (OfFile path.now))) }
 {
     let text = file_text(maker.alloc, maker.package.of_path(path), path)?;
     let number = texts.number_of(maker.alloc, FILE, text.as_str())?;
@@ -130,7 +131,7 @@ fn add_import(
     ensures added { OnOk result (AreAdded texts.new list.old.items list.new.items
         (at_its_import maker.now 0 imported.now)) }
 {
-    if !has_file(maker.linker, imported) {
+    if !has_file(maker.package.linker(), imported) {
         return Ok(());
     }
     let number = file_number(maker, imported.path.as_str(), texts)?;
@@ -163,9 +164,9 @@ pub(crate) fn package_occurrences(
     facts: &FileFacts,
 ) -> Result<Vec<PlannedOccurrence>, AllocError>
     requires { All (λ (component : Component). HasPart maker.now component.span) facts.now.package_name }
-    ensures { IfOk result (λ list. (id : Package) (path : List ℕ)
-        → ArePlanned (own_texts id maker.now.package.now.run path facts.now) list.items (each_from
-        (at_package maker.now.package.now.run maker.now.encoding maker.now.text.now facts.now)
+    ensures { IfOk result (λ list. (home : Home)
+        → ArePlanned (own_texts home maker.now.package.now.ids.run facts.now) list.items (each_from
+        (at_package maker.now.package.now.ids.run maker.now.encoding maker.now.text.now facts.now)
         0 facts.now.package_name)) }
 {
     let mut list = Vec::with_capacity(maker.alloc, facts.package_name().len())?;
@@ -187,10 +188,9 @@ fn add_declaration(
     requires there { slice_get facts.now.declarations index ≡ Some declaration.now }
     requires part { HasPart maker.now declaration.now.name }
     requires chosen { HasChosenFor maker.now index }
-    ensures { OnOk result ((id run : Package) (path : List ℕ)
-        → AreAdded (own_texts id run path facts.now) list.old.items list.new.items
-        (at_its_declaration maker.now id facts.now
-        index declaration.now)) }
+    ensures { OnOk result ((run : Package)
+        → AreAdded (own_texts (source_home maker.now) run facts.now) list.old.items list.new.items
+        (at_its_declaration maker.now facts.now index declaration.now)) }
 {
     let choice = maker.choices.of(maker.source, index);
     if !choice.keep {
@@ -209,9 +209,9 @@ pub(crate) fn declaration_occurrences(
     requires parts { All (λ (declared : Declaration). HasPart maker.now declared.name) facts.now.declarations }
     requires chosen { (index : ℕ) → index < length facts.now.declarations
         → HasChosenFor maker.now index }
-    ensures { IfOk result (λ list. (id run : Package) (path : List ℕ)
-        → ArePlanned (own_texts id run path facts.now) list.items (each_from
-        (at_its_declaration maker.now id facts.now)
+    ensures { IfOk result (λ list. (run : Package)
+        → ArePlanned (own_texts (source_home maker.now) run facts.now) list.items (each_from
+        (at_its_declaration maker.now facts.now)
         0 facts.now.declarations)) }
 {
     let mut list = Vec::with_capacity(maker.alloc, facts.declarations().len())?;

@@ -2,13 +2,17 @@
 
 ghost use Rattle.std.specs.Prelude.{◌≡◌, IfOk, IfErr};
 ghost use Rattle.proto_visibility.specs.Files.{IsSource};
+ghost use Rattle.proto_visibility.specs.Clashes.{NoClash};
+ghost use Rattle.proto_visibility.specs.declared.clash.Duplicates.TheVariants.{Refuse};
 ghost use Rattle.scip_model.specs.Chosen.{HaveChoices};
 ghost use Rattle.scip_model.specs.Conditions.{HaveGoodPaths, UsesResolve, HasText, MayRefuseDocument};
 ghost use Rattle.scip_model.specs.Indexes.{AreExternals, IsDocumentOf};
-ghost use Rattle.scip_model.specs.Packages.{all_in};
+ghost use Rattle.scip_model.specs.Packages.{RepeatedNames, all_in, naming};
+ghost use Rattle.scip_model.specs.Repeated.{AreRepeated};
 
 use crate::document_maker::{Choices, DocumentMaker};
 use crate::external_symbols::externals_in_packages;
+use crate::naming::SymbolPackages;
 use crate::packages::FilePackages;
 use crate::source_document::make_document;
 use proto_lex::{Encoding, Text};
@@ -59,16 +63,20 @@ pub fn document(
     requires text { HasText linker.now file text.now }
     requires paths { HaveGoodPaths linker.now }
     requires choices { HaveChoices linker.now choices.now }
-    ensures document { IfOk result (IsDocumentOf linker.now choices.now (all_in id.now) encoding file text.now) }
+    ensures document { IfOk result (λ made. (repeated : RepeatedNames)
+        × AreRepeated linker.now repeated
+        × IsDocumentOf linker.now choices.now (naming (all_in id.now) repeated) encoding file text.now made) }
+    ensures usual { NoClash Refuse linker.now
+        → IfOk result (IsDocumentOf linker.now choices.now (all_in id.now) encoding file text.now) }
     ensures resolved { IfOk result (λ _. UsesResolve linker.now file) }
     ensures refused { IfErr result (MayRefuseDocument linker.now file) }
 {
     let packages = packages_of(alloc, id)?;
+    let named = SymbolPackages::of(alloc, linker, &packages)?;
     let maker = DocumentMaker {
         alloc,
-        linker,
         choices,
-        package: &packages,
+        package: &named,
         encoding,
         source: file,
         text,
@@ -89,9 +97,14 @@ pub fn externals(
     id: &PackageId,
 ) -> Result<Vec<SymbolInformation>, AllocError>
     requires choices { HaveChoices linker.now choices.now }
-    ensures { IfOk result (λ list. AreExternals linker.now choices.now (all_in id.now) list.items) }
+    ensures externals { IfOk result (λ list. (repeated : RepeatedNames)
+        × AreRepeated linker.now repeated
+        × AreExternals linker.now choices.now (naming (all_in id.now) repeated) list.items) }
+    ensures usual { NoClash Refuse linker.now
+        → IfOk result (λ list. AreExternals linker.now choices.now (all_in id.now) list.items) }
 {
     let packages = packages_of(alloc, id)?;
-    let list = externals_in_packages(alloc, linker, choices, &packages)?;
+    let named = SymbolPackages::of(alloc, linker, &packages)?;
+    let list = externals_in_packages(alloc, &named, choices)?;
     Ok(list.into_vec())
 }

@@ -1,15 +1,13 @@
 //! Which package the symbols of a file belong to.
 
-ghost use Rattle.std.specs.Prelude.{◌≡◌, ◌<◌, ◌++◌, ◌∷◌, [], OnOk, OnErr, IfErr, length};
+ghost use Rattle.std.specs.Prelude.{◌≡◌, ◌++◌, ◌∷◌, [], OnOk, OnErr, IfErr};
 ghost use Rattle.std.specs.Str.{bytes_eq};
 ghost use Rattle.std.specs.String.{string_bytes};
 ghost use Rattle.std.specs.List.{list_any};
 ghost use Rattle.scip_symbol.specs.Package.{IsPackage};
-ghost use Rattle.scip_model.specs.Packages.{ArePackages, with_path, package_among, package_of_path};
-ghost use Rattle.scip_model.specs.Packages.{package_of_file};
+ghost use Rattle.scip_model.specs.Packages.{ArePackages, all_in, with_path, package_among, package_of_path};
 
 use indexmap::IndexSet;
-use proto_link::Linker;
 use scip_symbol::PackageId;
 use std::alloc::{AllocFailed, Global};
 use std::marker::Model;
@@ -86,19 +84,24 @@ pub struct FilePackages {
 }
 
 impl Model for FilePackages {
+    ghost use Rattle.std.specs.Prelude.{[]};
     ghost use Rattle.scip_model.specs.Packages.{Packages, ArePackages};
 
     ghost Value = { Packages };
 
-    ghost view = { λ packages. record { run = packages.run; roots = packages.roots.items } };
+    ghost view = { λ packages. record { run = packages.run; roots = packages.roots.items; repeated = [] } };
 
-    ghost invariant = { λ packages. ArePackages (record { run = packages.run; roots = packages.roots.items }) };
+    ghost invariant = { λ packages. ArePackages (record {
+      run = packages.run;
+      roots = packages.roots.items;
+      repeated = [];
+    }) };
 }
 
 impl FilePackages {
     /// Each file has the package of the run. Takes no memory.
     pub fn of_run(alloc: Global, run: PackageId) -> FilePackages
-        ensures { result ≡ record { run = run; roots = [] } }
+        ensures { result ≡ all_in run }
     {
         // From here on it is known that this names a package.
         run.manager();
@@ -112,6 +115,7 @@ impl FilePackages {
     /// memory runs out, nothing changes, and the root is handed back.
     pub fn add(&mut self, root: RootPackage) -> Result<(), AllocFailed<RootPackage>>
         ensures run { self.new.run ≡ self.old.run }
+        ensures repeated { self.new.repeated ≡ [] }
         ensures roots { OnOk result (self.new.roots ≡ self.old.roots ++ root ∷ []) }
         ensures err { OnErr result (self.new ≡ self.old) }
         ensures handed_back { IfErr result (λ e. e.value ≡ root) }
@@ -151,16 +155,4 @@ fn package_among<'a>(run: &'a PackageId, roots: &'a [RootPackage], path: &str) -
         rest = others;
     }
     run
-}
-
-/// The package of a file, by its number.
-pub(crate) fn package_of_file<'a>(
-    linker: &Linker<'_, '_>,
-    packages: &'a FilePackages,
-    number: usize,
-) -> &'a PackageId
-    requires { number < length linker.now }
-    ensures { result.now ≡ package_of_file linker.now packages.now number }
-{
-    packages.of_path(linker.path_of(number))
 }

@@ -30,7 +30,6 @@ use crate::occurrence_order::merged;
 use crate::occurrences::{
     declaration_occurrences, import_occurrences, own_occurrences, package_occurrences,
 };
-use crate::packages::package_of_file;
 use crate::symbol_table::SymbolTable;
 use crate::symbol_texts::own_texts;
 use crate::use_occurrences::use_occurrences;
@@ -56,14 +55,14 @@ fn occurrences(
     requires text { HasTextFor maker.now facts.now }
     requires paths { HasGoodPaths maker.now }
     requires choices { HasChosen maker.now }
-    requires texts { Grown (source_texts maker.now path.now facts.now) texts.old }
+    requires texts { Grown (source_texts maker.now facts.now) texts.old }
     ensures grown { OnOk result (Grown texts.old texts.new) }
     ensures planned { IfOk result (λ list. IsAscendingListOf occurrence_cmp (OccursIn maker.now)
         (map (occurrence_of texts.new) list.items)) }
     ensures unresolved_uses { OnOk result (AreItsGaps maker.now unresolved_uses.new.items) }
     ensures refused { IfErr result (λ fault. fault ≡ Memory) }
 {
-    facts_occur_in_order(maker.linker);
+    facts_occur_in_order(maker.package.linker());
     let alloc = maker.alloc;
     let own = own_occurrences(alloc)?;
     let imports = import_occurrences(maker, facts.imports(), texts)?;
@@ -102,12 +101,13 @@ pub fn plan_document<'a, 'f>(
     ensures refused { IfErr result (λ fault. fault ≡ Memory) }
 {
     // From here on it is known that no names of the files clash, and that their facts are those of texts.
-    maker.linker.linked();
+    let linker = maker.package.linker();
+    linker.linked();
     let alloc = maker.alloc;
-    let facts = maker.linker.facts_of(maker.source).unwrap();
-    let path = maker.linker.path_of(maker.source);
-    let id = package_of_file(maker.linker, maker.package, maker.source);
-    let own = own_texts(alloc, id, maker.package.run(), path, facts)?;
+    let facts = linker.facts_of(maker.source).unwrap();
+    let path = linker.path_of(maker.source);
+    let home = maker.package.home_of(maker.source);
+    let own = own_texts(alloc, &home, maker.package.run(), facts)?;
     let mut texts = SymbolTable::new(alloc, own);
     let mut unresolved = Vec::new(alloc);
     let occurrences = occurrences(maker, path, facts, &mut unresolved, &mut texts)?;

@@ -1,19 +1,22 @@
 //! The texts of the symbols of files, packages and declarations.
 
 ghost use Rattle.std.specs.Prelude.{◌≡◌, ◌<◌, ◌≤◌, ◌++◌, ◌∷◌, [], IfOk, OnOk, Contains, length};
-ghost use Rattle.proto_decl.specs.Facts.{Facts};
 ghost use Rattle.proto_decl.specs.Laws.{component_names};
-ghost use Rattle.scip_symbol.specs.Entities.{OfFile, OfPackage};
-ghost use Rattle.scip_symbol.specs.Package.{Package};
+ghost use Rattle.scip_symbol.specs.Entities.{OfFile, OfPackage, OfDeclaration};
+ghost use Rattle.scip_model.specs.Repeated.{file_namespace};
 ghost use Rattle.scip_symbol.specs.Path.{IsGoodPath};
-ghost use Rattle.scip_model.specs.Named.{text_of, package_at, declaration_at};
-ghost use Rattle.scip_model.specs.Tables.OwnTexts.{behind, declaration_texts};
+ghost use Rattle.scip_model.specs.Named.{text_of, package_at, declaration_in};
+ghost use Rattle.scip_model.specs.Tables.OwnTexts.{IsFront, behind, declaration_texts};
 ghost use Rattle.scip_model.specs.Tables.Plans.{package_texts_up_to, own_texts};
 
+use crate::naming::{Home, file_namespace};
 use crate::own_symbols::{JoinedTexts, OwnSymbols};
 use basics::OwnedText;
 use proto_decl::{Declaration, FileFacts};
-use scip_symbol::{PackageId, print_below, print_declaration, print_file, print_package};
+use scip_symbol::{
+    PackageId, print_below, print_declaration, print_declaration_in_file, print_file,
+    print_package, print_package_named,
+};
 use std::alloc::{AllocError, Global};
 
 /// Of the file with a path.
@@ -43,18 +46,44 @@ pub(crate) fn package_text(
     Ok(OwnedText::from_string(printed))
 }
 
+/// Of a declaration of a file, with the file before its package.
+#[tactic(auto, unfolding(crate::specs::Named::text_of))]
+fn text_in_file(
+    alloc: Global,
+    home: &Home<'_>,
+    facts: &FileFacts,
+    declaration: &Declaration,
+) -> Result<OwnedText, AllocError>
+    ensures { IfOk result (λ text. text ≡ text_of home.now.id (OfDeclaration
+        (file_namespace home.now.path ∷ component_names facts.now.package_name) declaration.now.path)) }
+{
+    let file = file_namespace(alloc, home.path())?;
+    let printed = print_declaration_in_file(
+        alloc,
+        home.id(),
+        file.as_str(),
+        facts.package_name(),
+        &declaration.path(),
+    )?;
+    Ok(OwnedText::from_string(printed))
+}
+
 /// Of a declaration of a file.
 #[tactic(auto, unfolding(crate::specs::Named::text_of))]
 pub(crate) fn declaration_text(
     alloc: Global,
-    id: &PackageId,
+    home: &Home<'_>,
     facts: &FileFacts,
     declaration: &Declaration,
 ) -> Result<OwnedText, AllocError>
     requires { Contains facts.now.declarations declaration.now }
-    ensures { IfOk result (λ text. text ≡ text_of id.now (declaration_at facts.now declaration.now)) }
+    ensures { IfOk result (λ text. text ≡ text_of home.now.id (declaration_in home.now facts.now declaration.now)) }
 {
-    let printed = print_declaration(alloc, id, facts.package_name(), &declaration.path())?;
+    let repeated = home.has_in_front(alloc, facts, declaration)?;
+    if repeated {
+        return text_in_file(alloc, home, facts, declaration);
+    }
+    let printed = print_declaration(alloc, home.id(), facts.package_name(), &declaration.path())?;
     Ok(OwnedText::from_string(printed))
 }
 
@@ -67,19 +96,54 @@ fn front_text(alloc: Global, id: &PackageId, facts: &FileFacts) -> Result<OwnedT
     Ok(OwnedText::from_string(printed))
 }
 
-/// Adds what the text of a declaration's symbol has behind the front, the text of its package.
+/// With what the texts of a file's declarations begin.
+#[tactic(auto, unfolding(crate::specs::Named::text_of))]
+fn front_of(alloc: Global, home: &Home<'_>, facts: &FileFacts) -> Result<OwnedText, AllocError>
+    ensures { IfOk result (IsFront home.now facts.now) }
+{
+    if home.is_usual() {
+        let front = front_text(alloc, home.id(), facts)?;
+        return Ok(front);
+    }
+    let printed = print_package_named(alloc, home.id(), &[])?;
+    Ok(OwnedText::from_string(printed))
+}
+
+/// The text of a declaration's symbol, by what it begins with.
+#[tactic(auto, unfolding(crate::specs::Named::text_of))]
+fn text_below(
+    alloc: Global,
+    front: &str,
+    home: &Home<'_>,
+    facts: &FileFacts,
+    declaration: &Declaration,
+) -> Result<OwnedText, AllocError>
+    requires listed { Contains facts.now.declarations declaration.now }
+    requires front { IsFront home.now facts.now front.now }
+    ensures { IfOk result (λ text. text ≡ text_of home.now.id (declaration_in home.now facts.now declaration.now)) }
+{
+    if !home.is_usual() {
+        return declaration_text(alloc, home, facts, declaration);
+    }
+    let printed = print_below(alloc, front, &declaration.path())?;
+    Ok(OwnedText::from_string(printed))
+}
+
+/// Adds what the text of a declaration's symbol has behind the front.
 fn push_rest(
     alloc: Global,
     rests: &mut JoinedTexts,
     front: &str,
+    home: &Home<'_>,
+    facts: &FileFacts,
     declaration: &Declaration,
 ) -> Result<(), AllocError>
-    ensures { OnOk result ((id : Package) (facts : Facts)
-        → front.now ≡ text_of id (OfPackage (component_names facts.package_name))
-        → behind front.now rests.new
-        ≡ behind front.now rests.old ++ text_of id (declaration_at facts declaration.now) ∷ []) }
+    requires listed { Contains facts.now.declarations declaration.now }
+    requires front { IsFront home.now facts.now front.now }
+    ensures { OnOk result (behind front.now rests.new ≡ behind front.now rests.old
+        ++ text_of home.now.id (declaration_in home.now facts.now declaration.now) ∷ []) }
 {
-    let text = print_below(alloc, front, &declaration.path())?;
+    let text = text_below(alloc, front, home, facts, declaration)?;
     match text.as_str().strip_prefix(front) {
         Some(rest) => rests.push(rest),
         None => Ok(()),
@@ -91,14 +155,15 @@ fn push_rests(
     alloc: Global,
     rests: &mut JoinedTexts,
     front: &str,
+    home: &Home<'_>,
     facts: &FileFacts,
 ) -> Result<(), AllocError>
-    ensures { OnOk result ((id : Package)
-        → front.now ≡ text_of id (OfPackage (component_names facts.now.package_name))
-        → behind front.now rests.new ≡ behind front.now rests.old ++ declaration_texts id facts.now) }
+    requires { IsFront home.now facts.now front.now }
+    ensures { OnOk result
+        (behind front.now rests.new ≡ behind front.now rests.old ++ declaration_texts home.now facts.now) }
 {
     for declaration in facts.declarations() {
-        push_rest(alloc, rests, front, declaration)?;
+        push_rest(alloc, rests, front, home, facts, declaration)?;
     }
     Ok(())
 }
@@ -124,20 +189,19 @@ fn push_package_texts(
 /// declarations. What the latter begin with is kept once.
 pub(crate) fn own_texts(
     alloc: Global,
-    id: &PackageId,
+    home: &Home<'_>,
     run: &PackageId,
-    path: &str,
     facts: &FileFacts,
 ) -> Result<OwnSymbols, AllocError>
-    requires { IsGoodPath path.now }
-    ensures { IfOk result (λ texts. texts ≡ own_texts id.now run.now path.now facts.now) }
+    requires { IsGoodPath home.now.path }
+    ensures { IfOk result (λ texts. texts ≡ own_texts home.now run.now facts.now) }
 {
     let mut texts = Vec::with_capacity(alloc, 1 + facts.package_name().len())?;
-    let first = file_text(alloc, id, path)?;
+    let first = file_text(alloc, home.id(), home.path())?;
     texts.push(first)?;
     push_package_texts(alloc, &mut texts, run, facts)?;
-    let front = front_text(alloc, id, facts)?;
+    let front = front_of(alloc, home, facts)?;
     let mut rests = JoinedTexts::with_capacity(alloc, facts.declarations().len())?;
-    push_rests(alloc, &mut rests, front.as_str(), facts)?;
+    push_rests(alloc, &mut rests, front.as_str(), home, facts)?;
     Ok(OwnSymbols::new(texts, front, rests))
 }

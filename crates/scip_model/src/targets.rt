@@ -15,7 +15,7 @@ fn found_by(answer: Result<Target, LinkFault>) -> Result<Option<Target>, AllocEr
 {
     match answer {
         Ok(target) => Ok(Some(target)),
-        Err(LinkFault::Unresolved(_)) => Ok(None),
+        Err(LinkFault::Unresolved(_) | LinkFault::Ambiguous(_)) => Ok(None),
         Err(_) => Err(AllocError),
     }
 }

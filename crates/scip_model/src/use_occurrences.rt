@@ -41,7 +41,6 @@ ghost use Rattle.scip_model.specs.Makers.{
 use crate::document_maker::DocumentMaker;
 use crate::document_plan::PlannedOccurrence;
 use crate::occurrences::planned_over;
-use crate::packages::package_of_file;
 use crate::symbol_table::{SymbolTable, declaration_number};
 use crate::symbol_texts::declaration_text;
 use crate::targets::{add_unresolved, target_of};
@@ -109,10 +108,10 @@ fn declared_text(
     ensures { IfOk result (λ text.
         declared_symbol maker.now file index ≡ Some text) }
 {
-    let facts = maker.linker.facts_of(file).unwrap();
+    let facts = maker.package.linker().facts_of(file).unwrap();
     let declaration = declaration_of(facts, index);
-    let id = package_of_file(maker.linker, maker.package, file);
-    declaration_text(maker.alloc, id, facts, declaration)
+    let home = maker.package.home_of(file);
+    declaration_text(maker.alloc, &home, facts, declaration)
 }
 
 /// The symbol's text of what a part of a full name names.
@@ -147,7 +146,7 @@ fn own_number(maker: &DocumentMaker<'_, '_, '_, '_>, index: usize) -> Result<u32
     ensures { IfOk result (λ number. (facts : Facts) → HasSourceFacts maker.now facts
         → number ≡ declaration_number facts index) }
 {
-    let facts = maker.linker.facts_of(maker.source).unwrap();
+    let facts = maker.package.linker().facts_of(maker.source).unwrap();
     let number = declaration_number(facts, index)?;
     Ok(number)
 }
@@ -326,7 +325,7 @@ fn add_use(
         × (unresolved_uses.new.items ≡ unresolved_uses.old.items ++ unless_found found type_use.now.span)) }
     ensures refused { IfErr result (λ fault. fault ≡ Memory) }
 {
-    let found = target_of(maker.alloc, maker.linker, maker.source, type_use)?;
+    let found = target_of(maker.alloc, maker.package.linker(), maker.source, type_use)?;
     add_unresolved(unresolved_uses, &found, type_use.span)?;
     add_found(list, maker, &found, type_use, texts)?;
     Ok(())

@@ -9,6 +9,8 @@ use Rattle.scip_symbol.specs.Parts.{IsScheme, IsPart, IsSuffix, IsDescriptor, Is
 use Rattle.scip_symbol.specs.Package.{Package, IsPackage}
 use Rattle.scip_symbol.specs.Entities.{Entity, OfFile, OfPackage, OfDeclaration, suffix_of, namespace_of}
 use Rattle.scip_symbol.specs.Entities.{step_descriptor, descriptors_of, scheme_text, IsIdentifier, IsEntity}
+use Rattle.scip_symbol.specs.Entities.{AreNamespaces}
+use Rattle.scip_symbol.specs.Entities.AreNamespaces.{of_package, of_file}
 use Rattle.proto_decl.specs.declared.declaration.DeclarationKind.{DeclarationKind}
 use Rattle.proto_decl.specs.declared.declaration.DeclarationKind.TheVariants.{Message, Enum, Service, Field, Oneof}
 use Rattle.proto_decl.specs.declared.declaration.DeclarationKind.TheVariants.{Value, Method}
@@ -67,6 +69,12 @@ append-some : {A : Type 0} (xs ys : List A) → ys ≢ [] → xs ++ ys ≢ []
 append-some xs [] h = absurd (h refl)
 append-some xs (y ∷ ys) h = behind-none xs y ys
 
+spaces-are : {components : List (List ℕ)} → AreNamespaces components → All IsDescriptor (map namespace_of components)
+spaces-are (of_package {components = components} all) = namespaces-are components all
+spaces-are (of_file {file = file} {components = components} some all) =
+    All-cons IsDescriptor (namespace_of file) (map namespace_of components) (record { name = some; suffix = tt })
+    (namespaces-are components all)
+
 entity-is : (e : Entity) → IsEntity e → (descriptors_of e ≢ []) × All IsDescriptor (descriptors_of e)
 entity-is (OfFile path) is = (
   λ e. cc,
@@ -76,7 +84,7 @@ entity-is (OfFile path) is = (
 entity-is (OfPackage components) is = (map-some namespace_of components is.0, namespaces-are components is.1)
 entity-is (OfDeclaration components path) is = (
   append-some (map namespace_of components) (map step_descriptor path) (map-some step_descriptor path is.1),
-  All-append IsDescriptor (map namespace_of components) (map step_descriptor path) (namespaces-are components is.0)
+  All-append IsDescriptor (map namespace_of components) (map step_descriptor path) (spaces-are is.0)
       (steps-are path is.2),
 )
 

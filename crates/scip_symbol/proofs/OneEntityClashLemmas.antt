@@ -1,11 +1,13 @@
 -- The declarations of files in whose facts a full name is that of one declaration are without a clash.
-use Rattle.std.proofs.Common.{◌≡◌, ◌≢◌, ◌⊎◌, ⊎_elim, ℕ, List, [], ◌∷◌, ◌++◌, map, ap, sym, ◌∙◌, subst}
+use Rattle.std.proofs.Common.{◌≡◌, ◌≢◌, ⊎_elim, ℕ, List, [], ◌∷◌, ◌++◌, map, ap, sym, ◌∙◌, subst}
 use Rattle.std.specs.Prelude.{Contains}
+use Rattle.std.proofs.lemmas.List.{append_cancel_left}
 use Rattle.std.proofs.lemmas.List.Elements.{All-contains, Contains-append_left, Contains-append_right}
 use Rattle.std.proofs.lemmas.List.Elements.{Contains-append_cases, Contains-push}
 use Rattle.basics.proofs.ListLemmas.{only, in_nothing}
 use Rattle.proto_decl.specs.Names.{dotted}
-use Rattle.proto_decl.specs.Laws.{names_of, component_names, AreHeld}
+use Rattle.proto_decl.specs.Laws.{scoped, names_of, component_names, AreHeld}
+use Rattle.proto_decl.proofs.LawAncestorLemmas.{heads}
 use Rattle.proto_decl.specs.Facts.{Facts}
 use Rattle.proto_decl.specs.declared.declaration.DeclarationStep.{DeclarationStep}
 use Rattle.proto_decl.specs.declared.declaration.Declaration.{Declaration}
@@ -48,13 +50,26 @@ components_in (OfFile path) = []
 components_in (OfPackage components) = components
 components_in (OfDeclaration components path) = components
 
-abbrev pub path_in : Entity → List DeclarationStep
+abbrev path_in : Entity → List DeclarationStep
 path_in (OfFile path) = []
 path_in (OfPackage components) = []
 path_in (OfDeclaration components path) = path
 
 abbrev names_in : Entity → List (List ℕ)
 names_in entity = components_in entity ++ names_of (path_in entity)
+
+-- ---- names of steps
+
+pub names-last : (pre : List DeclarationStep) (s t : DeclarationStep) → s.name ≡ t.name
+    → names_of (pre ++ s ∷ []) ≡ names_of (pre ++ t ∷ [])
+names-last [] s t e = ap (λ (n : List ℕ). n ∷ []) e
+names-last (p ∷ []) s t e = ap (λ (n : List ℕ). scoped p.kind p.name (n ∷ [])) e
+names-last (p ∷ (q ∷ pre)) s t e = ap (scoped p.kind p.name) (names-last (q ∷ pre) s t e)
+
+pub last-same : (pre : List DeclarationStep) (s t : DeclarationStep) → pre ++ s ∷ [] ≡ pre ++ t ∷ [] → s ≡ t
+last-same pre s t e = heads (append_cancel_left pre (s ∷ []) (t ∷ []) e)
+
+-- ---- where declarations are listed
 
 record Found (files : List Facts) (y : Entity) : Type 0 where
   facts : Facts
@@ -118,18 +133,19 @@ module _ (files : List Facts) (apart : AreWithoutClash files) where
       ∙ ap (λ (x : Entity). OfDeclaration (components_in x) outer) of.same)
       (put files of.facts other.0 of.among other.1)
 
-  one_name : (components others : List (List ℕ)) (path its : List DeclarationStep)
-      → Contains (declarations_of files) (OfDeclaration components path)
-      → Contains (declarations_of files) (OfDeclaration others its)
-      → components ++ names_of path ≡ others ++ names_of its → OfDeclaration components path ≡ OfDeclaration others its
-  one_name components others path its h k e =
-      let of = find files (OfDeclaration components path) h in
-      let by = find files (OfDeclaration others its) k in
-      let names = ap names_in of.same ∙ (e ∙ sym (ap names_in by.same)) in
+  one_name : (components : List (List ℕ)) (outer : List DeclarationStep) (step other : DeclarationStep)
+      → Contains (declarations_of files) (OfDeclaration components (outer ++ step ∷ []))
+      → Contains (declarations_of files) (OfDeclaration components (outer ++ other ∷ [])) → step.name ≡ other.name
+      → step ≡ other
+  one_name components outer step other h k e =
+      let of = find files (OfDeclaration components (outer ++ step ∷ [])) h in
+      let by = find files (OfDeclaration components (outer ++ other ∷ [])) k in
+      let last = ap (λ (l : List (List ℕ)). components ++ l) (names-last outer step other e) in
+      let names = ap names_in of.same ∙ (last ∙ sym (ap names_in by.same)) in
       let whole = named of.facts of.found of.among of.listed
       ∙ (ap dotted names ∙ sym (named by.facts by.found by.among by.listed)) in
-      sym of.same ∙ (apart.one_name of.facts by.facts of.found by.found of.among by.among of.listed by.listed whole
-      ∙ by.same)
+      let one = apart.one_name of.facts by.facts of.found by.found of.among by.among of.listed by.listed whole in
+      last-same outer step other (ap path_in (sym of.same ∙ (one ∙ by.same)))
 
 pub without-clash : (files : List Facts) → AreWithoutClash files → IsWithoutClash (declarations_of files)
 without-clash files apart = record { holder = holder files apart; one_name = one_name files apart }

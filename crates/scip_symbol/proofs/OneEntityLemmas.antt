@@ -3,7 +3,6 @@ use Rattle.std.proofs.Common.{◌≡◌, ◌≢◌, ℕ, true, List, [], ◌∷�
 use Rattle.std.proofs.Common.{append_assoc}
 use Rattle.std.specs.Prelude.{All, Contains}
 use Rattle.std.specs.List.{list_all}
-use Rattle.std.proofs.lemmas.List.{append_cancel_left}
 use Rattle.std.proofs.lemmas.List.Elements.{All-head}
 use Rattle.proto_lex.specs.Bytes.{is_letter, is_word}
 use Rattle.proto_lex.specs.Lexes.{identifier, sign}
@@ -16,7 +15,6 @@ use Rattle.scip_symbol.specs.SymbolText.{symbol_text}
 use Rattle.scip_symbol.specs.Entities.{Entity, OfFile, OfPackage, OfDeclaration, suffix_of, namespace_of}
 use Rattle.scip_symbol.specs.Entities.{step_descriptor, descriptors_of, scheme_text, global_in, symbol_in, IsIdentifier}
 use Rattle.scip_symbol.specs.Entities.{IsEntity}
-use Rattle.proto_decl.specs.Laws.{scoped, names_of}
 use Rattle.scip_symbol.specs.OneEntity.{IsWithoutClash, IsAmong}
 use Rattle.proto_decl.specs.declared.declaration.DeclarationKind.{DeclarationKind}
 use Rattle.proto_decl.specs.declared.declaration.DeclarationKind.TheVariants.{Message, Enum, Service, Field, Oneof}
@@ -27,7 +25,6 @@ use Rattle.scip_symbol.specs.declared.symbol.Suffix.TheVariants as suffix
 use Rattle.scip_symbol.specs.declared.symbol.Descriptor.{Descriptor}
 use Rattle.scip_symbol.specs.declared.symbol.SymbolParts.{SymbolParts}
 use Rattle.scip_symbol.specs.declared.symbol.SymbolParts.TheVariants.{Local, Global}
-use Rattle.scip_symbol.proofs.OneEntityClashLemmas.{path_in}
 use Rattle.scip_symbol.proofs.SpellsSymbolTextLemmas.{printed}
 use Rattle.scip_symbol.proofs.SymbolLemmas.{one-symbol}
 use Rattle.scip_symbol.proofs.EntityLemmas.{entity-has, global-is}
@@ -132,15 +129,6 @@ file-no-package path (x ∷ xs) is h e =
 
 -- ---- paths without a clash
 
-names-last : (pre : List DeclarationStep) (s t : DeclarationStep) → s.name ≡ t.name
-    → names_of (pre ++ s ∷ []) ≡ names_of (pre ++ t ∷ [])
-names-last [] s t e = ap (λ (n : List ℕ). n ∷ []) e
-names-last (p ∷ []) s t e = ap (λ (n : List ℕ). scoped p.kind p.name (n ∷ [])) e
-names-last (p ∷ (q ∷ pre)) s t e = ap (scoped p.kind p.name) (names-last (q ∷ pre) s t e)
-
-last-same : (pre : List DeclarationStep) (s t : DeclarationStep) → pre ++ s ∷ [] ≡ pre ++ t ∷ [] → s ≡ t
-last-same pre s t e = heads (append_cancel_left pre (s ∷ []) (t ∷ []) e)
-
 some-last : (pre : List DeclarationStep) (s : DeclarationStep) → pre ++ s ∷ [] ≢ []
 some-last [] s = λ e. cc
 some-last (p ∷ pre) s = λ e. cc
@@ -161,11 +149,8 @@ module _ (declarations : List Entity) (apart : IsWithoutClash declarations) (com
       in
       let hold_s = apart.holder components (pre ++ s ∷ []) steps (some-last pre s) p' in
       let hold_t = apart.holder components (pre ++ t ∷ []) other (some-last pre t) q' in
-      let names = ap (λ (l : List (List ℕ)). components ++ l)
-      (names-last pre s t (ap (λ (d : Descriptor). d.name) (heads e))) in
-      let same : s ≡ t = last-same pre s t
-      (ap path_in
-      (apart.one_name components components (pre ++ s ∷ []) (pre ++ t ∷ []) hold_s hold_t names)) in
+      let same : s ≡ t =
+      apart.one_name components pre s t hold_s hold_t (ap (λ (d : Descriptor). d.name) (heads e)) in
       let q'' : Contains declarations (OfDeclaration components ((pre ++ s ∷ []) ++ other)) =
       subst (λ (x : DeclarationStep). Contains declarations (OfDeclaration components ((pre ++ x ∷ []) ++ other)))
       (sym same) q' in

@@ -5,7 +5,7 @@ use Rattle.std.proofs.lemmas.Str.{IsUtf8-append}
 use Rattle.scip_symbol.specs.Names.{doubled}
 use Rattle.scip_symbol.specs.SpellsSymbol.{SpellsScheme, scheme, SpellsPart, empty, simple}
 use Rattle.scip_symbol.specs.SpellsSymbol.{descriptor, namespace}
-use Rattle.scip_symbol.specs.SpellsSymbol.{SpellsDescriptors, last, more, SpellsSymbol, local, global}
+use Rattle.scip_symbol.specs.SpellsSymbol.{SpellsDescriptors, last, SpellsSymbol, local, global}
 use Rattle.scip_symbol.specs.Reading.{Read, ◌>>=◌, after, expect_at, simple_at}
 use Rattle.scip_symbol.specs.Reading.{descriptors_at, spaced_at, part_of, part_at, global_at, local_of, local_at}
 use Rattle.scip_symbol.specs.Reading.{symbol_at}

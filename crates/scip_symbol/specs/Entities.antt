@@ -16,7 +16,7 @@ use Rattle.scip_symbol.specs.declared.symbol.SymbolParts.{SymbolParts}
 use Rattle.scip_symbol.specs.declared.symbol.SymbolParts.TheVariants.{Global}
 
 -- a file by its path, a package by its components, and a declaration by its package and the path to it, outermost
--- first
+-- first; its file's path may be before the package's components, if another file declares the same name
 pub data Entity : Type 0 where
   OfFile : (path : List ℕ) → Entity
   OfPackage : (components : List (List ℕ)) → Entity
@@ -65,9 +65,15 @@ symbol_in p entity = global_in p (descriptors_of entity)
 abbrev pub IsIdentifier : List ℕ → Type 0
 IsIdentifier = Spells Identifier
 
+-- The namespaces before a declaration: those of its package; that of its file, which isn't empty, may be before them.
+pub data AreNamespaces : List (List ℕ) → Type 0 where
+  of_package : {components : List (List ℕ)} → All IsIdentifier components → AreNamespaces components
+  of_file : {file : List ℕ} {components : List (List ℕ)} → file ≢ [] → All IsIdentifier components
+      → AreNamespaces (file ∷ components)
+
 -- a file's path is good, names are identifiers, and there is at least one component or step
 abbrev pub IsEntity : Entity → Type 0
 IsEntity (OfFile path) = IsGoodPath path
 IsEntity (OfPackage components) = (components ≢ []) × All IsIdentifier components
 IsEntity (OfDeclaration components path) =
-    All IsIdentifier components × (path ≢ []) × All (λ step. IsIdentifier step.name) path
+    AreNamespaces components × (path ≢ []) × All (λ step. IsIdentifier step.name) path

@@ -1,7 +1,7 @@
 -- Facts in which no two declarations have one full name: there a symbol names one entity.
-use Rattle.std.specs.Prelude.{◌≡◌, ◌≢◌, ℕ, List, [], ◌++◌, map, All, Contains}
+use Rattle.std.specs.Prelude.{◌≡◌, ◌≢◌, ℕ, List, [], ◌∷◌, ◌++◌, map, All, Contains}
 use Rattle.std.specs.List.{flat_map}
-use Rattle.proto_decl.specs.Laws.{names_of, component_names, AreHeld}
+use Rattle.proto_decl.specs.Laws.{component_names, AreHeld}
 use Rattle.proto_decl.specs.Facts.{Facts}
 use Rattle.proto_decl.specs.declared.declaration.DeclarationStep.{DeclarationStep}
 use Rattle.proto_decl.specs.declared.declaration.Declaration.{Declaration}
@@ -21,15 +21,15 @@ pub record AreWithoutClash (files : List Facts) : Type 0 where
       → Contains facts.declarations d → Contains others.declarations other
       → d.full_name ≡ other.full_name → declaration_at facts d ≡ declaration_at others other
 
--- What holds one of the declarations is one of them, too, and no two have one full name. Here that is the list of its
--- components: no name has a dot, so names that are joined by dots are equal only if these are.
+-- What holds one of the declarations is one of them, too, and no two have one name that are held by the same, or are
+-- outermost behind the same namespaces.
 pub record IsWithoutClash (declarations : List Entity) : Type 0 where
   pub holder : (components : List (List ℕ)) (outer inner : List DeclarationStep) → outer ≢ []
       → Contains declarations (OfDeclaration components (outer ++ inner))
       → Contains declarations (OfDeclaration components outer)
-  pub one_name : (components others : List (List ℕ)) (path its : List DeclarationStep)
-      → Contains declarations (OfDeclaration components path) → Contains declarations (OfDeclaration others its)
-      → components ++ names_of path ≡ others ++ names_of its → OfDeclaration components path ≡ OfDeclaration others its
+  pub one_name : (components : List (List ℕ)) (outer : List DeclarationStep) (step other : DeclarationStep)
+      → Contains declarations (OfDeclaration components (outer ++ step ∷ []))
+      → Contains declarations (OfDeclaration components (outer ++ other ∷ [])) → step.name ≡ other.name → step ≡ other
 
 -- if the entity is a declaration, it is one of these
 abbrev pub IsAmong : (declarations : List Entity) → Entity → Type 0

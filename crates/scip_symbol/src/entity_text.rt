@@ -1,6 +1,6 @@
 //! The texts of the symbols of files, packages and declarations, made without the symbols.
 
-ghost use Rattle.std.specs.Prelude.{◌≡◌, ◌++◌, ℕ, List, map, OnOk, IfOk};
+ghost use Rattle.std.specs.Prelude.{◌≡◌, ◌++◌, ◌∷◌, ℕ, List, map, OnOk, IfOk};
 ghost use denote.Ref.{Bor};
 ghost use Rattle.std.specs.String.{string_bytes};
 ghost use Rattle.proto_decl.specs.Laws.{component_names};
@@ -158,6 +158,25 @@ pub fn print_declaration(
     push_namespaces(&mut text, components)?;
     push_path(&mut text, path)?;
     Ok(text)
+}
+
+/// The same with the namespace of the declaration's file, by its path, before those of its package.
+pub fn print_declaration_in_file(
+    alloc: Global,
+    id: &PackageId,
+    file: &str,
+    components: &[Component],
+    path: &DeclarationPath,
+) -> Result<String, AllocError>
+    ensures { IfOk result (λ text. string_bytes text ≡ symbol_text (symbol_in id.now
+        (OfDeclaration (file.now ∷ component_names components.now) path.now))) }
+{
+    let mut whole = String::with_capacity(alloc, ROOM)?;
+    push_front(&mut whole, id)?;
+    push_namespace(&mut whole, file)?;
+    push_namespaces(&mut whole, components)?;
+    push_path(&mut whole, path)?;
+    Ok(whole)
 }
 
 /// The text of the symbol of a declaration: the text of its package's symbol, which `print_package` gives for

@@ -17,7 +17,8 @@ mod laws;
 
 pub use entity::{SCHEME, file_symbol, package_symbol, symbol_of};
 pub use entity_text::{
-    print_below, print_declaration, print_file, print_package, print_package_named,
+    print_below, print_declaration, print_declaration_in_file, print_file, print_package,
+    print_package_named,
 };
 pub use fault::SymbolFault;
 pub use laws::{

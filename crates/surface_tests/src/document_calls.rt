@@ -9,7 +9,7 @@ use crate::shared::{package_of, see};
 use index_hooks::{Choice, DocChoice};
 use proto_decl::{Declaration, FileFacts, declare};
 use proto_lex::{Encoding, Text, lex};
-use proto_link::{LinkFile, Linker, have_own_paths};
+use proto_link::{Duplicates, LinkFile, Linker, have_own_paths};
 use proto_parse::parse;
 use scip_model::{Choices, Document, document, externals};
 use scip_symbol::PackageId;
@@ -57,7 +57,7 @@ fn link<'a, 't>(alloc: Global, files: &'a [LinkFile<'a, 't>]) -> Result<Linker<'
     if !have_own_paths(alloc, files)? {
         return Err(AllocError);
     }
-    match Linker::new(alloc, files) {
+    match Linker::new(alloc, files, Duplicates::Refuse) {
         Ok(linker) => Ok(linker),
         Err(_) => Err(AllocError),
     }

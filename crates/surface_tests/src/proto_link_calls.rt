@@ -3,7 +3,9 @@
 use crate::shared::{facts_of, see};
 use proto_decl::FileFacts;
 use proto_lex::Span;
-use proto_link::{Entity, FilePlace, LinkFault, LinkFile, Linker, Target, have_own_paths};
+use proto_link::{
+    Duplicates, Entity, FilePlace, LinkFault, LinkFile, Linker, Target, have_own_paths,
+};
 use std::alloc::{AllocError, Global};
 use std::test::Fail;
 
@@ -165,7 +167,7 @@ fn answer_with<'a>(
     if !have_own_paths(alloc, files)? {
         return Err(AllocError);
     }
-    Ok(match Linker::new(alloc, files) {
+    Ok(match Linker::new(alloc, files, Duplicates::Refuse) {
         Ok(linker) => answer_of(alloc, &linker, facts, asked),
         Err(fault) => Err(fault),
     })

@@ -2,9 +2,9 @@
 
 use crate::shared::{NOTHING, ONE_MESSAGE, package_of, see};
 use protoscip::{
-    Built, Choices, CommentForm, CustomOptions, Dialect, Encoding, Fault, Faulty, FilePackages,
-    NoGate, OwnedText, Registry, Run, Settings, Source, Std, SyntaxFault, Tree, TreeFault, Workers,
-    build, dump, fault_line, index_tree, session,
+    Built, Choices, CommentForm, CustomOptions, Dialect, Duplicates, Encoding, Fault, Faulty,
+    FilePackages, NoGate, OwnedText, Registry, Run, Settings, Source, Std, SyntaxFault, Tree,
+    TreeFault, Workers, build, dump, fault_line, index_tree, session,
 };
 use std::alloc::{AllocError, Global};
 use std::process::Abort;
@@ -101,6 +101,7 @@ fn settings_of(alloc: Global) -> Result<Settings, Fail> {
         dialect: Dialect::Proto3(CustomOptions::Refuse),
         comments: CommentForm::Raw,
         faulty: Faulty::Refuse,
+        duplicates: Duplicates::Refuse,
     })
 }
 

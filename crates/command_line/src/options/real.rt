@@ -25,7 +25,7 @@ pub(crate) fn arg<'a>(alloc: Global) -> Arg<'a>
     ensures { rule_of result ≡ real_rule }
 {
     let help =
-        "A tree as it lies: --accept all --faulty skip --well-known --doc both --comments clean, unless given";
+        "Unless they are given: --accept all --faulty skip --duplicates keep --well-known --doc both --comments clean";
     flag(alloc, NAME, help)
 }
 

@@ -1,8 +1,12 @@
 -- What a lookup finds.
-use Rattle.std.specs.Prelude.{◌≡◌, ℕ, Bool, List}
+use Rattle.std.specs.Prelude.{◌≡◌, ℕ, Bool, List, [], ◌∷◌, Option, Some, None, Result, Ok, Err, IsErr}
+use Rattle.std.specs.declared.alloc.AllocError.{AllocError}
 use Rattle.proto_decl.specs.Names.{qualified}
 use Rattle.proto_decl.specs.declared.uses.Use.{Use}
+use Rattle.proto_visibility.specs.declared.fault.LinkFault.{LinkFault}
+use Rattle.proto_visibility.specs.declared.fault.LinkFault.TheVariants.{Memory}
 use Rattle.proto_visibility.specs.Files.{File}
+use Rattle.proto_link.specs.declared.target.Target.{Target}
 use Rattle.proto_visibility.specs.Knows.{is_type, is_aggregate, KnowsAs}
 use Rattle.proto_link.specs.Resolves.{Innermost, Resolves, wanted}
 
@@ -23,3 +27,13 @@ pub record IsCompound (files : List File) (file : ℕ) (is_extended : Bool) (fir
 -- the use resolves to no full name
 abbrev pub HasNoName : List File → ℕ → Use → Type 0
 HasNoName files file type_use = (name : List ℕ) → Resolves files file type_use name → ⊥
+
+-- what is found by the answer about a use: why it names nothing, unless memory was refused
+abbrev pub FindsFault : Result Target LinkFault → Result (Option LinkFault) AllocError → Type 0
+FindsFault (Ok target) found = found ≡ Ok None
+FindsFault (Err Memory) found = IsErr found
+FindsFault (Err fault) found = found ≡ Ok (Some fault)
+
+abbrev pub listed : Option LinkFault → List LinkFault
+listed None = []
+listed (Some fault) = fault ∷ []

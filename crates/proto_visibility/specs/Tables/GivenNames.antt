@@ -1,5 +1,6 @@
 -- What the tables of names say: which declarations have each name, and which files each package.
-use Rattle.std.specs.Prelude.{◌≡◌, ◌↔◌, ◌⊎◌, ℕ, Bool, true, Some, List, [], Contains, Vec, String}
+use Rattle.std.specs.Prelude.{◌≡◌, ◌≢◌, ◌↔◌, ◌⊎◌, ℕ, ◌<◌, Bool, true, Option, Some, None, List, []}
+use Rattle.std.specs.Prelude.{Contains, Vec, String, length}
 use Rattle.std.specs.List.{slice_get}
 use Rattle.std.specs.List.Sorted.{IsNonDecreasing}
 use Rattle.std.specs.Option.{option_map_or}
@@ -8,7 +9,7 @@ use Rattle.proto_decl.specs.Facts.{Facts}
 use Rattle.proto_decl.specs.declared.declaration.Declaration.{Declaration}
 use Rattle.proto_visibility.specs.declared.names.DeclaredAt.{DeclaredAt}
 use Rattle.proto_visibility.specs.declared.names.Names.{Names}
-use Rattle.proto_visibility.specs.Files.{File}
+use Rattle.proto_visibility.specs.Files.{File, IsPresent}
 use Rattle.proto_visibility.specs.Knows.{NameKind, is_aggregate, IsPrefix}
 use Rattle.proto_visibility.specs.Knows.NameKind.{OfPackage, OfDeclaration}
 
@@ -71,6 +72,30 @@ pub record IsAloneIn (row : List ℕ) (declared : List DeclaredAt) (admits : Nam
   pub there : Contains row number
   pub declares : IsDeclaring declared admits number
   pub alone : (other : ℕ) → Contains row other → IsDeclaring declared admits other → other ≡ number
+
+-- a declaration that is admitted, of a file of a row that isn't left out and isn't this one
+pub record IsBeside (files : List File) (row : List ℕ) (admits : NameKind → Bool) (beside : Option ℕ) (one : DeclaredAt)
+    : Type 0 where
+  pub admitted : admits (OfDeclaration one.kind) ≡ true
+  pub there : Contains row one.file
+  pub present : IsPresent files one.file
+  pub apart : Some one.file ≢ beside
+
+-- such a file has one of these declarations
+abbrev pub IsDeclaringBeside : List File → (row : List ℕ) → List DeclaredAt → (NameKind → Bool) → (beside : Option ℕ)
+    → (number : ℕ) → Type 0
+IsDeclaringBeside files row declared admits beside number =
+    (one : DeclaredAt) × Contains declared one × (one.file ≡ number) × IsBeside files row admits beside one
+
+-- two of them have one
+abbrev pub AreTwoDeclaring : List File → (row : List ℕ) → List DeclaredAt → (NameKind → Bool) → Type 0
+AreTwoDeclaring files row declared admits =
+    (first : ℕ) × (second : ℕ) × IsDeclaringBeside files row declared admits None first
+    × IsDeclaringBeside files row declared admits (Some first) second
+
+-- all of these are of files
+abbrev pub AreOfFiles : List File → List DeclaredAt → Type 0
+AreOfFiles files declared = (one : DeclaredAt) → Contains declared one → one.file < length files
 
 -- the file with this number gives the name in this role, by the tables
 abbrev pub IsListed : Names → (NameKind → Bool) → (name : List ℕ) → (number : ℕ) → Type 0

@@ -1,12 +1,14 @@
--- The steps by which files are left out: those without facts, then, by one pass over the items, those with a clash.
-use Rattle.std.specs.Prelude.{◌≡◌, ◌<◌, ◌≤◌, ◌⊎◌, ℕ, Option, Some, None, List, ◌||◌, false, length, MatchOption, Contains}
+-- The steps by which files are left out: those without facts, then those with a clash, by one pass over the items, or
+-- each for its own.
+use Rattle.std.specs.Prelude.{◌≡◌, ◌<◌, ◌≤◌, ◌⊎◌, ℕ, Option, Some, List, ◌||◌, false, length, MatchOption, Contains}
+use Rattle.std.specs.Prelude.{slice_set}
 use Rattle.std.specs.List.{slice_get}
 use Rattle.std.specs.HashMap.{HashMap}
 use Rattle.proto_visibility.specs.declared.files.FilePlace.{FilePlace}
 use Rattle.proto_visibility.specs.declared.omissions.FileOmission.{FileOmission}
 use Rattle.proto_visibility.specs.declared.omissions.FileOmission.TheVariants.{Broken, Duplicate}
 use Rattle.proto_visibility.specs.Files.{File, IsSource}
-use Rattle.proto_visibility.specs.Clashes.{BeforeBy, Item, ClashBy, NoClashBy}
+use Rattle.proto_visibility.specs.Clashes.{Before, BeforeBy, Item, IsOwnItem, ClashBy, NoClashBy}
 use Rattle.proto_visibility.specs.Absences.{IsUnreadBy}
 use Rattle.proto_visibility.specs.Kept.{Omissions, IsKeptFile, IsMetBy}
 use Rattle.proto_visibility.specs.Tables.ClashTables.{index_in}
@@ -25,6 +27,27 @@ pub record AreUnreadOmitted (files : List File) (row : List ℕ) (old new : Omis
 -- a source that is kept
 abbrev pub IsKeptSource : List File → Omissions → (number : ℕ) → Type 0
 IsKeptSource files omissions number = IsSource files number × IsKeptFile omissions number
+
+-- a file of a row that has a clash of its own is left out for it, and of any other file it is said what was said before
+abbrev pub IsOwnClashOmitted : List File → (row : List ℕ) → (old new : Omissions) → (number : ℕ) → Type 0
+IsOwnClashOmitted files row old new number =
+    ((first : FilePlace) × (second : FilePlace) × Contains row number
+    × ClashBy Before (IsOwnItem files number) first second
+    × (slice_get new number ≡ Some (Some (Duplicate first second))))
+    ⊎ ((Contains row number → NoClashBy Before (IsOwnItem files number))
+    × (slice_get new number ≡ slice_get old number))
+
+-- so it is with each file
+pub record AreOwnClashesOmitted (files : List File) (row : List ℕ) (old new : Omissions) : Type 0 where
+  pub size : length new ≡ length old
+  pub each : (number : ℕ) → IsOwnClashOmitted files row old new number
+
+-- The file with this number is left out for a clash of these items, which are its own; or nothing changes.
+abbrev pub IsOwnStep : (IsItem : Item → Type 0) → (number : ℕ) → (old new : Omissions) → Type 0
+IsOwnStep IsItem number old new =
+    ((first : FilePlace) × (second : FilePlace) × ClashBy Before IsItem first second
+    × (new ≡ slice_set old number (Some (Duplicate first second))))
+    ⊎ (NoClashBy Before IsItem × (new ≡ old))
 
 -- the file with this number is left out for a clash
 pub data IsOutByClash (Earlier : ℕ → ℕ → Type 0) (IsItem : Item → Type 0) (omissions : Omissions) (number : ℕ)

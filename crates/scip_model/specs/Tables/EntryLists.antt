@@ -11,6 +11,7 @@ use Rattle.scip_symbol.specs.Package.{Package}
 use Rattle.scip_records.specs.declared.records.SymbolInformation.{SymbolInformation}
 use Rattle.scip_model.specs.Chosen.{Chosen}
 use Rattle.scip_model.specs.Entries.{file_entry, package_entry, declaration_entry}
+use Rattle.scip_model.specs.Named.{Home}
 use Rattle.scip_model.specs.Tables.Plans.{declaration_number}
 
 -- of the first component, the first two, and so on
@@ -20,20 +21,20 @@ package_entries_up_to id facts count = map (λ index. package_entry id facts (in
 abbrev pub package_entries : Package → Facts → List SymbolInformation
 package_entries id facts = package_entries_up_to id facts (length facts.package_name)
 
-abbrev pub entry_if_kept : Package → Facts → Declaration → Choice → List SymbolInformation
-entry_if_kept id facts declared choice = if choice.keep then declaration_entry id facts declared choice ∷ [] else []
+abbrev pub entry_if_kept : Home → Facts → Declaration → Choice → List SymbolInformation
+entry_if_kept home facts declared choice = if choice.keep then declaration_entry home facts declared choice ∷ [] else []
 
 -- of declarations, with the choice for each
-abbrev pub kept_entries : Package → Facts → List Declaration → List Choice → List SymbolInformation
-kept_entries id facts [] choices = []
-kept_entries id facts (declared ∷ others) [] = []
-kept_entries id facts (declared ∷ others) (choice ∷ choices) =
-    entry_if_kept id facts declared choice ++ kept_entries id facts others choices
+abbrev pub kept_entries : Home → Facts → List Declaration → List Choice → List SymbolInformation
+kept_entries home facts [] choices = []
+kept_entries home facts (declared ∷ others) [] = []
+kept_entries home facts (declared ∷ others) (choice ∷ choices) =
+    entry_if_kept home facts declared choice ++ kept_entries home facts others choices
 
 -- the file's, its packages', which belong to the run, and its declarations'
-abbrev pub source_entries : (id run : Package) → (path : List ℕ) → Facts → List Choice → List SymbolInformation
-source_entries id run path facts choices =
-    file_entry id path ∷ (package_entries run facts ++ kept_entries id facts facts.declarations choices)
+abbrev pub source_entries : Home → (run : Package) → Facts → List Choice → List SymbolInformation
+source_entries home run facts choices =
+    file_entry home.id home.path ∷ (package_entries run facts ++ kept_entries home facts facts.declarations choices)
 
 -- the choices for a file's declarations
 abbrev pub choices_for : Chosen → (file : ℕ) → List Choice
@@ -49,8 +50,8 @@ abbrev pub package_names : List Component → List (List ℕ)
 package_names components = package_names_up_to components (length components)
 
 -- each declaration's entry is the one with its number
-abbrev pub AreNumbered : Package → Facts → List Choice → (entry : ℕ → SymbolInformation) → Type 0
-AreNumbered id facts choices entry =
+abbrev pub AreNumbered : Home → Facts → List Choice → (entry : ℕ → SymbolInformation) → Type 0
+AreNumbered home facts choices entry =
     (index : ℕ) (declared : Declaration) (choice : Choice) → slice_get facts.declarations index ≡ Some declared
     → slice_get choices index ≡ Some choice
-    → entry (declaration_number facts index) ≡ declaration_entry id facts declared choice
+    → entry (declaration_number facts index) ≡ declaration_entry home facts declared choice

@@ -9,7 +9,7 @@ use Rattle.proto_decl.specs.declared.declaration.Declaration.{Declaration}
 use Rattle.proto_decl.specs.declared.uses.Use.{Use}
 use Rattle.index_hooks.specs.declared.choice.Choice.{Choice}
 use Rattle.scip_records.specs.declared.records.SymbolInformation.{SymbolInformation}
-use Rattle.scip_symbol.specs.Package.{Package}
+use Rattle.scip_model.specs.Named.{Home}
 use Rattle.proto_visibility.specs.Files.{File, HasFacts, IsSource, IsIncludedAt}
 use Rattle.proto_link.specs.Targets.{IsTarget}
 use Rattle.proto_visibility.specs.declared.lookup.Entity.{Entity}
@@ -70,13 +70,13 @@ module _ (files : List File) (chosen : Chosen) where
     pub of_source : IsOfSource source x
 
 -- the entry of a declaration of these facts, with the choice for it
-pub record IsEntryAt (chosen : Chosen) (id : Package) (facts : Facts) (file index : ℕ)
+pub record IsEntryAt (chosen : Chosen) (home : Home) (facts : Facts) (file index : ℕ)
     (entry : SymbolInformation) : Type 0 where
   pub declaration : Declaration
   pub choice : Choice
   pub stands : slice_get facts.declarations index ≡ Some declaration
   pub is_chosen : IsChosen chosen file index choice
-  pub is : entry ≡ declaration_entry id facts declaration choice
+  pub is : entry ≡ declaration_entry home facts declaration choice
 
 -- the entry of a declaration that is kept
 abbrev pub IsEntryOf : List File → Chosen → Packages → Pair → SymbolInformation → Type 0

@@ -1,6 +1,6 @@
 -- The occurrences of a document, list by list: each list is in order of place.
 use Rattle.std.specs.Prelude.{◌≡◌, ℕ, ◌+◌, Bool, true, false, if◌then◌else◌, Option, Some, None, List, [], ◌∷◌, ◌++◌}
-use Rattle.std.specs.Prelude.{map, take, not, ◌&&◌, Result, Ok, Err, IsErr}
+use Rattle.std.specs.Prelude.{take, not, ◌&&◌, Result, Ok, Err, IsErr}
 use Rattle.std.specs.List.{slice_get, list_any}
 use Rattle.std.specs.Str.{bytes_eq}
 use Rattle.std.specs.Option.{option_and_then, option_map}
@@ -26,7 +26,7 @@ use Rattle.proto_visibility.specs.declared.fault.LinkFault.{LinkFault}
 use Rattle.proto_visibility.specs.declared.fault.LinkFault.TheVariants as fault
 use Rattle.scip_model.specs.Packages.{Packages, package_of_path, package_of_part}
 use Rattle.scip_model.specs.Chosen.{Chosen}
-use Rattle.scip_model.specs.Named.{HasDeclaration, text_of, package_at, declaration_at}
+use Rattle.scip_model.specs.Named.{HasDeclaration, Home, text_of, package_at, declaration_in, home_of_file}
 use Rattle.scip_model.specs.Occurs.{occurrence_over, start_of_text, no_role, definition_role, import_role}
 
 -- What each item of a list gives, by its index, one after the other.
@@ -47,6 +47,7 @@ has_path files path = list_any (λ file. bytes_eq path file.path && not file.is_
 abbrev pub Finds : Result Target LinkFault → Result (Option Target) AllocError → Type 0
 Finds (Ok target) found = found ≡ Ok (Some target)
 Finds (Err (fault.Unresolved place)) found = found ≡ Ok None
+Finds (Err (fault.Ambiguous place)) found = found ≡ Ok None
 Finds (Err (fault.Broken number)) found = IsErr found
 Finds (Err (fault.Duplicate first second)) found = IsErr found
 Finds (Err (fault.MissingImport place)) found = IsErr found
@@ -78,18 +79,18 @@ abbrev pub is_shown : Chosen → Entity → Bool
 is_shown chosen (link.Package count) = true
 is_shown chosen (link.Declared file index) = keeps chosen file index
 
-abbrev pub declared_in : Facts → (index : ℕ) → Option symbols.Entity
-declared_in facts index = option_map (declaration_at facts) (slice_get facts.declarations index)
+abbrev pub declared_in : Home → Facts → (index : ℕ) → Option symbols.Entity
+declared_in home facts index = option_map (declaration_in home facts) (slice_get facts.declarations index)
 
-abbrev pub declared_by : List File → (file index : ℕ) → Option symbols.Entity
-declared_by files file index =
-    option_and_then (λ (f : File). option_and_then (λ (facts : Facts). declared_in facts index) f.facts)
-    (slice_get files file)
+abbrev pub declared_by : List File → Packages → (file index : ℕ) → Option symbols.Entity
+declared_by files ids file index =
+    option_and_then (λ (f : File). option_and_then
+    (λ (facts : Facts). declared_in (home_of_file files ids file) facts index) f.facts) (slice_get files file)
 
 -- what a part of a full name names
-abbrev pub entity_of : List File → (name : List ℕ) → Entity → Option symbols.Entity
-entity_of files name (link.Package count) = Some (OfPackage (take count (components_of name)))
-entity_of files name (link.Declared file index) = declared_by files file index
+abbrev pub entity_of : List File → Packages → (name : List ℕ) → Entity → Option symbols.Entity
+entity_of files ids name (link.Package count) = Some (OfPackage (take count (components_of name)))
+entity_of files ids name (link.Declared file index) = declared_by files ids file index
 
 -- it has a symbol
 abbrev pub IsNameable : List File → (name : List ℕ) → Entity → Type 0
@@ -117,14 +118,16 @@ module _ (id : Package) (encoding : Encoding) (text : List ℕ) where
   at_package facts index component =
       occurrence_over encoding text id component.span (package_at facts (index + 1)) definition_role ∷ []
 
-  abbrev pub at_declaration : Chosen → (file : ℕ) → Facts → ℕ → Declaration → List Occurrence
-  at_declaration chosen file facts index declared =
-      if keeps chosen file index then occurrence_over encoding text id declared.name
-      (declaration_at facts declared) definition_role ∷ [] else []
-
   abbrev pub at_entity : Span → Option symbols.Entity → List Occurrence
   at_entity span None = []
   at_entity span (Some entity) = occurrence_over encoding text id span entity no_role ∷ []
+
+-- with that of their file
+abbrev pub at_declaration : Home → Encoding → (text : List ℕ) → Chosen → (file : ℕ) → Facts → ℕ → Declaration
+    → List Occurrence
+at_declaration home encoding text chosen file facts index declared =
+    if keeps chosen file index then occurrence_over encoding text home.id declared.name
+    (declaration_in home facts declared) definition_role ∷ [] else []
 
 -- with that of the file that is named
 module _ (ids : Packages) (encoding : Encoding) (text : List ℕ) where
@@ -138,7 +141,7 @@ module _ (ids : Packages) (encoding : Encoding) (text : List ℕ) where
     at_part name span None = []
     at_part name span (Some part) =
         if is_shown chosen part then at_entity (package_of_part files ids part) encoding text span
-        (entity_of files name part) else []
+        (entity_of files ids name part) else []
 
     abbrev pub at_component : Target → ℕ → Component → List Occurrence
     at_component target index component = at_part target.name component.span (slice_get target.parts index)

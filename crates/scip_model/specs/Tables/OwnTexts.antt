@@ -8,16 +8,24 @@ use Rattle.proto_decl.specs.Declares.{simple_name}
 use Rattle.proto_decl.specs.Facts.{Facts}
 use Rattle.proto_decl.specs.declared.declaration.Declaration.{Declaration}
 use Rattle.index_hooks.specs.declared.choice.Choice.{Choice}
-use Rattle.scip_symbol.specs.Package.{Package}
 use Rattle.scip_records.specs.declared.records.Occurrence.{Occurrence}
 use Rattle.scip_records.specs.declared.records.SymbolInformation.{SymbolInformation}
+use Rattle.proto_decl.specs.Laws.{component_names}
+use Rattle.scip_symbol.specs.Entities.{OfPackage}
 use Rattle.scip_model.specs.Entries.{documentation_of}
-use Rattle.scip_model.specs.Named.{text_of, declaration_at}
+use Rattle.scip_model.specs.Named.{Home, text_of, declaration_in}
 use Rattle.scip_model.specs.Occurs.{range_over}
 
 -- of each declaration, in order
-abbrev pub declaration_texts : Package → Facts → List (List ℕ)
-declaration_texts id facts = map (λ declaration. text_of id (declaration_at facts declaration)) facts.declarations
+abbrev pub declaration_texts : Home → Facts → List (List ℕ)
+declaration_texts home facts =
+    map (λ declaration. text_of home.id (declaration_in home facts declaration)) facts.declarations
+
+-- With what they begin: the text of the package, or, if some have their file before it, less.
+pub record IsFront (home : Home) (facts : Facts) (front : List ℕ) : Type 0 where
+  pub usual : home.repeated ≡ [] → front ≡ text_of home.id (OfPackage (component_names facts.package_name))
+  pub begins : (declaration : Declaration)
+      → (rest : List ℕ) × (text_of home.id (declaration_in home facts declaration) ≡ front ++ rest)
 
 -- a symbol with this text over a span
 abbrev pub occurrence_with : Encoding → (text : List ℕ) → Span → (symbol : List ℕ) → ℤ → Occurrence

@@ -15,8 +15,8 @@ use Rattle.scip_symbol.specs.Entities.{OfFile}
 use Rattle.scip_symbol.specs.Entities as symbols
 use Rattle.scip_symbol.specs.Package.{Package}
 use Rattle.scip_model.specs.Entries.{documentation_of}
-use Rattle.scip_model.specs.Named.{text_of, package_at}
-use Rattle.scip_model.specs.Packages.{Packages, package_of_file}
+use Rattle.scip_model.specs.Named.{Home, home_of_file, text_of, package_at}
+use Rattle.scip_model.specs.Packages.{Packages}
 use Rattle.scip_model.specs.Tables.OwnTexts.{declaration_texts}
 use Rattle.scip_model.specs.declared.document_plan.PlannedOccurrence.{PlannedOccurrence}
 
@@ -58,15 +58,16 @@ package_texts_up_to run facts count = map (λ index. text_of run (package_at fac
 
 -- What a source has itself: number 0 is the file's, then come those of its packages, which belong to the run, then
 -- those of its declarations.
-abbrev pub own_texts : (id run : Package) → (path : List ℕ) → Facts → List (List ℕ)
-own_texts id run path facts =
-    text_of id (OfFile path) ∷ (package_texts_up_to run facts (length facts.package_name) ++ declaration_texts id facts)
+abbrev pub own_texts : Home → (run : Package) → Facts → List (List ℕ)
+own_texts home run facts =
+    text_of home.id (OfFile home.path)
+    ∷ (package_texts_up_to run facts (length facts.package_name) ++ declaration_texts home facts)
 
 -- the texts of what the source has itself are among these, first
 abbrev pub HasOwnTexts : List File → Packages → (source : ℕ) → (texts : List (List ℕ)) → Type 0
 HasOwnTexts files ids source texts =
-    (facts : Facts) × (path : List ℕ) × HasFacts files source facts
-    × Grown (own_texts (package_of_file files ids source) ids.run path facts) texts
+    (facts : Facts) × HasFacts files source facts
+    × Grown (own_texts (home_of_file files ids source) ids.run facts) texts
 
 -- the number is that of an entity's text
 abbrev pub IsNumberIn : (texts : List (List ℕ)) → Package → Option symbols.Entity → (number : ℕ) → Type 0

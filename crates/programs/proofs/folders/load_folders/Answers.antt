@@ -1,9 +1,9 @@
-use Rattle.std.proofs.Common.{◌∙◌, List, [], ap, length, map, sym, subst}
+use Rattle.std.proofs.Common.{◌∙◌, List, ap, length, map, sym, subst}
 use Rattle.std.specs.String.{string_bytes}
 use Rattle.std.proofs.lemmas.Result.{err_from_is_err_and}
 use Rattle.command_line.specs.declared.options.include.PackageFolder.{PackageFolder}
 use Rattle.scip_symbol.specs.Package.{Package}
-use Rattle.scip_model.specs.Packages.{Packages}
+use Rattle.scip_model.specs.Packages.{Packages, all_in}
 use Rattle.programs.specs.Folders.{AreFolders, NamePackages}
 use Rattle.programs.proofs.FolderLemmas.{folders_of_run, unloaded_of_run}
 use Rattle.programs.proofs.folders.load_folders.Goals as goal
@@ -19,7 +19,7 @@ returns-then-is_empty-clause-folders g c =
     let none = none_there options.include_packages.items _
     (ap (λ (folders : List PackageFolder). length folders) (sym c.deref.ensures.value) ∙ c.deref.ensures.len)
     (sym c.is_empty.ensures ∙ c.if-is_empty.true) in
-    let Of : Package → Packages = λ id. record { run = id; roots = [] } in
+    let Of : Package → Packages = all_in in
     let Here : Packages → Type 0 = λ packages. AreFolders lists gives options found.tree unread packages in
     subst Here (sym (c.of_run.ensures ∙ ap Of c.in_ok-run.ensures.named.0))
     (folders_of_run lists gives options found.tree unread none c.in_ok-run.ensures.named.1

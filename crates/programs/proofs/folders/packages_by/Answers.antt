@@ -1,7 +1,7 @@
 use Rattle.std.proofs.Common.{◌∙◌, [], ◌∷◌, List, ap, map, subst}
 use Rattle.std.specs.String.{string_bytes}
 use Rattle.scip_symbol.specs.Package.{Package}
-use Rattle.scip_model.specs.Packages.{Packages}
+use Rattle.scip_model.specs.Packages.{Packages, all_in}
 use Rattle.programs.specs.Folders.{AddsRoots, roots_of}
 use Rattle.programs.proofs.FolderLemmas.{by_folder}
 use Rattle.programs.proofs.folders.packages_by.Goals as goal
@@ -13,7 +13,7 @@ returns-clause-by c =
     let first = c.of_run-packages.result in
     let second = c.add_folder.new.packages in
     let third = c.add_folders.new.packages in
-    let Of : Package → Packages = λ id. record { run = id; roots = [] } in
+    let Of : Package → Packages = all_in in
     let Own : Package → Type 0 = λ id. AddsRoots (record { id = id; paths = own } ∷ []) first second in
     let Each : List Package → Type 0 = λ ids. AddsRoots (roots_of ids others) second third in
     by_folder c.args.options.now own others first second third

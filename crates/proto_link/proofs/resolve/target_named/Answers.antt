@@ -1,9 +1,11 @@
-use Rattle.std.proofs.Common.{◌≡◌, ◌≤◌, List, ℕ, length, refl, sym, subst}
+use Rattle.std.proofs.Common.{◌≤◌, List, ℕ, length, refl, sym, ◌∙◌, subst}
 use Rattle.std.specs.String.{string_bytes}
 use Rattle.proto_decl.specs.Names.{components_of}
 use Rattle.proto_decl.specs.declared.uses.Component.{Component}
-use Rattle.proto_visibility.specs.Knows.{IsGiving, IsOwner, admits, is_type}
-use Rattle.proto_link.proofs.TargetLemmas.{owner_gives, target_is, used_fit, with_owner, within_files, without_owner}
+use Rattle.std.proofs.lemmas.Bool.{false≢true}
+use Rattle.proto_visibility.specs.Knows.{IsGiving, IsGivenTwice, IsOwner, admits, is_type}
+use Rattle.proto_link.proofs.TargetLemmas.{is_twice, not_twice, owner_gives, target_is, used_fit}
+use Rattle.proto_link.proofs.TargetLemmas.{with_owner, within_files, without_owner}
 use Rattle.proto_link.proofs.resolve.target_named.Goals as goal
 
 pub parts_of-requires-clause-owner : goal.parts_of-requires-clause-owner
@@ -34,8 +36,8 @@ parts_of-requires-clause-count c =
     subst (λ (n : List ℕ). length c.as_slice-used.result.now ≤ length (components_of n))
     (sym c.as_str-in-Some.ensures.value) used
 
-pub returns-in_ok-parts-in-Some-clause-target : goal.returns-in_ok-parts-in-Some-clause-target
-returns-in_ok-parts-in-Some-clause-target c =
+pub returns-in-Some-clause-target : goal.returns-in-Some-clause-target
+returns-in-Some-clause-target c =
     let files = c.args.namespace.now in
     let file = c.args.file in
     let type_use = c.args.type_use.now in
@@ -49,8 +51,20 @@ returns-in_ok-parts-in-Some-clause-target c =
     c.as_str-in-Some.ensures.value c.as_slice-used.ensures c.in_ok-parts-in-Some.ensures c.from_string.ensures
     c.from_vec.ensures
 
-pub returns-in-None-clause-refused : goal.returns-in-None-clause-refused
-returns-in-None-clause-refused c =
+pub returns-then-is_given_twice-clause-refused : goal.returns-then-is_given_twice-clause-refused
+returns-then-is_given_twice-clause-refused c =
+    let files = c.args.namespace.now in
+    let file = c.args.file in
+    let type_use = c.args.type_use.now in
+    let name = string_bytes c.args.name in
+    let role = admits c.role_wanted-role.result in
+    let twice = subst (λ (n : List ℕ). IsGivenTwice files file role n) c.as_str-in-None.ensures.value
+    (c.is_given_twice.ensures.0 c.if-is_given_twice.true) in
+    rw c.ambiguous.ensures
+    (is_twice files file type_use name role c.requires.resolves c.role_wanted-role.ensures.role twice, refl)
+
+pub returns-clause-refused : goal.returns-clause-refused
+returns-clause-refused c =
     let files = c.args.namespace.now in
     let file = c.args.file in
     let type_use = c.args.type_use.now in
@@ -58,5 +72,11 @@ returns-in-None-clause-refused c =
     let role = admits c.role_wanted-role.result in
     let none = subst (λ (n : List ℕ). (owner : ℕ) → IsOwner files file role n owner → ⊥) c.as_str.ensures.value
     c.in-None.ensures in
-    rw c.unresolved.ensures
-    (without_owner files file type_use name role c.requires.resolves c.role_wanted-role.ensures.role none, refl)
+    let once : IsGivenTwice files file role name → ⊥ =
+    λ twice. false≢true (sym c.if-is_given_twice.false ∙ c.is_given_twice.ensures.1
+    (subst (λ (n : List ℕ). IsGivenTwice files file role n) (sym c.as_str-in-None.ensures.value) twice)) in
+    rw c.unresolved.ensures (
+      without_owner files file type_use name role c.requires.resolves c.role_wanted-role.ensures.role none,
+      not_twice files file type_use name role c.requires.resolves c.role_wanted-role.ensures.role once,
+      refl,
+    )

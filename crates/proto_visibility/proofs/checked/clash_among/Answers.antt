@@ -1,24 +1,16 @@
-use Rattle.std.proofs.Common.{ℕ, List, MatchOption, subst}
-use Rattle.std.specs.List.{Contains}
-use Rattle.proto_visibility.specs.Clashes.{Before, Item, IsItem, IsItemBy, ClashBy, NoClashBy}
-use Rattle.proto_visibility.proofs.ClashLemmas.{clash_of_items}
-use Rattle.proto_visibility.proofs.ItemAllLemmas.{same_items}
-use Rattle.proto_visibility.proofs.SeeingReachableLemmas.{reachable_within}
+use Rattle.std.proofs.Common.{IfOk, MatchOption, sym, subst}
+use Rattle.proto_visibility.specs.declared.clash.Duplicates.{Duplicates}
+use Rattle.proto_visibility.specs.Clashes.{Clash, NoClash}
 use Rattle.proto_visibility.proofs.checked.clash_among.Goals as goal
 
-pub all_items-requires-clause-within : goal.all_items-requires-clause-within
-all_items-requires-clause-within c =
-    λ number there. reachable_within c.args.files.now number ((c.requires.reachable number).0 there)
+pub returns-in-Refuse : goal.returns-in-Refuse
+returns-in-Refuse c =
+    let files = c.args.files.now in
+    subst (λ (d : Duplicates). IfOk c.first_of_all.result (λ clash. MatchOption clash (NoClash d files)
+    (λ places. Clash d files places.0 places.1))) (sym c.in-Refuse.is) c.first_of_all.ensures
 
-pub returns : goal.returns
-returns c =
-    let items = c.in_ok-items.items.items in
-    let row = c.args.reachable.now in
-    clash_of_items Before {I = Contains items} {J = IsItem c.args.files.now}
-    (λ item. (
-      λ there. (same_items c.args.files.now row c.requires.reachable item).0 ((c.in_ok-items.ensures.items item).0 there),
-      λ is. (c.in_ok-items.ensures.items item).1 ((same_items c.args.files.now row c.requires.reachable item).1 is),
-    ))
-    c.in_ok-clash.clash
-    (subst (λ (xs : List Item). MatchOption c.in_ok-clash.clash (NoClashBy Before (Contains xs))
-    (λ places. ClashBy Before (Contains xs) places.0 places.1)) c.as_slice.ensures.value c.in_ok-clash.ensures)
+pub returns-in-Keep : goal.returns-in-Keep
+returns-in-Keep c =
+    let files = c.args.files.now in
+    subst (λ (d : Duplicates). IfOk c.first_own_clash.result (λ clash. MatchOption clash (NoClash d files)
+    (λ places. Clash d files places.0 places.1))) (sym c.in-Keep.is) c.first_own_clash.ensures

@@ -4,6 +4,7 @@ use Rattle.std.proofs.lemmas.Option.{slice_get_read}
 use Rattle.std.proofs.lemmas.Bool.{not-true}
 use Rattle.proto_visibility.proofs.SeeingReachableLemmas.{reachable_at}
 use Rattle.proto_visibility.proofs.ClashDifferingLemmas.{none_up_to, more_up_to, clear_by_numbers}
+use Rattle.proto_visibility.proofs.DuplicateLemmas.{clear_of_all}
 use Rattle.proto_visibility.proofs.clash.numbers_differ.Goals as goal
 
 pub offset_bounds-files-number : goal.offset_bounds-files-number
@@ -37,7 +38,8 @@ loop-number-preserved c =
     (c.in_ok-differ.ensures c.if-not-differ.false) c.loop-number.invariant
 
 pub returns : goal.returns
-returns c = λ differ. clear_by_numbers c.args.files.now c.args.prefixes.now c.args.reachable.now c.loop-number.numbers
+returns c = λ differ duplicates. clear_of_all duplicates c.args.files.now
+    (clear_by_numbers c.args.files.now c.args.prefixes.now c.args.reachable.now c.loop-number.numbers
     c.requires.reachable c.requires.prefixes c.loop-number.number-index
     (subst (λ xs. length xs ≤ c.loop-number.number-index) c.as_slice-number-items.ensures.value (omega arith))
-    c.loop-number.invariant (sym c.has_package-shared.ensures ∙ not-true c.has_package-shared.result differ)
+    c.loop-number.invariant (sym c.has_package-shared.ensures ∙ not-true c.has_package-shared.result differ))

@@ -1,7 +1,6 @@
 use Rattle.std.proofs.Common.{◌≡◌, ◌<◌, Some, length, refl, sym, ◌∙◌, arith}
 use Rattle.std.specs.List.{slice_get}
 use Rattle.std.proofs.lemmas.Option.{slice_get_read}
-use Rattle.std.proofs.lemmas.Bool.{not-true, not-false}
 use Rattle.proto_visibility.specs.Files.{IsSource}
 use Rattle.proto_visibility.proofs.SeeingReachableLemmas.{begun_none, begun_skip, begun_more, begun_all}
 use Rattle.proto_visibility.proofs.SeeingReachableLemmas.{source_from, no_source_from, source_within}

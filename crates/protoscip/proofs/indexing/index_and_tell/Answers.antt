@@ -20,8 +20,8 @@ pub returns-in_err-built-clause-files : goal.returns-in_err-built-clause-files
 returns-in_err-built-clause-files g c =
     let p = err_from_is_err_and c.from_residual.result c.from_residual.ensures.1 in
     rw (p.1, p.2) (files_of_build
-    (g.C.Chooses.allows c.args.chooser.now) c.args.settings.now.faulty c.args.settings.now.dialect
-    c.args.settings.now.comments c.args.tree.now c.args.run.now.workers c.in_err-built.field-0.0
+    (g.C.Chooses.allows c.args.chooser.now) c.args.settings.now c.args.tree.now c.args.run.now.workers
+    c.in_err-built.field-0.0
     c.in_err-built.ensures.refused)
 
 -- where memory doesn't suffice for what is to be said

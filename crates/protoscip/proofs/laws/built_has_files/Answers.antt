@@ -5,7 +5,6 @@ pub returns : goal.returns
 returns g c =
     let allows = g.C.Chooses.allows c.args.chooser.now in
     record {
-      of_fault = λ settings tree workers fault is.
-          files_of_build allows settings.faulty settings.dialect settings.comments tree workers fault is;
+      of_fault = λ settings tree workers fault is. files_of_build allows settings tree workers fault is;
       of_told = λ settings tree built is. files_of_built allows settings tree built is;
     }

@@ -37,13 +37,10 @@ pub returns-in_err-all-clause-refused : goal.returns-in_err-all-clause-refused
 returns-in_err-all-clause-refused g c =
     let p = err_from_is_err_and c.from_residual.result c.from_residual.ensures.1 in
     rw (p.1, p.2)
-    (of_parsed_file (g.C.Chooses.allows c.args.chooser.now) c.args.settings.now.faulty c.args.settings.now.dialect
-    c.args.settings.now.comments
-    c.args.tree.now c.args.run.now.workers c.in_err-all.field-0.0 c.in_err-all.ensures)
+    (of_parsed_file (g.C.Chooses.allows c.args.chooser.now) c.args.settings.now c.args.tree.now
+    c.args.run.now.workers c.in_err-all.field-0.0 c.in_err-all.ensures)
 
 pub returns-in-Skip-clause-refused : goal.returns-in-Skip-clause-refused
 returns-in-Skip-clause-refused g c =
     if_err _ _ _ c.build_kept.result c.build_kept.ensures
-    (of_kept (g.C.Chooses.allows c.args.chooser.now) c.args.settings.now.faulty c.args.settings.now.dialect
-    c.args.settings.now.comments
-    c.args.tree.now c.args.run.now.workers)
+    (of_kept (g.C.Chooses.allows c.args.chooser.now) c.args.settings.now c.args.tree.now c.args.run.now.workers)

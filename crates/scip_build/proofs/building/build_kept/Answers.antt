@@ -8,22 +8,23 @@ pub make_kept-requires-clause-tree : goal.make_kept-requires-clause-tree
 make_kept-requires-clause-tree g c = λ _ _.
     let of = c.in_ok-kept.ensures in
     rw c.as_slice.ensures.value
-    (kept_ready c.kept_files_are_clear.ensures c.args.all.items c.in_ok-kept.kept.parsed.items of.omissions
-    c.requires.tree c.requires.present of.left_out of.kept).tree
+    (kept_ready c.kept_files_are_clear.ensures c.args.settings.now.duplicates c.args.all.items
+    c.in_ok-kept.kept.parsed.items of.omissions c.requires.tree c.requires.present of.left_out of.kept).tree
 
 pub make_kept-requires-clause-clear : goal.make_kept-requires-clause-clear
 make_kept-requires-clause-clear g c = λ _ _.
     let of = c.in_ok-kept.ensures in
     rw c.as_slice.ensures.value
-    (kept_ready c.kept_files_are_clear.ensures c.args.all.items c.in_ok-kept.kept.parsed.items of.omissions
-    c.requires.tree c.requires.present of.left_out of.kept).clear
+    (kept_ready c.kept_files_are_clear.ensures c.args.settings.now.duplicates c.args.all.items
+    c.in_ok-kept.kept.parsed.items of.omissions c.requires.tree c.requires.present of.left_out of.kept).clear
 
 pub returns : goal.returns
 returns g c =
-    let made = rw c.as_slice.ensures.value at c.in_ok-made.ensures in
-    let order = rw (c.as_slice-2.ensures.value, c.as_slice-3.ensures.value, c.as_slice-4.ensures) at
+    let made = rw c.as_slice.ensures.value at c.in_ok-of_kept.ensures in
+    let order = rw (c.as_slice-2.ensures.value, c.as_slice-3.ensures.value, c.as_slice-4.ensures.value) at
     c.in_ok-told.ensures in
     rw c.from_vec.ensures
     (kept_built g.F.DocumentForm.is_kept c.args.all.items c.in_ok-kept.kept.parsed.items c.args.settings.now
-    c.in_ok-made.made.0 c.in_ok-kept.kept.numbers.items c.in_ok-kept.kept.told.items c.in_ok-told.told.items
-    c.in_ok-made.made.1.items c.requires.skip c.in_ok-kept.ensures made.0 made.1 order)
+    c.in_ok-of_kept.of_kept.made c.in_ok-kept.kept.numbers.items c.in_ok-kept.kept.told.items c.in_ok-told.told.items
+    c.in_ok-of_kept.of_kept.missing.items c.in_ok-of_kept.of_kept.faults.items c.requires.skip c.in_ok-kept.ensures
+    made.0 made.1 made.2 order)

@@ -1,7 +1,13 @@
-use Rattle.std.proofs.Common.{◌∙◌, subst}
+use Rattle.std.proofs.Common.{◌∙◌, ◌<◌, List, length, sym, subst}
+use Rattle.std.specs.Prelude.{All}
 use Rattle.std.proofs.lemmas.Result.{err_from_is_err_and}
 use Rattle.proto_visibility.specs.Absences.{AreMissing}
 use Rattle.scip_build.specs.Linking.{linked_files}
+use Rattle.proto_visibility.specs.Files.{File}
+use Rattle.proto_visibility.specs.declared.files.FilePlace.{FilePlace}
+use Rattle.scip_build.specs.Making.MayRefuseSkipping.{skipping_lacks_memory}
+use Rattle.scip_build.specs.Telling.{AreUseFaults}
+use Rattle.scip_build.proofs.ToldUseLemmas.{all_within}
 use Rattle.scip_build.proofs.BuildsRefusalLemmas.{of_skipping}
 use Rattle.scip_build.proofs.building.make_kept.Goals as goal
 
@@ -12,7 +18,27 @@ returns-in_err-made g c =
     (of_skipping c.args.settings.now.faulty (linked_files c.args.parsed.now) c.args.run.now.workers
     c.in_err-made.field-0.0 c.requires.skip c.in_err-made.ensures)
 
+pub returns-in_err-faults : goal.returns-in_err-faults
+returns-in_err-faults g c =
+    let p = err_from_is_err_and c.from_residual-in_err-faults.result c.from_residual-in_err-faults.ensures.1 in
+    rw (p.1, p.2) skipping_lacks_memory
+
 pub returns : goal.returns
 returns g c =
     let files = c.in_ok-linker.ensures ∙ (c.as_slice.ensures.value ∙ c.in_ok-files.ensures) in
-    (c.in_ok-made.ensures, subst (λ fs. AreMissing fs c.in_ok-missing.missing.items) files c.in_ok-missing.ensures)
+    let faults = c.in_ok-faults.faults.items in (
+      c.in_ok-made.ensures,
+      subst (λ fs. AreMissing fs c.in_ok-missing.missing.items) files c.in_ok-missing.ensures,
+      subst (λ fs. AreUseFaults fs c.in_ok-made.made.unresolved_uses faults) files
+          (subst (λ places. AreUseFaults c.in_ok-linker.linker places faults) c.as_slice-2.ensures
+          c.in_ok-faults.ensures),
+    )
+
+pub faults_at-requires : goal.faults_at-requires
+faults_at-requires g c =
+    let files = c.in_ok-linker.ensures ∙ (c.as_slice.ensures.value ∙ c.in_ok-files.ensures) in
+    let linked = linked_files c.args.parsed.now in
+    let unresolved = c.in_ok-made.ensures.in_form.made.unresolved in
+    subst (λ (fs : List File). All (λ (place : FilePlace). place.file < length fs) c.as_slice-2.result.now) (sym files)
+    (subst (All (λ (place : FilePlace). place.file < length linked)) (sym c.as_slice-2.ensures)
+    (all_within linked c.in_ok-made.made.unresolved_uses (λ place there. (unresolved place).0 there)))

@@ -1,9 +1,9 @@
-use Rattle.std.proofs.Common.{◌≡◌, ◌∙◌, map, subst, arith}
-use Rattle.std.proofs.lemmas.Result.{err_from_is_err_and}
-use Rattle.proto_visibility.specs.Linked.{HaveClearNames}
+use Rattle.std.proofs.Common.{◌≡◌, ◌∙◌, ◌<◌, List, length, map, subst, arith}
 use Rattle.scip_build.specs.Linking.{linked_files, choices_of}
 use Rattle.scip_build.specs.Keeping.{is_source}
-use Rattle.scip_build.specs.Documents.{MayRefuseDocuments}
+use Rattle.proto_visibility.specs.Files.{File}
+use Rattle.scip_build.specs.Documents.{IsToldFor, MayRefuseDocuments}
+use Rattle.scip_build.proofs.ToldUseLemmas.{place_within}
 use Rattle.scip_build.proofs.ReadyLemmas.{are_ready, front_most}
 use Rattle.scip_build.proofs.KeptLemmas.{in_form_of}
 use Rattle.scip_build.proofs.building.make_linked.Goals as goal
@@ -18,22 +18,33 @@ make_parts-requires-clause-few g c κs within =
 pub make_parts-requires-clause-ready : goal.make_parts-requires-clause-ready
 make_parts-requires-clause-ready g c κs within =
     let parsed = c.args.parsed.now in
-    let files : c.args.linker.now ≡ linked_files parsed = c.requires.files in
+    let files : c.in_ok-package.package.files ≡ linked_files parsed =
+    c.in_ok-package.ensures.files ∙ c.requires.files in
     let chosen : c.new-choices.result ≡ map choices_of parsed = c.new-choices.ensures ∙ c.in_ok-chosen_lists.ensures
     in
-    let ready = are_ready parsed c.requires.tree (subst HaveClearNames files c.linked.ensures.clear) in
+    let ready = are_ready c.args.settings.now.duplicates parsed c.requires.tree c.requires.clear in
     rw (files, chosen, c.sources_among.ensures) ready
 
-pub returns-in_err-made : goal.returns-in_err-made
-returns-in_err-made g c =
-    let p = err_from_is_err_and c.from_residual-in_err-made.result c.from_residual-in_err-made.ensures.1 in
-    let fault = c.in_err-made.field-0.0 in
-    rw (p.1, p.2)
-    (subst (λ files. MayRefuseDocuments c.args.settings.now.faulty files c.args.run.now.workers fault) c.requires.files
-    c.in_err-made.ensures)
+pub refusal_by-requires : goal.refusal_by-requires
+refusal_by-requires g c = λ place same.
+    subst (λ (files : List File). place.file < length files) c.in_ok-package.ensures.files
+    (place_within c.args.settings.now.faulty c.in_ok-package.package.files c.args.run.now.workers c.in-Err.fault
+    c.in-Err.ensures place same)
+
+pub returns-in-Err : goal.returns-in-Err
+returns-in-Err g c =
+    let workers = c.args.run.now.workers in
+    let faulty = c.args.settings.now.faulty in
+    record {
+      fault = c.in-Err.fault;
+      refused = subst (λ files. MayRefuseDocuments faulty files workers c.in-Err.fault)
+          (c.in_ok-package.ensures.files ∙ c.requires.files) c.in-Err.ensures;
+      told_for = subst (λ (files : List File). IsToldFor files c.in-Err.fault c.refusal_by.result) c.requires.files
+          c.refusal_by.ensures;
+    }
 
 pub returns : goal.returns
 returns g c =
-    in_form_of g.F.DocumentForm.is_kept c.args.parsed.now c.args.linker.now c.args.settings.now _
-    c.requires.files c.linked.ensures.clear (c.new-choices.ensures ∙ c.in_ok-chosen_lists.ensures)
-    c.in_ok-made.ensures
+    in_form_of g.F.DocumentForm.is_kept c.args.parsed.now c.in_ok-package.package c.args.settings.now _
+    (c.in_ok-package.ensures.files ∙ c.requires.files) c.in_ok-package.ensures.ids c.in_ok-package.ensures.repeated
+    c.requires.clear (c.new-choices.ensures ∙ c.in_ok-chosen_lists.ensures) c.in-Ok.ensures

@@ -6,7 +6,13 @@ pub returns-in_err-linker : goal.returns-in_err-linker
 returns-in_err-linker g c =
     let p = err_from_is_err_and c.from_residual-in_err-linker.result c.from_residual-in_err-linker.ensures.1 in
     rw (p.1, p.2)
-    (of_linking c.args.parsed.now c.args.run.now.workers c.in_err-linker.field-0.0 c.in_err-linker.ensures)
+    (of_linking c.args.settings.now.duplicates c.args.parsed.now c.args.run.now.workers c.in_err-linker.field-0.0
+    c.in_err-linker.ensures)
+
+pub make_linked-requires-clause-clear : goal.make_linked-requires-clause-clear
+make_linked-requires-clause-clear g c = λ _ _.
+    let can = c.in_ok-linker.ensures.1 in
+    record { read = can.read; clear = can.clear }
 
 pub returns : goal.returns
 returns g c =

@@ -13,13 +13,15 @@ omissions_of-requires c = rw c.as_slice.ensures.value c.requires
 
 pub push_omissions-requires : goal.push_omissions-requires
 push_omissions-requires c =
-    let Are : List ReadFile → Type 0 = λ rs. AreOmissions (linked_files rs) c.in_ok-omissions.omissions.items in
+    let Are : List ReadFile → Type 0 =
+    λ rs. AreOmissions c.args.duplicates (linked_files rs) c.in_ok-omissions.omissions.items in
     let are : Are c.args.all.items = subst Are c.as_slice.ensures.value c.in_ok-omissions.ensures in
-    rw (c.as_slice-2.ensures.value, c.as_slice-3.ensures.value) are
+    rw (c.as_slice-2.ensures.value, c.as_slice-3.ensures.value) (c.args.duplicates, are)
 
 pub linked_parsed-requires : goal.linked_parsed-requires
 linked_parsed-requires c =
-    let Are : List ReadFile → Type 0 = λ rs. AreOmissions (linked_files rs) c.in_ok-omissions.omissions.items in
+    let Are : List ReadFile → Type 0 =
+    λ rs. AreOmissions c.args.duplicates (linked_files rs) c.in_ok-omissions.omissions.items in
     let are : Are c.args.all.items = subst Are c.as_slice.ensures.value c.in_ok-omissions.ensures in
     are.one_each ∙ length-map c.args.all.items linked_file
 
@@ -27,7 +29,7 @@ pub returns : goal.returns
 returns c =
     let omissions = c.in_ok-omissions.omissions.items in
     let all = c.args.all.items in
-    let Are : List ReadFile → Type 0 = λ rs. AreOmissions (linked_files rs) omissions in
+    let Are : List ReadFile → Type 0 = λ rs. AreOmissions c.args.duplicates (linked_files rs) omissions in
     let told = c.push_omissions.new.told.items in
     let From : List ReadFile → Omissions → List Omission → Type 0 =
     λ rs os old. Adds (FromFront (IsLeftIf rs) os (length os)) old told in

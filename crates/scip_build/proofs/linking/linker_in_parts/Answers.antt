@@ -7,7 +7,7 @@ pub returns-in_err-checked-clause-refused : goal.returns-in_err-checked-clause-r
 returns-in_err-checked-clause-refused g c =
     let p = err_from_is_err_and c.from_residual.result c.from_residual.ensures.1 in
     rw (p.1, p.2)
-    (IfErr-at_err (MayRefuse c.args.files.now) c.in_err-checked.was c.join-checked.ensures.first.1.1)
+    (IfErr-at_err (MayRefuse c.args.duplicates c.args.files.now) c.in_err-checked.was c.join-checked.ensures.first.1.1)
 
 pub joined-requires : goal.joined-requires
 joined-requires g c =
@@ -21,4 +21,5 @@ returns-clause-linked g c =
 
 pub returns-clause-can_be : goal.returns-clause-can_be
 returns-clause-can_be g c =
-    IfOk-at_ok (λ _. CanBeLinked c.args.files.now) c.in_ok-checked.was c.join-checked.ensures.first.1.0
+    IfOk-at_ok (λ _. CanBeLinked c.args.duplicates c.args.files.now) c.in_ok-checked.was
+    c.join-checked.ensures.first.1.0

@@ -1,4 +1,4 @@
-use Rattle.std.proofs.Common.{◌≡◌, subst, ℕ, List, Some}
+use Rattle.std.proofs.Common.{subst, ℕ, List, Some}
 use Rattle.proto_visibility.specs.declared.omissions.FileOmission.{FileOmission}
 use Rattle.proto_visibility.specs.declared.omissions.FileOmission.TheVariants.{Broken}
 use Rattle.scip_build.specs.Files.{ReadFile}
@@ -10,7 +10,7 @@ use Rattle.scip_build.proofs.telling.left_for.Goals as goal
 broken_is_unread : (parsed : List ReadFile) (number : ℕ) → IsSomeOmission (linked_files parsed) number (Some Broken)
     → IsUnreadAt parsed number
 broken_is_unread parsed number some =
-    let its = some.1 in
+    let its = some.2 in
     record { file = its.file; counts = tt; numbered = its.numbered; unread = its.unread }
 
 pub fault_at-requires : goal.fault_at-requires

@@ -8,8 +8,9 @@ pub push_omission-requires : goal.push_omission-requires
 push_omission-requires c =
     let omissions = c.args.omissions.now in
     let number = c.loop-number.number in (
+      c.requires.0,
       omissions,
-      c.requires.each number (get_or omissions number None)
+      c.requires.1.each number (get_or omissions number None)
           (slice_get-get_or omissions number None c.loop-number-test.true),
     )
 

@@ -14,7 +14,7 @@ use Rattle.scip_model.proofs.EntryNumberLemmas.{kept_one}
 use Rattle.scip_model.proofs.entries.push_declarations.Goals as goal
 
 pub loop-index-preserved : goal.loop-index-preserved
-loop-index-preserved c = λ id entry numbered.
+loop-index-preserved c = λ home entry numbered.
     let facts = c.args.facts.now in
     let index = c.loop-index.index in
     let choices = choices_for c.args.maker.now.choices.now c.args.maker.now.source in
@@ -28,15 +28,15 @@ loop-index-preserved c = λ id entry numbered.
     ap (λ (l : List Choice). slice_get l index)
     (get_or_from_slice_get c.args.maker.now.choices.now c.args.maker.now.source c.of-choice.ensures.of_file []
     c.of-choice.ensures.file_is) ∙ c.of-choice.ensures.declaration_is in
-    let so_far = kept_entries id facts (take index facts.declarations) choices in
-    let is : entry number ≡ declaration_entry id facts declared.0 choice =
+    let so_far = kept_entries home facts (take index facts.declarations) choices in
+    let is : entry number ≡ declaration_entry home facts declared.0 choice =
     ap entry c.in_ok-number.ensures ∙ numbered index declared.0 choice declared.1 chosen in
     ap (map entry) c.in_ok-push_if_kept.ensures
     ∙ (map-append entry c.loop-index.numbers.items (cond choice.keep (number ∷ []) [])
     ∙ (ap (λ (l : List SymbolInformation). map entry c.loop-index.numbers.items ++ l)
-    (kept_one entry choice.keep number (declaration_entry id facts declared.0 choice) is)
-    ∙ (ap (λ (l : List SymbolInformation). l ++ entry_if_kept id facts declared.0 choice)
-    (c.loop-index.invariant id entry numbered)
-    ∙ (append_assoc old so_far (entry_if_kept id facts declared.0 choice)
+    (kept_one entry choice.keep number (declaration_entry home facts declared.0 choice) is)
+    ∙ (ap (λ (l : List SymbolInformation). l ++ entry_if_kept home facts declared.0 choice)
+    (c.loop-index.invariant home entry numbered)
+    ∙ (append_assoc old so_far (entry_if_kept home facts declared.0 choice)
     ∙ ap (λ (l : List SymbolInformation). old ++ l)
-    (sym (kept-more id facts facts.declarations choices index declared.0 choice declared.1 chosen))))))
+    (sym (kept-more home facts facts.declarations choices index declared.0 choice declared.1 chosen))))))

@@ -19,8 +19,8 @@ returns c =
     subst (λ (ds : List Declaration). slice_get ds c.args.index ≡ Some declaration) c.declarations-declarations.ensures
     (slice_get_read items (length items) c.args.index declaration refl within c.index-declarations-index.is) in
     IfOk-weaker c.declaration_entry.result
-    (λ (entry : SymbolInformation). entry ≡ declaration_entry c.args.id.now facts declaration c.of-choice.result)
-    (IsEntryAt c.args.choices.now c.args.id.now facts c.args.file c.args.index)
+    (λ (entry : SymbolInformation). entry ≡ declaration_entry c.args.home.now facts declaration c.of-choice.result)
+    (IsEntryAt c.args.choices.now c.args.home.now facts c.args.file c.args.index)
     (λ entry is. record {
       declaration = declaration;
       choice = c.of-choice.result;

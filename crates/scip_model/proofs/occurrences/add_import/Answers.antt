@@ -1,4 +1,6 @@
-use Rattle.std.proofs.Common.{◌∙◌, subst, sym, List, ℕ}
+use Rattle.std.proofs.Common.{◌∙◌, ap, subst, sym, List, ℕ}
+use Rattle.proto_visibility.specs.Files.{File}
+use Rattle.scip_model.specs.Conditions.{HaveGoodPaths}
 use Rattle.scip_symbol.specs.Entities.{OfFile}
 use Rattle.scip_model.specs.Named.{text_of}
 use Rattle.scip_model.specs.Occurs.{import_role}
@@ -8,13 +10,17 @@ use Rattle.scip_model.specs.Tables.Plans.{IsNumberOf}
 use Rattle.scip_model.proofs.PlanLemmas.{grown_same, none_if, some_if, planned_added}
 use Rattle.scip_model.proofs.occurrences.add_import.Goals as goal
 
+pub has_file-requires : goal.has_file-requires
+has_file-requires c = subst HaveGoodPaths (sym c.linker.ensures.files) c.requires.paths
+
 pub returns-then-not-has_file-clause-grown : goal.returns-then-not-has_file-clause-grown
 returns-then-not-has_file-clause-grown c = grown_same c.args.texts.now
 
 pub returns-then-not-has_file-clause-added : goal.returns-then-not-has_file-clause-added
 returns-then-not-has_file-clause-added c =
-    none_if (has_path c.args.maker.now.linker.now c.args.imported.now.path) c.args.texts.now c.args.list.now.items _
-    (sym c.has_file.ensures.found ∙ c.if-not-has_file.true)
+    none_if (has_path c.args.maker.now.package.now.files c.args.imported.now.path) c.args.texts.now c.args.list.now.items _
+    (ap (λ (files : List File). has_path files c.args.imported.now.path) (sym c.linker.ensures.files)
+    ∙ (sym c.has_file.ensures.found ∙ c.if-not-has_file.true))
 
 pub returns-clause-added : goal.returns-clause-added
 returns-clause-added c =
@@ -22,9 +28,10 @@ returns-clause-added c =
     let imported = c.args.imported.now in
     let texts = c.file_number.new.texts in
     let number = c.in_ok-number.number in
-    let text : List ℕ → List ℕ = λ path. text_of (package_of_path maker.package.now path) (OfFile path) in
-    some_if (has_path maker.linker.now imported.path) texts c.args.list.now.items c.push.new.self.items _
-    (sym c.has_file.ensures.found ∙ c.if-not-has_file.false)
+    let text : List ℕ → List ℕ = λ path. text_of (package_of_path maker.package.now.ids path) (OfFile path) in
+    some_if (has_path maker.package.now.files imported.path) texts c.args.list.now.items c.push.new.self.items _
+    (ap (λ (files : List File). has_path files imported.path) (sym c.linker.ensures.files)
+    ∙ (sym c.has_file.ensures.found ∙ c.if-not-has_file.false))
     (planned_added maker.encoding maker.text.now imported.span import_role texts c.args.list.now.items
     c.push.new.self.items c.planned_over.result (text imported.path) number c.in_ok-push.ensures.items
     c.planned_over.ensures

@@ -2,6 +2,7 @@ use Rattle.std.proofs.Common.{◌≡◌, ◌∙◌, List, Some, length, map, ref
 use Rattle.std.specs.List.{slice_get}
 use Rattle.std.proofs.lemmas.Option.{slice_get_read}
 use Rattle.proto_decl.specs.declared.declaration.Declaration.{Declaration}
+use Rattle.scip_model.specs.Makers.{source_home}
 use Rattle.scip_model.specs.Tables.Listing.{each_from, at_declaration}
 use Rattle.scip_model.specs.Tables.Plans.{occurrence_of}
 use Rattle.scip_model.proofs.ListingLemmas.{each_added, each_done}
@@ -16,24 +17,24 @@ add_declaration-requires-clause-there c =
     (slice_get_read items (length items) index declaration refl c.loop-index-test.true c.declaration-item.is)
 
 pub loop-index-preserved : goal.loop-index-preserved
-loop-index-preserved c = λ id run path later more.
+loop-index-preserved c = λ run later more.
     let facts = c.args.facts.now in
     let maker = c.args.maker.now in
     let items = c.declarations-declaration-items.result.now in
     let index = c.loop-index.index in
     let declaration = c.declaration-item.result in
-    let gives = at_declaration id maker.encoding maker.text.now maker.choices.now maker.source facts in
+    let gives = at_declaration (source_home maker) maker.encoding maker.text.now maker.choices.now maker.source facts in
     let there : slice_get items index ≡ Some declaration =
     slice_get_read items (length items) index declaration refl c.loop-index-test.true c.declaration-item.is in
     each_added gives items index declaration (map (occurrence_of later) c.loop-index.list.items)
     (map (occurrence_of later) c.add_declaration.new.list.items) (each_from gives 0 items) there
-    (c.in_ok-add_declaration.ensures id run path later more) (c.loop-index.invariant id run path later more)
+    (c.in_ok-add_declaration.ensures run later more) (c.loop-index.invariant run later more)
 
 pub returns : goal.returns
-returns c = λ id run path later more.
+returns c = λ run later more.
     let maker = c.args.maker.now in
-    let gives = at_declaration id maker.encoding maker.text.now maker.choices.now maker.source c.args.facts.now in
+    let gives = at_declaration (source_home maker) maker.encoding maker.text.now maker.choices.now maker.source c.args.facts.now in
     let items = c.declarations-declaration-items.result.now in
     each_done gives items c.loop-index.index (map (occurrence_of later) c.loop-index.list.items)
-    (each_from gives 0 items) (omega (arith, c.loop-index-test.false)) (c.loop-index.invariant id run path later more)
+    (each_from gives 0 items) (omega (arith, c.loop-index-test.false)) (c.loop-index.invariant run later more)
     ∙ ap (λ (declarations : List Declaration). each_from gives 0 declarations) c.declarations-declaration-items.ensures

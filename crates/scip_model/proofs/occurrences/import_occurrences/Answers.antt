@@ -13,7 +13,7 @@ loop-imported-preserved c =
     let imports = c.args.imports.now in
     let index = c.loop-imported.imported-index in
     let imported = c.imported-item.result in
-    let gives = at_import maker.package.now maker.encoding maker.text.now maker.linker.now in
+    let gives = at_import maker.package.now.ids maker.encoding maker.text.now maker.package.now.files in
     let there : slice_get imports index ≡ Some imported =
     slice_get_read imports (length imports) index imported refl c.loop-imported-test.true c.imported-item.is in
     record {

@@ -8,7 +8,7 @@ invariant-loop-imported l = record {
   grown : Grown l.fn.texts l.texts;
   added : (later : List (List ℕ)) → Grown l.texts later
       → map (occurrence_of later) l.list.items ++ each_from
-      (at_import l.maker.package.now l.maker.encoding l.maker.text.now l.maker.linker.now) l.imported-index
+      (at_import l.maker.package.now.ids l.maker.encoding l.maker.text.now l.maker.package.now.files) l.imported-index
       (drop l.imported-index l.imports)
-      ≡ each_from (at_import l.maker.package.now l.maker.encoding l.maker.text.now l.maker.linker.now) 0 l.imports;
+      ≡ each_from (at_import l.maker.package.now.ids l.maker.encoding l.maker.text.now l.maker.package.now.files) 0 l.imports;
 }

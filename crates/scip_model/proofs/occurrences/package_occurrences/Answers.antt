@@ -11,9 +11,9 @@ use Rattle.scip_model.proofs.PlanLemmas.{planned_added, package_number}
 use Rattle.scip_model.proofs.occurrences.package_occurrences.Goals as goal
 
 pub loop-index-preserved : goal.loop-index-preserved
-loop-index-preserved c = λ id path later more.
+loop-index-preserved c = λ home later more.
     let maker = c.args.maker.now in
-    let run = maker.package.now.run in
+    let run = maker.package.now.ids.run in
     let facts = c.args.facts.now in
     let items = c.package_name-component-items.result.now in
     let index = c.loop-index.index in
@@ -24,20 +24,20 @@ loop-index-preserved c = λ id path later more.
     let within : index < length facts.package_name = subst (λ (cs : List Component). index < length cs)
     c.package_name-component-items.ensures c.loop-index-test.true in
     let added = planned_added maker.encoding maker.text.now component.span definition_role
-    (own_texts id run path facts) c.loop-index.list.items c.push.new.self.items c.planned_over.result
+    (own_texts home run facts) c.loop-index.list.items c.push.new.self.items c.planned_over.result
     (text_of run (package_at facts (index + 1))) c.in_ok-number.number c.in_ok-push.ensures.items
-    c.planned_over.ensures (package_number id run path facts index c.in_ok-number.number within
+    c.planned_over.ensures (package_number home run facts index c.in_ok-number.number within
     c.in_ok-number.ensures.number)
     later more in
     each_added gives items index component (map (occurrence_of later) c.loop-index.list.items)
     (map (occurrence_of later) c.push.new.self.items) (each_from gives 0 items) there added
-    (c.loop-index.invariant id path later more)
+    (c.loop-index.invariant home later more)
 
 pub returns : goal.returns
-returns c = λ id path later more.
+returns c = λ home later more.
     let maker = c.args.maker.now in
-    let gives = at_package maker.package.now.run maker.encoding maker.text.now c.args.facts.now in
+    let gives = at_package maker.package.now.ids.run maker.encoding maker.text.now c.args.facts.now in
     let items = c.package_name-component-items.result.now in
     each_done gives items c.loop-index.index (map (occurrence_of later) c.loop-index.list.items)
-    (each_from gives 0 items) (omega (arith, c.loop-index-test.false)) (c.loop-index.invariant id path later more)
+    (each_from gives 0 items) (omega (arith, c.loop-index-test.false)) (c.loop-index.invariant home later more)
     ∙ ap (λ (components : List Component). each_from gives 0 components) c.package_name-component-items.ensures

@@ -1,13 +1,13 @@
 use Rattle.std.proofs.Common.{◌≡◌, ◌++◌, List, ℕ, drop, map}
-use Rattle.scip_symbol.specs.Package.{Package}
+use Rattle.scip_model.specs.Named.{Home}
 use Rattle.scip_model.specs.Tables.Listing.{each_from, at_package}
 use Rattle.scip_model.specs.Tables.Plans.{Grown, occurrence_of, own_texts}
 use Rattle.scip_model.proofs.occurrences.package_occurrences.Given as goal
 
 abbrev pub invariant-loop-index : goal.invariant-loop-index
-invariant-loop-index l = (id : Package) (path : List ℕ) (later : List (List ℕ))
-    → Grown (own_texts id l.maker.package.now.run path l.facts) later
+invariant-loop-index l = (home : Home) (later : List (List ℕ))
+    → Grown (own_texts home l.maker.package.now.ids.run l.facts) later
     → map (occurrence_of later) l.list.items
-    ++ each_from (at_package l.maker.package.now.run l.maker.encoding l.maker.text.now l.facts) l.index
+    ++ each_from (at_package l.maker.package.now.ids.run l.maker.encoding l.maker.text.now l.facts) l.index
     (drop l.index l.component-items)
-    ≡ each_from (at_package l.maker.package.now.run l.maker.encoding l.maker.text.now l.facts) 0 l.component-items
+    ≡ each_from (at_package l.maker.package.now.ids.run l.maker.encoding l.maker.text.now l.facts) 0 l.component-items

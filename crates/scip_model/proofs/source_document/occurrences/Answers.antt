@@ -16,7 +16,11 @@ use Rattle.scip_model.proofs.OccurrenceOrderLemmas.{tied}
 use Rattle.scip_model.specs.OccurrenceOrder.{occurrence_cmp}
 use Rattle.scip_model.specs.Occurs.{Occurs}
 use Rattle.scip_model.specs.Conditions.{AreOfText, IsFound, AreUnresolvedUses}
-use Rattle.scip_model.specs.Packages.{package_of_file}
+use Rattle.proto_visibility.specs.Files.{HaveOrigins}
+use Rattle.proto_visibility.specs.Clashes.{NoClash}
+use Rattle.proto_visibility.specs.declared.clash.Duplicates.TheVariants.{Keep}
+use Rattle.scip_model.specs.Named.{home_of_file}
+use Rattle.scip_model.specs.Packages.{path_if_there}
 use Rattle.scip_model.specs.Tables.Plans.{own_texts, occurrence_of}
 use Rattle.scip_model.proofs.PlanLemmas.{grown_same, grown_then}
 use Rattle.scip_records.specs.declared.records.Occurrence.{Occurrence}
@@ -49,16 +53,15 @@ declaration_occurrences-requires-clause-parts c =
 
 pub declaration_occurrences-requires-clause-chosen : goal.declaration_occurrences-requires-clause-chosen
 declaration_occurrences-requires-clause-chosen c =
-    choices_there c.args.maker.now.linker.now c.args.maker.now.choices.now c.args.maker.now.source c.args.facts.now
+    choices_there c.args.maker.now.package.now.files c.args.maker.now.choices.now c.args.maker.now.source c.args.facts.now
     c.requires.choices c.requires.known
 
 pub use_occurrences-requires-clause-own : goal.use_occurrences-requires-clause-own
 use_occurrences-requires-clause-own c = (
   c.args.facts.now,
-  c.args.path.now,
   c.requires.known,
-  grown_then (own_texts (package_of_file c.args.maker.now.linker.now c.args.maker.now.package.now
-      c.args.maker.now.source) c.args.maker.now.package.now.run c.args.path.now c.args.facts.now) c.args.texts.now
+  grown_then (own_texts (home_of_file c.args.maker.now.package.now.files c.args.maker.now.package.now.ids
+      c.args.maker.now.source) c.args.maker.now.package.now.ids.run c.args.facts.now) c.args.texts.now
       c.import_occurrences.new.texts c.requires.texts c.in_ok-imports.ensures.grown,
 )
 
@@ -79,19 +82,19 @@ use_occurrences-requires-clause-stand c =
 
 pub use_occurrences-requires-clause-source : goal.use_occurrences-requires-clause-source
 use_occurrences-requires-clause-source c =
-    slice_get_within c.args.maker.now.linker.now c.args.maker.now.source c.requires.source.file
+    slice_get_within c.args.maker.now.package.now.files c.args.maker.now.source c.requires.source.file
     c.requires.source.numbered
 
 pub use_occurrences-requires-clause-nameable : goal.use_occurrences-requires-clause-nameable
 use_occurrences-requires-clause-nameable c = λ used found target is e.
-    let files = c.args.maker.now.linker.now in
+    let files = c.args.maker.now.package.now.files in
     let source = c.args.maker.now.source in
-    target_nameable files source c.facts_occur_in_order.ensures.origins c.facts_occur_in_order.ensures.spelled used
+    target_nameable files source (subst HaveOrigins c.linker.ensures.files c.facts_occur_in_order.ensures.origins) c.facts_occur_in_order.ensures.spelled used
     target (subst (IsFound files source used) e is)
 
 pub returns-clause-unresolved_uses : goal.returns-clause-unresolved_uses
 returns-clause-unresolved_uses c =
-    let files = c.args.maker.now.linker.now in
+    let files = c.args.maker.now.package.now.files in
     let source = c.args.maker.now.source in
     let facts = c.args.facts.now in
     let made = c.in_ok-uses.ensures.planned in
@@ -105,11 +108,12 @@ returns-clause-unresolved_uses c =
 
 pub returns-clause-planned : goal.returns-clause-planned
 returns-clause-planned c =
-    let files = c.args.maker.now.linker.now in
+    let files = c.args.maker.now.package.now.files in
     let chosen = c.args.maker.now.choices.now in
-    let ids = c.args.maker.now.package.now in
+    let ids = c.args.maker.now.package.now.ids in
     let source = c.args.maker.now.source in
-    let id = package_of_file files ids source in
+    let home = home_of_file files ids source in
+    let linked = c.linker.ensures.files in
     let encoding = c.args.maker.now.encoding in
     let text = c.args.maker.now.text.now in
     let facts = c.args.facts.now in
@@ -122,12 +126,12 @@ returns-clause-planned c =
     let texts = c.use_occurrences.new.texts in
     let f = occurrence_of texts in
     let later = c.in_ok-uses.ensures.grown in
-    let grown = grown_then (own_texts id ids.run c.args.path.now facts) c.args.texts.now texts c.requires.texts
+    let grown = grown_then (own_texts home ids.run facts) c.args.texts.now texts c.requires.texts
     (grown_then c.args.texts.now c.import_occurrences.new.texts texts c.in_ok-imports.ensures.grown later) in
-    let own = c.in_ok-own.ensures id ids.run c.args.path.now facts texts grown
-    ∙ ap (λ (p : List ℕ). own_occurrence id p ∷ []) (sym path.2) in
-    let packages = c.in_ok-packages.ensures id c.args.path.now texts grown in
-    let names = c.in_ok-names.ensures id ids.run c.args.path.now texts grown in
+    let own = c.in_ok-own.ensures home ids.run facts texts grown
+    ∙ ap (λ (p : List ℕ). own_occurrence home.id p ∷ []) (ap path_if_there path.1) in
+    let packages = c.in_ok-packages.ensures home texts grown in
+    let names = c.in_ok-names.ensures ids.run texts grown in
     let imports = c.in_ok-imports.ensures.planned texts later
     ∙ ap (λ (xs : List Imported). each_from (at_import ids encoding text files) 0 xs) c.imports.ensures in
     let untied : (x y : Occurrence) → Occurs files chosen ids encoding source text x
@@ -144,8 +148,8 @@ returns-clause-planned c =
     (c.facts_occur_in_order.ensures.order.uses facts origin)
     (c.facts_occur_in_order.ensures.order.imports facts origin)
     (c.facts_occur_in_order.ensures.order.package_name facts origin) found all
-    (c.facts_occur_in_order.ensures.targets files c.facts_occur_in_order.ensures.origins
-    c.facts_occur_in_order.ensures.clear.clear source c.requires.source) untied
+    (c.facts_occur_in_order.ensures.targets Keep files (subst HaveOrigins linked c.facts_occur_in_order.ensures.origins)
+    (subst (NoClash Keep) linked c.facts_occur_in_order.ensures.clear.clear) source c.requires.source) untied
     (map f c.in_ok-with_imports.with_imports.items) (map f c.in_ok-with_packages.with_packages.items)
     (map f c.in_ok-with_names.with_names.items) (map f c.in_ok-list.list.items)
     (merged_of own imports c.in_ok-with_imports.ensures)

@@ -1,13 +1,16 @@
-use Rattle.std.proofs.Common.{◌∙◌, ap, sym, refl, subst, List, ℕ, map}
+use Rattle.std.proofs.Common.{◌∙◌, ◌<◌, ap, sym, refl, subst, List, ℕ, length, map}
 use Rattle.scip_model.proofs.ConditionLinkedLemmas.{source-facts}
-use Rattle.scip_model.proofs.NamedLemmas.{some_facts, given_facts}
+use Rattle.scip_model.proofs.NamedLemmas.{some_facts, given_facts, facts_there}
 use Rattle.std.proofs.lemmas.Option.{slice_get_within, same_Some}
 use Rattle.scip_symbol.specs.Package.{Package}
-use Rattle.scip_model.specs.Packages.{package_of_file}
+use Rattle.scip_model.specs.Packages.{path_if_there}
+use Rattle.scip_model.specs.Named.{Home}
+use Rattle.scip_model.specs.Makers.{source_home}
+use Rattle.proto_visibility.specs.Absences.{NoneBroken}
 use Rattle.scip_model.specs.Tables.Plans.{own_texts, Grown}
 use Rattle.scip_symbol.specs.Path.{IsGoodPath}
 use Rattle.scip_model.proofs.PlanLemmas.{grown_same}
-use Rattle.proto_visibility.specs.Files.{File}
+use Rattle.proto_visibility.specs.Files.{File, HasPathAt}
 use Rattle.index_hooks.specs.declared.choice.Choice.{Choice}
 use Rattle.scip_model.specs.Entries.{HasEntry}
 use Rattle.scip_model.specs.Indexes.{IsAscendingListOf, info_cmp}
@@ -15,37 +18,82 @@ use Rattle.scip_model.specs.Tables.EntryLists.{package_names}
 use Rattle.scip_model.specs.Tables.Plans.{entry_of}
 use Rattle.scip_model.proofs.source_document.plan_document.Goals as goal
 
+pub facts_of-requires : goal.facts_of-requires
+facts_of-requires c =
+    let source = c.requires.source in
+    subst (λ (files : List File). c.args.maker.now.source < length files) (sym c.linker-linker.ensures.files)
+    (slice_get_within c.args.maker.now.package.now.files c.args.maker.now.source source.file source.numbered)
+
+pub path_of-path-requires : goal.path_of-path-requires
+path_of-path-requires c =
+    let source = c.requires.source in
+    subst (λ (files : List File). c.args.maker.now.source < length files) (sym c.linker-linker.ensures.files)
+    (slice_get_within c.args.maker.now.package.now.files c.args.maker.now.source source.file source.numbered)
+
 pub unwrap-facts-requires : goal.unwrap-facts-requires
 unwrap-facts-requires c =
-    let facts = source-facts c.args.maker.now.linker.now c.args.maker.now.source c.linked.ensures.clear.read
+    let files = c.args.maker.now.package.now.files in
+    let source = c.args.maker.now.source in
+    let facts = source-facts files source (subst NoneBroken c.linker-linker.ensures.files c.linked.ensures.clear.read)
     c.requires.source in
-    some_facts c.args.maker.now.linker.now c.args.maker.now.source facts.0 c.facts_of.result facts.1 c.facts_of.ensures
+    some_facts files source facts.0 c.facts_of.result facts.1
+    (facts_there files c.linker-linker.result.now source c.facts_of.result c.linker-linker.ensures.files
+    c.facts_of.ensures)
+
+pub occurrences-requires-clause-known : goal.occurrences-requires-clause-known
+occurrences-requires-clause-known c =
+    let files = c.args.maker.now.package.now.files in
+    let source = c.args.maker.now.source in
+    given_facts files source c.facts_of.result c.unwrap-facts.result c.unwrap-facts.ensures
+    (facts_there files c.linker-linker.result.now source c.facts_of.result c.linker-linker.ensures.files
+    c.facts_of.ensures)
 
 pub occurrences-requires-clause-text : goal.occurrences-requires-clause-text
 occurrences-requires-clause-text c =
-    let facts = c.unwrap-facts.result.now in
-    c.requires.text facts (given_facts c.args.maker.now.linker.now c.args.maker.now.source c.facts_of.result
-    c.unwrap-facts.result c.unwrap-facts.ensures c.facts_of.ensures)
+    let files = c.args.maker.now.package.now.files in
+    let source = c.args.maker.now.source in
+    c.requires.text c.unwrap-facts.result.now
+    (given_facts files source c.facts_of.result c.unwrap-facts.result c.unwrap-facts.ensures
+    (facts_there files c.linker-linker.result.now source c.facts_of.result c.linker-linker.ensures.files
+    c.facts_of.ensures))
 
-pub package_of_file-id-requires : goal.package_of_file-id-requires
-package_of_file-id-requires c =
+pub occurrences-requires-clause-path : goal.occurrences-requires-clause-path
+occurrences-requires-clause-path c =
+    subst (λ (files : List File). HasPathAt files c.path_of-path.result.now c.args.maker.now.source)
+    c.linker-linker.ensures.files c.path_of-path.ensures
+
+pub entry_numbers-requires-clause-known : goal.entry_numbers-requires-clause-known
+entry_numbers-requires-clause-known c =
+    let files = c.args.maker.now.package.now.files in
+    let source = c.args.maker.now.source in
+    given_facts files source c.facts_of.result c.unwrap-facts.result c.unwrap-facts.ensures
+    (facts_there files c.linker-linker.result.now source c.facts_of.result c.linker-linker.ensures.files
+    c.facts_of.ensures)
+
+pub entry_numbers-requires-clause-path : goal.entry_numbers-requires-clause-path
+entry_numbers-requires-clause-path c =
+    subst (λ (files : List File). HasPathAt files c.path_of-path.result.now c.args.maker.now.source)
+    c.linker-linker.ensures.files c.path_of-path.ensures
+
+pub home_of-home-requires : goal.home_of-home-requires
+home_of-home-requires c =
     let source = c.requires.source in
-    slice_get_within c.args.maker.now.linker.now c.args.maker.now.source source.file source.numbered
+    slice_get_within c.args.maker.now.package.now.files c.args.maker.now.source source.file source.numbered
 
 pub own_texts-requires : goal.own_texts-requires
-own_texts-requires c = let path = c.path_of-path.ensures in
-    subst IsGoodPath path.2 (c.requires.paths c.args.maker.now.source path.0 path.1)
+own_texts-requires c =
+    let source = c.requires.source in
+    subst (λ (home : Home). IsGoodPath home.path) (sym c.home_of-home.ensures)
+    (subst IsGoodPath (sym (ap path_if_there source.numbered))
+    (c.requires.paths c.args.maker.now.source source.file source.numbered))
 
 pub occurrences-requires-clause-texts : goal.occurrences-requires-clause-texts
 occurrences-requires-clause-texts c =
     let facts = c.unwrap-facts.result.now in
-    let path = c.path_of-path.result.now in
-    let run = c.args.maker.now.package.now.run in
     let own = c.new-texts.ensures
     ∙ (c.in_ok-own.ensures
-    ∙ (ap (λ (id : Package). own_texts id c.run.result.now path facts) c.package_of_file-id.ensures
-    ∙ ap (λ (its : Package). own_texts (package_of_file c.args.maker.now.linker.now c.args.maker.now.package.now
-    c.args.maker.now.source) its path facts) c.run.ensures.value)) in
+    ∙ (ap (λ (home : Home). own_texts home c.run.result.now facts) c.home_of-home.ensures
+    ∙ ap (λ (run : Package). own_texts (source_home c.args.maker.now) run facts) c.run.ensures.value)) in
     subst (λ (texts : List (List ℕ)). Grown texts c.new-texts.result) own (grown_same c.new-texts.result)
 
 pub returns-clause-unresolved_uses : goal.returns-clause-unresolved_uses
@@ -54,10 +102,11 @@ returns-clause-unresolved_uses c = rw c.from_vec.ensures c.in_ok-occurrences.ens
 pub returns-clause-document : goal.returns-clause-document
 returns-clause-document c =
     let maker = c.args.maker.now in
-    let files = maker.linker.now in
+    let files = maker.package.now.files in
     let source = maker.source in
     let facts = c.unwrap-facts.result.now in
-    let path = c.path_of-path.ensures in
+    let path = subst (λ (list : List File). HasPathAt list c.path_of-path.result.now source)
+    c.linker-linker.ensures.files c.path_of-path.ensures in
     let texts = c.occurrences.new.texts in
     let same_file = same_Some _ _ (sym path.1 ∙ c.requires.source.numbered) in
     let symbols = ap (λ (names : List (List ℕ)).
@@ -73,7 +122,7 @@ returns-clause-document c =
       present = c.requires.source.present;
       relative_path = sym path.2 ∙ ap (λ (f : File). f.path) same_file;
       occurrences = c.in_ok-occurrences.ensures.planned;
-      symbols = subst (IsAscendingListOf info_cmp (HasEntry files maker.choices.now maker.package.now source))
+      symbols = subst (IsAscendingListOf info_cmp (HasEntry files maker.choices.now maker.package.now.ids source))
           (sym symbols) c.in_ok-entries.ensures;
       language = refl;
       position_encoding = refl;

@@ -10,15 +10,15 @@ use Rattle.scip_model.proofs.use_occurrences.add_target.Goals as goal
 
 pub add_part-requires-clause-own : goal.add_part-requires-clause-own
 add_part-requires-clause-own c =
-    own_then c.args.maker.now.linker.now c.args.maker.now.package.now c.args.maker.now.source c.args.texts.now
+    own_then c.args.maker.now.package.now.files c.args.maker.now.package.now.ids c.args.maker.now.source c.args.texts.now
     c.loop-index.texts c.requires.own c.loop-index.invariant.grown
 
 pub loop-index-preserved : goal.loop-index-preserved
 loop-index-preserved c =
-    let ids = c.args.maker.now.package.now in
+    let ids = c.args.maker.now.package.now.ids in
     let encoding = c.args.maker.now.encoding in
     let text = c.args.maker.now.text.now in
-    let files = c.args.maker.now.linker.now in
+    let files = c.args.maker.now.package.now.files in
     let chosen = c.args.maker.now.choices.now in
     let target = c.args.target.now in
     let xs = c.as_slice-component-items.result.now in

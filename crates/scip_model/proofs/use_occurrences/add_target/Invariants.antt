@@ -8,9 +8,9 @@ invariant-loop-index l = record {
   grown : Grown l.fn.texts l.texts;
   added : (later : List (List ℕ)) → Grown l.texts later
       → map (occurrence_of later) l.list.items ++ each_from
-      (at_component l.maker.package.now l.maker.encoding l.maker.text.now l.maker.linker.now l.maker.choices.now
+      (at_component l.maker.package.now.ids l.maker.encoding l.maker.text.now l.maker.package.now.files l.maker.choices.now
       l.target) l.index (drop l.index l.component-items)
       ≡ map (occurrence_of later) l.fn.list.items ++ each_from
-      (at_component l.maker.package.now l.maker.encoding l.maker.text.now l.maker.linker.now l.maker.choices.now
+      (at_component l.maker.package.now.ids l.maker.encoding l.maker.text.now l.maker.package.now.files l.maker.choices.now
       l.target) 0 l.component-items;
 }

@@ -17,7 +17,7 @@ use Rattle.scip_model.proofs.use_occurrences.use_occurrences.Goals as goal
 
 pub add_use-requires-clause-own : goal.add_use-requires-clause-own
 add_use-requires-clause-own c =
-    own_then c.args.maker.now.linker.now c.args.maker.now.package.now c.args.maker.now.source c.args.texts.now
+    own_then c.args.maker.now.package.now.files c.args.maker.now.package.now.ids c.args.maker.now.source c.args.texts.now
     c.loop-type_use.texts c.requires.own c.loop-type_use.invariant.grown
 
 pub add_use-requires-clause-nameable : goal.add_use-requires-clause-nameable
@@ -36,10 +36,10 @@ loop-type_use-init c = record {
 
 pub loop-type_use-preserved : goal.loop-type_use-preserved
 loop-type_use-preserved c =
-    let ids = c.args.maker.now.package.now in
+    let ids = c.args.maker.now.package.now.ids in
     let encoding = c.args.maker.now.encoding in
     let text = c.args.maker.now.text.now in
-    let files = c.args.maker.now.linker.now in
+    let files = c.args.maker.now.package.now.files in
     let source = c.args.maker.now.source in
     let chosen = c.args.maker.now.choices.now in
     let uses = c.args.uses.now in
@@ -81,10 +81,10 @@ loop-type_use-preserved c =
 
 pub returns-clause-planned : goal.returns-clause-planned
 returns-clause-planned c =
-    let ids = c.args.maker.now.package.now in
+    let ids = c.args.maker.now.package.now.ids in
     let encoding = c.args.maker.now.encoding in
     let text = c.args.maker.now.text.now in
-    let files = c.args.maker.now.linker.now in
+    let files = c.args.maker.now.package.now.files in
     let source = c.args.maker.now.source in
     let chosen = c.args.maker.now.choices.now in
     let uses = c.args.uses.now in

@@ -11,9 +11,9 @@ abbrev pub invariant-loop-type_use : goal.invariant-loop-type_use
 invariant-loop-type_use l = record {
   grown : Grown l.fn.texts l.texts;
   so_far : (found : List (Option Target))
-      × AllZip (IsFound l.maker.linker.now l.maker.source) (take l.type_use-index l.uses) found
-      × ArePlanned l.texts l.list.items (each_from (at_use l.maker.package.now l.maker.encoding l.maker.text.now
-      l.maker.linker.now l.maker.choices.now found) 0 (take l.type_use-index l.uses))
+      × AllZip (IsFound l.maker.package.now.files l.maker.source) (take l.type_use-index l.uses) found
+      × ArePlanned l.texts l.list.items (each_from (at_use l.maker.package.now.ids l.maker.encoding l.maker.text.now
+      l.maker.package.now.files l.maker.choices.now found) 0 (take l.type_use-index l.uses))
       × (l.unresolved_uses.items ≡ l.fn.unresolved_uses.items ++ each_from (unresolved_use_at found) 0
       (take l.type_use-index l.uses));
 }

@@ -5,7 +5,7 @@ use Rattle.proto_visibility.specs.Kept.{Omissions, IsCounted}
 use Rattle.proto_visibility.proofs.SeeingReachableLemmas.{source_within}
 use Rattle.proto_visibility.proofs.OmissionLemmas.{counted_within}
 use Rattle.proto_visibility.proofs.OmissionPassLemmas.{are_omissions, first_pass, second_pass}
-use Rattle.proto_visibility.proofs.omissions.left_out.Goals as goal
+use Rattle.proto_visibility.proofs.omissions.left_out_of_all.Goals as goal
 
 pub omit_unread-requires-clause-within : goal.omit_unread-requires-clause-within
 omit_unread-requires-clause-within c =

@@ -1,10 +1,15 @@
 -- What the program `join` makes of the indexes that files hold.
 use Rattle.std.proofs.Common.{◌≡◌, ◌↔◌, ◌<◌, ℕ, List, [], ◌∷◌, ◌++◌, length, map, take, Option}
-use Rattle.std.proofs.Common.{Result, Ok, Err, sym, ◌∙◌, ap, subst, arith}
+use Rattle.std.proofs.Common.{Result, Ok, Err, refl, sym, ◌∙◌, ap, subst, arith}
 use Rattle.std.specs.Prelude.{OnOk, IfErr}
 use Rattle.std.proofs.lemmas.List.{length-map, length-take-le}
+use Rattle.streams.specs.Writers.{writing}
+use Rattle.source_files.specs.Places.{IsBegun}
 use Rattle.scip_records.specs.declared.records.Index.{Index}
-use Rattle.scip_wire.specs.Spelling.{spelling_of}
+use Rattle.scip_wire.specs.Spelling.{spelling_of, max_index_len}
+use Rattle.scip_wire.specs.Writing.{Leaves}
+use Rattle.scip_wire.specs.declared.write_fault.WriteFault.{WriteFault}
+use Rattle.scip_wire.specs.declared.write_fault.WriteFault.TheVariants as writes
 use Rattle.scip_join.specs.Gathered.{Gathered, gathered}
 use Rattle.scip_join.specs.Joined.{IsJoin}
 use Rattle.scip_join.specs.Pieces.{ArePiecesOf}
@@ -15,10 +20,13 @@ use Rattle.scip_join.specs.declared.join_fault.JoinFault.TheVariants as join
 use Rattle.scip_join.specs.declared.join_fault.TwoDocuments.{TwoDocuments}
 use Rattle.scip_join.specs.declared.joined.JoinedIndex.{JoinedIndex}
 use Rattle.programs.specs.Joining.{Adds, AreGathered, HasNoJoin, HasNoNext, HasPieces, IsJoinOf, MayNotPut}
-use Rattle.programs.specs.Joining.{PutsJoin}
+use Rattle.programs.specs.Joining.{PutsJoin, PutsNone}
 use Rattle.programs.specs.Joining.AreRead.{none, one_more}
-use Rattle.programs.specs.Joining.HasNoJoin.{no_next, twice, too_large, unwritten, joining_lacks_memory}
-use Rattle.programs.specs.Placing.{Place, IsPut}
+use Rattle.programs.specs.Joining.HasNoJoin.{no_next, twice, too_large, joining_lacks_memory}
+use Rattle.programs.specs.Joining.PutsNone.{unjoined, unwritten}
+use Rattle.programs.specs.JoinStops.{stop_of_writing}
+use Rattle.programs.specs.Placing.{Place, IsGivenUp, IsPut}
+use Rattle.programs.specs.Placing.IsUnput.{cut_off}
 use Rattle.programs.specs.Queries.{IsReadFrom}
 use Rattle.programs.specs.declared.join_stop.JoinStop.{JoinStop}
 use Rattle.programs.specs.declared.join_stop.JoinStop.TheVariants as stop
@@ -123,18 +131,28 @@ module _ (gives : List ℕ → Option (List ℕ) → Type 0) (choices : JoinChoi
   puts at whole (Ok done) has put = record { joined = has.joined; is = has.is; put = put has.joined has.pieces }
   puts at whole (Err fault) has put = tt
 
-  refused : (joined : Index) (fault : JoinStop) → IsJoinOf gives choices paths joined → MayNotPut joined fault
-      → HasNoJoin gives choices paths fault
-  refused joined stop.TooLarge is large = too_large joined is large
-  refused joined stop.Write is may = unwritten joined is
-  refused joined stop.Memory is may = joining_lacks_memory
-  refused joined (stop.Read number fault) is may = absurd may
-  refused joined (stop.OtherRoot number) is may = absurd may
-  refused joined (stop.Twice two) is may = absurd may
+  refused : {P W : Type 0} (at : Place P W) (joined : Index) (fault : JoinStop) → IsJoinOf gives choices paths joined
+      → MayNotPut at joined fault → PutsNone gives choices paths at fault
+  refused at joined stop.TooLarge is large = unjoined (too_large joined is large)
+  refused at joined stop.Write is unput = unwritten joined is unput
+  refused at joined stop.Memory is may = unjoined joining_lacks_memory
+  refused at joined (stop.Read number fault) is may = absurd may
+  refused at joined (stop.OtherRoot number) is may = absurd may
+  refused at joined (stop.Twice two) is may = absurd may
 
   -- or they aren't
-  pub puts_not : (whole : JoinedIndex) (done : Result (Unit {0}) JoinStop) → HasPieces gives choices paths whole
-      → ((index : Index) → ArePiecesOf whole index → IfErr done (MayNotPut index))
-      → IfErr done (HasNoJoin gives choices paths)
-  puts_not whole (Ok done) has stops = tt
-  puts_not whole (Err fault) has stops = refused has.joined fault has.is (stops has.joined has.pieces)
+  pub puts_not : {P W : Type 0} (at : Place P W) (whole : JoinedIndex) (done : Result (Unit {0}) JoinStop)
+      → HasPieces gives choices paths whole
+      → ((index : Index) → ArePiecesOf whole index → IfErr done (MayNotPut at index))
+      → IfErr done (PutsNone gives choices paths at)
+  puts_not at whole (Ok done) has stops = tt
+  puts_not at whole (Err fault) has stops = refused at has.joined fault has.is (stops has.joined has.pieces)
+
+-- why an index isn't put, by what writing it to a part tells
+pub unput_by : {P W : Type 0} (at : Place P W) (index : Index) (begun left : W) (fault : WriteFault)
+    → IsBegun at.sink.contents at.sink.failures begun
+    → Leaves (writing at.sink begun left) (spelling_of index) fault
+    → (fault ≡ writes.TooLarge → max_index_len < length (spelling_of index)) → IsGivenUp at left
+    → MayNotPut at index (stop_of_writing fault)
+unput_by at index begun left writes.TooLarge nothing leaves large given = large refl
+unput_by at index begun left (writes.Write count) nothing leaves large given = cut_off begun left nothing leaves given

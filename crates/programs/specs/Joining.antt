@@ -16,7 +16,7 @@ use Rattle.scip_join.specs.declared.join_fault.TwoDocuments.{TwoDocuments}
 use Rattle.scip_join.specs.declared.joined.JoinedIndex.{JoinedIndex}
 use Rattle.command_line.specs.declared.options.JoinOptions.{JoinOptions}
 use Rattle.programs.specs.Messages.{IsSilent, TellsOne}
-use Rattle.programs.specs.Placing.{Place, IsLeft, IsPut}
+use Rattle.programs.specs.Placing.{Place, IsLeft, IsPut, IsUnput}
 use Rattle.programs.specs.Queries.{IsReadFrom}
 use Rattle.programs.specs.JoinStops.{IsTold, status_of}
 use Rattle.programs.specs.declared.query_fault.QueryFault.{QueryFault}
@@ -68,7 +68,7 @@ pub record IsJoinOf (gives : List ℕ → Option (List ℕ) → Type 0) (choices
   pub is : IsJoin choices.project_root indexes joined
 
 -- Why there is none, the first of these: of a file in turn no index comes behind those before; a path is there twice,
--- and none is to be replaced; the join is too large; a write fails. Memory may run out before each of them.
+-- and none is to be replaced; the join is too large. Memory may run out before each of them.
 pub data HasNoJoin (gives : List ℕ → Option (List ℕ) → Type 0) (choices : JoinChoices) (paths : List (List ℕ))
     : JoinStop → Type 0 where
   no_next : {stop : JoinStop} (before : List (List ℕ)) (path : List ℕ) (after : List (List ℕ)) (indexes : List Index)
@@ -78,7 +78,6 @@ pub data HasNoJoin (gives : List ℕ → Option (List ℕ) → Type 0) (choices 
       → choices.replace ≡ false → IsTwice indexes two → HasNoJoin gives choices paths (Twice two)
   too_large : (joined : Index) → IsJoinOf gives choices paths joined → max_index_len < length (spelling_of joined)
       → HasNoJoin gives choices paths TooLarge
-  unwritten : (joined : Index) → IsJoinOf gives choices paths joined → HasNoJoin gives choices paths Write
   joining_lacks_memory : HasNoJoin gives choices paths Memory
 
 -- ---- the steps
@@ -105,11 +104,11 @@ pub record HasPieces (gives : List ℕ → Option (List ℕ) → Type 0) (choice
   pub pieces : ArePiecesOf whole joined
 
 -- why an index isn't put at its place: it is too large, a write fails, or memory ran out
-abbrev pub MayNotPut : Index → JoinStop → Type 0
-MayNotPut index TooLarge = max_index_len < length (spelling_of index)
-MayNotPut index Write = ⊤
-MayNotPut index Memory = ⊤
-MayNotPut index stop = ⊥
+abbrev pub MayNotPut : {P W : Type 0} → (at : Place P W) → Index → JoinStop → Type 0
+MayNotPut at index TooLarge = max_index_len < length (spelling_of index)
+MayNotPut at index Write = IsUnput at (spelling_of index)
+MayNotPut at index Memory = ⊤
+MayNotPut at index stop = ⊥
 
 -- the bytes of the join are put at a place
 pub record PutsJoin {P W : Type 0} (gives : List ℕ → Option (List ℕ) → Type 0) (choices : JoinChoices)
@@ -118,13 +117,20 @@ pub record PutsJoin {P W : Type 0} (gives : List ℕ → Option (List ℕ) → T
   pub is : IsJoinOf gives choices paths joined
   pub put : IsPut at (spelling_of joined)
 
+-- why no join is put at a place: there is none, or writing its bytes fails
+pub data PutsNone {P W : Type 0} (gives : List ℕ → Option (List ℕ) → Type 0) (choices : JoinChoices)
+    (paths : List (List ℕ)) (at : Place P W) : JoinStop → Type 0 where
+  unjoined : {stop : JoinStop} → HasNoJoin gives choices paths stop → PutsNone gives choices paths at stop
+  unwritten : (joined : Index) → IsJoinOf gives choices paths joined → IsUnput at (spelling_of joined)
+      → PutsNone gives choices paths at Write
+
 -- ---- the program
 
--- The bytes of the join are put at the place; or it is told why there is none, and the place is as it was.
+-- The bytes of the join are put at the place; or it is told why they aren't, and the place is as it was.
 pub data RunsJoin {P W M : Type 0} (gives blames : List ℕ → Option (List ℕ) → Type 0) (options : JoinOptions)
     (at : Place P W) (messages : Writer M) (status : ℕ) : Type 0 where
   puts : PutsJoin gives (choices_in options) (paths_in options) at → IsSilent messages status
       → RunsJoin gives blames options at messages status
-  stops : (stop : JoinStop) → HasNoJoin gives (choices_in options) (paths_in options) stop → IsLeft at
+  stops : (stop : JoinStop) → PutsNone gives (choices_in options) (paths_in options) at stop → IsLeft at
       → TellsOne (IsTold blames options.explain (paths_in options) stop) (status_of stop) messages status
       → RunsJoin gives blames options at messages status

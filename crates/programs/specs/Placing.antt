@@ -3,7 +3,7 @@ use Rattle.std.specs.Prelude.{◌≡◌, ◌⊎◌, ℕ, Bool, true, false, List
 use Rattle.std.specs.Prelude.{String, string_bytes, IfSome}
 use Rattle.std.specs.Global.{Global}
 use Rattle.std.specs.Option.{option_map}
-use Rattle.streams.specs.Writers.{IsWritten, SinkOf, writing}
+use Rattle.streams.specs.Writers.{IsCutOff, IsWritten, SinkOf, writing}
 use Rattle.source_tree.specs.Files.{TreeFile}
 use Rattle.source_files.specs.Places.{IsAsked, IsBegun}
 use Rattle.source_files.specs.declared.out_place.OutPlace.{Ghosts as OutPlaceOf}
@@ -108,6 +108,14 @@ pub record IsPut {P W : Type 0} (at : Place P W) (bytes : List ℕ) : Type 0 whe
   pub written : IsWritten (writing at.sink begun whole) bytes
   pub put : IsFilled at whole
   pub held : at.sink.contents begun ≡ Some [] → at.holds at.after ≡ Some bytes
+
+-- These bytes aren't put there, and the place is as it was: a write to a part failed, which is given up; or all of them
+-- were written to it, and the place refused it, as a write is refused.
+pub data IsUnput {P W : Type 0} (at : Place P W) (bytes : List ℕ) : Type 0 where
+  cut_off : {count : ℕ} (begun left : W) → IsBegun at.sink.contents at.sink.failures begun
+      → IsCutOff (writing at.sink begun left) bytes count → IsGivenUp at left → IsUnput at bytes
+  refused : (begun whole : W) → IsBegun at.sink.contents at.sink.failures begun
+      → IsWritten (writing at.sink begun whole) bytes → IsRefused at whole → IsUnput at bytes
 
 -- the folders whose files are read: the root, and then those with included files
 abbrev pub roots_in : IndexOptions → List (List ℕ)

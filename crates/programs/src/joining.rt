@@ -16,6 +16,7 @@ ghost use Rattle.programs.specs.Joining.{
   HasPieces,
   MayNotPut,
   PutsJoin,
+  PutsNone,
   RunsJoin,
   choices_in,
   paths_in,
@@ -126,7 +127,8 @@ fn put<P: OutPlace>(alloc: Global, joined: &JoinedIndex, at: &mut P) -> Result<(
     ensures put { (index : Index) → ArePiecesOf joined.now index
         → OnOk result (IsPut (place P.OutPlace P.Part.Sink at.old at.new) (spelling_of index)) }
     ensures left { IfErr result (λ _. at.new ≡ at.old) }
-    ensures stops { (index : Index) → ArePiecesOf joined.now index → IfErr result (MayNotPut index) }
+    ensures stops { (index : Index) → ArePiecesOf joined.now index
+        → IfErr result (MayNotPut (place P.OutPlace P.Part.Sink at.old at.new) index) }
 {
     let mut part = at.begin(alloc)?;
     if let Err(fault) = joined.write(&mut part) {
@@ -140,7 +142,7 @@ fn put<P: OutPlace>(alloc: Global, joined: &JoinedIndex, at: &mut P) -> Result<(
 }
 
 /// Joins the indexes of files, and puts the join at its place.
-#[tactic(auto, using(crate::proofs::JoiningRules::of_join))]
+#[tactic(auto, using(crate::proofs::JoiningRules::of_put))]
 fn join_into<R, F: ReadFiles, P: OutPlace>(
     host: &Host<'_, R, F>,
     options: &JoinOptions,
@@ -149,8 +151,8 @@ fn join_into<R, F: ReadFiles, P: OutPlace>(
     ensures put { OnOk result (PutsJoin (F.gives host.now.files.now) (choices_in options.now) (paths_in options.now)
         (place P.OutPlace P.Part.Sink at.old at.new)) }
     ensures left { IfErr result (λ _. at.new ≡ at.old) }
-    ensures stops { IfErr result (HasNoJoin (F.gives host.now.files.now) (choices_in options.now)
-        (paths_in options.now)) }
+    ensures stops { IfErr result (PutsNone (F.gives host.now.files.now) (choices_in options.now) (paths_in options.now)
+        (place P.OutPlace P.Part.Sink at.old at.new)) }
 {
     let choices = choices_of(host.alloc, options)?;
     let joined = join_files(host.alloc, host.files, choices, options.indexes.as_slice())?;

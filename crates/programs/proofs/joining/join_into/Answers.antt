@@ -4,6 +4,7 @@ use Rattle.std.proofs.Common.{subst, map, List, String}
 use Rattle.std.proofs.lemmas.Result.{err_from_is_err_and}
 use Rattle.scip_join.specs.declared.choices.JoinChoices.{JoinChoices}
 use Rattle.programs.specs.Joining.{HasNoJoin, HasPieces, choices_in, paths_in}
+use Rattle.programs.specs.Joining.PutsNone.{unjoined}
 use Rattle.programs.specs.Placing.{place}
 use Rattle.programs.proofs.JoiningLemmas.{puts, puts_not}
 use Rattle.programs.proofs.joining.join_into.Goals as goal
@@ -13,10 +14,10 @@ returns-in_err-joined-clause-stops g c =
     let p = err_from_is_err_and c.from_residual-in_err-joined.result c.from_residual-in_err-joined.ensures.1 in
     let gives = g.F.ReadFiles.gives c.args.host.now.files.now in
     let stop = c.in_err-joined.field-0.0 in
-    rw (p.1, p.2) (subst (λ (paths : List (String Global)). HasNoJoin gives (choices_in c.args.options.now)
+    rw (p.1, p.2) (unjoined (subst (λ (paths : List (String Global)). HasNoJoin gives (choices_in c.args.options.now)
     (map string_bytes paths) stop) c.as_slice.ensures.value
     (subst (λ (choices : JoinChoices). HasNoJoin gives choices (map string_bytes c.as_slice.result.now) stop)
-    c.in_ok-choices.ensures c.in_err-joined.ensures.stops))
+    c.in_ok-choices.ensures c.in_err-joined.ensures.stops)))
 
 pub returns-clause-put : goal.returns-clause-put
 returns-clause-put g c =
@@ -35,7 +36,8 @@ returns-clause-stops g c =
     let gives = g.F.ReadFiles.gives c.args.host.now.files.now in
     let options = c.args.options.now in
     let whole = c.in_ok-joined.joined in
-    puts_not gives (choices_in options) (paths_in options) whole c.put.result
+    puts_not gives (choices_in options) (paths_in options)
+    (place g.P.OutPlace g.P.Part.Sink c.args.at.now c.put.new.at) whole c.put.result
     (subst (λ (paths : List (String Global)). HasPieces gives (choices_in options) (map string_bytes paths) whole)
     c.as_slice.ensures.value
     (subst (λ (choices : JoinChoices). HasPieces gives choices (map string_bytes c.as_slice.result.now) whole)

@@ -28,9 +28,10 @@ IMPORT = re.compile(r"//[^\n]*|/\*.*?\*/|\bimport\s+(?:public\s+|weak\s+)?\"([^\
 COMMENT = re.compile(rb"//[^\n]*|/\*.*?\*/", re.S)
 WORD = re.compile(rb"//[^\n]*|/\*.*?\*/|(\w+)", re.S)
 TOLD = re.compile(r"protoscip: (?:(skipped): (.*?)@(\d+): (\w+)(?: of (.*)@(\d+))?"
-                  r"|(no target): (.*)@(\d+): (MissingImport|Unresolved))")
+                  r"|(no target): (.*)@(\d+): (MissingImport|Unresolved|Ambiguous))")
 COUNTS = re.compile(r"protoscip: (\d+) sources indexed, (\d+) skipped, (\d+) imports and (\d+) uses without a target")
 SYMBOL = "scip-protobuf . . . "
+FRONT = re.compile(re.escape(SYMBOL) + "`([^`]+)`/(.+)")
 GROUP = 10  # the type of a group's field
 
 
@@ -211,10 +212,11 @@ def name_of(message, number=1):
 
 class Descriptor:
     """A file's definitions, uses and imports by protoc: places are (line, column, end line, end column), in bytes.
-    Extensions are among them where they are declared, and not only read past."""
+    Extensions are among them where they are declared, and not only read past. What is declared outermost, and is
+    repeated, has the file before the package."""
 
-    def __init__(self, data, text, has_extensions):
-        self.file, self.has_extensions = fields(data), has_extensions
+    def __init__(self, data, text, has_extensions, repeated=()):
+        self.file, self.has_extensions, self.repeated = fields(data), has_extensions, repeated
         self.path, self.package = name_of(self.file), name_of(self.file, 2)
         self.imports = [path.decode() for path in self.file[3]]
         self.text, self.lines = text, text.split(b"\n")
@@ -224,19 +226,28 @@ class Descriptor:
             parts = fields(location)
             self.places.setdefault(tuple(numbers(parts[1])), numbers(parts[2]))
         self.symbols, self.definitions, self.uses, self.flaws = {}, set(), set(), []
-        scope = SYMBOL + "".join(part + "/" for part in self.package.split(".") if part)
+        self.outermost = [self.full(name_of(fields(data))) for kind in (4, 5, 6) for data in self.file[kind]]
+        self.outermost += [self.full(name_of(fields(data))) for data in self.file[7] if has_extensions]
         if (2,) in self.places:
             front = ""
             for place, word in self.words_at(self.place((2,)))[1:]:
                 front += word + "/"
                 self.definitions.add((place, SYMBOL + front))
         for number, message in enumerate(self.file[4]):
-            self.add_message(message, (4, number), scope, self.package)
+            self.add_message(message, (4, number), self.scope(name_of(fields(message))), self.package)
         for number, enum in enumerate(self.file[5]):
-            self.add_enum(enum, (5, number), scope, self.package)
+            self.add_enum(enum, (5, number), self.scope(name_of(fields(enum))), self.package)
         for number, service in enumerate(self.file[6]):
-            self.add_service(fields(service), (6, number), scope)
-        self.add_extensions(self.file[7], (7,), scope)
+            self.add_service(fields(service), (6, number), self.scope(name_of(fields(service))))
+        self.add_extensions(self.file[7], (7,), self.scope)
+
+    def full(self, name):
+        return f"{self.package}.{name}".lstrip(".")
+
+    def scope(self, name):
+        """What the symbol of an outermost declaration has before its name."""
+        file = f"`{self.path}`/" if self.full(name) in self.repeated else ""
+        return SYMBOL + file + "".join(part + "/" for part in self.package.split(".") if part)
 
     def column(self, line, column):
         """protoc counts a tab up to the next multiple of 8."""
@@ -317,7 +328,7 @@ class Descriptor:
             self.add_message(nested, path + (3, number), symbol, full)
         for number, enum in enumerate(message[4]):
             self.add_enum(enum, path + (4, number), symbol, full)
-        self.add_extensions(message[6], path + (6,), symbol)
+        self.add_extensions(message[6], path + (6,), lambda _: symbol)
 
     def add_field(self, field, path, symbol, entries):
         """A group's field stands at the word `group`; its type, at the group's name, is no use."""
@@ -331,9 +342,9 @@ class Descriptor:
         elif field[6] and not value:
             self.use(self.place(path + (6,)), name_of(field, 6))
 
-    def add_extensions(self, extensions, path, symbol):
+    def add_extensions(self, extensions, path, scope):
         for number, field in enumerate(map(fields, extensions if self.has_extensions else ())):
-            self.add_field(field, path + (number,), symbol, {})
+            self.add_field(field, path + (number,), scope(name_of(field)), {})
             self.use(self.place(path + (number, 2)), name_of(field, 2))
 
     def add_enum(self, data, path, scope, outer):
@@ -356,10 +367,11 @@ class Descriptor:
 
 class Protoc:
     """What protoc says of these sources: the descriptors of those that it can read, the first line of what it says of
-    the others, and the symbols and imports of all the files that they see."""
+    the others, the symbols and imports of all the files that they see, and for each source the file that declares a
+    type, by its symbol. `repeated` has the names that a file gives after another one, by path."""
 
-    def __init__(self, folders, paths, room, has_extensions):
-        self.found, self.refused, self.symbols, self.imports = {}, {}, {}, {}
+    def __init__(self, folders, paths, room, has_extensions, repeated=None):
+        self.found, self.refused, self.symbols, self.imports, self.owners = {}, {}, {}, {}, {}
         out = os.path.join(room, "descriptors")
         for path in paths:
             places = [f"--proto_path={folder}" for folder in folders]
@@ -370,12 +382,14 @@ class Protoc:
                 errors = [line for line in said if "warning" not in line.lower()]
                 self.refused[path] = (errors or ["?"])[0]
                 continue
+            self.owners[path] = {}
             for data in fields(text_of(out))[1]:
                 name = name_of(fields(data))
-                if name in self.found and name != path:
-                    continue
-                at = next(filter(os.path.exists, (os.path.join(folder, name) for folder in folders)))
-                read = Descriptor(data, text_of(at), has_extensions)
+                read = self.found.get(name)
+                if read is None or name == path:
+                    at = next(filter(os.path.exists, (os.path.join(folder, name) for folder in folders)))
+                    read = Descriptor(data, text_of(at), has_extensions, (repeated or {}).get(name, ()))
+                self.owners[path].update(dict.fromkeys(read.symbols.values(), name))
                 self.symbols.update(read.symbols)
                 self.imports[name] = read.imports
                 if name == path:
@@ -403,7 +417,8 @@ class Told:
         keys = [(path not in own, os.fsencode(path), int(at))
                 for path, at in ((line[2] or line[8], line[3] or line[9]) for line in self.lines)]
         kinds = collections.Counter(line[1] or line[10] for line in self.lines)
-        wanted = (len(own - set(self.skipped)), kinds["skipped"], kinds["MissingImport"], kinds["Unresolved"])
+        uses = kinds["Unresolved"] + kinds["Ambiguous"]
+        wanted = (len(own - set(self.skipped)), kinds["skipped"], kinds["MissingImport"], uses)
         return keys == sorted(set(keys)) and wanted == tuple(map(int, self.counts.groups()))
 
 
@@ -471,10 +486,48 @@ def see_source(verdicts, name, descriptor, occurrences, told, symbols):
     verdicts.see(f"{name}: {path}: imports", there == len(descriptor.imports), there)
     wanted = set()
     for place, type_name in descriptor.uses:
-        if (path, descriptor.span(place)[0], "Unresolved") not in told.gaps:
+        start = descriptor.span(place)[0]
+        if not {(path, start, "Unresolved"), (path, start, "Ambiguous")} & told.gaps:
             wanted |= descriptor.occurrences_of(place, type_name, symbols)
     used = {(place, symbol) for place, symbol, roles in occurrences if roles == 0}
     differences = sorted(map(str, used ^ wanted))
     verdicts.see(f"{name}: {path}: uses", not differences, differences)
     see_flaws(verdicts, name, descriptor)
     return len(defined), len(descriptor.uses)
+
+
+def without_front(symbol):
+    """The file that a declaration's symbol has in front, if any, and the symbol without it."""
+    front = FRONT.fullmatch(symbol)
+    return (front[1], SYMBOL + front[2]) if front else (None, symbol)
+
+
+def see_real(verdicts, name, root, included, protoc, room):
+    """Indexes a root by `--real`: each source that protoc can read is there, with protoc's own definitions and targets.
+    No symbol is that of two declarations; one has a file in front only if it is that of what this file declares."""
+    index = os.path.join(room, "index")
+    done = run([PROGRAM, "index", "--real", *(f"--include={folder}" for folder in included), root, index])
+    verdicts.see(f"{name}: --real: status", done.returncode == 0, (done.returncode, done.stderr))
+    told = Told(b"\n".join(line for line in done.stderr.splitlines() if b" nowhere" not in line))
+    documents, defined = occurrences_in(text_of(index)), collections.defaultdict(list)
+    for path, occurrences in documents.items():
+        for _, symbol, roles in occurrences:
+            if roles & 1 and not symbol.endswith("/"):
+                defined[symbol].append(path)
+    twice = {symbol: paths for symbol, paths in defined.items() if len(paths) > 1}
+    verdicts.see(f"{name}: --real: a symbol is that of one declaration", not twice, twice)
+    for path, descriptor in protoc.found.items():
+        verdicts.see(f"{name}: --real: {path}: indexed", path in documents, told.skipped.get(path))
+        shown, wrong = [], []
+        for place, symbol, roles in documents.get(path, ()):
+            file, plain = without_front(symbol)
+            owner = path if roles & 1 else protoc.owners[path].get(plain)
+            if file not in (None, owner) or not roles and symbol in defined and defined[symbol] != [owner]:
+                wrong.append((place, symbol, owner))
+            shown.append((place, plain, roles))
+        verdicts.see(f"{name}: --real: {path}: files in front", not wrong, wrong)
+        gaps = [gap for gap in told.gaps if gap[0] == path and gap[2] != "MissingImport"]
+        verdicts.see(f"{name}: --real: {path}: without a target", not gaps, gaps)
+        see_source(verdicts, f"{name}: --real", descriptor, shown, told, protoc.symbols)
+    print(f"  --real: {len(documents)} sources indexed, {len(told.skipped)} skipped; protoc reads {len(protoc.found)}",
+          flush=True)

@@ -7,6 +7,7 @@ use Rattle.command_line.specs.Values.{text_of, texts_of}
 use Rattle.command_line.specs.Options.Accept.{accept_rule, accept_words, dialect_of}
 use Rattle.command_line.specs.Options.Comments.{comments_of, comments_rule, comments_words}
 use Rattle.command_line.specs.Options.CustomOptions.{custom_options_rule, custom_options_words}
+use Rattle.command_line.specs.Options.Details.{details_in, details_rule}
 use Rattle.command_line.specs.Options.Doc.{doc_of, doc_rule, doc_words}
 use Rattle.command_line.specs.Options.Duplicates.{duplicates_of, duplicates_rule, duplicates_words}
 use Rattle.command_line.specs.Options.Exclude.{exclude_of, exclude_rule}
@@ -42,6 +43,7 @@ use Rattle.command_line.specs.declared.options.WordLists.{WordLists}
 pub mod Accept
 pub mod Comments
 pub mod CustomOptions
+pub mod Details
 pub mod Doc
 pub mod Duplicates
 pub mod Exclude
@@ -88,8 +90,8 @@ setting_rules = real_rule ∷ workers_rule ∷ project_root_rule ∷ manager_rul
 
 -- on what is indexed
 abbrev pub choice_rules : WordLists → List Rule
-choice_rules lists = only_rule ∷ doc_rule lists.doc ∷ comments_rule lists.comments ∷ include_rule ∷ include_package_rule
-    ∷ well_known_rule ∷ []
+choice_rules lists = only_rule ∷ doc_rule lists.doc ∷ comments_rule lists.comments ∷ details_rule ∷ include_rule
+    ∷ include_package_rule ∷ well_known_rule ∷ []
 
 -- on how it is read
 abbrev pub reading_rules : WordLists → List Rule
@@ -127,6 +129,7 @@ pub record Carries (rows : List Row) (options : IndexOptions) : Type 0 where
   pub only : option_map string_bytes options.only ≡ only_of rows
   pub doc : options.doc ≡ doc_of rows
   pub comments : options.comments ≡ comments_of rows
+  pub details : options.details ≡ details_in rows
   pub include : map string_bytes options.include.items ≡ include_of rows
   pub include_packages : map folder_of options.include_packages.items ≡ package_folders_of rows
   pub well_known : options.well_known ≡ well_known_in rows

@@ -25,6 +25,7 @@ ghost use Rattle.command_line.specs.Options.{
 pub(crate) mod accept;
 mod comments;
 pub(crate) mod custom_options;
+mod details;
 mod doc;
 mod duplicates;
 mod exclude;
@@ -50,6 +51,7 @@ mod workers;
 use crate::names::{INDEX_FILE, OUT, ROOT};
 use crate::options::accept::dialect_of;
 use crate::options::comments::comments_of;
+use crate::options::details::details_in;
 use crate::options::doc::doc_of;
 use crate::options::duplicates::duplicates_of;
 use crate::options::explain::explains_in;
@@ -136,6 +138,8 @@ pub struct IndexOptions {
     pub doc: Option<DocChoice>,
     /// How the texts of comments are given; as they are written if it isn't given.
     pub comments: CommentForm,
+    /// Whether it is told what declarations are.
+    pub details: bool,
     /// The paths of the folders with included files, in the order of the words.
     pub include: Vec<String>,
     /// The folders with included files that have a package of their own, in the order of the words.
@@ -276,6 +280,7 @@ fn choices<'a>(alloc: Global, lists: WordLists<'a>) -> Result<Vec<Arg<'a>>, Allo
         only::arg(alloc),
         doc::arg(alloc, lists.doc),
         comments::arg(alloc, lists.comments),
+        details::arg(alloc),
         include::include(alloc),
         include::include_package(alloc),
         well_known::arg(alloc),
@@ -351,6 +356,7 @@ pub(crate) fn options_of(alloc: Global, given: &ArgMatches<'_>) -> Result<IndexO
         only: optional_text_of(alloc, given, only::NAME)?,
         doc: doc_of(given),
         comments: comments_of(given),
+        details: details_in(given),
         include: texts_of(alloc, given, include::INCLUDE)?,
         include_packages: package_folders_of(alloc, given)?,
         well_known: well_known_in(given),

@@ -16,7 +16,7 @@ pub(crate) const OWN_OPTIONS: &str = "      --quiet
 
 /// The options of `index` and of `shell`, as their help shows them.
 pub(crate) const OPTIONS: &str = "      --real
-          Unless they are given: --accept all --faulty skip --duplicates keep --well-known --doc both --comments clean
+          Unless given: --accept all --faulty skip --duplicates keep --well-known --doc both --comments clean --details
       --workers <N>
           How many threads to use, 1 to 16; the index is the same for any number [default: 4]
       --project-root <URI>
@@ -33,6 +33,8 @@ pub(crate) const OPTIONS: &str = "      --real
           Which comments document a declaration; if not given, those before it [possible values: leading, trailing, both, nothing]
       --comments <WORD>
           How comments are given: as they are written, or without stars and indentation [default: raw] [possible values: raw, clean]
+      --details
+          Tells of each symbol its kind, how it is declared and what it is in, and where declarations end
       --include <DIR>
           A folder with sources that may be imported but aren't indexed; may be given again
       --include-package <MANAGER> <NAME> <RELEASE> <DIR>
@@ -94,35 +96,35 @@ static ASKED: [Asked; 19] = [
     },
     Asked {
         words: "index api out",
-        request: "Index(IndexRequest { options: IndexOptions { root: \"api\", is_real: false, workers: Workers { count: 4 }, project_root: \"file:///\", manager: \"\", package: \"\", release: \"\", only: None, doc: None, comments: Raw, include: [], include_packages: [], well_known: false, encoding: Utf8, dialect: Proto3(Refuse), faulty: Refuse, duplicates: Refuse, explain: false, exclude: [], links: Ignore, report: ReportOptions { path: None, format: JsonLines } }, out: \"out\", quiet: false, limits: Limits { max_skipped: None, min_sources: None } })",
+        request: "Index(IndexRequest { options: IndexOptions { root: \"api\", is_real: false, workers: Workers { count: 4 }, project_root: \"file:///\", manager: \"\", package: \"\", release: \"\", only: None, doc: None, comments: Raw, details: false, include: [], include_packages: [], well_known: false, encoding: Utf8, dialect: Proto3(Refuse), faulty: Refuse, duplicates: Refuse, explain: false, exclude: [], links: Ignore, report: ReportOptions { path: None, format: JsonLines } }, out: \"out\", quiet: false, limits: Limits { max_skipped: None, min_sources: None } })",
     },
     Asked {
-        words: "index --workers 2 --quiet --max-skipped 3 --min-sources=812 --report f --report-format sarif --project-root u --manager m --package p --release r --only o --doc both --comments clean --include j --include i --positions utf16 --accept all --custom-options skip --faulty skip --duplicates keep --explain api out",
-        request: "Index(IndexRequest { options: IndexOptions { root: \"api\", is_real: false, workers: Workers { count: 2 }, project_root: \"u\", manager: \"m\", package: \"p\", release: \"r\", only: Some(\"o\"), doc: Some(Both), comments: Clean, include: [\"j\", \"i\"], include_packages: [], well_known: false, encoding: Utf16, dialect: All, faulty: Skip, duplicates: Keep, explain: true, exclude: [], links: Ignore, report: ReportOptions { path: Some(\"f\"), format: Sarif } }, out: \"out\", quiet: true, limits: Limits { max_skipped: Some(3), min_sources: Some(812) } })",
+        words: "index --workers 2 --quiet --max-skipped 3 --min-sources=812 --report f --report-format sarif --project-root u --manager m --package p --release r --only o --doc both --comments clean --details --include j --include i --positions utf16 --accept all --custom-options skip --faulty skip --duplicates keep --explain api out",
+        request: "Index(IndexRequest { options: IndexOptions { root: \"api\", is_real: false, workers: Workers { count: 2 }, project_root: \"u\", manager: \"m\", package: \"p\", release: \"r\", only: Some(\"o\"), doc: Some(Both), comments: Clean, details: true, include: [\"j\", \"i\"], include_packages: [], well_known: false, encoding: Utf16, dialect: All, faulty: Skip, duplicates: Keep, explain: true, exclude: [], links: Ignore, report: ReportOptions { path: Some(\"f\"), format: Sarif } }, out: \"out\", quiet: true, limits: Limits { max_skipped: Some(3), min_sources: Some(812) } })",
     },
     Asked {
         words: "shell --more --workers 16 --project-root=u --manager=m --package=p --release=r --report=f --report-format=jsonl --only=o --doc=trailing --comments=raw --include=i --positions=utf8 --accept=proto3 --custom-options=refuse --faulty=refuse -- -api",
-        request: "Shell(ShellRequest { options: IndexOptions { root: \"-api\", is_real: false, workers: Workers { count: 16 }, project_root: \"u\", manager: \"m\", package: \"p\", release: \"r\", only: Some(\"o\"), doc: Some(Trailing), comments: Raw, include: [\"i\"], include_packages: [], well_known: false, encoding: Utf8, dialect: Proto3(Refuse), faulty: Refuse, duplicates: Refuse, explain: false, exclude: [], links: Ignore, report: ReportOptions { path: Some(\"f\"), format: JsonLines } }, more: true })",
+        request: "Shell(ShellRequest { options: IndexOptions { root: \"-api\", is_real: false, workers: Workers { count: 16 }, project_root: \"u\", manager: \"m\", package: \"p\", release: \"r\", only: Some(\"o\"), doc: Some(Trailing), comments: Raw, details: false, include: [\"i\"], include_packages: [], well_known: false, encoding: Utf8, dialect: Proto3(Refuse), faulty: Refuse, duplicates: Refuse, explain: false, exclude: [], links: Ignore, report: ReportOptions { path: Some(\"f\"), format: JsonLines } }, more: true })",
     },
     Asked {
         words: "index api --include a --include-package m n r d --include b out --include-package '' '' '' e --include c",
-        request: "Index(IndexRequest { options: IndexOptions { root: \"api\", is_real: false, workers: Workers { count: 4 }, project_root: \"file:///\", manager: \"\", package: \"\", release: \"\", only: None, doc: None, comments: Raw, include: [\"a\", \"b\", \"c\"], include_packages: [PackageFolder { manager: \"m\", name: \"n\", release: \"r\", folder: \"d\" }, PackageFolder { manager: \"\", name: \"\", release: \"\", folder: \"e\" }], well_known: false, encoding: Utf8, dialect: Proto3(Refuse), faulty: Refuse, duplicates: Refuse, explain: false, exclude: [], links: Ignore, report: ReportOptions { path: None, format: JsonLines } }, out: \"out\", quiet: false, limits: Limits { max_skipped: None, min_sources: None } })",
+        request: "Index(IndexRequest { options: IndexOptions { root: \"api\", is_real: false, workers: Workers { count: 4 }, project_root: \"file:///\", manager: \"\", package: \"\", release: \"\", only: None, doc: None, comments: Raw, details: false, include: [\"a\", \"b\", \"c\"], include_packages: [PackageFolder { manager: \"m\", name: \"n\", release: \"r\", folder: \"d\" }, PackageFolder { manager: \"\", name: \"\", release: \"\", folder: \"e\" }], well_known: false, encoding: Utf8, dialect: Proto3(Refuse), faulty: Refuse, duplicates: Refuse, explain: false, exclude: [], links: Ignore, report: ReportOptions { path: None, format: JsonLines } }, out: \"out\", quiet: false, limits: Limits { max_skipped: None, min_sources: None } })",
     },
     Asked {
         words: "index api out --max-skipped +0 --min-sources 04294967295 --report f",
-        request: "Index(IndexRequest { options: IndexOptions { root: \"api\", is_real: false, workers: Workers { count: 4 }, project_root: \"file:///\", manager: \"\", package: \"\", release: \"\", only: None, doc: None, comments: Raw, include: [], include_packages: [], well_known: false, encoding: Utf8, dialect: Proto3(Refuse), faulty: Refuse, duplicates: Refuse, explain: false, exclude: [], links: Ignore, report: ReportOptions { path: Some(\"f\"), format: JsonLines } }, out: \"out\", quiet: false, limits: Limits { max_skipped: Some(0), min_sources: Some(4294967295) } })",
+        request: "Index(IndexRequest { options: IndexOptions { root: \"api\", is_real: false, workers: Workers { count: 4 }, project_root: \"file:///\", manager: \"\", package: \"\", release: \"\", only: None, doc: None, comments: Raw, details: false, include: [], include_packages: [], well_known: false, encoding: Utf8, dialect: Proto3(Refuse), faulty: Refuse, duplicates: Refuse, explain: false, exclude: [], links: Ignore, report: ReportOptions { path: Some(\"f\"), format: JsonLines } }, out: \"out\", quiet: false, limits: Limits { max_skipped: Some(0), min_sources: Some(4294967295) } })",
     },
     Asked {
         words: "index api --exclude .git --links follow --exclude=a/**/b out --well-known",
-        request: "Index(IndexRequest { options: IndexOptions { root: \"api\", is_real: false, workers: Workers { count: 4 }, project_root: \"file:///\", manager: \"\", package: \"\", release: \"\", only: None, doc: None, comments: Raw, include: [], include_packages: [], well_known: true, encoding: Utf8, dialect: Proto3(Refuse), faulty: Refuse, duplicates: Refuse, explain: false, exclude: [\".git\", \"a/**/b\"], links: Follow, report: ReportOptions { path: None, format: JsonLines } }, out: \"out\", quiet: false, limits: Limits { max_skipped: None, min_sources: None } })",
+        request: "Index(IndexRequest { options: IndexOptions { root: \"api\", is_real: false, workers: Workers { count: 4 }, project_root: \"file:///\", manager: \"\", package: \"\", release: \"\", only: None, doc: None, comments: Raw, details: false, include: [], include_packages: [], well_known: true, encoding: Utf8, dialect: Proto3(Refuse), faulty: Refuse, duplicates: Refuse, explain: false, exclude: [\".git\", \"a/**/b\"], links: Follow, report: ReportOptions { path: None, format: JsonLines } }, out: \"out\", quiet: false, limits: Limits { max_skipped: None, min_sources: None } })",
     },
     Asked {
         words: "index api --real --include i out",
-        request: "Index(IndexRequest { options: IndexOptions { root: \"api\", is_real: true, workers: Workers { count: 4 }, project_root: \"file:///\", manager: \"\", package: \"\", release: \"\", only: None, doc: Some(Both), comments: Clean, include: [\"i\"], include_packages: [], well_known: true, encoding: Utf8, dialect: All, faulty: Skip, duplicates: Keep, explain: false, exclude: [], links: Ignore, report: ReportOptions { path: None, format: JsonLines } }, out: \"out\", quiet: false, limits: Limits { max_skipped: None, min_sources: None } })",
+        request: "Index(IndexRequest { options: IndexOptions { root: \"api\", is_real: true, workers: Workers { count: 4 }, project_root: \"file:///\", manager: \"\", package: \"\", release: \"\", only: None, doc: Some(Both), comments: Clean, details: true, include: [\"i\"], include_packages: [], well_known: true, encoding: Utf8, dialect: All, faulty: Skip, duplicates: Keep, explain: false, exclude: [], links: Ignore, report: ReportOptions { path: None, format: JsonLines } }, out: \"out\", quiet: false, limits: Limits { max_skipped: None, min_sources: None } })",
     },
     Asked {
         words: "shell --accept proto3 --custom-options skip --faulty refuse --duplicates refuse --doc nothing --comments raw --real api",
-        request: "Shell(ShellRequest { options: IndexOptions { root: \"api\", is_real: true, workers: Workers { count: 4 }, project_root: \"file:///\", manager: \"\", package: \"\", release: \"\", only: None, doc: Some(Nothing), comments: Raw, include: [], include_packages: [], well_known: true, encoding: Utf8, dialect: Proto3(Skip), faulty: Refuse, duplicates: Refuse, explain: false, exclude: [], links: Ignore, report: ReportOptions { path: None, format: JsonLines } }, more: false })",
+        request: "Shell(ShellRequest { options: IndexOptions { root: \"api\", is_real: true, workers: Workers { count: 4 }, project_root: \"file:///\", manager: \"\", package: \"\", release: \"\", only: None, doc: Some(Nothing), comments: Raw, details: true, include: [], include_packages: [], well_known: true, encoding: Utf8, dialect: Proto3(Skip), faulty: Refuse, duplicates: Refuse, explain: false, exclude: [], links: Ignore, report: ReportOptions { path: None, format: JsonLines } }, more: false })",
     },
     Asked {
         words: "snapshot a.scip api",

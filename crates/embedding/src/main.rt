@@ -69,6 +69,7 @@ fn own_settings(alloc: Global) -> Result<Settings> {
         encoding: Encoding::Utf8,
         dialect: Dialect::Proto3(CustomOptions::Refuse),
         comments: CommentForm::Raw,
+        details: false,
         faulty: Faulty::Refuse,
         duplicates: Duplicates::Refuse,
     })

@@ -32,6 +32,7 @@ settings_in options ids = record {
   encoding = options.encoding;
   dialect = options.dialect;
   comments = options.comments;
+  details = options.details;
   faulty = options.faulty;
   duplicates = options.duplicates;
 }

@@ -35,6 +35,7 @@ pub(crate) fn settings_of(
         encoding: options.encoding,
         dialect: options.dialect,
         comments: options.comments,
+        details: options.details,
         faulty: options.faulty,
         duplicates: options.duplicates,
     })

@@ -4,6 +4,7 @@ use Rattle.std.specs.List.{AllZip}
 use Rattle.proto_lex.specs.declared.span.Span.{Span}
 use Rattle.proto_lex.specs.Lexed.{Lexed, AreInOrder}
 use Rattle.comment_texts.specs.declared.form.CommentForm.{CommentForm}
+use Rattle.proto_decl.specs.declared.form.FactForm.{FactForm}
 use Rattle.proto_parse.specs.Lexeme.{Lexeme}
 use Rattle.proto_parse.specs.Walk.{Mark, MarksAreInOrder, Among, names_marks, marks_in, PackageIsAmongItems}
 use Rattle.proto_parse.specs.tree.FileItem.{FileItem}
@@ -49,7 +50,7 @@ parts R (x ∷ xs) ys (z ∷ zs) all =
 
 -- the package's name stands between two declared names
 
-module _ (form : CommentForm) (number : ℕ) (lexed : Lexed) (file : File) (facts : Facts)
+module _ (form : FactForm) (number : ℕ) (lexed : Lexed) (file : File) (facts : Facts)
     (is : AreFactsOf form number lexed file facts) where
   abbrev outlines : List FileItem → List Outline
   outlines items = outlines_in lexed.text (file_surrounding lexed.text file) items
@@ -61,8 +62,9 @@ module _ (form : CommentForm) (number : ℕ) (lexed : Lexed) (file : File) (fact
   among_items before behind components items name m =
       let both : outlines_of lexed.text file ≡ outlines before ++ outlines behind =
       ap outlines items ∙ outlines-append lexed.text (file_surrounding lexed.text file) before behind in
-      let two = parts (IsDeclaration form lexed) (outlines before) (outlines behind) facts.declarations
-      (subst (λ (os : List Outline). AllZip (IsDeclaration form lexed) os facts.declarations) both is.declarations) in
+      let two = parts (IsDeclaration form.comments lexed) (outlines before) (outlines behind) facts.declarations
+      (subst (λ (os : List Outline). AllZip (IsDeclaration form.comments lexed) os facts.declarations) both
+      is.declarations) in
       let spans : component_spans facts.package_name ≡ components =
       ap component_spans is.package_name ∙ (spans_of_components lexed.text (package_spans file.package_name) ∙ name)
       in
@@ -71,9 +73,9 @@ module _ (form : CommentForm) (number : ℕ) (lexed : Lexed) (file : File) (fact
         behind = two.second;
         split = two.whole;
         in_order = rw (
-          same_names form lexed (outlines before) two.first two.left,
+          same_names form.comments lexed (outlines before) two.first two.left,
           spans,
-          same_names form lexed (outlines behind) two.second two.right,
+          same_names form.comments lexed (outlines behind) two.second two.right,
         )
             (package_in_order lexed.text file before behind components m);
       }

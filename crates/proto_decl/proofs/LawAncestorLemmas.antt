@@ -9,6 +9,7 @@ use Rattle.basics.proofs.ListLemmas.{in_front, behind_it, each_weaker as each-we
 use Rattle.proto_lex.specs.Lexed.{Lexed, part_of}
 use Rattle.proto_lex.specs.declared.span.Span.{Span}
 use Rattle.comment_texts.specs.declared.form.CommentForm.{CommentForm}
+use Rattle.proto_decl.specs.declared.form.FactForm.{FactForm}
 use Rattle.proto_parse.specs.tree.Heading.{Heading}
 use Rattle.proto_parse.specs.tree.Head.{Head}
 use Rattle.proto_parse.specs.tree.Head.TheVariants as head
@@ -420,7 +421,7 @@ module _ (form : CommentForm) (lexed : Lexed) where
     held-declarations all os ds z.1 h.1,
   )
 
-pub declarations-held : (form : CommentForm) (number : ℕ) (lexed : Lexed) (file : File) (facts : Facts)
+pub declarations-held : (form : FactForm) (number : ℕ) (lexed : Lexed) (file : File) (facts : Facts)
     → AreFactsOf form number lexed file facts
     → AreNamed facts.package_name facts.declarations → AreHeld facts.package_name facts.declarations
 declarations-held form number lexed file facts are named =
@@ -437,17 +438,18 @@ declarations-held form number lexed file facts are named =
     let steps = recursion_from_All
     (λ (d : Declaration). All (λ step. Spells Identifier step.name) d.path) facts.declarations named.of_steps in
     let full = named-in components some tree tt scope
-    (named-outlines form lexed all facts.declarations are.declarations steps) in
-    let held = held-declarations form lexed all all facts.declarations are.declarations (held-in tree) in
+    (named-outlines form.comments lexed all facts.declarations are.declarations steps) in
+    let held = held-declarations form.comments lexed all all facts.declarations are.declarations (held-in tree) in
     record {
       holder = λ d outer inner has e more.
           let leads = All-contains
           (λ (x : Declaration). (outer inner : List DeclarationStep) → outer ≢ [] → x.path ≡ outer ++ inner
           → Leads all outer) facts.declarations d
           (All-from_recursion _ facts.declarations held) has outer inner more e in
-          let stand = All-contains (λ (x : Outline). Stands form lexed facts.declarations x.path) all leads.outline
-          (All-from_recursion _ all (stands form lexed all facts.declarations are.declarations)) leads.listed in
+          let comments = form.comments in
+          let stand = All-contains (λ (x : Outline). Stands comments lexed facts.declarations x.path) all leads.outline
+          (All-from_recursion _ all (stands comments lexed all facts.declarations are.declarations)) leads.listed in
           (stand.found, stand.listed, stand.same ∙ leads.same);
       full_names = All-from_recursion _ facts.declarations
-          (named-declarations form lexed components all facts.declarations are.declarations full);
+          (named-declarations form.comments lexed components all facts.declarations are.declarations full);
     }

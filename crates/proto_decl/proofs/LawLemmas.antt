@@ -1,15 +1,18 @@
 -- A file's facts and comment texts are the only ones.
-use Rattle.std.proofs.Common.{◌≡◌, ◌∙◌, sym, ap, refl, ℕ, List, [], ◌∷◌}
+use Rattle.std.proofs.Common.{◌≡◌, ◌∙◌, sym, ap, refl, ℕ, Bool, true, false, Option, Some, List, [], ◌∷◌}
 use Rattle.std.specs.List.{AllZip}
 use Rattle.proto_lex.specs.declared.span.Span.{Span}
-use Rattle.proto_lex.specs.Lexed.{Lexed}
+use Rattle.proto_lex.specs.Lexed.{Lexed, IsLexed}
 use Rattle.comment_texts.specs.declared.form.CommentForm.{CommentForm}
+use Rattle.proto_decl.specs.declared.form.FactForm.{FactForm}
 use Rattle.proto_parse.specs.tree.File.{File}
 use Rattle.proto_decl.specs.Comments.{first_line, texts_in, IsLeadingText, IsTrailingText}
 use Rattle.proto_decl.specs.Comments.IsLeadingText.{leading, not_first}
 use Rattle.proto_decl.specs.Comments.IsTrailingText.{trailing, none}
 use Rattle.proto_decl.specs.Declares.{outlines_of, IsDeclaration}
-use Rattle.proto_decl.specs.Facts.{Facts, AreFactsOf}
+use Rattle.proto_decl.specs.Facts.{Facts, AreFactsOf, AreDetailsIf}
+use Rattle.proto_decl.specs.declared.detail.Detail.{Detail}
+use Rattle.proto_decl.proofs.LawDetailLemmas.{one_list_of_details}
 use Rattle.proto_decl.specs.declared.declaration.Declaration.{Declaration}
 use Rattle.proto_decl.specs.declared.declaration.Outline.{Outline}
 use Rattle.proto_decl.proofs.CommentLeadingLemmas.{CommentsInOrder, one_longest}
@@ -60,19 +63,33 @@ module _ (form : CommentForm) (lexed : Lexed) (ordered : CommentsInOrder lexed.c
   one_list (o ∷ os) (d ∷ ds) [] a b = absurd b
   one_list (o ∷ os) (d ∷ ds) (e ∷ es) a b = λ i. one_declaration o d e a.0 b.0 i ∷ one_list os ds es a.1 b.1 i
 
-  pub one_facts : (number : ℕ) (file : File) (facts other : Facts) → AreFactsOf form number lexed file facts
-      → AreFactsOf form number lexed file other → facts ≡ other
-  one_facts number file facts other a b =
-      let numbered = a.numbered ∙ sym b.numbered in
-      let package_name = a.package_name ∙ sym b.package_name in
-      let imports = a.imports ∙ sym b.imports in
-      let declarations = one_list
-      (outlines_of lexed.text file) facts.declarations other.declarations a.declarations b.declarations in
-      let uses = a.uses ∙ sym b.uses in
-      λ i. record {
-        number = numbered i;
-        package_name = package_name i;
-        imports = imports i;
-        declarations = declarations i;
-        uses = uses i;
-      }
+-- the details that are asked for are the only ones
+one_if_asked : (asked : Bool) (lexed : Lexed) (file : File) (details others : Option (List Detail))
+    → IsLexed lexed.text lexed.tokens lexed.comments → AreDetailsIf asked lexed file details
+    → AreDetailsIf asked lexed file others → details ≡ others
+one_if_asked false lexed file details others is a b = a ∙ sym b
+one_if_asked true lexed file details others is a b =
+    a.1
+    ∙ (ap Some (one_list_of_details lexed is.tokens_in_order is.comments_in_order (outlines_of lexed.text file) a.0 b.0
+    a.2 b.2)
+    ∙ sym b.1)
+
+pub one_facts : (form : FactForm) (lexed : Lexed) → IsLexed lexed.text lexed.tokens lexed.comments → (number : ℕ)
+    (file : File) (facts other : Facts) → AreFactsOf form number lexed file facts
+    → AreFactsOf form number lexed file other → facts ≡ other
+one_facts form lexed is number file facts other a b =
+    let numbered = a.numbered ∙ sym b.numbered in
+    let package_name = a.package_name ∙ sym b.package_name in
+    let imports = a.imports ∙ sym b.imports in
+    let declarations = one_list form.comments lexed is.comments_in_order
+    (outlines_of lexed.text file) facts.declarations other.declarations a.declarations b.declarations in
+    let uses = a.uses ∙ sym b.uses in
+    let details = one_if_asked form.details lexed file facts.details other.details is a.details b.details in
+    λ i. record {
+      number = numbered i;
+      package_name = package_name i;
+      imports = imports i;
+      declarations = declarations i;
+      uses = uses i;
+      details = details i;
+    }

@@ -12,7 +12,7 @@ use Rattle.proto_lex.specs.declared.token.Token.{Token}
 use Rattle.proto_lex.specs.declared.token.TokenKind.{TokenKind}
 use Rattle.proto_lex.specs.declared.token.TokenKind.TheVariants.{Identifier, StringLiteral}
 use Rattle.proto_lex.specs.Lexed.{Lexed, AreInOrder, AreApart}
-use Rattle.comment_texts.specs.declared.form.CommentForm.{CommentForm}
+use Rattle.proto_decl.specs.declared.form.FactForm.{FactForm}
 use Rattle.proto_parse.specs.Lexeme.{Lexeme, lexemes_of}
 use Rattle.proto_parse.specs.tree.File.{File}
 use Rattle.proto_parse.specs.Filled.{FilledImport}
@@ -99,12 +99,12 @@ pub record MarksOf (facts : Facts) (tokens : List Lexeme) : Type 0 where
   pub picked : Picked marks names (use_spans facts.uses) []
   pub all_named : (span : Span) → Contains (named_spans facts) span → Contains names span
 
-module _ (form : CommentForm) (number : ℕ) (lexed : Lexed) (file : File) (facts : Facts)
+module _ (form : FactForm) (number : ℕ) (lexed : Lexed) (file : File) (facts : Facts)
     (is : AreFactsOf form number lexed file facts) where
   named : (package_name : Option (List Span)) → file.package_name ≡ package_name
       → named_spans facts ≡ heading_names (outlines_of lexed.text file) ++ package_spans package_name
   named package_name e =
-      let names = same_names form lexed (outlines_of lexed.text file) facts.declarations is.declarations in
+      let names = same_names form.comments lexed (outlines_of lexed.text file) facts.declarations is.declarations in
       let components : component_spans facts.package_name ≡ package_spans package_name =
       ap component_spans is.package_name
       ∙ (spans_of_components lexed.text (package_spans file.package_name) ∙ ap package_spans e) in

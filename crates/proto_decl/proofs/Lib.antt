@@ -1,10 +1,16 @@
 -- Each file is named after the spec or source that it serves.
 -- The comments that lead a declaration, by their places in the list of comments
 pub mod CommentLeadingLemmas
+-- Where a declaration begins, with the comments that lead it
+pub mod CommentStartLemmas
 -- The texts of several comments
 pub mod CommentTextLemmas
 -- The comment that trails a declaration: the first one behind its closing token
 pub mod CommentTrailingLemmas
+-- How the tokens of a declaration are found, and which is the last
+pub mod DetailLemmas
+-- a detail's extent begins and ends between characters
+pub mod ExtentLemmas
 -- A file's declarations, one for each outline
 pub mod FactLemmas
 -- The places of a file's facts are parts of its text, as the spans of its tree are
@@ -15,6 +21,8 @@ pub mod FullNameLemmas
 pub mod ImportLiteralLemmas
 -- What holds a declaration of a file is declared there too, and full names are those of the scopes on the path
 pub mod LawAncestorLemmas
+-- A file's details are the only ones
+pub mod LawDetailLemmas
 -- A file's facts and comment texts are the only ones
 pub mod LawLemmas
 -- What a file's facts tell has places of its own: the components of uses stand apart from names, and no import begins

@@ -8,6 +8,7 @@ use Rattle.proto_lex.specs.declared.span.Span.{Span}
 use Rattle.proto_lex.specs.declared.token.TokenKind.{TokenKind}
 use Rattle.proto_lex.specs.declared.token.TokenKind.TheVariants.{Identifier}
 use Rattle.comment_texts.specs.declared.form.CommentForm.{CommentForm}
+use Rattle.proto_decl.specs.declared.form.FactForm.{FactForm}
 use Rattle.proto_parse.specs.Lexeme.{lexemes_of}
 use Rattle.proto_parse.specs.tree.Heading.{Heading}
 use Rattle.proto_parse.specs.tree.Field.{Field}
@@ -182,7 +183,7 @@ declared_on form lexed (o ∷ os) (d ∷ ds) all on_paths =
     All-cons (λ (x : Declaration). OnPath x.path) d ds (subst OnPath (sym all.0.path) (All-head IsOnPath o os on_paths))
     (declared_on form lexed os ds all.1 (All-tail IsOnPath o os on_paths))
 
-pub facts_named : (form : CommentForm) (number : ℕ) (lexed : Lexed) (file : File) (facts : Facts)
+pub facts_named : (form : FactForm) (number : ℕ) (lexed : Lexed) (file : File) (facts : Facts)
     → IsLexed lexed.text lexed.tokens lexed.comments → AreFactsOf form number lexed file facts
     → Among (marks_of_items file) (lexemes_of lexed.text lexed.tokens)
     → Among (marks_of_package file) (lexemes_of lexed.text lexed.tokens)
@@ -192,7 +193,7 @@ facts_named form number lexed file facts is of_file items package_name = record 
       (sym of_file.package_name)
       (package_on lexed.text file.package_name
       (subst (OfNames (Ident lexed.text)) (sym (package_is file)) (identifiers lexed is package_name)));
-  of_steps = declared_on form lexed (outlines_of lexed.text file) facts.declarations of_file.declarations
+  of_steps = declared_on form.comments lexed (outlines_of lexed.text file) facts.declarations of_file.declarations
       (items_on lexed.text (file_surrounding lexed.text file) file.items (All-nil IsSpelled)
       (of_part_names (Ident lexed.text) (parts_of file)
       (subst (OfNames (Ident lexed.text)) (sym (parts_are file.items)) (identifiers lexed is items))));

@@ -13,7 +13,7 @@ use Rattle.proto_lex.specs.declared.span.Span.{Span}
 use Rattle.proto_lex.specs.declared.token.TokenKind.{TokenKind}
 use Rattle.proto_lex.specs.declared.token.TokenKind.TheVariants.{Identifier}
 use Rattle.proto_lex.proofs.PieceFound.{sign_cases}
-use Rattle.comment_texts.specs.declared.form.CommentForm.{CommentForm}
+use Rattle.proto_decl.specs.declared.form.FactForm.{FactForm}
 use Rattle.proto_parse.specs.Lexeme.{lexemes_of}
 use Rattle.proto_parse.specs.tree.Heading.{Heading}
 use Rattle.proto_parse.specs.tree.Field.{Field}
@@ -232,9 +232,9 @@ names_of_components : (text : List ℕ) (spans : List Span)
 names_of_components text [] = refl
 names_of_components text (span ∷ spans) = ap (λ names. part_of text span ∷ names) (names_of_components text spans)
 
-module _ (form : CommentForm) (number : ℕ) (lexed : Lexed) (file : File) (facts : Facts)
+module _ (form : FactForm) (number : ℕ) (lexed : Lexed) (file : File) (facts : Facts)
     (is : AreFactsOf form number lexed file facts) where
-  outlines_known : (os : List Outline) (ds : List Declaration) → AllZip (IsDeclaration form lexed) os ds
+  outlines_known : (os : List Outline) (ds : List Declaration) → AllZip (IsDeclaration form.comments lexed) os ds
       → All (Contains facts.declarations) ds → All (λ (o : Outline). IsScope facts o.full_name) os
   outlines_known [] [] all listed = All-nil (λ (o : Outline). IsScope facts o.full_name)
   outlines_known [] (d ∷ ds) all listed = absurd all
@@ -251,7 +251,7 @@ module _ (form : CommentForm) (number : ℕ) (lexed : Lexed) (file : File) (fact
       (ap (λ (components : List Component). dotted (map (λ (component : Component). component.name) components))
       is.package_name ∙ ap dotted (names_of_components lexed.text (package_spans file.package_name))) of_package
 
-  declared_scoped : (os : List Outline) (ds : List Declaration) → AllZip (IsDeclaration form lexed) os ds
+  declared_scoped : (os : List Outline) (ds : List Declaration) → AllZip (IsDeclaration form.comments lexed) os ds
       → All (IsScoped (IsScope facts)) os → All (StandsInScope facts) ds
   declared_scoped [] [] all scopes = All-nil (StandsInScope facts)
   declared_scoped [] (d ∷ ds) all scopes = absurd all

@@ -1,9 +1,14 @@
 -- What is known of a file from its tokens and its tree.
-use Rattle.std.specs.Prelude.{ℕ, ◌≡◌, ◌<◌, List, ◌++◌, length, map, All}
+use Rattle.std.specs.Prelude.{ℕ, ◌≡◌, ◌<◌, Bool, true, false, Option, Some, None, List, [], ◌++◌, length, map}
+use Rattle.std.specs.Prelude.{All}
 use Rattle.std.specs.List.{flat_map}
 use Rattle.proto_lex.specs.declared.span.Span.{Span}
 use Rattle.proto_lex.specs.Lexed.{Lexed, IsLexed, AreInOrder}
 use Rattle.comment_texts.specs.declared.form.CommentForm.{CommentForm}
+use Rattle.comment_texts.specs.declared.form.CommentForm.TheVariants.{Raw}
+use Rattle.proto_decl.specs.Detailed.{AreDetails}
+use Rattle.proto_decl.specs.declared.detail.Detail.{Detail}
+use Rattle.proto_decl.specs.declared.form.FactForm.{FactForm}
 use Rattle.proto_parse.specs.tree.File.{File}
 use Rattle.proto_parse.specs.Derives.{DerivesBySome}
 use Rattle.proto_decl.specs.Names.{components_at}
@@ -22,18 +27,38 @@ pub record Facts : Type 0 where
   pub imports : List Imported
   pub declarations : List Declaration
   pub uses : List Use
+  pub details : Option (List Detail)
 
--- The facts of the file with this number, with the texts of comments in a form.
-pub record AreFactsOf (form : CommentForm) (number : ℕ) (lexed : Lexed) (file : File) (facts : Facts) : Type 0 where
+-- how the declarations of a file read, and where they are, if that is asked for
+abbrev pub AreDetailsIf : (asked : Bool) → Lexed → File → Option (List Detail) → Type 0
+AreDetailsIf false lexed file details = details ≡ None
+AreDetailsIf true lexed file details = (known : List Detail) × (details ≡ Some known) × AreDetails lexed file known
+
+-- where the declarations are, of which there are details
+abbrev pub extents_of : Option (List Detail) → List Span
+extents_of None = []
+extents_of (Some details) = map (λ (detail : Detail). detail.extent) details
+
+-- the form without details
+abbrev pub without_details : CommentForm → FactForm
+without_details comments = record { comments = comments; details = false }
+
+-- comments as they are written, and no details
+abbrev pub plain_form : FactForm
+plain_form = without_details Raw
+
+-- The facts of the file with this number, in a form.
+pub record AreFactsOf (form : FactForm) (number : ℕ) (lexed : Lexed) (file : File) (facts : Facts) : Type 0 where
   pub numbered : facts.number ≡ number
   pub package_name : facts.package_name ≡ components_at lexed.text (package_spans file.package_name)
   pub imports : facts.imports ≡ imports_of lexed.text file.imports
-  pub declarations : Declares form lexed file facts.declarations
+  pub declarations : Declares form.comments lexed file facts.declarations
   pub uses : facts.uses ≡ uses_of lexed.text file
+  pub details : AreDetailsIf form.details lexed file facts.details
 
 -- The facts of some file, in some form: of a text that has a lexing, of which the tokens derive a tree.
 pub record AreOfSomeFile (facts : Facts) : Type 0 where
-  pub form : CommentForm
+  pub form : FactForm
   pub lexed : Lexed
   pub file : File
   pub is_lexed : IsLexed lexed.text lexed.tokens lexed.comments

@@ -1,5 +1,6 @@
 -- Laws of facts, comment texts and scopes.
 use Rattle.std.specs.Prelude.{ℕ, ◌≡◌, ◌<◌, ◌≤◌, List, [], ◌∷◌, ◌++◌, length, map, All, Contains, ◌≢◌}
+use Rattle.std.specs.Str.{IsCharBoundary}
 use Rattle.proto_lex.specs.declared.span.Span.{Span}
 use Rattle.proto_lex.specs.Lexed.{Lexed, IsLexed, IsPart, part_of, AreApart}
 use Rattle.proto_lex.specs.Lexes.{Spells}
@@ -11,7 +12,10 @@ use Rattle.proto_decl.specs.Names.{qualified, IsSimple, small_letters, dotted, c
 use Rattle.proto_decl.specs.Names.{IsAround}
 use Rattle.proto_decl.specs.Declares.{step_named, simple_name}
 use Rattle.proto_decl.specs.Comments.{IsLeadingText, IsTrailingText}
-use Rattle.proto_decl.specs.Facts.{Facts, AreFactsOf, AreOfSomeFile, component_spans, name_spans, use_spans}
+use Rattle.proto_decl.specs.Detailed.{AreDetails}
+use Rattle.proto_decl.specs.declared.form.FactForm.{FactForm}
+use Rattle.proto_decl.specs.declared.detail.Detail.{Detail}
+use Rattle.proto_decl.specs.Facts.{Facts, AreFactsOf, AreOfSomeFile, component_spans, extents_of, name_spans, use_spans}
 use Rattle.proto_decl.specs.declared.declaration.DeclarationKind.TheVariants.{Message, Field, Enum, Service, Oneof}
 use Rattle.proto_decl.specs.declared.declaration.DeclarationKind.TheVariants.{Value, Method}
 use Rattle.proto_decl.specs.declared.declaration.DeclarationStep.{DeclarationStep}
@@ -33,9 +37,15 @@ OneTrailingText = (form : CommentForm) (lexed : Lexed) (closing : Span) (text ot
 
 -- A file has one list of facts in each form.
 abbrev pub OneFacts : Type 0
-OneFacts = (form : CommentForm) (number : ℕ) (lexed : Lexed) (file : File) (facts other : Facts)
+OneFacts = (form : FactForm) (number : ℕ) (lexed : Lexed) (file : File) (facts other : Facts)
     → IsLexed lexed.text lexed.tokens lexed.comments
     → AreFactsOf form number lexed file facts → AreFactsOf form number lexed file other → facts ≡ other
+
+-- A file has one list of details.
+abbrev pub OneDetails : Type 0
+OneDetails = (lexed : Lexed) (file : File) (details others : List Detail)
+    → IsLexed lexed.text lexed.tokens lexed.comments
+    → AreDetails lexed file details → AreDetails lexed file others → details ≡ others
 
 -- The field and the message of one group: the message is named as it stands, and the field so in small letters.
 pub record AreOfGroup (text : List ℕ) (field message : Declaration) : Type 0 where
@@ -60,7 +70,7 @@ pub record IsNamedAt (text : List ℕ) (declarations : List Declaration) (declar
   pub full : declaration.full_name ≡ qualified scope (simple_name declaration.path)
 
 abbrev pub NamesAreSpelled : Type 0
-NamesAreSpelled = (form : CommentForm) (number : ℕ) (lexed : Lexed) (file : File) (facts : Facts)
+NamesAreSpelled = (form : FactForm) (number : ℕ) (lexed : Lexed) (file : File) (facts : Facts)
     → IsLexed lexed.text lexed.tokens lexed.comments
     → DerivesBySome lexed.text lexed.tokens file → AreFactsOf form number lexed file facts
     → All (IsNamedAt lexed.text facts.declarations) facts.declarations
@@ -101,12 +111,19 @@ ScopesNest = (scope name : List ℕ) → IsSimple name → IsAround (qualified s
 abbrev pub OneAround : Type 0
 OneAround = (scope outer other : List ℕ) → IsAround scope outer → IsAround scope other → outer ≡ other
 
--- The components of the package's name and of uses, the imports and the declared names are parts of the text.
+-- a span begins and ends between two characters, or at an end of the text
+pub record IsWhole (text : List ℕ) (span : Span) : Type 0 where
+  pub starts : IsCharBoundary text span.start
+  pub ends : IsCharBoundary text span.end
+
+-- The components of the package's name and of uses, the imports and the declared names are parts of the text, and the
+-- declarations' extents are whole.
 pub record StandInText (text : List ℕ) (facts : Facts) : Type 0 where
   pub package_name : All (IsPart text) (component_spans facts.package_name)
   pub imports : All (IsPart text) (map (λ (imported : Imported). imported.span) facts.imports)
   pub names : All (IsPart text) (name_spans facts.declarations)
   pub uses : All (IsPart text) (use_spans facts.uses)
+  pub extents : All (IsWhole text) (extents_of facts.details)
 
 abbrev pub FactsStandInText : Type 0
 FactsStandInText = (facts : Facts) → (origin : AreOfSomeFile facts) → StandInText origin.lexed.text facts

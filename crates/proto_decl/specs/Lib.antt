@@ -10,6 +10,10 @@ pub mod Imports
 pub mod Declares
 pub mod Comments
 pub mod Layout
+-- how declarations read, and where they are
+pub mod Signatures
+pub mod Extents
+pub mod Detailed
 -- which types a file uses
 pub mod Uses
 -- what is found on a walk

@@ -12,6 +12,7 @@ ghost use Rattle.proto_lex.specs.Ascii as ascii;
 ghost use Rattle.proto_lex.specs.CommentTexts as texts;
 ghost use Rattle.comment_texts.specs.Comments.{IsCommentIn};
 ghost use Rattle.proto_decl.specs.Layout.{AreBegun, IsFreeFrom};
+ghost use Rattle.proto_decl.specs.Extents.{BeginsAt};
 ghost use Rattle.proto_decl.specs.Comments.{text_of};
 ghost use Rattle.proto_decl.specs.Comments as spec;
 
@@ -162,6 +163,21 @@ pub(crate) fn leading_text<'t>(
             leading_comments(lexed, begun, from, first.start as usize),
         ),
         None => Ok(KeptText::borrowed("")),
+    }
+}
+
+/// Where a declaration with this first token begins, before which so many tokens and comments begin: where the first of
+/// its leading comments does, if it has any.
+pub(crate) fn leading_start(lexed: &Tokens<'_, '_>, begun: Begun, first: Span) -> u32
+    requires { AreBegun lexed.now first.start begun }
+    ensures { BeginsAt lexed.now first result }
+{
+    let Some(from) = free_from(lexed, begun, first) else {
+        return first.start;
+    };
+    match leading_comments(lexed, begun, from, first.start as usize) {
+        [comment, ..] => comment.span.start,
+        [] => first.start,
     }
 }
 

@@ -3,7 +3,6 @@
 ghost use Rattle.std.specs.Prelude.{◌≡◌, ◌++◌, [], List, All, IfOk, OnOk};
 ghost use Rattle.std.specs.List.{AllZip};
 ghost use Rattle.proto_lex.specs.Lexed.{IsPart, IsLexed};
-ghost use Rattle.comment_texts.specs.declared.form.CommentForm.TheVariants.{Raw};
 ghost use Rattle.proto_parse.specs.Derives.{DerivesBySome};
 ghost use Rattle.proto_decl.specs.Spans.{OfParts, OfPackage};
 ghost use Rattle.proto_decl.specs.Imports.{IsLiteral};
@@ -12,11 +11,13 @@ ghost use Rattle.proto_decl.specs.Uses.{uses_in};
 ghost use Rattle.proto_decl.specs.Walked.{parts_in_item};
 ghost use Rattle.proto_decl.specs.declared.declaration.Outline.{Outline};
 ghost use Rattle.proto_decl.specs.Layout.{AreBegun};
-ghost use Rattle.proto_decl.specs.Facts.{AreFactsOf};
+ghost use Rattle.proto_decl.specs.Facts.{AreFactsOf, AreDetailsIf, plain_form, without_details};
 
 use crate::comments::{leading_text, trailing_text};
 use crate::declaration::{Declaration, Outline};
+use crate::detail::{Detail, details_of};
 use crate::facts::FileFacts;
+use crate::form::FactForm;
 use crate::imports::imports_of;
 use crate::layout::{Begun, begun_before};
 use crate::package::{package_scope, package_spans};
@@ -46,7 +47,7 @@ fn are_lexed(lexed: &Tokens<'_, '_>)
 }
 
 /// What is known of the spans of a tree that these tokens derive.
-fn spans_of_tree(lexed: &Tokens<'_, '_>, file: &File)
+pub(crate) fn spans_of_tree(lexed: &Tokens<'_, '_>, file: &File)
     requires { DerivesBySome lexed.now.text lexed.now.tokens file.now }
     ensures package_name { OfPackage (IsPart lexed.now.text) file.now.package_name }
     ensures imports { All (λ import. All (IsLiteral lexed.now.text) import.literals) file.now.imports }
@@ -149,13 +150,30 @@ fn declared_in<'t>(
     declared_at(alloc, form, lexed, text, &surrounding, items)
 }
 
-/// The facts of the file with this number, whose tree these tokens derive, with the texts of comments in this form.
+/// How the declarations of a file read, and where they are, if that is asked for.
+fn details_if(
+    alloc: Global,
+    asked: bool,
+    lexed: &Tokens<'_, '_>,
+    file: &File,
+) -> Result<Option<Sequence<Detail>>, AllocError>
+    requires { DerivesBySome lexed.now.text lexed.now.tokens file.now }
+    ensures { IfOk result (AreDetailsIf asked lexed.now file.now) }
+{
+    if asked {
+        let details = details_of(alloc, lexed, file)?;
+        return Ok(Some(details));
+    }
+    Ok(None)
+}
+
+/// The facts of the file with this number, whose tree these tokens derive, in this form.
 ///
 /// The tree must be that of these tokens: its spans are read off their text, of which the names of the
 /// facts are parts. It is refused only for want of memory. The facts hold nothing of the tree.
-pub fn declare_in<'t>(
+pub fn declare_with<'t>(
     alloc: Global,
-    form: CommentForm,
+    form: FactForm,
     number: usize,
     lexed: &Tokens<'_, 't>,
     file: &File,
@@ -172,21 +190,41 @@ pub fn declare_in<'t>(
     let imports = imports_of(alloc, text, file.imports.as_slice())?;
     let (mut declarations, mut uses) = declared_in(
         alloc,
-        form,
+        form.comments,
         lexed,
         text,
         scope,
         file.items.as_slice(),
     )?;
+    let details = details_if(alloc, form.details, lexed, file)?;
     declarations.shrink_to_fit();
     uses.shrink_to_fit();
     let declarations = Sequence::from_vec(declarations);
     let uses = Sequence::from_vec(uses);
-    Ok(FileFacts::new(number, package_name, imports, declarations, uses))
+    Ok(FileFacts::new(number, package_name, imports, declarations, uses, details))
+}
+
+/// The facts of the file with this number, whose tree these tokens derive, with the texts of comments in this form,
+/// and without details: `declare_with` says what is asked and given.
+pub fn declare_in<'t>(
+    alloc: Global,
+    comments: CommentForm,
+    number: usize,
+    lexed: &Tokens<'_, 't>,
+    file: &File,
+) -> Result<FileFacts<'t>, AllocError>
+    requires { DerivesBySome lexed.now.text lexed.now.tokens file.now }
+    ensures { IfOk result (AreFactsOf (without_details comments) number lexed.now file.now) }
+{
+    let form = FactForm {
+        comments,
+        details: false,
+    };
+    declare_with(alloc, form, number, lexed, file)
 }
 
 /// The facts of the file with this number, whose tree these tokens derive, with the texts of comments as they are
-/// written: `declare_in` says what is asked and given.
+/// written, and without details: `declare_with` says what is asked and given.
 pub fn declare<'t>(
     alloc: Global,
     number: usize,
@@ -194,7 +232,7 @@ pub fn declare<'t>(
     file: &File,
 ) -> Result<FileFacts<'t>, AllocError>
     requires { DerivesBySome lexed.now.text lexed.now.tokens file.now }
-    ensures { IfOk result (AreFactsOf Raw number lexed.now file.now) }
+    ensures { IfOk result (AreFactsOf plain_form number lexed.now file.now) }
 {
-    declare_in(alloc, CommentForm::Raw, number, lexed, file)
+    declare_with(alloc, FactForm::plain(), number, lexed, file)
 }

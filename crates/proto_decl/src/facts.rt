@@ -1,16 +1,17 @@
 //! What is known of a file.
 
-ghost use Rattle.std.specs.Prelude.{◌≡◌};
+ghost use Rattle.std.specs.Prelude.{◌≡◌, None, Some, MatchOption};
 ghost use Rattle.proto_decl.specs.Facts.{AreOfSomeFile};
 
 use crate::declaration::Declaration;
+use crate::detail::Detail;
 use crate::imports::Imported;
 use crate::uses::{Component, Use};
 use basics::Sequence;
 use std::marker::Model;
 
 /// What a file declares, uses and imports, which is all that is linked, named and written of it. Its names
-/// are parts of the file's text.
+/// are parts of the file's text. If it is asked for, how its declarations read, and where they are.
 ///
 /// Contracts see its number and the lists of the rest, and that these are the facts of some file:
 /// what is law of a file's facts (`facts_in_order`, `facts_are_filled`) holds of every value.
@@ -21,6 +22,7 @@ pub struct FileFacts<'t> {
     imports: Sequence<Imported<'t>>,
     declarations: Sequence<Declaration<'t>>,
     uses: Sequence<Use<'t>>,
+    details: Option<Sequence<Detail>>,
 }
 
 impl<'t> Model for FileFacts<'t> {
@@ -34,6 +36,7 @@ impl<'t> Model for FileFacts<'t> {
       imports = inside.imports;
       declarations = inside.declarations;
       uses = inside.uses;
+      details = inside.details;
     } };
 
     ghost invariant = { λ inside. AreOfSomeFile
@@ -43,6 +46,7 @@ impl<'t> Model for FileFacts<'t> {
           imports = inside.imports;
           declarations = inside.declarations;
           uses = inside.uses;
+          details = inside.details;
         }) };
 }
 
@@ -54,6 +58,7 @@ impl<'t> FileFacts<'t> {
         imports: Sequence<Imported<'t>>,
         declarations: Sequence<Declaration<'t>>,
         uses: Sequence<Use<'t>>,
+        details: Option<Sequence<Detail>>,
     ) -> FileFacts<'t>
         requires { AreOfSomeFile (record {
           number = number;
@@ -61,6 +66,7 @@ impl<'t> FileFacts<'t> {
           imports = imports;
           declarations = declarations;
           uses = uses;
+          details = details;
         }) }
         ensures { result ≡ record {
           number = number;
@@ -68,6 +74,7 @@ impl<'t> FileFacts<'t> {
           imports = imports.entry;
           declarations = declarations.entry;
           uses = uses.entry;
+          details = details;
         } }
     {
         FileFacts {
@@ -76,6 +83,7 @@ impl<'t> FileFacts<'t> {
             imports,
             declarations,
             uses,
+            details,
         }
     }
 
@@ -112,6 +120,17 @@ impl<'t> FileFacts<'t> {
         ensures { result.now ≡ self.now.declarations }
     {
         self.declarations.as_slice()
+    }
+
+    /// How the declarations read, and where they are: one for each, in their order. There are none if they weren't
+    /// asked for.
+    pub fn details(&self) -> Option<&[Detail]>
+        ensures { MatchOption result (self.now.details ≡ None) (λ details. self.now.details ≡ Some details.now) }
+    {
+        match &self.details {
+            Some(details) => Some(details.as_slice()),
+            None => None,
+        }
     }
 
     /// The uses of types, in order of place.

@@ -2,7 +2,7 @@
 
 ghost use Rattle.std.specs.Prelude.{All, ℕ, ◌≢◌, []};
 ghost use Rattle.proto_lex.specs.Lexed.{Lexed};
-ghost use Rattle.comment_texts.specs.declared.form.CommentForm.{CommentForm};
+ghost use Rattle.proto_decl.specs.declared.form.FactForm.{FactForm};
 ghost use Rattle.proto_parse.specs.tree.File.{File};
 ghost use Rattle.proto_decl.specs.Facts.{Facts, AreOfSomeFile, NamesInOrder, UsesInOrder, ImportsInOrder};
 ghost use Rattle.proto_decl.specs.Facts.{PackageInOrder, NamesAreFilled, UsesAreFilled, AreFactsOf};
@@ -10,7 +10,7 @@ ghost use Rattle.proto_decl.specs.Names.{IsSimple};
 ghost use Rattle.proto_decl.specs.Laws.{StandApart};
 ghost use Rattle.proto_decl.specs.Laws.{OneLeadingText, OneTrailingText, OneFacts, NamesAreSpelled, StandsInScope};
 ghost use Rattle.proto_decl.specs.Laws.{PrefixesAreEntities, FactsStandInText, ScopesNest, OneAround};
-ghost use Rattle.proto_decl.specs.Laws.{AreNamed, AreHeld};
+ghost use Rattle.proto_decl.specs.Laws.{AreNamed, AreHeld, OneDetails};
 
 use proto_parse::{names_have_components, spans_in_order, spans_of_tokens};
 
@@ -23,6 +23,11 @@ pub fn one_comment_text()
 /// A file has one list of facts in each form of comments' texts.
 pub fn one_list_of_facts()
     ensures { OneFacts }
+{}
+
+/// A file has one list of details.
+pub fn one_list_of_details()
+    ensures { OneDetails }
 {}
 
 /// Declared names, the components of uses, and imports are in order, so that each place is there once; and the
@@ -102,7 +107,7 @@ pub fn scopes_nest()
 /// What holds a declaration of a file is declared there too, and the full name of each is that of its
 /// package, of the scopes on the path to it and its own name, joined by dots.
 pub fn declarations_stand_in_declarations()
-    ensures { (form : CommentForm) (number : ℕ) (lexed : Lexed) (file : File) (facts : Facts)
+    ensures { (form : FactForm) (number : ℕ) (lexed : Lexed) (file : File) (facts : Facts)
         → AreFactsOf form number lexed file facts
         → AreNamed facts.package_name facts.declarations → AreHeld facts.package_name facts.declarations }
 {}

@@ -60,7 +60,7 @@ fn tokens_begun_near(tokens: &[Token], near: usize, offset: usize) -> Option<usi
 }
 
 /// How many tokens begin before an offset. If these aren't `near` or a few more, they are searched by halves.
-fn tokens_begun(lexed: &Tokens<'_, '_>, near: usize, offset: usize) -> usize
+pub(crate) fn tokens_begun(lexed: &Tokens<'_, '_>, near: usize, offset: usize) -> usize
     ensures within { result ≤ length lexed.now.tokens }
     ensures parted { IsPartitionPoint (λ t. t.span.start < offset)
         (λ t. offset ≤ t.span.start) lexed.now.tokens result }

@@ -4,6 +4,8 @@
 #[cfg(test)]
 mod calls;
 #[cfg(test)]
+mod details;
+#[cfg(test)]
 mod listed;
 #[cfg(test)]
 mod scopes;

@@ -8,7 +8,7 @@ use Rattle.proto_lex.specs.declared.fault.LexFault.{LexFault}
 use Rattle.proto_lex.specs.declared.fault.LexFault.TheVariants as lexing
 use Rattle.proto_lex.specs.Text.{IsText, IsNoText, max_text_length}
 use Rattle.proto_lex.specs.Faults.{IsFirstFault}
-use Rattle.comment_texts.specs.declared.form.CommentForm.TheVariants.{Raw}
+use Rattle.proto_decl.specs.Facts.{plain_form}
 use Rattle.proto_parse.specs.dialect.Dialect.{Dialect}
 use Rattle.proto_decl.specs.Values.{Seen}
 use Rattle.index_hooks.specs.declared.choice.Choice.{Choice}
@@ -110,12 +110,13 @@ module _ (dialect : Dialect) (bytes : List ℕ) where
   alone = record { path = source_path; bytes = bytes; is_included = false }
 
   short_contents : (contents : Result FileContents FileFault)
-      → HasContents Refuse dialect Raw default_choices zero alone contents → length bytes ≤ max_text_length
+      → HasContents Refuse dialect plain_form default_choices zero alone contents → length bytes ≤ max_text_length
   short_contents (Ok contents) has = has.1.facts_in.lexing.text.short
   short_contents (Err e) has = absurd (let same : false ≡ true = has.0 in cc)
 
   pub short_source : (parsed : List ReadFile)
-      → AreParsedFiles Refuse dialect Raw default_choices (dump_tree bytes) parsed → length bytes ≤ max_text_length
+      → AreParsedFiles Refuse dialect plain_form default_choices (dump_tree bytes) parsed
+      → length bytes ≤ max_text_length
   short_source [] are = absurd (let none = are.one_each in omega (arith, none))
   short_source (parsed_file ∷ others) are = short_contents parsed_file.contents
       (are.each zero alone parsed_file refl refl).contents
@@ -152,12 +153,13 @@ module _ (dialect : Dialect) (bytes : List ℕ) where
 
   of_parsed : (P : List TreeFile → List ReadFile → Type 0)
       → (parsed : List ReadFile)
-      × AreParsedFiles Refuse dialect Raw default_choices (dump_tree (kept_bytes bytes)) parsed
+      × AreParsedFiles Refuse dialect plain_form default_choices (dump_tree (kept_bytes bytes)) parsed
       × P (dump_tree (kept_bytes bytes)) parsed
-      → (parsed : List ReadFile) × AreParsedFiles Refuse dialect Raw default_choices (dump_tree bytes) parsed
+      → (parsed : List ReadFile) × AreParsedFiles Refuse dialect plain_form default_choices (dump_tree bytes) parsed
       × P (dump_tree bytes) parsed
   of_parsed P of =
-      whole (λ b. (parsed : List ReadFile) × AreParsedFiles Refuse dialect Raw default_choices (dump_tree b) parsed
+      whole (λ b. (parsed : List ReadFile)
+      × AreParsedFiles Refuse dialect plain_form default_choices (dump_tree b) parsed
       × P (dump_tree b) parsed) bytes (short_source dialect (kept_bytes bytes) of.0 of.1) of
 
   fault_of_all : (number : ℕ) (e : FileFault)

@@ -4,7 +4,7 @@ use Rattle.std.specs.List.{Contains, slice_get}
 use Rattle.std.proofs.lemmas.List.Elements.{All-contains_itself, All-weaker}
 use Rattle.std.proofs.lemmas.Option.{slice_get_within}
 use Rattle.std.proofs.lemmas.List.{length-map}
-use Rattle.comment_texts.specs.declared.form.CommentForm.{CommentForm}
+use Rattle.proto_decl.specs.declared.form.FactForm.{FactForm}
 use Rattle.proto_parse.specs.dialect.Dialect.{Dialect}
 use Rattle.proto_decl.specs.Values.{Seen}
 use Rattle.proto_visibility.specs.declared.files.FilePlace.{FilePlace}
@@ -22,6 +22,7 @@ use Rattle.proto_visibility.specs.Absences.{IsNeeded, of_source, of_included}
 use Rattle.proto_decl.specs.declared.imports.Imported.{Imported}
 use Rattle.index_hooks.specs.declared.choice.Choice.{Choice}
 use Rattle.source_tree.specs.Files.{TreeFile}
+use Rattle.scip_build.specs.FactForms.{form_of}
 use Rattle.scip_build.specs.Builds.{IsBuilt, IsBuildFault}
 use Rattle.scip_build.specs.Kept.{IsLeftFor, IsTold}
 use Rattle.scip_build.specs.Kept.IsTold.{of_file, of_import as told_import, of_use, of_ambiguous}
@@ -65,7 +66,7 @@ clash_within names.Keep files first second own =
       subst Within clash.second_is (file_within clash.later clash.exclude.second_is),
     )
 
-pub in_tree : (allows : Seen → Choice → Type 0) (mode : Faulty) (dialect : Dialect) (form : CommentForm)
+pub in_tree : (allows : Seen → Choice → Type 0) (mode : Faulty) (dialect : Dialect) (form : FactForm)
     (tree : List TreeFile) (parsed : List ReadFile) (number : ℕ)
     → AreParsedFiles mode dialect form allows tree parsed → number < length (linked_files parsed)
     → HasFile tree number
@@ -75,9 +76,9 @@ in_tree allows mode dialect form tree parsed number are within =
 
 module _ (allows : Seen → Choice → Type 0) (settings : Settings) (tree : List TreeFile) where
   in_parsed : (parsed : List ReadFile) (number : ℕ)
-      → AreParsedFiles Refuse settings.dialect settings.comments allows tree parsed
+      → AreParsedFiles Refuse settings.dialect (form_of settings) allows tree parsed
       → number < length (linked_files parsed) → HasFile tree number
-  in_parsed = in_tree allows Refuse settings.dialect settings.comments tree
+  in_parsed = in_tree allows Refuse settings.dialect (form_of settings) tree
 
   pub files_of_build : (workers : ℕ) (e : BuildFault) → IsBuildFault allows settings tree workers e
       → HasFilesOf tree (fault_of_build e)
@@ -108,7 +109,7 @@ module _ (allows : Seen → Choice → Type 0) (settings : Settings) (tree : Lis
 
 -- ---- the files of what is told
 
-module _ (allows : Seen → Choice → Type 0) (faulty : Faulty) (dialect : Dialect) (form : CommentForm)
+module _ (allows : Seen → Choice → Type 0) (faulty : Faulty) (dialect : Dialect) (form : FactForm)
     (tree : List TreeFile) (all : List ReadFile) (read : AreParsedFiles faulty dialect form allows tree all)
     (duplicates : Duplicates) (omissions : Omissions) (are : AreOmissions duplicates (linked_files all) omissions) where
   within : (number : ℕ) → number < length (linked_files all) → HasFile tree number
@@ -173,5 +174,5 @@ pub files_of_built : (allows : Seen → Choice → Type 0) (settings : Settings)
     → IsBuilt allows settings tree built → HaveFilesOf tree built.told
 files_of_built allows settings tree built is =
     let kept = is.of_files.kept in
-    files_of_told allows settings.faulty settings.dialect settings.comments tree is.all is.read settings.duplicates
+    files_of_told allows settings.faulty settings.dialect (form_of settings) tree is.all is.read settings.duplicates
     kept.omissions kept.left_out built.told (λ fault there. (kept.told_is.exact fault).0 there)

@@ -17,6 +17,7 @@ use Rattle.basics.proofs.FirstLemmas.{contained}
 use Rattle.index_hooks.specs.declared.choice.Choice.{Choice}
 use Rattle.source_tree.specs.Files.{TreeFile}
 use Rattle.scip_symbol.specs.Package.{Package}
+use Rattle.scip_build.specs.FactForms.{form_of}
 use Rattle.scip_symbol.specs.Path.{IsGoodPath}
 use Rattle.scip_model.specs.Packages.{Packages, ArePackages}
 use Rattle.scip_symbol.specs.Entities.{Entity}
@@ -322,10 +323,10 @@ headline allows laws settings tree is_tree are_packages recorded bytes indexed =
     let kept = built.of_files.kept in
     let Origins : List ReadFile → Type 0 = λ rs. HaveOrigins (linked_files rs) in
     let Good : List ReadFile → Type 0 = λ rs. HaveGoodPaths (linked_files rs) in
-    let own_all = own_paths settings.faulty settings.dialect settings.comments allows tree built.all built.read
+    let own_all = own_paths settings.faulty settings.dialect (form_of settings) allows tree built.all built.read
     is_tree.own in
-    let of_all = have_origins settings.faulty settings.dialect settings.comments allows tree built.all built.read in
-    let good_all = good_paths settings.faulty settings.dialect settings.comments allows tree built.all built.read
+    let of_all = have_origins settings.faulty settings.dialect (form_of settings) allows tree built.all built.read in
+    let good_all = good_paths settings.faulty settings.dialect (form_of settings) allows tree built.all built.read
     is_tree.good in
     let origins = subst Origins (sym kept.kept) (kept_origins kept.omissions built.all of_all) in
     let good = subst Good (sym kept.kept) (kept_paths kept.omissions built.all good_all) in

@@ -5,7 +5,7 @@ use Rattle.std.specs.List.{slice_get}
 use Rattle.std.proofs.lemmas.Option.{same_Some, none-some, slice_get_within}
 use Rattle.std.proofs.lemmas.List.Elements.{All-contains}
 use Rattle.basics.proofs.ListLemmas.{item_at}
-use Rattle.comment_texts.specs.declared.form.CommentForm.{CommentForm}
+use Rattle.proto_decl.specs.declared.form.FactForm.{FactForm}
 use Rattle.proto_parse.specs.dialect.Dialect.{Dialect}
 use Rattle.proto_decl.specs.Facts.{Facts, AreFactsOf, AreOfSomeFile}
 use Rattle.proto_decl.specs.Values.{Seen}
@@ -44,7 +44,7 @@ present_origin omissions all number file at present =
     (present_kept (linked_files all) omissions number file
     (subst (λ fs. slice_get fs number ≡ Some file) (linked_is omissions all) at) present)
 
-module _ (faulty : Faulty) (dialect : Dialect) (form : CommentForm) (allows : Seen → Choice → Type 0)
+module _ (faulty : Faulty) (dialect : Dialect) (form : FactForm) (allows : Seen → Choice → Type 0)
     (tree : List TreeFile) (parsed : List ReadFile)
     (are : AreParsedFiles faulty dialect form allows tree parsed) where
   -- a linked file, as it was read and as it is in the tree

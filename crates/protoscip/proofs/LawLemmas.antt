@@ -75,7 +75,7 @@ set_itself settings = record {
   id = refl;
   encoding = refl;
   dialect = refl;
-  comments = refl;
+  form = refl;
   duplicates = refl;
 }
 

@@ -44,6 +44,7 @@ dump_settings dialect = record {
   encoding = Utf8;
   dialect = dialect;
   comments = Raw;
+  details = false;
   faulty = Refuse;
   duplicates = names.Refuse;
 }

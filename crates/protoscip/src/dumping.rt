@@ -86,6 +86,7 @@ pub(crate) fn dump_settings(alloc: Global, dialect: Dialect) -> Result<Settings,
         encoding: Encoding::Utf8,
         dialect,
         comments: CommentForm::Raw,
+        details: false,
         faulty: Faulty::Refuse,
         duplicates: Duplicates::Refuse,
     })

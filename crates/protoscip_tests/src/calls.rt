@@ -67,6 +67,7 @@ fn settings_of(
         encoding,
         dialect: Dialect::Proto3(CustomOptions::Refuse),
         comments: CommentForm::Raw,
+        details: false,
         faulty,
         duplicates: Duplicates::Refuse,
     })

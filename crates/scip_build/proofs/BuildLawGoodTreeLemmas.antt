@@ -21,6 +21,7 @@ use Rattle.proto_decl.specs.Values.{Seen}
 use Rattle.proto_visibility.specs.Sees.IsReachable.{seen}
 use Rattle.proto_visibility.specs.Sees.SeesBy.{itself}
 use Rattle.index_hooks.specs.declared.choice.Choice.{Choice}
+use Rattle.scip_build.specs.FactForms.{form_of}
 use Rattle.scip_model.specs.Packages.{Packages, naming}
 use Rattle.scip_model.specs.Conditions.{AllResolve}
 use Rattle.scip_model.specs.Indexes.{IsIndexOf}
@@ -239,7 +240,7 @@ module _ (good : NothingIsLeftOutOfGoodFiles) where
 
   module _ (allows : Seen → Choice → Type 0) (settings another : Settings) (tree : List TreeFile)
       (same : SetTheSame settings another) (all : List ReadFile)
-      (read : AreParsedFiles settings.faulty settings.dialect settings.comments allows tree all)
+      (read : AreParsedFiles settings.faulty settings.dialect (form_of settings) allows tree all)
       (clear : HaveClearNames settings.duplicates (linked_files all)) where
     may_be : (faulty : Faulty) → may_be_unread faulty true ≡ true
     may_be Refuse = refl
@@ -249,11 +250,11 @@ module _ (good : NothingIsLeftOutOfGoodFiles) where
     read_so : (number : ℕ) (file : TreeFile) (parsed_file : ReadFile) → slice_get tree number ≡ Some file
         → slice_get all number ≡ Some parsed_file → (contents : Result FileContents FileFault)
         → parsed_file.contents ≡ contents
-        → HasContents settings.faulty settings.dialect settings.comments allows number file contents
-        → HasContents another.faulty another.dialect another.comments allows number file contents
+        → HasContents settings.faulty settings.dialect (form_of settings) allows number file contents
+        → HasContents another.faulty another.dialect (form_of another) allows number file contents
     read_so number file parsed_file at there (Ok contents) is has =
-        subst (λ form. AreContentsOf another.dialect form allows number file.bytes contents) same.comments
-        (subst (λ d. AreContentsOf d settings.comments allows number file.bytes contents) same.dialect has)
+        subst (λ form. AreContentsOf another.dialect form allows number file.bytes contents) same.form
+        (subst (λ d. AreContentsOf d (form_of settings) allows number file.bytes contents) same.dialect has)
     read_so number file parsed_file at there (Err fault) is has = (
       included file.is_included refl,
       subst (λ c. IsUnreadable c file.bytes fault) same.dialect has.1,
@@ -279,7 +280,7 @@ module _ (good : NothingIsLeftOutOfGoodFiles) where
               unread = ap facts_in is;
             }))
 
-    pub read_by : AreParsedFiles another.faulty another.dialect another.comments allows tree all
+    pub read_by : AreParsedFiles another.faulty another.dialect (form_of another) allows tree all
     read_by = record {
       one_each = read.one_each;
       each = λ number file parsed_file at there.

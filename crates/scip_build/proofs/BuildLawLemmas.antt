@@ -23,6 +23,7 @@ use Rattle.proto_visibility.specs.Linked.MayRefuse.{broken_file, clashing, absen
 use Rattle.proto_visibility.specs.declared.files.FilePlace.{FilePlace}
 use Rattle.proto_visibility.specs.declared.fault.LinkFault.{LinkFault}
 use Rattle.proto_visibility.specs.declared.fault.LinkFault.TheVariants as link
+use Rattle.scip_build.specs.FactForms.{form_of}
 use Rattle.scip_model.specs.Conditions.{IsResolved, AllResolve, IsFirstUnresolved, UsesResolve}
 use Rattle.source_tree.specs.Files.{TreeFile}
 use Rattle.scip_build.specs.declared.settings.Settings.{Settings}
@@ -170,7 +171,7 @@ abbrev Reason : Settings → (allows : Seen → Choice → Type 0) → List Tree
 Reason settings allows tree cause =
     ((number : ℕ) × (fault : FileFault) × (cause ≡ link.Broken number)
     × IsFirstFaulty settings.dialect tree number fault)
-    ⊎ OfParsed settings.dialect settings.comments allows tree
+    ⊎ OfParsed settings.dialect (form_of settings) allows tree
     (λ parsed. Refuses settings.duplicates (linked_files parsed) cause)
 
 reason : (settings : Settings) (allows : Seen → Choice → Type 0) (tree : List TreeFile) (workers : ℕ)
@@ -203,15 +204,15 @@ module _ (allows others : Seen → Choice → Type 0) (one_linking : OneLinking 
   pub built_has_no_fault : BuiltHasNoFault allows others
   built_has_no_fault settings tree workers built fault is wrong not =
       let why = reason settings others tree workers fault wrong not in
-      let Read : Faulty → Type 0 = λ f. AreParsedFiles f settings.dialect settings.comments allows tree is.all in
+      let Read : Faulty → Type 0 = λ f. AreParsedFiles f settings.dialect (form_of settings) allows tree is.all in
       let read : Read Refuse = subst Read why.0 is.read in
       let good = is.of_files.refused why.0 in
       elim why.1 [
-        | inl first ↦ none settings.dialect settings.comments tree is.all first.0 first.1 read first.3
+        | inl first ↦ none settings.dialect (form_of settings) tree is.all first.0 first.1 read first.3
         | inr later ↦ (
             let Here : List File → Type 0 = λ files. Refuses settings.duplicates files (cause_of fault) in
             let here = subst Here (sym
-            (one_linking Refuse Refuse settings.dialect settings.comments tree is.all later.0 read later.1)) later.2 in
+            (one_linking Refuse Refuse settings.dialect (form_of settings) tree is.all later.0 read later.1)) later.2 in
             none_refuses settings.duplicates (linked_files is.all) good.linked good.resolved (cause_of fault) here not)
       ]
 
@@ -222,13 +223,13 @@ module _ (allows others : Seen → Choice → Type 0) (one_linking : OneLinking 
       both : Reason settings allows tree (cause_of fault) → Reason settings others tree (cause_of other)
           → cause_of fault ≡ cause_of other
       both (inl a) (inl b) = a.2 ∙ (ap link.Broken (one_first settings.dialect tree a.0 b.0 a.1 b.1 a.3 b.3) ∙ sym b.2)
-      both (inl a) (inr b) = absurd (none_others settings.dialect settings.comments tree b.0 a.0 a.1 b.1 a.3)
-      both (inr a) (inl b) = absurd (none settings.dialect settings.comments tree a.0 b.0 b.1 a.1 b.3)
+      both (inl a) (inr b) = absurd (none_others settings.dialect (form_of settings) tree b.0 a.0 a.1 b.1 a.3)
+      both (inr a) (inl b) = absurd (none settings.dialect (form_of settings) tree a.0 b.0 b.1 a.1 b.3)
       both (inr a) (inr b) =
           let Here : List File → Type 0 = λ files. Refuses settings.duplicates files (cause_of other) in
           let here = subst Here
-          (sym (one_linking Refuse Refuse settings.dialect settings.comments tree a.0 b.0 a.1 b.1)) b.2 in
-          let origins = have_origins a.0 (whole_at Refuse settings.dialect settings.comments allows tree a.0 a.1) in
+          (sym (one_linking Refuse Refuse settings.dialect (form_of settings) tree a.0 b.0 a.1 b.1)) b.2 in
+          let origins = have_origins a.0 (whole_at Refuse settings.dialect (form_of settings) allows tree a.0 a.1) in
           one_cause settings.duplicates (linked_files a.0) one_refusal origins (cause_of fault) (cause_of other) a.2
           here not nor
 
@@ -248,7 +249,7 @@ named settings allows tree workers number fault (refuse, inr (parsed, are, is_un
     rw (sym are.one_each) (slice_get_within parsed number has.parsed_file has.numbered) in
     let there = item_at tree number within in
     let Contents : Result FileContents FileFault → Type 0 =
-    HasContents Refuse settings.dialect settings.comments allows number there.0 in
+    HasContents Refuse settings.dialect (form_of settings) allows number there.0 in
     let contents = subst Contents has.unread (are.each number there.0 has.parsed_file there.1 has.numbered).contents in
     record { file = there.0; numbered = there.1; unreadable = contents.1 }
 

@@ -11,7 +11,7 @@ use Rattle.std.specs.Option.{option_map}
 use Rattle.std.proofs.lemmas.List.{length-map, map-append, map-id}
 use Rattle.std.proofs.lemmas.Option.{same_Some, slice_get-map, slice_get_within}
 use Rattle.basics.proofs.ListLemmas.{contains_map, item_at}
-use Rattle.comment_texts.specs.declared.form.CommentForm.{CommentForm}
+use Rattle.proto_decl.specs.declared.form.FactForm.{FactForm}
 use Rattle.proto_parse.specs.dialect.Dialect.{Dialect}
 use Rattle.proto_decl.specs.Facts.{Facts}
 use Rattle.proto_decl.specs.Values.{Seen}
@@ -25,6 +25,7 @@ use Rattle.proto_visibility.specs.Kept.{Omissions, IsOmission, AreOmissions, kep
 use Rattle.proto_visibility.specs.Kept as link
 use Rattle.basics.proofs.FirstLemmas.{contained}
 use Rattle.proto_link.specs.Laws.{OneOmissionList}
+use Rattle.scip_build.specs.FactForms.{form_of}
 use Rattle.scip_model.specs.Packages.{Packages, naming}
 use Rattle.scip_model.specs.Repeated.{AreRepeated}
 use Rattle.index_hooks.specs.declared.choice.Choice.{Choice}
@@ -60,7 +61,7 @@ use Rattle.scip_build.proofs.KeptToldLemmas.{key_total, of_same, one_told}
 use Rattle.scip_build.proofs.BuildLawGoodTreeLemmas.{fault_of}
 
 -- a file with a fault can't be read
-unreadable : (faulty : Faulty) (dialect : Dialect) (form : CommentForm) (allows : Seen → Choice → Type 0)
+unreadable : (faulty : Faulty) (dialect : Dialect) (form : FactForm) (allows : Seen → Choice → Type 0)
     (tree : List TreeFile) (parsed : List ReadFile) → AreParsedFiles faulty dialect form allows tree parsed
     → (number : ℕ) (fault : FileFault)
     → HasFault parsed number fault
@@ -88,7 +89,7 @@ same_choices allows others agree (d ∷ ds) (x ∷ xs) (y ∷ ys) chosen also =
     λ i. here i ∷ more i
 
 module _ (apart : NoFactsWhereUnreadable) (allows others : Seen → Choice → Type 0) (faulty another : Faulty)
-    (dialect : Dialect) (form : CommentForm) where
+    (dialect : Dialect) (form : FactForm) where
   -- what is the same of contents, and of any two faults, is of one file read twice
   same_in : {Y : Type 0} (f : Result FileContents FileFault → Y) (number : ℕ) (file : TreeFile)
       → ((a b : FileContents) → AreContentsOf dialect form allows number file.bytes a
@@ -182,15 +183,15 @@ module _ (one : OneListOfFacts) (apart : NoFactsWhereUnreadable) (one_fault : On
   abbrev b : Omissions
   b = also.of_files.kept.omissions
 
-  read_again : AreParsedFiles another.faulty settings.dialect settings.comments others tree again
+  read_again : AreParsedFiles another.faulty settings.dialect (form_of settings) others tree again
   read_again =
-      let Read : Dialect → Type 0 = λ d. AreParsedFiles another.faulty d another.comments others tree again in
-      let In : CommentForm → Type 0 = λ form. AreParsedFiles another.faulty settings.dialect form others tree again in
-      subst In (sym same.comments) (subst Read (sym same.dialect) also.read)
+      let Read : Dialect → Type 0 = λ d. AreParsedFiles another.faulty d (form_of another) others tree again in
+      let In : FactForm → Type 0 = λ form. AreParsedFiles another.faulty settings.dialect form others tree again in
+      subst In (sym same.form) (subst Read (sym same.dialect) also.read)
 
   all_linked : linked_files all ≡ linked_files again
   all_linked =
-      one_linking one apart settings.faulty another.faulty settings.dialect settings.comments allows others tree all
+      one_linking one apart settings.faulty another.faulty settings.dialect (form_of settings) allows others tree all
       again is.read read_again
 
   same_omissions : a ≡ b
@@ -199,7 +200,7 @@ module _ (one : OneListOfFacts) (apart : NoFactsWhereUnreadable) (one_fault : On
       let also_left = subst (λ d. AreOmissions d (linked_files again) b) (sym same.duplicates)
       also.of_files.kept.left_out in
       one_list settings.duplicates (linked_files all)
-      (have_origins all (whole_at settings.faulty settings.dialect settings.comments allows tree all is.read)) a b
+      (have_origins all (whole_at settings.faulty settings.dialect (form_of settings) allows tree all is.read)) a b
       is.of_files.kept.left_out (subst Are (sym all_linked) also_left)
 
   kept_alike : {Y : Type 0} (f : ReadFile → Y) (g : Y → Y) → IsSaidOfLeft f g → map f all ≡ map f again
@@ -212,12 +213,12 @@ module _ (one : OneListOfFacts) (apart : NoFactsWhereUnreadable) (one_fault : On
 
   choices_are : AllowOne allows others → built.choices ≡ other.choices
   choices_are agree = is.of_files.choices ∙ (kept_alike choices_of (λ choices. choices) (λ parsed_file. refl)
-      (same_lists apart allows others settings.faulty another.faulty settings.dialect settings.comments tree all again
+      (same_lists apart allows others settings.faulty another.faulty settings.dialect (form_of settings) tree all again
       is.read read_again one agree) ∙ sym also.of_files.choices)
 
   texts_are : texts_of is.of_files.parsed ≡ texts_of also.of_files.parsed
   texts_are = kept_alike text_of (λ text. text) (λ parsed_file. refl)
-      (same_texts apart allows others settings.faulty another.faulty settings.dialect settings.comments tree all again
+      (same_texts apart allows others settings.faulty another.faulty settings.dialect (form_of settings) tree all again
       is.read read_again)
 
   -- what is repeated of the files of the one is what is of those of the other
@@ -255,8 +256,8 @@ module _ (one : OneListOfFacts) (apart : NoFactsWhereUnreadable) (one_fault : On
   same_unread : (number : ℕ) (fault more : FileFault) → HasFault all number fault → HasFault again number more
       → fault ≡ more
   same_unread number fault more has too =
-      let x = unreadable settings.faulty settings.dialect settings.comments allows tree all is.read number fault has in
-      let y = unreadable another.faulty another.dialect another.comments others tree again also.read number more too in
+      let x = unreadable settings.faulty settings.dialect (form_of settings) allows tree all is.read number fault has in
+      let y = unreadable another.faulty another.dialect (form_of another) others tree again also.read number more too in
       let file : x.0 ≡ y.0 = same_Some x.0 y.0 (sym x.1 ∙ y.1) in
       let bytes = subst (λ (f : TreeFile). IsUnreadable another.dialect f.bytes more) (sym file) y.2 in
       one_fault settings.dialect x.0.bytes fault more x.2
@@ -320,7 +321,7 @@ set_the_same settings another same = record {
   id = sym same.id;
   encoding = sym same.encoding;
   dialect = sym same.dialect;
-  comments = sym same.comments;
+  form = sym same.form;
   duplicates = sym same.duplicates;
 }
 

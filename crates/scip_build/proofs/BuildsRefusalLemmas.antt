@@ -8,6 +8,7 @@ use Rattle.proto_visibility.specs.Files.{File}
 use Rattle.proto_visibility.specs.Linked.{CanBeLinked}
 use Rattle.scip_records.specs.declared.records.Document.{Document}
 use Rattle.source_tree.specs.Files.{TreeFile}
+use Rattle.scip_build.specs.FactForms.{form_of}
 use Rattle.scip_build.specs.declared.settings.Settings.{Settings}
 use Rattle.scip_build.specs.declared.made.Made.{Made}
 use Rattle.scip_build.specs.declared.faulty.Faulty.{Faulty}
@@ -92,7 +93,7 @@ module _ (allows : Seen → Choice → Type 0) (settings : Settings) (tree : Lis
 
   -- why files that were read make no index
   pub of_making : settings.faulty ≡ Refuse → (parsed : List ReadFile)
-      → AreParsedFiles Refuse settings.dialect settings.comments allows tree parsed
+      → AreParsedFiles Refuse settings.dialect (form_of settings) allows tree parsed
       → (fault : BuildFault) → MayRefuseMaking settings.duplicates parsed workers fault
       → IsBuildFault allows settings tree workers fault
   of_making refuse parsed are build.Spawn is = is

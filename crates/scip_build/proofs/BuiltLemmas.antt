@@ -14,6 +14,7 @@ use Rattle.proto_visibility.specs.Kept.{Omissions, AreOmissions, KeptFilesAreCle
 use Rattle.proto_decl.specs.Values.{Seen}
 use Rattle.index_hooks.specs.declared.choice.Choice.{Choice}
 use Rattle.scip_records.specs.declared.records.Document.{Document}
+use Rattle.scip_build.specs.FactForms.{form_of}
 use Rattle.scip_model.specs.Chosen.{Chosen}
 use Rattle.source_tree.specs.Files.{TreeFile}
 use Rattle.scip_build.specs.declared.settings.Settings.{Settings}
@@ -149,7 +150,7 @@ kept_built Is all parsed settings made numbers left once missing faults skip kep
 
 pub tree_built : {Out : Type 0} (Is : Document → Out → Type 0) (allows : Seen → Choice → Type 0) (settings : Settings)
     (tree : List TreeFile) (all : List ReadFile) (choices : Chosen) (told : List Omission) (parts : Parts Out)
-    → AreParsedFiles settings.faulty settings.dialect settings.comments allows tree all
+    → AreParsedFiles settings.faulty settings.dialect (form_of settings) allows tree all
     → IsBuiltOfInForm Is all settings choices told parts → IsBuiltInForm Is allows settings tree choices told parts
 tree_built Is allows settings tree all choices told parts read of = record {
   index = of.index;

@@ -11,7 +11,7 @@ use Rattle.proto_lex.specs.declared.fault.LexFault.{LexFault}
 use Rattle.proto_lex.specs.declared.fault.LexFault.TheVariants.{TooLong, NotUtf8, BadByte, OpenString, OpenComment}
 use Rattle.proto_lex.specs.declared.fault.LexFault.TheVariants.{BadEscape, BadNumber, Memory}
 use Rattle.proto_lex.specs.declared.token.Token.{Token}
-use Rattle.comment_texts.specs.declared.form.CommentForm.{CommentForm}
+use Rattle.proto_decl.specs.declared.form.FactForm.{FactForm}
 use Rattle.proto_parse.specs.dialect.Dialect.{Dialect}
 use Rattle.proto_parse.specs.tree.File.{File}
 use Rattle.proto_parse.specs.fault.SyntaxFault.{SyntaxFault}
@@ -130,7 +130,7 @@ module _ (one_tokens : OneTokens) (one_comments : OneComments) where
 
   module _ (no_fault : NoFaultWhereItLexes) (no_syntax_fault : NoFaultWhereItDerives) where
     -- tokens of a file that derive a tree have no fault
-    parsed_is_parsed : (dialect : Dialect) (form : CommentForm) (number : ℕ) (bytes : List ℕ) (facts : Facts)
+    parsed_is_parsed : (dialect : Dialect) (form : FactForm) (number : ℕ) (bytes : List ℕ) (facts : Facts)
         (fault : SyntaxFault)
         → AreFactsIn dialect form number bytes facts → IsUnparsed dialect bytes fault → ⊥
     parsed_is_parsed dialect form number bytes facts fault has un =

@@ -6,7 +6,7 @@ use Rattle.std.proofs.lemmas.Option.{slice_get_within, none-some, same_Some}
 use Rattle.basics.proofs.ListLemmas.{item_at}
 use Rattle.proto_visibility.specs.Files.{File}
 use Rattle.proto_visibility.specs.Files as link
-use Rattle.comment_texts.specs.declared.form.CommentForm.{CommentForm}
+use Rattle.proto_decl.specs.declared.form.FactForm.{FactForm}
 use Rattle.proto_parse.specs.dialect.Dialect.{Dialect}
 use Rattle.proto_decl.specs.Values.{Seen}
 use Rattle.index_hooks.specs.declared.choice.Choice.{Choice}
@@ -26,7 +26,7 @@ mapped_at f [] k y at = absurd (none-some y at)
 mapped_at f (x ∷ xs) zero y at = (x, refl, sym (same_Some (f x) y at))
 mapped_at f (x ∷ xs) (suc k) y at = mapped_at f xs k y at
 
-module _ (faulty : Faulty) (dialect : Dialect) (form : CommentForm) (allows : Seen → Choice → Type 0)
+module _ (faulty : Faulty) (dialect : Dialect) (form : FactForm) (allows : Seen → Choice → Type 0)
     (files : List TreeFile) (parsed : List ReadFile)
     (are : AreParsedFiles faulty dialect form allows files parsed) where
   -- the file of the tree that a linked file is
@@ -56,7 +56,7 @@ same_mapped f (x ∷ xs) (y ∷ ys) few each =
     λ i. here i ∷ others i
 
 module _ (one : OneListOfFacts) (apart : NoFactsWhereUnreadable) (faulty other : Faulty)
-    (dialect : Dialect) (form : CommentForm) (allows others : Seen → Choice → Type 0) where
+    (dialect : Dialect) (form : FactForm) (allows others : Seen → Choice → Type 0) where
   -- two parsed files of one file have the same facts, or both none
   pub same_facts : (number : ℕ) (file : TreeFile) (a b : Result FileContents FileFault)
       → HasContents faulty dialect form allows number file a → HasContents other dialect form others number file b

@@ -5,7 +5,7 @@ use Rattle.std.specs.List.{slice_get}
 use Rattle.std.specs.Option.{IfSome}
 use Rattle.std.proofs.lemmas.Option.{slice_get_within}
 use Rattle.basics.proofs.ListLemmas.{item_at}
-use Rattle.comment_texts.specs.declared.form.CommentForm.{CommentForm}
+use Rattle.proto_decl.specs.declared.form.FactForm.{FactForm}
 use Rattle.proto_parse.specs.dialect.Dialect.{Dialect}
 use Rattle.proto_decl.specs.Values.{Seen}
 use Rattle.index_hooks.specs.declared.choice.Choice.{Choice}
@@ -30,7 +30,7 @@ holds_at {X} P xs k x at holds = let Q : Option X → Type 0 = λ o. IfSome o P 
 
 -- a source that was read has facts, where it is refused else
 pub source_has_facts : (faulty : Faulty) → faulty ≡ Refuse
-    → (dialect : Dialect) (form : CommentForm) (allows : Seen → Choice → Type 0) (number : ℕ) (file : TreeFile)
+    → (dialect : Dialect) (form : FactForm) (allows : Seen → Choice → Type 0) (number : ℕ) (file : TreeFile)
     (contents : Result FileContents FileFault)
     → HasContents faulty dialect form allows number file contents → IsReadIfSource dialect number file
 source_has_facts faulty refused dialect form allows number file (Ok contents) has source =
@@ -39,7 +39,7 @@ source_has_facts faulty refused dialect form allows number file (Err fault) has 
     let May : Faulty → Type 0 = λ f. may_be_unread f file.is_included ≡ true in
     absurd (true≢false (sym (subst May refused has.0) ∙ source))
 
-module _ (faulty : Faulty) (dialect : Dialect) (form : CommentForm) (allows : Seen → Choice → Type 0)
+module _ (faulty : Faulty) (dialect : Dialect) (form : FactForm) (allows : Seen → Choice → Type 0)
     (files : List TreeFile) where
   pub parsed_of : (parsed : List ReadFile)
       → AnswersEach (GivesParsedFile faulty dialect form allows files) (length files) parsed

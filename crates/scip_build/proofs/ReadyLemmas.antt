@@ -11,7 +11,7 @@ use Rattle.std.proofs.lemmas.List.{length-map}
 use Rattle.std.proofs.lemmas.Option.{same_Some, none-some, slice_get-map, slice_get_within, get_or_from_slice_get}
 use Rattle.std.proofs.lemmas.Bool.{and_parts, not-true}
 use Rattle.basics.proofs.ListLemmas.{item_at}
-use Rattle.comment_texts.specs.declared.form.CommentForm.{CommentForm}
+use Rattle.proto_decl.specs.declared.form.FactForm.{FactForm}
 use Rattle.proto_parse.specs.dialect.Dialect.{Dialect}
 use Rattle.proto_decl.specs.Facts.{Facts, AreFactsOf, AreOfSomeFile}
 use Rattle.proto_decl.specs.Values.{Seen}
@@ -46,7 +46,7 @@ mapped f xs k x at = slice_get-map f xs k ∙ ap (option_map f) at
 -- ---- of a tree
 
 -- facts of a file's bytes are facts of that text
-of_text : (dialect : Dialect) (form : CommentForm) (number : ℕ) (bytes : List ℕ) (facts : Facts)
+of_text : (dialect : Dialect) (form : FactForm) (number : ℕ) (bytes : List ℕ) (facts : Facts)
     → AreFactsIn dialect form number bytes facts → AreOfText bytes facts
 of_text dialect form number bytes facts has =
     let Of : ℕ → Type 0 = λ n. AreFactsOf form n has.lexed has.tree facts in
@@ -62,7 +62,7 @@ of_text dialect form number bytes facts has =
       text_is = has.lexing.of_bytes;
     }
 
-whole : (faulty : Faulty) (dialect : Dialect) (form : CommentForm) (allows : Seen → Choice → Type 0) (number : ℕ)
+whole : (faulty : Faulty) (dialect : Dialect) (form : FactForm) (allows : Seen → Choice → Type 0) (number : ℕ)
     (file : TreeFile) (contents : Result FileContents FileFault)
     → HasContents faulty dialect form allows number file contents → AreWholeIfRead contents
 whole faulty dialect form allows number file (Ok contents) has =
@@ -75,7 +75,7 @@ whole faulty dialect form allows number file (Ok contents) has =
     }
 whole faulty dialect form allows number file (Err fault) has = tt
 
-module _ (faulty : Faulty) (dialect : Dialect) (form : CommentForm) (allows : Seen → Choice → Type 0)
+module _ (faulty : Faulty) (dialect : Dialect) (form : FactForm) (allows : Seen → Choice → Type 0)
     (tree : List TreeFile) (parsed : List ReadFile) (are : AreParsedFiles faulty dialect form allows tree parsed) where
   -- the file that a reading is one of
   record IsReadAt (number : ℕ) (parsed_file : ReadFile) : Type 0 where

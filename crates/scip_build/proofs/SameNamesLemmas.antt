@@ -13,6 +13,7 @@ use Rattle.proto_lex.specs.declared.position.Encoding.{Encoding}
 use Rattle.proto_decl.specs.Facts.{Facts}
 use Rattle.proto_decl.specs.Laws.{component_names}
 use Rattle.proto_decl.specs.declared.declaration.Declaration.{Declaration}
+use Rattle.proto_decl.specs.declared.detail.Detail.{Detail}
 use Rattle.proto_decl.specs.declared.uses.Component.{Component}
 use Rattle.proto_visibility.specs.declared.lookup.Entity.{Entity}
 use Rattle.proto_visibility.specs.declared.lookup.Entity.TheVariants as link
@@ -26,12 +27,14 @@ use Rattle.scip_records.specs.declared.records.SymbolInformation.{SymbolInformat
 use Rattle.scip_model.specs.Chosen.{Chosen}
 use Rattle.scip_model.specs.Packages.{Packages, RepeatedNames, naming, names_at, path_at}
 use Rattle.scip_model.specs.Packages.{package_of_path, package_if_there, package_of_file, package_of_part}
-use Rattle.scip_model.specs.Repeated.{outermost_name, file_namespace, home_of_file, declaration_in, AreRepeated}
+use Rattle.scip_model.specs.Repeated.{outermost_name, file_namespace, namespaces_before, home_of_file}
+use Rattle.scip_model.specs.Repeated.{declaration_in, AreRepeated}
 use Rattle.scip_model.specs.Named.{text_of, IsNamedAs, NamesIn}
 use Rattle.scip_model.specs.Occurs.{start_of_text, definition_role, import_role, no_role, occurrence_over, Occurs}
+use Rattle.scip_model.specs.Occurs.{enclosing_with, range_over}
 use Rattle.scip_model.specs.Occurs as occurs
+use Rattle.scip_model.specs.Detailed.{detail_at, details_in, details_shown, path_around, symbol_around}
 use Rattle.index_hooks.specs.declared.choice.Choice.{Choice}
-use Rattle.scip_records.specs.Details.{no_details}
 use Rattle.proto_decl.specs.Declares.{simple_name}
 use Rattle.scip_model.specs.Entries.{file_entry, IsKeptEntry, HasEntry, HasExternal, declaration_entry}
 use Rattle.scip_model.specs.Entries.{documentation_of}
@@ -104,13 +107,19 @@ module _ (packages : Packages) (a b : RepeatedNames) (same : AreSame a b) (files
   of_part (link.Package count) = refl
   of_part (link.Declared number index) = of_file number
 
+  before : (number : ℕ) (facts : Facts) (declaration : Declaration)
+      → namespaces_before (home_of_file files ids number) facts declaration
+      ≡ namespaces_before (home_of_file files others number) facts declaration
+  before number facts declaration =
+      let names = component_names facts.package_name in
+      ap (λ t. cond t (file_namespace (path_at files number) ∷ names) names)
+      (same number (outermost_name facts declaration))
+
   declared : (number : ℕ) (facts : Facts) (declaration : Declaration)
       → declaration_in (home_of_file files ids number) facts declaration
       ≡ declaration_in (home_of_file files others number) facts declaration
   declared number facts declaration =
-      let names = component_names facts.package_name in
-      ap (λ t. OfDeclaration (cond t (file_namespace (path_at files number) ∷ names) names) declaration.path)
-      (same number (outermost_name facts declaration))
+      ap (λ (names : List (List ℕ)). OfDeclaration names declaration.path) (before number facts declaration)
 
   named_as : (name : List ℕ) (part : Entity) (entity : symbols.Entity) → IsNamedAs files ids name part entity
       → IsNamedAs files others name part entity
@@ -156,8 +165,12 @@ module _ (packages : Packages) (a b : RepeatedNames) (same : AreSame a b) (files
   occurs_too chosen encoding source text _ (occurs.of_declaration {facts = facts} index {declared = d} has kept) =
       let Is : Occurrence → Type 0 = Occurs files chosen others encoding source text in
       subst Is
-      (λ i. occurrence_over encoding text (sym (of_file source) i) d.name (sym (declared source facts d) i)
-      definition_role)
+      (λ i. record {
+        range = range_over encoding text d.name;
+        symbol = text_of (sym (of_file source) i) (sym (declared source facts d) i);
+        symbol_roles = definition_role;
+        enclosing_range = enclosing_with encoding text (detail_at facts index);
+      })
       (occurs.of_declaration index has kept)
   occurs_too chosen encoding source text _
       (occurs.of_component {component = component} {part = part} {entity = entity} names shown) =
@@ -175,23 +188,25 @@ module _ (packages : Packages) (a b : RepeatedNames) (same : AreSame a b) (files
     has = is.has;
     is_chosen = is.is_chosen;
     keeps = is.keeps;
-    is = is.is ∙ shown is.facts is.declaration is.choice;
+    is = is.is ∙ shown is.facts is.declaration (detail_at is.facts index) is.choice;
   }
     where
-      shown : (facts : Facts) (declaration : Declaration) (choice : Choice)
-          → declaration_entry (home_of_file files ids number) facts declaration choice
-          ≡ declaration_entry (home_of_file files others number) facts declaration choice
-      shown facts declaration choice = λ i. record {
+      shown : (facts : Facts) (declaration : Declaration) (detail : Option Detail) (choice : Choice)
+          → declaration_entry (home_of_file files ids number) facts declaration detail choice
+          ≡ declaration_entry (home_of_file files others number) facts declaration detail choice
+      shown facts declaration detail choice = λ i. record {
         symbol = text_of (of_file number i) (declared number facts declaration i);
         documentation = documentation_of choice.doc declaration;
         display_name = simple_name declaration.path;
-        details = no_details;
+        details = details_shown declaration detail
+            (symbol_around (of_file number i) (before number facts declaration i) (path_around declaration.path));
       }
 
   has_entry : (chosen : Chosen) (source : ℕ) (information : SymbolInformation)
       → HasEntry files chosen ids source information → HasEntry files chosen others source information
   has_entry chosen source _ (entry.of_file {file = file} at) =
-      subst (λ id. HasEntry files chosen others source (file_entry id file.path)) (sym (of_file source))
+      subst (λ id. HasEntry files chosen others source (file_entry id file.path (details_in file)))
+      (sym (of_file source))
       (entry.of_file at)
   has_entry chosen source _ (entry.of_package index has at) = entry.of_package index has at
   has_entry chosen source information (entry.of_declaration index is) =

@@ -7,6 +7,7 @@ use Rattle.proto_visibility.specs.declared.fault.LinkFault.{LinkFault}
 use Rattle.proto_visibility.specs.declared.fault.LinkFault.TheVariants as link
 use Rattle.index_hooks.specs.declared.choice.Choice.{Choice}
 use Rattle.source_tree.specs.Files.{TreeFile}
+use Rattle.scip_build.specs.FactForms.{form_of}
 use Rattle.scip_build.specs.declared.settings.Settings.{Settings}
 use Rattle.scip_build.specs.declared.built.Built.{Built}
 use Rattle.scip_build.specs.declared.fault.BuildFault.{BuildFault}
@@ -46,7 +47,7 @@ pub record SetTheSame (settings other : Settings) : Type 0 where
   pub id : settings.package ≡ other.package
   pub encoding : settings.encoding ≡ other.encoding
   pub dialect : settings.dialect ≡ other.dialect
-  pub comments : settings.comments ≡ other.comments
+  pub form : form_of settings ≡ form_of other
   pub duplicates : settings.duplicates ≡ other.duplicates
 
 -- Once the choices are recorded, what is built depends only on the tree, these choices and the settings, whatever else

@@ -1,10 +1,11 @@
 -- What is built from a tree, and why nothing is.
 use Rattle.std.specs.Prelude.{◌≡◌, ◌⊎◌, ◌<◌, ℕ, ⊤, List, map}
-use Rattle.comment_texts.specs.declared.form.CommentForm.{CommentForm}
+use Rattle.proto_decl.specs.declared.form.FactForm.{FactForm}
 use Rattle.proto_parse.specs.dialect.Dialect.{Dialect}
 use Rattle.proto_decl.specs.Values.{Seen}
 use Rattle.index_hooks.specs.declared.choice.Choice.{Choice}
 use Rattle.proto_visibility.specs.Linked.{CanBeLinked, HaveClearNames}
+use Rattle.scip_build.specs.FactForms.{form_of}
 use Rattle.scip_model.specs.Indexes.{IsIndexOf}
 use Rattle.scip_model.specs.Packages.{RepeatedNames, naming}
 use Rattle.scip_model.specs.Repeated.{AreRepeated}
@@ -39,11 +40,11 @@ pub record IsBuiltOf (all : List ReadFile) (settings : Settings) (built : Built)
 pub record IsBuilt (allows : Seen → Choice → Type 0) (settings : Settings) (tree : List TreeFile)
     (built : Built) : Type 0 where
   pub all : List ReadFile
-  pub read : AreParsedFiles settings.faulty settings.dialect settings.comments allows tree all
+  pub read : AreParsedFiles settings.faulty settings.dialect (form_of settings) allows tree all
   pub of_files : IsBuiltOf all settings built
 
 -- this holds of some parsed files of the tree: so each source could be read
-abbrev pub OfParsed : (dialect : Dialect) → CommentForm → (allows : Seen → Choice → Type 0) → List TreeFile
+abbrev pub OfParsed : (dialect : Dialect) → FactForm → (allows : Seen → Choice → Type 0) → List TreeFile
     → (List ReadFile → Type 0) → Type 0
 OfParsed dialect form allows tree Holds =
     (parsed : List ReadFile) × AreParsedFiles Refuse dialect form allows tree parsed × Holds parsed
@@ -57,19 +58,19 @@ IsBuildFault allows settings tree workers Spawn = 1 < workers
 IsBuildFault allows settings tree workers Memory = ⊤
 IsBuildFault allows settings tree workers (File number fault) =
     (settings.faulty ≡ Refuse) × (IsFirstFaulty settings.dialect tree number fault
-    ⊎ OfParsed settings.dialect settings.comments allows tree
+    ⊎ OfParsed settings.dialect (form_of settings) allows tree
     (λ parsed. MayRefuseParsed settings.duplicates parsed (File number fault)))
 IsBuildFault allows settings tree workers (Duplicate first second) =
-    (settings.faulty ≡ Refuse) × OfParsed settings.dialect settings.comments allows tree
+    (settings.faulty ≡ Refuse) × OfParsed settings.dialect (form_of settings) allows tree
     (λ parsed. MayRefuseParsed settings.duplicates parsed (Duplicate first second))
 IsBuildFault allows settings tree workers (MissingImport place) =
-    (settings.faulty ≡ Refuse) × OfParsed settings.dialect settings.comments allows tree
+    (settings.faulty ≡ Refuse) × OfParsed settings.dialect (form_of settings) allows tree
     (λ parsed. MayRefuseParsed settings.duplicates parsed (MissingImport place))
 IsBuildFault allows settings tree workers (Unresolved place) =
-    (settings.faulty ≡ Refuse) × OfParsed settings.dialect settings.comments allows tree
+    (settings.faulty ≡ Refuse) × OfParsed settings.dialect (form_of settings) allows tree
     (λ parsed. CanBeLinked settings.duplicates (linked_files parsed) × IsLeastUnresolved (linked_files parsed) place
     × (IsAmbiguousAt (linked_files parsed) place → ⊥))
 IsBuildFault allows settings tree workers (Ambiguous place) =
-    (settings.faulty ≡ Refuse) × OfParsed settings.dialect settings.comments allows tree
+    (settings.faulty ≡ Refuse) × OfParsed settings.dialect (form_of settings) allows tree
     (λ parsed. CanBeLinked settings.duplicates (linked_files parsed) × IsLeastUnresolved (linked_files parsed) place
     × IsAmbiguousAt (linked_files parsed) place)

@@ -1,7 +1,7 @@
 -- What the definitions say about parsed files and faults, whatever the code does.
 use Rattle.std.specs.Prelude.{◌≡◌, ℕ, List}
 use Rattle.proto_lex.specs.declared.fault.LexFault.{LexFault}
-use Rattle.comment_texts.specs.declared.form.CommentForm.{CommentForm}
+use Rattle.proto_decl.specs.declared.form.FactForm.{FactForm}
 use Rattle.proto_parse.specs.dialect.Dialect.{Dialect}
 use Rattle.proto_parse.specs.fault.SyntaxFault.{SyntaxFault}
 use Rattle.proto_decl.specs.Facts.{Facts}
@@ -18,16 +18,16 @@ use Rattle.scip_build.specs.Files.{ReadFile}
 use Rattle.scip_build.specs.ParsedFiles.{AreParsedFiles, IsFirstFaulty}
 use Rattle.scip_build.specs.Linking.{linked_files}
 
--- A file has one list of facts at most in each form of comments' texts,
+-- A file has one list of facts at most in each form,
 abbrev pub OneListOfFacts : Type 0
 OneListOfFacts =
-    (dialect : Dialect) (form : CommentForm) (number : ℕ) (bytes : List ℕ) (facts other : Facts)
+    (dialect : Dialect) (form : FactForm) (number : ℕ) (bytes : List ℕ) (facts other : Facts)
     → AreFactsIn dialect form number bytes facts → AreFactsIn dialect form number bytes other → facts ≡ other
 
 -- and none if it can't be read,
 abbrev pub NoFactsWhereUnreadable : Type 0
 NoFactsWhereUnreadable =
-    (dialect : Dialect) (form : CommentForm) (number : ℕ) (bytes : List ℕ) (facts : Facts) (fault : FileFault)
+    (dialect : Dialect) (form : FactForm) (number : ℕ) (bytes : List ℕ) (facts : Facts) (fault : FileFault)
     → AreFactsIn dialect form number bytes facts → IsUnreadable dialect bytes fault → ⊥
 
 -- which it can't be for one kind of fault.
@@ -49,21 +49,21 @@ OneFirstFaulty =
 -- If there is one, the files have no parsed files, if it is refused.
 abbrev pub NoParsedFilesWhereFaulty : (allows : Seen → Choice → Type 0) → Type 0
 NoParsedFilesWhereFaulty allows =
-    (dialect : Dialect) (form : CommentForm) (files : List TreeFile) (parsed : List ReadFile) (number : ℕ)
+    (dialect : Dialect) (form : FactForm) (files : List TreeFile) (parsed : List ReadFile) (number : ℕ)
     (fault : FileFault) → AreParsedFiles Refuse dialect form allows files parsed
     → IsFirstFaulty dialect files number fault → ⊥
 
 -- Files that were read have paths of their own, as the tree's have, so that they can be handed to the linker.
 abbrev pub ParsedFilesHaveOwnPaths : (allows : Seen → Choice → Type 0) → Type 0
 ParsedFilesHaveOwnPaths allows =
-    (faulty : Faulty) (dialect : Dialect) (form : CommentForm) (files : List TreeFile) (parsed : List ReadFile)
+    (faulty : Faulty) (dialect : Dialect) (form : FactForm) (files : List TreeFile) (parsed : List ReadFile)
     → AreParsedFiles faulty dialect form allows files parsed → HaveOwnPaths files
     → link.HaveOwnPaths (linked_files parsed)
 
 -- Files that were read link as one list of files, whatever was chosen.
 abbrev pub OneLinking : (allows others : Seen → Choice → Type 0) → Type 0
 OneLinking allows others =
-    (faulty other : Faulty) (dialect : Dialect) (form : CommentForm) (files : List TreeFile)
+    (faulty other : Faulty) (dialect : Dialect) (form : FactForm) (files : List TreeFile)
     (parsed again : List ReadFile)
     → AreParsedFiles faulty dialect form allows files parsed → AreParsedFiles other dialect form others files again
     → linked_files parsed ≡ linked_files again

@@ -28,6 +28,7 @@ pub mod Made
 pub mod Making
 -- an index in a form
 pub mod Forms
+pub mod FactForms
 -- the same of linked sources as one
 pub mod Works
 -- the laws

@@ -4,7 +4,7 @@ use Rattle.proto_lex.specs.Text.{IsText, IsNoText}
 use Rattle.proto_lex.specs.Lexed.{Lexed, IsLexed}
 use Rattle.proto_lex.specs.Faults.{IsFirstFault}
 use Rattle.proto_lex.specs.declared.fault.LexFault.{LexFault}
-use Rattle.comment_texts.specs.declared.form.CommentForm.{CommentForm}
+use Rattle.proto_decl.specs.declared.form.FactForm.{FactForm}
 use Rattle.proto_parse.specs.dialect.Dialect.{Dialect}
 use Rattle.proto_parse.specs.tree.File.{File}
 use Rattle.proto_parse.specs.fault.SyntaxFault.{SyntaxFault}
@@ -21,8 +21,8 @@ pub record HasLexing (bytes : List ℕ) (lexed : Lexed) : Type 0 where
   pub is_lexed : IsLexed lexed.text lexed.tokens lexed.comments
 
 -- the facts of the file with this number and these bytes: those of a tree that the tokens of its text derive,
--- with the texts of comments in a form
-pub record AreFactsIn (dialect : Dialect) (form : CommentForm) (number : ℕ) (bytes : List ℕ)
+-- in a form
+pub record AreFactsIn (dialect : Dialect) (form : FactForm) (number : ℕ) (bytes : List ℕ)
     (facts : Facts) : Type 0 where
   pub lexed : Lexed
   pub tree : File

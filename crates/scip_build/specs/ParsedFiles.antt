@@ -2,7 +2,7 @@
 use Rattle.std.specs.Prelude.{◌≡◌, ◌<◌, ℕ, ⊤, Bool, true, false, Result, Ok, Err, Some, List, length, MatchResult}
 use Rattle.std.specs.Prelude.{IfSome}
 use Rattle.std.specs.List.{AllZip, slice_get}
-use Rattle.comment_texts.specs.declared.form.CommentForm.{CommentForm}
+use Rattle.proto_decl.specs.declared.form.FactForm.{FactForm}
 use Rattle.proto_parse.specs.dialect.Dialect.{Dialect}
 use Rattle.proto_decl.specs.Facts.{Facts}
 use Rattle.proto_decl.specs.Values.{Seen}
@@ -36,13 +36,13 @@ AreChosen allows declarations choices =
     AllZip (λ declaration choice. allows (seen_of declaration) choice) declarations choices
 
 -- what the file with this number and these bytes is read as
-pub record IsReadAs (dialect : Dialect) (form : CommentForm) (allows : Seen → Choice → Type 0) (number : ℕ)
+pub record IsReadAs (dialect : Dialect) (form : FactForm) (allows : Seen → Choice → Type 0) (number : ℕ)
     (bytes : List ℕ) (facts : Facts) (choices : List Choice) : Type 0 where
   pub facts_in : AreFactsIn dialect form number bytes facts
   pub chosen : AreChosen allows facts.declarations choices
 
 -- the contents of the file with this number and these bytes
-abbrev pub AreContentsOf : Dialect → CommentForm → (allows : Seen → Choice → Type 0) → (number : ℕ) → (bytes : List ℕ)
+abbrev pub AreContentsOf : Dialect → FactForm → (allows : Seen → Choice → Type 0) → (number : ℕ) → (bytes : List ℕ)
     → FileContents → Type 0
 AreContentsOf dialect form allows number bytes contents =
     (contents.text ≡ bytes) × IsReadAs dialect form allows number bytes contents.facts contents.choices
@@ -53,7 +53,7 @@ may_be_unread Refuse is_included = is_included
 may_be_unread Skip is_included = true
 
 -- the contents of a file, or, if it may be without, why it has none
-abbrev pub HasContents : Faulty → Dialect → CommentForm → (allows : Seen → Choice → Type 0) → (number : ℕ) → TreeFile
+abbrev pub HasContents : Faulty → Dialect → FactForm → (allows : Seen → Choice → Type 0) → (number : ℕ) → TreeFile
     → Result FileContents FileFault → Type 0
 HasContents faulty dialect form allows number file (Ok contents) =
     AreContentsOf dialect form allows number file.bytes contents
@@ -61,7 +61,7 @@ HasContents faulty dialect form allows number file (Err fault) =
     (may_be_unread faulty file.is_included ≡ true) × IsUnreadable dialect file.bytes fault
 
 -- a file after it was read
-pub record IsParsedFile (faulty : Faulty) (dialect : Dialect) (form : CommentForm) (allows : Seen → Choice → Type 0)
+pub record IsParsedFile (faulty : Faulty) (dialect : Dialect) (form : FactForm) (allows : Seen → Choice → Type 0)
     (number : ℕ) (file : TreeFile) (parsed_file : ReadFile) : Type 0 where
   pub path : parsed_file.path ≡ file.path
   pub is_included : parsed_file.is_included ≡ file.is_included
@@ -69,7 +69,7 @@ pub record IsParsedFile (faulty : Faulty) (dialect : Dialect) (form : CommentFor
   pub contents : HasContents faulty dialect form allows number file parsed_file.contents
 
 -- the files after they were read, each under its number
-pub record AreParsedFiles (faulty : Faulty) (dialect : Dialect) (form : CommentForm) (allows : Seen → Choice → Type 0)
+pub record AreParsedFiles (faulty : Faulty) (dialect : Dialect) (form : FactForm) (allows : Seen → Choice → Type 0)
     (files : List TreeFile) (parsed : List ReadFile) : Type 0 where
   pub one_each : length parsed ≡ length files
   pub each : (number : ℕ) (file : TreeFile) (parsed_file : ReadFile) → slice_get files number ≡ Some file
@@ -81,10 +81,10 @@ pub record IsFaultySource (dialect : Dialect) (file : TreeFile) (fault : FileFau
   pub source : file.is_included ≡ false
   pub unreadable : IsUnreadable dialect file.bytes fault
 
--- the file has facts, if it is a source, with the texts of comments in some form
+-- the file has facts, if it is a source, in some form
 abbrev pub IsReadIfSource : Dialect → ℕ → TreeFile → Type 0
 IsReadIfSource dialect number file = file.is_included ≡ false
-    → (form : CommentForm) × (facts : Facts) × AreFactsIn dialect form number file.bytes facts
+    → (form : FactForm) × (facts : Facts) × AreFactsIn dialect form number file.bytes facts
 
 -- the file with this number is the first source that can't be read
 pub record IsFirstFaulty (dialect : Dialect) (files : List TreeFile) (number : ℕ)
@@ -110,7 +110,7 @@ MayRefuseParsing faulty dialect file lacking.Memory = ⊤
 MayRefuseParsing faulty dialect file (lacking.Unreadable fault) = (faulty ≡ Refuse) × IsFaultySource dialect file fault
 
 -- what the parsed file of the file with this number gives
-abbrev pub GivesParsedFile : Faulty → Dialect → CommentForm → (allows : Seen → Choice → Type 0) → List TreeFile → ℕ
+abbrev pub GivesParsedFile : Faulty → Dialect → FactForm → (allows : Seen → Choice → Type 0) → List TreeFile → ℕ
     → Result ReadFile NoContents → Type 0
 GivesParsedFile faulty dialect form allows files number result =
     IfSome (slice_get files number)

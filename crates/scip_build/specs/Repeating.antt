@@ -10,6 +10,7 @@ with_packages settings ids = record {
   encoding = settings.encoding;
   dialect = settings.dialect;
   comments = settings.comments;
+  details = settings.details;
   faulty = settings.faulty;
   duplicates = settings.duplicates;
 }

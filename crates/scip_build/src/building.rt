@@ -5,6 +5,7 @@ ghost use Rattle.index_pool.specs.declared.workers.TheConstants.{MAX_INPUTS};
 ghost use Rattle.proto_visibility.specs.Absences.{AreMissing};
 ghost use Rattle.proto_visibility.specs.Linked.{HaveClearNames};
 ghost use Rattle.scip_model.specs.Indexes.{metadata_of};
+ghost use Rattle.scip_build.specs.FactForms.{form_of};
 ghost use Rattle.scip_build.specs.declared.faulty.Faulty.TheVariants.{Refuse, Skip};
 ghost use Rattle.scip_build.specs.Linking.{linked_files};
 ghost use Rattle.scip_build.specs.Documents.{MayRefuseLinked};
@@ -38,6 +39,7 @@ use basics::tool::{NAME, VERSION};
 use basics::{OwnedText, Sequence};
 use index_hooks::Chooses;
 use index_pool::Gate;
+use proto_decl::FactForm;
 use proto_link::{FilePlace, Linker, kept_files_are_clear};
 use scip_model::{Choices, SymbolPackages, externals_in_packages};
 use scip_records::{Document, Index, Metadata, ToolInfo};
@@ -244,12 +246,16 @@ pub fn build_in_form<'a, R: Threads + Wait, C: Chooses + Sync, G: Gate, F: Docum
 {
     // From here on it is known that the files are those of a tree.
     tree.file_count();
+    let form_of_facts = FactForm {
+        comments: settings.comments,
+        details: settings.details,
+    };
     let all = parse_files(
         run,
         tree,
         chooser,
         settings.dialect,
-        settings.comments,
+        form_of_facts,
         settings.faulty,
     )?;
     match settings.faulty {

@@ -10,22 +10,21 @@ use crate::choosing::choose_each;
 use crate::fault::FileFault;
 use crate::faulty::Faulty;
 use crate::parsed_file::{Contents, ParsedFile};
-use comment_texts::CommentForm;
 use index_hooks::Chooses;
-use proto_decl::{FileFacts, declare_in};
+use proto_decl::{FactForm, FileFacts, declare_with};
 use proto_lex::{LexFault, Text, lex};
 use proto_parse::{Dialect, SyntaxFault, parse_with};
 use source_tree::Tree;
 use std::alloc::{AllocError, Global};
 
-/// By what files are read: what chooses for their declarations, which are accepted, how the texts of comments are
-/// given, and what is done with those that can't be read.
+/// By what files are read: what chooses for their declarations, which are accepted, what is told of
+/// their declarations, and what is done with those that can't be read.
 #[derive(Drop)]
 pub(crate) struct Reader<'c, C> {
     pub(crate) alloc: Global,
     pub(crate) chooser: &'c C,
     pub(crate) dialect: Dialect,
-    pub(crate) comments: CommentForm,
+    pub(crate) form: FactForm,
     pub(crate) faulty: Faulty,
 }
 
@@ -74,10 +73,10 @@ fn facts_of<'a>(
     number: usize,
     text: &Text<'a>,
     dialect: Dialect,
-    comments: CommentForm,
+    form: FactForm,
 ) -> Result<FileFacts<'a>, NoContents>
     requires { IsText text.now }
-    ensures { MatchResult result (AreFactsIn dialect comments number text.now) (MayRefuseFile dialect text.now) }
+    ensures { MatchResult result (AreFactsIn dialect form number text.now) (MayRefuseFile dialect text.now) }
 {
     let lexed = match lex(alloc, text) {
         Ok(lexed) => lexed,
@@ -87,7 +86,7 @@ fn facts_of<'a>(
         Ok(tree) => tree,
         Err(fault) => return Err(unparsed(fault)),
     };
-    Ok(declare_in(alloc, comments, number, &lexed, &tree)?)
+    Ok(declare_with(alloc, form, number, &lexed, &tree)?)
 }
 
 /// The contents of the file with this number and these bytes.
@@ -97,14 +96,14 @@ fn contents_of<'a, C: Chooses>(
     bytes: &'a [u8],
 ) -> Result<Contents<'a>, NoContents>
     ensures { MatchResult result
-        (AreContentsOf reader.now.dialect reader.now.comments (C.allows reader.now.chooser.now) number bytes.now)
+        (AreContentsOf reader.now.dialect reader.now.form (C.allows reader.now.chooser.now) number bytes.now)
         (MayRefuseFile reader.now.dialect bytes.now) }
 {
     let text = match Text::new(reader.alloc, bytes) {
         Ok(text) => text,
         Err(fault) => return Err(unlexed(fault)),
     };
-    let facts = facts_of(reader.alloc, number, &text, reader.dialect, reader.comments)?;
+    let facts = facts_of(reader.alloc, number, &text, reader.dialect, reader.form)?;
     let choices = choose_each(reader.alloc, reader.chooser, facts.declarations())?;
     Ok(Contents {
         text,
@@ -123,7 +122,7 @@ fn read_parts<'a, C: Chooses>(
     is_included: bool,
 ) -> Result<ParsedFile<'a>, NoContents>
     ensures { MatchResult result
-        (IsParsedFile reader.now.faulty reader.now.dialect reader.now.comments (C.allows reader.now.chooser.now) number
+        (IsParsedFile reader.now.faulty reader.now.dialect reader.now.form (C.allows reader.now.chooser.now) number
         (record { path = path.now; bytes = bytes.now; is_included = is_included }))
         (MayRefuseParsing reader.now.faulty reader.now.dialect
         (record { path = path.now; bytes = bytes.now; is_included = is_included })) }
@@ -158,7 +157,7 @@ pub(crate) fn read_file<'a, C: Chooses>(
     tree: &'a Tree,
 ) -> Result<ParsedFile<'a>, NoContents>
     requires { number < length tree.now }
-    ensures { GivesParsedFile reader.now.faulty reader.now.dialect reader.now.comments
+    ensures { GivesParsedFile reader.now.faulty reader.now.dialect reader.now.form
         (C.allows reader.now.chooser.now) tree.now number result }
 {
     read_parts(

@@ -9,9 +9,9 @@ use crate::faulty::Faulty;
 use crate::file_parsing::{NoContents, Reader, read_file};
 use crate::parsed_file::ParsedFile;
 use crate::run::Run;
-use comment_texts::CommentForm;
 use index_hooks::Chooses;
 use index_pool::{Gate, Job, PoolFault, Ticket, run_phase};
+use proto_decl::FactForm;
 use proto_parse::Dialect;
 use source_tree::Tree;
 use std::sync::Wait;
@@ -34,7 +34,7 @@ impl<'a, 'c, C: Chooses + Sync> Job for PhaseOne<'a, 'c, C> {
 
     ghost inputs = { λ s. length s.tree.now };
 
-    ghost gives = { λ s number result. GivesParsedFile s.reader.faulty s.reader.dialect s.reader.comments
+    ghost gives = { λ s number result. GivesParsedFile s.reader.faulty s.reader.dialect s.reader.form
         (C.allows s.reader.chooser.now) s.tree.now number result };
 
     fn run(&self, ticket: Ticket) -> Result<ParsedFile<'a>, NoContents> {
@@ -52,7 +52,7 @@ fn refusal(number: usize, fault: NoContents) -> BuildFault
     }
 }
 
-/// Reads the files of a tree, all in one dialect and with the texts of comments in one form, and chooses for each
+/// Reads the files of a tree, all in one dialect and in one form of facts, and chooses for each
 /// declaration, on this many workers, with the gate's calls round each file.
 ///
 /// A source that isn't text, or has no lexing or no tree, is refused, unless faulty files are skipped: `File` names
@@ -69,18 +69,18 @@ pub fn parse_files<'a, R: Threads + Wait, C: Chooses + Sync, G: Gate>(
     tree: &'a Tree,
     chooser: &C,
     dialect: Dialect,
-    comments: CommentForm,
+    form: FactForm,
     faulty: Faulty,
 ) -> Result<Vec<ParsedFile<'a>>, BuildFault>
     ensures { MatchResult result
-        (λ parsed. AreParsedFiles faulty dialect comments (C.allows chooser.now) tree.now parsed.items)
+        (λ parsed. AreParsedFiles faulty dialect form (C.allows chooser.now) tree.now parsed.items)
         (MayRefuseFiles faulty dialect tree.now run.now.workers) }
 {
     let reader = Reader {
         alloc: run.alloc,
         chooser,
         dialect,
-        comments,
+        form,
         faulty,
     };
     let job = PhaseOne { reader, tree };

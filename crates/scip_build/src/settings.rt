@@ -21,6 +21,8 @@ pub struct Settings {
     pub dialect: Dialect,
     /// How the texts of comments are given.
     pub comments: CommentForm,
+    /// Whether it is told how declarations read, what they are and are in, and where they end.
+    pub details: bool,
     /// Whether a tree with faults is refused, or what has one is left out and reported.
     pub faulty: Faulty,
     /// Whether several files may give one name.

@@ -104,6 +104,7 @@ pub(crate) fn settings_of(
         encoding: Encoding::Utf8,
         dialect: Dialect::Proto3(CustomOptions::Refuse),
         comments: CommentForm::Raw,
+        details: false,
         faulty,
         duplicates: Duplicates::Refuse,
     })

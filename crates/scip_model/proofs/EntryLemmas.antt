@@ -1,6 +1,6 @@
 -- The lists of entries: what they have.
 use Rattle.std.proofs.Common.{◌≡◌, ◌∙◌, inl, inr, ℕ, zero, suc, ◌+◌, ◌<◌, Bool, true, false, cond, Some, List, [], ◌∷◌}
-use Rattle.std.proofs.Common.{◌++◌, take, sym, ap, refl, subst, append_assoc, add-one, arith}
+use Rattle.std.proofs.Common.{◌++◌, take, sym, ap, refl, subst, append_assoc, arith}
 use Rattle.std.specs.List.{slice_get, Contains}
 use Rattle.std.proofs.lemmas.Bool.{false≢true}
 use Rattle.std.proofs.lemmas.List.{append-nil}
@@ -15,6 +15,7 @@ use Rattle.proto_decl.specs.declared.declaration.Declaration.{Declaration}
 use Rattle.scip_records.specs.declared.records.SymbolInformation.{SymbolInformation}
 use Rattle.scip_symbol.specs.Package.{Package}
 use Rattle.scip_model.specs.Chosen.{Chosen, IsChosen}
+use Rattle.scip_model.specs.Detailed.{detail_at}
 use Rattle.scip_model.specs.Named.{Home}
 use Rattle.scip_model.specs.Entries.{package_entry, declaration_entry}
 use Rattle.scip_model.specs.Tables.EntryLists.{package_entries_up_to, entry_if_kept, kept_entries, choices_for}
@@ -40,8 +41,8 @@ module _ (id : Package) (facts : Facts) where
 
 -- ---- declarations that are kept
 
--- the entry of one of these declarations, which is kept
-pub record IsOfKept (home : Home) (facts : Facts) (ds : List Declaration) (cs : List Choice)
+-- the entry of one of these declarations, of which the first has this number, and which is kept
+pub record IsOfKept (home : Home) (facts : Facts) (first : ℕ) (ds : List Declaration) (cs : List Choice)
     (entry : SymbolInformation) : Type 0 where
   pub index : ℕ
   pub declared : Declaration
@@ -49,28 +50,40 @@ pub record IsOfKept (home : Home) (facts : Facts) (ds : List Declaration) (cs : 
   pub stands : slice_get ds index ≡ Some declared
   pub chosen : slice_get cs index ≡ Some choice
   pub keeps : choice.keep ≡ true
-  pub is : entry ≡ declaration_entry home facts declared choice
+  pub is : entry ≡ declaration_entry home facts declared (detail_at facts (first + index)) choice
 
 module _ (home : Home) (facts : Facts) where
+  -- the entry of the declaration with a number
+  abbrev entry_at : (number : ℕ) → Declaration → Choice → SymbolInformation
+  entry_at number d c = declaration_entry home facts d (detail_at facts number) c
+
   -- one declaration more
-  more-kept : (ds : List Declaration) (cs : List Choice) (i : ℕ) (d : Declaration) (c : Choice)
-      → slice_get ds i ≡ Some d → slice_get cs i ≡ Some c
-      → kept_entries home facts (take (suc i) ds) cs ≡ kept_entries home facts (take i ds) cs ++ entry_if_kept home facts d c
-  more-kept [] cs i d c at chosen = absurd (none-some d at)
-  more-kept (x ∷ ds) [] i d c at chosen = absurd (none-some c chosen)
-  more-kept (x ∷ ds) (y ∷ cs) zero d c at chosen =
-      append-nil (entry_if_kept home facts x y)
-      ∙ (ap (λ (e : Declaration). entry_if_kept home facts e y) (same_Some x d at)
-      ∙ ap (entry_if_kept home facts d) (same_Some y c chosen))
-  more-kept (x ∷ ds) (y ∷ cs) (suc i) d c at chosen =
-      ap (λ (l : List SymbolInformation). entry_if_kept home facts x y ++ l) (more-kept ds cs i d c at chosen)
-      ∙ sym (append_assoc (entry_if_kept home facts x y) (kept_entries home facts (take i ds) cs)
-      (entry_if_kept home facts d c))
+  more-kept : (first : ℕ) (ds : List Declaration) (cs : List Choice) (i number : ℕ) (d : Declaration) (c : Choice)
+      → number ≡ first + i → slice_get ds i ≡ Some d → slice_get cs i ≡ Some c
+      → kept_entries home facts first (take (suc i) ds) cs
+      ≡ kept_entries home facts first (take i ds) cs ++ entry_if_kept home facts number d c
+  more-kept first [] cs i number d c is at chosen = absurd (none-some d at)
+  more-kept first (x ∷ ds) [] i number d c is at chosen = absurd (none-some c chosen)
+  more-kept first (x ∷ ds) (y ∷ cs) zero number d c is at chosen =
+      let here : first ≡ number = omega (arith, is) in
+      append-nil (entry_if_kept home facts first x y)
+      ∙ (ap (λ (e : Declaration). entry_if_kept home facts first e y) (same_Some x d at)
+      ∙ (ap (entry_if_kept home facts first d) (same_Some y c chosen)
+      ∙ ap (λ (n : ℕ). entry_if_kept home facts n d c) here))
+  more-kept first (x ∷ ds) (y ∷ cs) (suc i) number d c is at chosen =
+      let later : number ≡ first + 1 + i = omega (arith, is) in
+      ap (λ (l : List SymbolInformation). entry_if_kept home facts first x y ++ l)
+      (more-kept (first + 1) ds cs i number d c later at chosen)
+      ∙ sym (append_assoc (entry_if_kept home facts first x y) (kept_entries home facts (first + 1) (take i ds) cs)
+      (entry_if_kept home facts number d c))
 
   pub kept-more : (ds : List Declaration) (cs : List Choice) (i : ℕ) (d : Declaration) (c : Choice)
       → slice_get ds i ≡ Some d → slice_get cs i ≡ Some c
-      → kept_entries home facts (take (i + 1) ds) cs ≡ kept_entries home facts (take i ds) cs ++ entry_if_kept home facts d c
-  kept-more ds cs i d c at chosen = rw add-one (more-kept ds cs i d c at chosen)
+      → kept_entries home facts 0 (take (i + 1) ds) cs
+      ≡ kept_entries home facts 0 (take i ds) cs ++ entry_if_kept home facts i d c
+  kept-more ds cs i d c at chosen =
+      let next : i + 1 ≡ suc i = omega arith in
+      ap (λ (n : ℕ). kept_entries home facts 0 (take n ds) cs) next ∙ more-kept 0 ds cs i i d c (omega arith) at chosen
 
   -- that of one declaration
   pub in-one : (b : Bool) (y x : SymbolInformation) → Contains (cond b (y ∷ []) []) x → (b ≡ true) × (x ≡ y)
@@ -81,17 +94,28 @@ module _ (home : Home) (facts : Facts) where
   one-in true y kept = Contains-push [] y
   one-in false y kept = absurd (false≢true kept)
 
-  pub in-kept : (ds : List Declaration) (cs : List Choice) (x : SymbolInformation)
-      → Contains (kept_entries home facts ds cs) x → IsOfKept home facts ds cs x
-  in-kept [] cs x there = absurd (in_nothing x there)
-  in-kept (d ∷ ds) [] x there = absurd (in_nothing x there)
-  in-kept (d ∷ ds) (c ∷ cs) x there =
-      elim (Contains-append_cases (entry_if_kept home facts d c) (kept_entries home facts ds cs) x there) [
+  pub in-kept : (first : ℕ) (ds : List Declaration) (cs : List Choice) (x : SymbolInformation)
+      → Contains (kept_entries home facts first ds cs) x → IsOfKept home facts first ds cs x
+  in-kept first [] cs x there = absurd (in_nothing x there)
+  in-kept first (d ∷ ds) [] x there = absurd (in_nothing x there)
+  in-kept first (d ∷ ds) (c ∷ cs) x there =
+      elim
+      (Contains-append_cases (entry_if_kept home facts first d c) (kept_entries home facts (first + 1) ds cs) x there) [
         | inl here ↦ (
-            let one = in-one c.keep (declaration_entry home facts d c) x here in
-            record { index = 0; declared = d; choice = c; stands = refl; chosen = refl; keeps = one.0; is = one.1 })
+            let one = in-one c.keep (entry_at first d c) x here in
+            let itself : first ≡ first + 0 = omega arith in
+            record {
+              index = 0;
+              declared = d;
+              choice = c;
+              stands = refl;
+              chosen = refl;
+              keeps = one.0;
+              is = one.1 ∙ ap (λ (n : ℕ). entry_at n d c) itself;
+            })
         | inr later ↦ (
-            let rest = in-kept ds cs x later in
+            let rest = in-kept (first + 1) ds cs x later in
+            let further : first + 1 + rest.index ≡ first + suc rest.index = omega arith in
             record {
               index = suc rest.index;
               declared = rest.declared;
@@ -99,24 +123,28 @@ module _ (home : Home) (facts : Facts) where
               stands = rest.stands;
               chosen = rest.chosen;
               keeps = rest.keeps;
-              is = rest.is;
+              is = rest.is ∙ ap (λ (n : ℕ). entry_at n rest.declared rest.choice) further;
             })
       ]
 
-  pub kept-in : (ds : List Declaration) (cs : List Choice) (i : ℕ) (d : Declaration) (c : Choice)
-      → slice_get ds i ≡ Some d → slice_get cs i ≡ Some c → c.keep ≡ true
-      → Contains (kept_entries home facts ds cs) (declaration_entry home facts d c)
-  kept-in [] cs i d c at chosen kept = absurd (none-some d at)
-  kept-in (x ∷ ds) [] i d c at chosen kept = absurd (none-some c chosen)
-  kept-in (x ∷ ds) (y ∷ cs) zero d c at chosen kept =
-      Contains-append_left (entry_if_kept home facts x y) (kept_entries home facts ds cs) (declaration_entry home facts d c)
-      (subst (λ (e : Declaration). Contains (entry_if_kept home facts e y) (declaration_entry home facts d c))
+  pub kept-in : (first : ℕ) (ds : List Declaration) (cs : List Choice) (i number : ℕ) (d : Declaration) (c : Choice)
+      → number ≡ first + i → slice_get ds i ≡ Some d → slice_get cs i ≡ Some c → c.keep ≡ true
+      → Contains (kept_entries home facts first ds cs) (entry_at number d c)
+  kept-in first [] cs i number d c is at chosen kept = absurd (none-some d at)
+  kept-in first (x ∷ ds) [] i number d c is at chosen kept = absurd (none-some c chosen)
+  kept-in first (x ∷ ds) (y ∷ cs) zero number d c is at chosen kept =
+      let here : first ≡ number = omega (arith, is) in
+      Contains-append_left (entry_if_kept home facts first x y) (kept_entries home facts (first + 1) ds cs)
+      (entry_at number d c)
+      (subst (λ (n : ℕ). Contains (entry_if_kept home facts first x y) (entry_at n d c)) here
+      (subst (λ (e : Declaration). Contains (entry_if_kept home facts first e y) (entry_at first d c))
       (sym (same_Some x d at))
-      (subst (λ (e : Choice). Contains (entry_if_kept home facts d e) (declaration_entry home facts d c))
-      (sym (same_Some y c chosen)) (one-in c.keep (declaration_entry home facts d c) kept)))
-  kept-in (x ∷ ds) (y ∷ cs) (suc i) d c at chosen kept =
-      Contains-append_right (entry_if_kept home facts x y) (kept_entries home facts ds cs) (declaration_entry home facts d c)
-      (kept-in ds cs i d c at chosen kept)
+      (subst (λ (e : Choice). Contains (entry_if_kept home facts first d e) (entry_at first d c))
+      (sym (same_Some y c chosen)) (one-in c.keep (entry_at first d c) kept))))
+  kept-in first (x ∷ ds) (y ∷ cs) (suc i) number d c is at chosen kept =
+      let later : number ≡ first + 1 + i = omega (arith, is) in
+      Contains-append_right (entry_if_kept home facts first x y) (kept_entries home facts (first + 1) ds cs)
+      (entry_at number d c) (kept-in (first + 1) ds cs i number d c later at chosen kept)
 
 -- ---- choices
 

@@ -7,6 +7,8 @@ use Rattle.std.specs.Cmp.{IsStrictWeakOrder}
 use Rattle.std.specs.Cmp.Lexicographic.{slice_cmp}
 use Rattle.std.specs.Ordering.{is_lt, nat_cmp, on}
 use Rattle.std.specs.declared.cmp.Ordering.{Ordering}
+use Rattle.std.specs.Prelude.{ℤ}
+use Rattle.std.proofs.Math.Dec.{eqb-suc-zero}
 use Rattle.std.proofs.lemmas.Bool.{lt-ltb, le-ltb}
 use Rattle.std.proofs.lemmas.Cmp.{nat_list_cmp_total}
 use Rattle.std.proofs.lemmas.List.{get_or-map, length-map}
@@ -16,16 +18,20 @@ use Rattle.index_hooks.specs.declared.choice.Choice.{Choice}
 use Rattle.proto_decl.specs.Names.{package_of}
 use Rattle.proto_decl.specs.Facts.{Facts}
 use Rattle.proto_decl.specs.declared.declaration.Declaration.{Declaration}
-use Rattle.scip_records.specs.Details.{no_details}
+use Rattle.proto_decl.specs.declared.detail.Detail.{Detail}
+use Rattle.scip_records.specs.declared.details.Details.{Details}
 use Rattle.scip_records.specs.declared.records.SymbolInformation.{SymbolInformation}
 use Rattle.scip_symbol.specs.Package.{Package}
 use Rattle.scip_model.specs.Named.{Home, text_of, package_at, declaration_in}
+use Rattle.scip_model.specs.Detailed.{detail_at, file_kind, kind_if_asked, package_kind}
 use Rattle.scip_model.specs.Entries.{file_entry, package_entry}
 use Rattle.scip_model.specs.Indexes.{info_cmp}
 use Rattle.scip_model.specs.Tables.EntryLists.{package_entries, kept_entries, source_entries}
 use Rattle.scip_model.specs.Tables.EntryLists.{package_names, AreNumbered}
 use Rattle.scip_model.specs.Tables.Plans.{Grown, text_at, own_texts, declaration_number, entry_of, undocumented}
-use Rattle.scip_model.specs.Tables.Plans.{documented, shown_as}
+use Rattle.scip_model.specs.Tables.Plans.{arounds_in, documented, first_kind, shown_as}
+use Rattle.scip_model.specs.Tables.OwnTexts.{entry_with}
+use Rattle.scip_model.proofs.AroundLemmas.{shown_with}
 use Rattle.scip_model.proofs.PlanLemmas.{file_number, package_number, declared_number}
 
 -- what is sorted by what it stands for
@@ -48,15 +54,16 @@ pub texts_rank : (texts : List (List ℕ))
     → IsStrictWeakOrder (λ (a b : ℕ). is_lt (slice_cmp nat_cmp (text_at texts a) (text_at texts b)))
 texts_rank texts = ranks_by nat_list_cmp_total (λ (n : ℕ). text_at texts n)
 
-module _ (texts : List (List ℕ)) (path : List ℕ) (names : List (List ℕ)) (facts : Facts) (choices : List Choice) where
+module _ (texts : List (List ℕ)) (path : List ℕ) (names : List (List ℕ)) (facts : Facts) (choices : List Choice)
+    (arounds : List (List ℕ)) where
   abbrev entry : ℕ → SymbolInformation
-  entry = entry_of texts path names facts choices
+  entry = entry_of texts path names facts choices arounds
 
   abbrev bare : ℕ → SymbolInformation
-  bare = undocumented texts path names facts choices
+  bare = undocumented texts path names facts choices arounds
 
   abbrev shown : ℕ → ℕ → SymbolInformation
-  shown = documented texts path names facts choices
+  shown = documented texts path names facts choices arounds
 
   pub front_is : (number : ℕ) → number < length (path ∷ names) → entry number ≡ bare number
   front_is number within =
@@ -70,11 +77,11 @@ module _ (texts : List (List ℕ)) (path : List ℕ) (names : List (List ℕ)) (
       (le-ltb number (length (path ∷ names)) (omega (arith, is)))
       ∙ ap (shown number) left
 
-  shown_symbol : (text : List ℕ) (declared : Option Declaration) (choice : Option Choice)
-      → (shown_as text declared choice).symbol ≡ text
-  shown_symbol text None choice = refl
-  shown_symbol text (Some declared) None = refl
-  shown_symbol text (Some declared) (Some choice) = refl
+  shown_symbol : (text : List ℕ) (declared : Option Declaration) (detail : Option Detail) (around : List ℕ)
+      (choice : Option Choice) → (shown_as text declared detail around choice).symbol ≡ text
+  shown_symbol text None detail around choice = refl
+  shown_symbol text (Some declared) detail around None = refl
+  shown_symbol text (Some declared) detail around (Some choice) = refl
 
   chosen_symbol : (b : Bool) (text : List ℕ) (x y : SymbolInformation) → x.symbol ≡ text → y.symbol ≡ text
       → (cond b x y).symbol ≡ text
@@ -85,7 +92,8 @@ module _ (texts : List (List ℕ)) (path : List ℕ) (names : List (List ℕ)) (
   symbol_is number =
       let index = number - length (path ∷ names) in
       chosen_symbol (nat_lt number (length (path ∷ names))) (text_at texts number) (bare number) (shown number index)
-      refl (shown_symbol (text_at texts number) (slice_get facts.declarations index) (slice_get choices index))
+      refl (shown_symbol (text_at texts number) (slice_get facts.declarations index) (detail_at facts index)
+      (text_at arounds index) (slice_get choices index))
 
   pub order_is : (a b : ℕ) → slice_cmp nat_cmp (text_at texts a) (text_at texts b) ≡ info_cmp (entry a) (entry b)
   order_is a b =
@@ -105,8 +113,11 @@ module _ (home : Home) (run : Package) (facts : Facts) (choices : List Choice) (
   abbrev names : List (List ℕ)
   names = package_names facts.package_name
 
+  abbrev arounds : List (List ℕ)
+  arounds = arounds_in home facts
+
   abbrev one : ℕ → SymbolInformation
-  one = entry_of texts home.path names facts choices
+  one = entry_of texts home.path names facts choices arounds
 
   abbrev name_of : ℕ → List ℕ
   name_of index = package_of facts.package_name (index + 1)
@@ -114,12 +125,19 @@ module _ (home : Home) (run : Package) (facts : Facts) (choices : List Choice) (
   names_count : length names ≡ length facts.package_name
   names_count = length-map-range_with_len name_of 0 (length facts.package_name)
 
-  file_is : file_entry home.id home.path ≡ one 0
+  abbrev first : List SymbolInformation
+  first = file_entry home.id home.path facts.details ∷ package_entries run facts
+
+  file_is : file_entry home.id home.path facts.details ≡ one 0
   file_is =
-      ap (λ (text : List ℕ).
-      record { symbol = text; documentation = []; display_name = home.path; details = no_details })
+      ap (λ (text : List ℕ). record {
+        symbol = text;
+        documentation = [];
+        display_name = home.path;
+        details = kind_if_asked facts.details file_kind;
+      })
       (sym (file_number home run facts texts grown))
-      ∙ sym (front_is texts home.path names facts choices 0 (omega arith))
+      ∙ sym (front_is texts home.path names facts choices arounds 0 (omega arith))
 
   package_is : (index : ℕ) → index < length facts.package_name → package_entry run facts (index + 1) ≡ one (suc index)
   package_is index within =
@@ -127,31 +145,43 @@ module _ (home : Home) (run : Package) (facts : Facts) (choices : List Choice) (
       package_number home run facts index (suc index) within (omega arith) texts grown in
       let name : text_at names index ≡ name_of index =
       get_or-map-range_with_len name_of 0 (length facts.package_name) index index [] within (omega arith) in
-      sym (front_is texts home.path names facts choices (suc index) (omega (arith, within, names_count))
-      ∙ (ap (λ (text : List ℕ).
-      record { symbol = text; documentation = []; display_name = text_at names index; details = no_details }) symbol
+      let kind : first_kind (suc index) ≡ package_kind =
+      ap (λ (b : Bool). cond b file_kind package_kind) (eqb-suc-zero index) in
+      sym (front_is texts home.path names facts choices arounds (suc index) (omega (arith, within, names_count))
+      ∙ (ap (λ (number : ℤ). record {
+        symbol = text_at texts (suc index);
+        documentation = [];
+        display_name = text_at names index;
+        details = kind_if_asked facts.details number;
+      }) kind
+      ∙ (ap (λ (text : List ℕ). record {
+        symbol = text;
+        documentation = [];
+        display_name = text_at names index;
+        details = kind_if_asked facts.details package_kind;
+      }) symbol
       ∙ ap (λ (text : List ℕ). record {
         symbol = text_of run (package_at facts (index + 1));
         documentation = [];
         display_name = text;
-        details = no_details;
-      }) name))
+        details = kind_if_asked facts.details package_kind;
+      }) name)))
 
   first_each : (number : ℕ) → number < 1 + length facts.package_name
-      → get_or (file_entry home.id home.path ∷ package_entries run facts) number (file_entry home.id home.path) ≡ one number
+      → get_or first number (file_entry home.id home.path facts.details) ≡ one number
   first_each zero within = file_is
   first_each (suc index) within =
       let few : index < length facts.package_name = omega (arith, within) in
       get_or-map-range_with_len (λ (i : ℕ). package_entry run facts (i + 1)) 0 (length facts.package_name) index index
-      (file_entry home.id home.path) few (omega arith)
+      (file_entry home.id home.path facts.details) few (omega arith)
       ∙ package_is index few
 
   -- the file's and its packages'
   pub first_are : map one (range_with_len 0 (1 + length facts.package_name))
-      ≡ file_entry home.id home.path ∷ package_entries run facts
+      ≡ first
   first_are =
-      sym (fill_by_all one (file_entry home.id home.path ∷ package_entries run facts) (1 + length facts.package_name)
-      (file_entry home.id home.path)
+      sym (fill_by_all one first (1 + length facts.package_name)
+      (file_entry home.id home.path facts.details)
       (omega (
         arith,
         length-map-range_with_len (λ (i : ℕ). package_entry run facts (i + 1)) 0
@@ -163,18 +193,23 @@ module _ (home : Home) (run : Package) (facts : Facts) (choices : List Choice) (
   are_numbered index declared choice there chosen =
       let number = declaration_number facts index in
       let text : List ℕ = text_of home.id (declaration_in home facts declared) in
-      behind_is texts home.path names facts choices number index (omega (arith, names_count))
-      ∙ (ap (λ (its : List ℕ). shown_as its (slice_get facts.declarations index) (slice_get choices index))
+      let detail = detail_at facts index in
+      let around = text_at arounds index in
+      behind_is texts home.path names facts choices arounds number index (omega (arith, names_count))
+      ∙ (ap (λ (its : List ℕ).
+      shown_as its (slice_get facts.declarations index) detail around (slice_get choices index))
       (declared_number home run facts index number declared there refl texts grown)
-      ∙ (ap (λ (d : Option Declaration). shown_as text d (slice_get choices index)) there
-      ∙ ap (shown_as text (Some declared)) chosen))
+      ∙ (ap (λ (d : Option Declaration). shown_as text d detail around (slice_get choices index)) there
+      ∙ (ap (shown_as text (Some declared) detail around) chosen
+      ∙ ap (λ (details : Details). entry_with text declared details choice)
+      (shown_with home facts index declared there))))
 
   -- all of them
-  pub all_are : (first numbers : List ℕ)
-      → map one first ≡ map one (range_with_len 0 (1 + length facts.package_name))
-      → map one numbers ≡ map one first ++ kept_entries home facts facts.declarations choices
+  pub all_are : (fronts numbers : List ℕ)
+      → map one fronts ≡ map one (range_with_len 0 (1 + length facts.package_name))
+      → map one numbers ≡ map one fronts ++ kept_entries home facts 0 facts.declarations choices
       → map one numbers ≡ source_entries home run facts choices
-  all_are first numbers front added =
+  all_are fronts numbers front added =
       added
-      ∙ ap (λ (entries : List SymbolInformation). entries ++ kept_entries home facts facts.declarations choices)
+      ∙ ap (λ (entries : List SymbolInformation). entries ++ kept_entries home facts 0 facts.declarations choices)
       (front ∙ first_are)

@@ -1,8 +1,10 @@
 -- The entries of a source, in the code's list: just those that it has, and no two with one symbol.
-use Rattle.std.proofs.Common.{◌≡◌, ◌≢◌, ◌∙◌, inl, inr, ℕ, suc, ◌+◌, ◌<◌, ◌≤◌, Bool, true, false, cond, Some, List, []}
-use Rattle.std.proofs.Common.{◌∷◌, ◌++◌, length, get_or, take, sym, ap, refl, subst, arith}
+use Rattle.std.proofs.Common.{◌≡◌, ◌≢◌, ◌∙◌, inl, inr, ℕ, suc, ◌+◌, ◌<◌, ◌≤◌, Bool, true, false, cond}
+use Rattle.std.proofs.Common.{Some, List}
+use Rattle.std.proofs.Common.{[], ◌∷◌, ◌++◌, length, get_or, take, sym, ap, refl, subst, arith}
 use Rattle.std.specs.Prelude.{Contains}
 use Rattle.std.specs.List.{slice_get, IsDistinct}
+use Rattle.std.specs.Option.{option_and_then}
 use Rattle.std.specs.List.Sorted.{IsSorted, IsPermutation}
 use Rattle.std.specs.Ordering.{eq_by_cmp}
 use Rattle.std.specs.Cmp.{IsTotalOrder, Equal-is}
@@ -16,7 +18,7 @@ use Rattle.std.proofs.lemmas.List.Elements.{Contains-append_left, Contains-appen
 use Rattle.std.proofs.lemmas.List.Sorted.{ranks_by}
 use Rattle.std.proofs.lemmas.Map.Keys.{IsDistinct-from_apart}
 use Rattle.std.proofs.lemmas.Map.Lookups.{exact_bytes}
-use Rattle.std.proofs.lemmas.Option.{slice_get_within}
+use Rattle.std.proofs.lemmas.Option.{same_Some, slice_get_within}
 use Rattle.basics.proofs.ListLemmas.{in_front, behind_it, item_at, only}
 use Rattle.index_hooks.specs.declared.choice.Choice.{Choice}
 use Rattle.proto_decl.specs.Facts.{Facts}
@@ -33,6 +35,7 @@ use Rattle.basics.proofs.FirstLemmas.{contained}
 use Rattle.scip_model.specs.Packages.{Packages, ArePackages, path_at, path_if_there}
 use Rattle.scip_model.specs.Chosen.{Chosen}
 use Rattle.scip_model.specs.Named.{Home, home_of_file, text_of, package_at, declaration_in}
+use Rattle.scip_model.specs.Detailed.{detail_at, details_in}
 use Rattle.scip_model.specs.Entries.{file_entry, package_entry, declaration_entry, HasEntry}
 use Rattle.scip_model.specs.Entries.HasEntry.{of_file, of_package, of_declaration}
 use Rattle.scip_model.specs.Tables.EntryLists.{package_entries_up_to, package_entries, entry_if_kept, kept_entries}
@@ -64,20 +67,22 @@ one-distinct true entry = (tt, tt)
 one-distinct false entry = tt
 
 -- declarations with texts of their own have entries that differ
-pub kept-distinct : (home : Home) (facts : Facts) (ds : List Declaration) (cs : List Choice)
+pub kept-distinct : (home : Home) (facts : Facts) (number : ℕ) (ds : List Declaration) (cs : List Choice)
     → ((i j : ℕ) (d e : Declaration) → i < j → slice_get ds i ≡ Some d → slice_get ds j ≡ Some e
     → text_of home.id (declaration_in home facts d) ≢ text_of home.id (declaration_in home facts e))
-    → IsDistinct (eq_by_cmp info_cmp) (kept_entries home facts ds cs)
+    → IsDistinct (eq_by_cmp info_cmp) (kept_entries home facts number ds cs)
 unfolding IsDistinct
-kept-distinct home facts [] cs apart = tt
-kept-distinct home facts (d ∷ ds) [] apart = tt
-kept-distinct home facts (d ∷ ds) (c ∷ cs) apart =
-    distinct-append (eq_by_cmp info_cmp) (entry_if_kept home facts d c) (kept_entries home facts ds cs)
-    (one-distinct c.keep (declaration_entry home facts d c))
-    (kept-distinct home facts ds cs (λ i j x y less at there. apart (suc i) (suc j) x y (omega (arith, less)) at there))
+kept-distinct home facts number [] cs apart = tt
+kept-distinct home facts number (d ∷ ds) [] apart = tt
+kept-distinct home facts number (d ∷ ds) (c ∷ cs) apart =
+    distinct-append (eq_by_cmp info_cmp) (entry_if_kept home facts number d c)
+    (kept_entries home facts (number + 1) ds cs)
+    (one-distinct c.keep (declaration_entry home facts d (detail_at facts number) c))
+    (kept-distinct home facts (number + 1) ds cs
+    (λ i j x y less at there. apart (suc i) (suc j) x y (omega (arith, less)) at there))
     (λ x y here later.
-    let one = in-one home facts c.keep (declaration_entry home facts d c) x here in
-    let other = in-kept home facts ds cs y later in
+    let one = in-one home facts c.keep (declaration_entry home facts d (detail_at facts number) c) x here in
+    let other = in-kept home facts (number + 1) ds cs y later in
     differ x y (λ same. apart 0 (suc other.index) d other.declared (omega arith) refl other.stands
     (sym (ap (λ (i : SymbolInformation). i.symbol) one.1)
     ∙ (same ∙ ap (λ (i : SymbolInformation). i.symbol) other.is))))
@@ -178,10 +183,10 @@ module _ (files : List File) (ids : Packages) (known : AreApart files ids) (good
   packages = package_entries run facts
 
   module _ (cs : List Choice) where
-    kept-text : (y : SymbolInformation) → Contains (kept_entries home facts facts.declarations cs) y
+    kept-text : (y : SymbolInformation) → Contains (kept_entries home facts 0 facts.declarations cs) y
         → (d : Declaration) × Contains facts.declarations d × (y.symbol ≡ text_of home.id (declaration_in home facts d))
     kept-text y there =
-        let of = in-kept home facts facts.declarations cs y there in (
+        let of = in-kept home facts 0 facts.declarations cs y there in (
           of.declared,
           contained facts.declarations of.index of.declared of.stands,
           ap (λ (i : SymbolInformation). i.symbol) of.is,
@@ -189,21 +194,22 @@ module _ (files : List File) (ids : Packages) (known : AreApart files ids) (good
 
     pub distinct : IsDistinct (eq_by_cmp info_cmp) (source_entries home run facts cs)
     distinct =
-        distinct-cons (eq_by_cmp info_cmp) (file_entry home.id home.path)
-        (package_entries run facts ++ kept_entries home facts facts.declarations cs)
+        distinct-cons (eq_by_cmp info_cmp) (file_entry home.id home.path facts.details)
+        (package_entries run facts ++ kept_entries home facts 0 facts.declarations cs)
         (λ y there. elim (Contains-append_cases (package_entries run facts)
-        (kept_entries home facts facts.declarations cs) y there) [
+        (kept_entries home facts 0 facts.declarations cs) y there) [
           | inl package_of ↦ (
               let of = in-packages run facts (length facts.package_name) y package_of in
-              differ (file_entry home.id home.path) y
+              differ (file_entry home.id home.path facts.details) y
               (λ same. file-package of.0 of.1 (same ∙ ap (λ (i : SymbolInformation). i.symbol) of.2)))
           | inr kept ↦ (
               let of = kept-text y kept in
-              differ (file_entry home.id home.path) y (λ same. file-declaration of.0 of.1 (same ∙ of.2)))
+              differ (file_entry home.id home.path facts.details) y (λ same. file-declaration of.0 of.1 (same ∙ of.2)))
         ])
-        (distinct-append (eq_by_cmp info_cmp) (package_entries run facts) (kept_entries home facts facts.declarations cs)
+        (distinct-append (eq_by_cmp info_cmp) (package_entries run facts)
+        (kept_entries home facts 0 facts.declarations cs)
         (packages-distinct (length facts.package_name) (omega arith))
-        (kept-distinct home facts facts.declarations cs declaration-declaration)
+        (kept-distinct home facts 0 facts.declarations cs declaration-declaration)
         (λ x y first second.
         let of = in-packages run facts (length facts.package_name) x first in
         let its = kept-text y second in
@@ -222,14 +228,24 @@ module _ (files : List File) (chosen : Chosen) (ids : Packages) (source : ℕ) (
   entries = source_entries its-home ids.run facts (choices_for chosen source)
 
   abbrev kept-list : List SymbolInformation
-  kept-list = kept_entries its-home facts facts.declarations (choices_for chosen source)
+  kept-list = kept_entries its-home facts 0 facts.declarations (choices_for chosen source)
+
+  abbrev own-entry : SymbolInformation
+  own-entry = file_entry its-home.id its-home.path facts.details
+
+  -- what is told of the file is what its facts tell
+  its-details : details_in file ≡ facts.details
+  its-details =
+      ap details_in (same_Some file reachable.known.file (sym numbered ∙ reachable.known.numbered))
+      ∙ ap (option_and_then (λ (f : Facts). f.details)) reachable.known.known
 
   listed-is : (x : SymbolInformation) → Contains entries x → HasEntry files chosen ids source x
   listed-is x there = elim
-      (Contains-append_cases (file_entry its-home.id its-home.path ∷ []) (package_entries ids.run facts ++ kept-list) x there) [
+      (Contains-append_cases (own-entry ∷ []) (package_entries ids.run facts ++ kept-list) x there) [
         | inl file_is ↦ subst (HasEntry files chosen ids source)
-            (ap (file_entry its-home.id) (sym (ap path_if_there numbered))
-            ∙ only (file_entry its-home.id its-home.path) x file_is) (of_file {file = file} numbered)
+            (ap (λ (path : List ℕ). file_entry its-home.id path (details_in file)) (sym (ap path_if_there numbered))
+            ∙ (ap (file_entry its-home.id its-home.path) its-details
+            ∙ only own-entry x file_is)) (of_file {file = file} numbered)
         | inr others ↦ elim (Contains-append_cases (package_entries ids.run facts) kept-list x others) [
           | inl package_of ↦ (
               let of = in-packages ids.run facts (length facts.package_name) x package_of in
@@ -237,7 +253,7 @@ module _ (files : List File) (chosen : Chosen) (ids : Packages) (source : ℕ) (
               subst (HasEntry files chosen ids source) (sym of.2)
               (of_package {facts = facts} of.0 {component = component.0} reachable.known component.1))
           | inr kept ↦ (
-              let of = in-kept its-home facts facts.declarations (choices_for chosen source) x kept in
+              let of = in-kept its-home facts 0 facts.declarations (choices_for chosen source) x kept in
               of_declaration of.index (record {
                 facts = facts;
                 declaration = of.declared;
@@ -245,22 +261,26 @@ module _ (files : List File) (chosen : Chosen) (ids : Packages) (source : ℕ) (
                 has = record { has_facts = reachable.known; numbered = of.stands };
                 is_chosen = is-chosen chosen source of.index of.choice of.chosen;
                 keeps = of.keeps;
-                is = of.is;
+                is = of.is ∙ ap (λ (n : ℕ). declaration_entry its-home facts of.declared (detail_at facts n) of.choice)
+                    (omega arith);
               }))
         ]
       ]
 
   is-listed : {x : SymbolInformation} → HasEntry files chosen ids source x → Contains entries x
   is-listed (of_file {file = other} at) =
-      subst (λ (p : List ℕ). Contains entries (file_entry its-home.id p)) (ap path_if_there at)
-      (in_front (file_entry its-home.id its-home.path) (package_entries ids.run facts ++ kept-list))
+      subst (Contains entries)
+      (ap (λ (path : List ℕ). file_entry its-home.id path facts.details) (ap path_if_there at)
+      ∙ ap (file_entry its-home.id other.path)
+      (sym its-details ∙ ap details_in (same_Some file other (sym numbered ∙ at))))
+      (in_front own-entry (package_entries ids.run facts ++ kept-list))
   is-listed (of_package {facts = others} index known at) =
       let same : facts ≡ others = one_list_of_facts files source facts others reachable.known known in
       let within : index < length facts.package_name =
       subst (λ (f : Facts). index < length f.package_name) (sym same)
       (slice_get_within others.package_name index _ at) in
       subst (λ (f : Facts). Contains entries (package_entry ids.run f (index + 1))) same
-      (behind_it (file_entry its-home.id its-home.path) (package_entries ids.run facts ++ kept-list)
+      (behind_it own-entry (package_entries ids.run facts ++ kept-list)
       (package_entry ids.run facts (index + 1))
       (Contains-append_left (package_entries ids.run facts) kept-list (package_entry ids.run facts (index + 1))
       (package-in ids.run facts (length facts.package_name) index within)))
@@ -269,14 +289,17 @@ module _ (files : List File) (chosen : Chosen) (ids : Packages) (source : ℕ) (
       one_list_of_facts files source kept.facts facts kept.has.has_facts reachable.known in
       let at : slice_get facts.declarations index ≡ Some kept.declaration =
       subst (λ (f : Facts). slice_get f.declarations index ≡ Some kept.declaration) same kept.has.numbered in
-      let is : x ≡ declaration_entry its-home facts kept.declaration kept.choice =
-      kept.is ∙ ap (λ (f : Facts). declaration_entry its-home f kept.declaration kept.choice) same in
+      let wanted : SymbolInformation =
+      declaration_entry its-home facts kept.declaration (detail_at facts index) kept.choice in
+      let is : x ≡ wanted =
+      kept.is
+      ∙ ap (λ (f : Facts). declaration_entry its-home f kept.declaration (detail_at f index) kept.choice) same in
       subst (Contains entries) (sym is)
-      (behind_it (file_entry its-home.id its-home.path) (package_entries ids.run facts ++ kept-list)
-      (declaration_entry its-home facts kept.declaration kept.choice)
-      (Contains-append_right (package_entries ids.run facts) kept-list
-      (declaration_entry its-home facts kept.declaration kept.choice)
-      (kept-in its-home facts facts.declarations (choices_for chosen source) index kept.declaration kept.choice at
+      (behind_it own-entry (package_entries ids.run facts ++ kept-list)
+      wanted
+      (Contains-append_right (package_entries ids.run facts) kept-list wanted
+      (kept-in its-home facts 0 facts.declarations (choices_for chosen source) index index kept.declaration kept.choice
+      (omega arith) at
       (chosen-for chosen source index kept.choice kept.is_chosen) kept.keeps)))
 
   -- sorted, it is the list of them, where no two have one symbol

@@ -25,6 +25,7 @@ use Rattle.scip_records.specs.declared.records.SymbolInformation.{SymbolInformat
 use Rattle.scip_model.specs.Packages.{Packages, ArePackages, package_of_file}
 use Rattle.scip_model.specs.Chosen.{Chosen, HaveChoices, HasChoice, IsChosen}
 use Rattle.scip_model.specs.Named.{Home, HasDeclaration, declaration_in, home_of_file}
+use Rattle.scip_model.specs.Detailed.{detail_at}
 use Rattle.scip_model.specs.Entries.{declaration_entry, IsKeptEntry, HasExternal}
 use Rattle.scip_model.specs.Tables.ExternalLists.{Pair, pair_cmp, Adds, IsEntryAt, IsEntryOf, IsExternal}
 use Rattle.scip_model.specs.Tables.ExternalLists.{NoneIncluded}
@@ -149,9 +150,10 @@ module _ (files : List File) (chosen : Chosen) (ids : Packages) where
       let choice : a.choice ≡ b.choice = one-choice chosen file index a.choice b.choice a.is_chosen b.is_chosen in
       let home : Home = home_of_file files ids file in
       a.is
-      ∙ (ap (λ (f : Facts). declaration_entry home f a.declaration a.choice) facts
-      ∙ (ap (λ (d : Declaration). declaration_entry home b.facts d a.choice) declaration
-      ∙ (ap (λ (c : Choice). declaration_entry home b.facts b.declaration c) choice ∙ sym b.is)))
+      ∙ (ap (λ (f : Facts). declaration_entry home f a.declaration (detail_at f index) a.choice) facts
+      ∙ (ap (λ (d : Declaration). declaration_entry home b.facts d (detail_at b.facts index) a.choice) declaration
+      ∙ (ap (λ (c : Choice). declaration_entry home b.facts b.declaration (detail_at b.facts index) c) choice
+      ∙ sym b.is)))
 
   -- ---- the entries are those of such declarations
 

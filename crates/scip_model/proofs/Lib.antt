@@ -1,4 +1,6 @@
 -- Each file is named after the spec or source that it serves.
+-- What declarations are in, and the ranges over all of them
+pub mod AroundLemmas
 -- What the facts of a source give to the functions that list its occurrences
 pub mod ConditionLemmas
 -- Sources of files that can be linked: they count, and have facts
@@ -27,6 +29,8 @@ pub mod ListingLemmas
 pub mod ListingNameableLemmas
 -- Merging two ascending lists
 pub mod MergeLemmas
+-- Declared names and the components of the package's name begin at places of their own
+pub mod NameOrderLemmas
 -- In files that can be linked a symbol's text is that of one entity
 pub mod NamedApartLemmas
 -- The packages and declarations of facts have symbols

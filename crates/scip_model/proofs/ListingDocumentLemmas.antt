@@ -45,7 +45,7 @@ order_left : (place : ℕ) (spans others : List Span) → AreInOrder place (span
 order_left place [] others order = tt
 order_left place (span ∷ spans) others order = (order.0, order.1, order_left span.end spans others order.2)
 
-order_right : (place : ℕ) (spans others : List Span) → AreInOrder place (spans ++ others) → AreInOrder 0 others
+pub order_right : (place : ℕ) (spans others : List Span) → AreInOrder place (spans ++ others) → AreInOrder 0 others
 order_right place [] others order = order_from place 0 others (omega arith) order
 order_right place (span ∷ spans) others order = order_right span.end spans others order.2
 

@@ -1,6 +1,6 @@
 -- Merging two ascending lists.
 use Rattle.std.proofs.Common.{◌≡◌, ◌∙◌, sym, ap, refl, subst, ◌⊎◌, ◌↔◌, inl, inr, ◌+◌, ◌<◌, Option, Some, None, List}
-use Rattle.std.proofs.Common.{[], ◌∷◌, ◌++◌, length, arith, ⊎_elim}
+use Rattle.std.proofs.Common.{[], ◌∷◌, ◌++◌, length, get_or, arith, ⊎_elim}
 use Rattle.std.specs.List.{AllByRecursion, Contains}
 use Rattle.std.specs.declared.cmp.Ordering.{Ordering}
 use Rattle.std.specs.declared.cmp.Ordering.TheVariants.{Less, Equal, Greater}
@@ -28,6 +28,13 @@ takes_one cmp (x ∷ xs) (y ∷ ys) a_left b_left next z t e = by (cmp x y) t
     by Less u = omega (arith, ap length u.1, ap length u.2)
     by Equal u = omega (arith, ap length u.1, ap length u.2)
     by Greater u = omega (arith, ap length u.1, ap length u.2)
+
+-- two lists that have a first item compare by these
+pub both_fronts : {X : Type 0} (cmp : X → X → Ordering) (a b : List X) (x y : X) → 0 < length a → x ≡ get_or a 0 x
+    → 0 < length b → y ≡ get_or b 0 y → cmp x y ≡ fronts_cmp cmp a b
+both_fronts cmp [] b x y some first more second = absurd (omega (arith, some))
+both_fronts cmp (p ∷ ps) [] x y some first more second = absurd (omega (arith, more))
+both_fronts cmp (p ∷ ps) (q ∷ qs) x y some first more second = ap (λ z. cmp z y) first ∙ ap (cmp p) second
 
 -- an item stands in one of three lists
 abbrev In3 : {X : Type 0} → X → (taken first second : List X) → Type 0

@@ -28,7 +28,9 @@ use Rattle.scip_model.specs.Chosen.{Chosen, IsKeptDeclaration}
 use Rattle.scip_model.specs.Conditions.{IsFound}
 use Rattle.scip_model.specs.Named.{Home, IsDeclaredAs, IsNamedAs, NamesIn, package_at, declaration_in}
 use Rattle.scip_model.specs.Named.{home_of_file}
-use Rattle.scip_model.specs.Occurs.{Occurs, IsShown, no_role, definition_role, import_role, occurrence_over}
+use Rattle.scip_model.specs.Detailed.{detail_at}
+use Rattle.scip_model.specs.Occurs.{Occurs, IsShown, no_role, definition_role, definition_over, import_role}
+use Rattle.scip_model.specs.Occurs.{occurrence_over}
 use Rattle.scip_model.specs.Occurs.Occurs.{of_file, of_import, of_package, of_declaration, of_component}
 use Rattle.scip_model.specs.Tables.Listing.{own_occurrence, each_from, has_path, found_at, keeps_by, keeps, is_shown}
 use Rattle.scip_model.specs.Tables.Listing.{declared_in, entity_of, at_import, at_package, at_declaration, at_entity}
@@ -189,7 +191,7 @@ module _ (files : List File) (chosen : Chosen) (ids : Packages) (encoding : Enco
     declared_occur o h =
         let g = given_at (at_declaration home encoding text chosen source facts) facts.declarations o h in
         let kept = if_so (keeps chosen source g.at)
-        (occurrence_over encoding text home.id g.item.name (declaration_in home facts g.item) definition_role ∷ []) o g.given
+        (definition_over encoding text home facts g.item (detail_at facts g.at) ∷ []) o g.given
         in
         subst Wanted (only _ o kept.1)
         (of_declaration g.at {declared = g.item} (record { has_facts = known; numbered = g.item_is })
@@ -317,7 +319,7 @@ module _ (files : List File) (chosen : Chosen) (ids : Packages) (encoding : Enco
         inl (inr (gives_at (at_declaration home encoding text chosen source facts) facts.declarations _ index declared
         there
         (so (keeps chosen source index) _ _ (kept_to chosen source index kept)
-        (at_head _ _ [] (ap (λ (f : Facts). occurrence_over encoding text home.id declared.name
-        (declaration_in home f declared) definition_role) (sym same))))))
+        (at_head _ _ [] (ap (λ (f : Facts). definition_over encoding text home f declared (detail_at f index))
+        (sym same))))))
     occurs_listed _ (of_component {component = component} {part = part} {entity = entity} names shown) =
         inr (component_listed component part entity names shown)

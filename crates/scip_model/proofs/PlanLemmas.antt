@@ -36,7 +36,9 @@ use Rattle.index_hooks.specs.declared.choice.Choice.{Choice}
 use Rattle.scip_model.specs.Tables.Merges.{TakesLeast, fronts_cmp, first_of}
 use Rattle.scip_model.specs.Tables.OwnTexts.{declaration_texts, occurrence_with}
 use Rattle.scip_model.specs.Tables.Plans.{text_at, Grown, IsNumberOf, IsNumberIn, HasOwnTexts, AreAdded}
-use Rattle.scip_model.specs.Tables.Plans.{occurrence_of, package_texts_up_to, own_texts, declaration_number}
+use Rattle.scip_model.specs.Tables.Plans.{Around, occurrence_of, range_around}
+use Rattle.scip_model.specs.Tables.Plans.{package_texts_up_to, own_texts, declaration_number}
+use Rattle.scip_records.specs.Range.{RangeNumbers}
 use Rattle.scip_model.specs.declared.document_plan.PlannedOccurrence.{PlannedOccurrence}
 use Rattle.scip_model.proofs.NamedLemmas.{declared_is}
 
@@ -145,56 +147,75 @@ numbered_in texts id entity text number is numbered = (text, is, numbered)
 -- ---- what is planned
 
 -- one more
-pub one_added : (texts : List (List ℕ)) (old new : List PlannedOccurrence) (planned : PlannedOccurrence)
-    (text : List ℕ) (occurrence : Occurrence) → new ≡ old ++ planned ∷ [] → IsNumberOf texts text planned.symbol
-    → record { range = planned.range; symbol = text; symbol_roles = planned.symbol_roles; enclosing_range = None }
+pub one_added : (around : Around) (texts : List (List ℕ)) (old new : List PlannedOccurrence)
+    (planned : PlannedOccurrence) (text : List ℕ) (occurrence : Occurrence) → new ≡ old ++ planned ∷ []
+    → IsNumberOf texts text planned.symbol
+    → record {
+      range = planned.range;
+      symbol = text;
+      symbol_roles = planned.symbol_roles;
+      enclosing_range = range_around around planned.symbol_roles planned.symbol;
+    }
     ≡ occurrence
-    → AreAdded texts old new (occurrence ∷ [])
-one_added texts old new planned text occurrence added numbered is = λ later grown.
-    let with_text : List ℕ → Occurrence = λ its.
-    record { range = planned.range; symbol = its; symbol_roles = planned.symbol_roles; enclosing_range = None } in
-    ap (map (occurrence_of later)) added
-    ∙ (map-append (occurrence_of later) old (planned ∷ [])
-    ∙ ap (λ (o : Occurrence). map (occurrence_of later) old ++ o ∷ []) (ap with_text (numbered later grown) ∙ is))
+    → AreAdded around texts old new (occurrence ∷ [])
+one_added around texts old new planned text occurrence added numbered is = λ later grown.
+    let f = occurrence_of around later in
+    let with_text : List ℕ → Occurrence = λ its. record {
+      range = planned.range;
+      symbol = its;
+      symbol_roles = planned.symbol_roles;
+      enclosing_range = range_around around planned.symbol_roles planned.symbol;
+    } in
+    ap (map f) added
+    ∙ (map-append f old (planned ∷ [])
+    ∙ ap (λ (o : Occurrence). map f old ++ o ∷ []) (ap with_text (numbered later grown) ∙ is))
 
-pub none_added : (texts : List (List ℕ)) (list : List PlannedOccurrence) → AreAdded texts list list []
-none_added texts list = λ later grown. sym (append-nil (map (occurrence_of later) list))
+pub none_added : (around : Around) (texts : List (List ℕ)) (list : List PlannedOccurrence)
+    → AreAdded around texts list list []
+none_added around texts list = λ later grown. sym (append-nil (map (occurrence_of around later) list))
 
--- a text over a span
-pub planned_added : (encoding : Encoding) (bytes : List ℕ) (span : Span) (roles : ℤ) (texts : List (List ℕ))
-    (old new : List PlannedOccurrence) (planned : PlannedOccurrence) (text : List ℕ) (number : ℕ)
-    → new ≡ old ++ planned ∷ []
+-- a text over a span, with the range around it
+pub planned_added : (around : Around) (encoding : Encoding) (bytes : List ℕ) (span : Span) (roles : ℤ)
+    (texts : List (List ℕ)) (old new : List PlannedOccurrence) (planned : PlannedOccurrence) (text : List ℕ)
+    (number : ℕ) (range : Option RangeNumbers) → new ≡ old ++ planned ∷ []
     → planned ≡ record { range = range_over encoding bytes span; symbol = number; symbol_roles = roles }
-    → IsNumberOf texts text number
-    → AreAdded texts old new (occurrence_with encoding bytes span text roles ∷ [])
-planned_added encoding bytes span roles texts old new planned text number added is numbered =
-    one_added texts old new planned text (occurrence_with encoding bytes span text roles) added
+    → IsNumberOf texts text number → range_around around roles number ≡ range
+    → AreAdded around texts old new (occurrence_with encoding bytes span text roles range ∷ [])
+planned_added around encoding bytes span roles texts old new planned text number range added is numbered ranged =
+    one_added around texts old new planned text (occurrence_with encoding bytes span text roles range) added
     (subst (λ (p : PlannedOccurrence). IsNumberOf texts text p.symbol) (sym is) numbered)
-    (ap (λ (p : PlannedOccurrence).
-    record { range = p.range; symbol = text; symbol_roles = p.symbol_roles; enclosing_range = None }) is)
+    (ap (λ (p : PlannedOccurrence). record {
+      range = p.range;
+      symbol = text;
+      symbol_roles = p.symbol_roles;
+      enclosing_range = range_around around p.symbol_roles p.symbol;
+    }) is
+    ∙ ap (occurrence_with encoding bytes span text roles) ranged)
 
 -- an entity over a span, whose number is known
-pub entity_added : (encoding : Encoding) (bytes : List ℕ) (id : Package) (span : Span) (entity : Option symbols.Entity)
-    (texts : List (List ℕ)) (old new : List PlannedOccurrence) (planned : PlannedOccurrence) (number : ℕ)
+pub entity_added : (around : Around) (encoding : Encoding) (bytes : List ℕ) (id : Package) (span : Span)
+    (entity : Option symbols.Entity) (texts : List (List ℕ)) (old new : List PlannedOccurrence)
+    (planned : PlannedOccurrence) (number : ℕ)
     → new ≡ old ++ planned ∷ []
     → planned ≡ record { range = range_over encoding bytes span; symbol = number; symbol_roles = no_role }
-    → IsNumberIn texts id entity number → AreAdded texts old new (at_entity id encoding bytes span entity)
-entity_added encoding bytes id span None texts old new planned number added is numbered =
+    → IsNumberIn texts id entity number → AreAdded around texts old new (at_entity id encoding bytes span entity)
+entity_added around encoding bytes id span None texts old new planned number added is numbered =
     absurd (none-some _ numbered.1)
-entity_added encoding bytes id span (Some entity) texts old new planned number added is numbered =
-    planned_added encoding bytes span no_role texts old new planned (text_of id entity) number added is
-    (subst (λ (its : List ℕ). IsNumberOf texts its number) (sym (same_Some _ _ numbered.1)) numbered.2)
+entity_added around encoding bytes id span (Some entity) texts old new planned number added is numbered =
+    planned_added around encoding bytes span no_role texts old new planned (text_of id entity) number None added is
+    (subst (λ (its : List ℕ). IsNumberOf texts its number) (sym (same_Some _ _ numbered.1)) numbered.2) refl
 
 -- what is added where a test says so
-pub none_if : (b : Bool) (texts : List (List ℕ)) (list : List PlannedOccurrence) (occurrences : List Occurrence)
-    → b ≡ false → AreAdded texts list list (if b then occurrences else [])
-none_if false texts list occurrences e = none_added texts list
-none_if true texts list occurrences e = absurd (false≢true (sym e))
+pub none_if : (around : Around) (b : Bool) (texts : List (List ℕ)) (list : List PlannedOccurrence)
+    (occurrences : List Occurrence) → b ≡ false → AreAdded around texts list list (if b then occurrences else [])
+none_if around false texts list occurrences e = none_added around texts list
+none_if around true texts list occurrences e = absurd (false≢true (sym e))
 
-pub some_if : (b : Bool) (texts : List (List ℕ)) (old new : List PlannedOccurrence) (occurrences : List Occurrence)
-    → b ≡ true → AreAdded texts old new occurrences → AreAdded texts old new (if b then occurrences else [])
-some_if true texts old new occurrences e added = added
-some_if false texts old new occurrences e added = absurd (false≢true e)
+pub some_if : (around : Around) (b : Bool) (texts : List (List ℕ)) (old new : List PlannedOccurrence)
+    (occurrences : List Occurrence) → b ≡ true → AreAdded around texts old new occurrences
+    → AreAdded around texts old new (if b then occurrences else [])
+some_if around true texts old new occurrences e added = added
+some_if around false texts old new occurrences e added = absurd (false≢true e)
 
 -- what the choice for a declaration says
 pub kept_by : (chosen : Chosen) (file index : ℕ) (choice : Choice) → IsChosen chosen file index choice

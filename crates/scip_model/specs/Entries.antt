@@ -1,9 +1,9 @@
 -- The symbol entries of the document of a source, and those of included files (`scip.proto`, SymbolInformation; which
 -- symbols have one, the texts that document them, and the names that they are shown by, is the profile's).
-use Rattle.std.specs.Prelude.{ℕ, List, [], ◌++◌, ◌≡◌, ◌+◌, true, Some}
+use Rattle.std.specs.Prelude.{ℕ, Option, List, [], ◌++◌, ◌≡◌, ◌+◌, true, Some}
 use Rattle.std.specs.List.{slice_get}
-use Rattle.scip_records.specs.Details.{no_details}
 use Rattle.proto_decl.specs.declared.declaration.Declaration.{Declaration}
+use Rattle.proto_decl.specs.declared.detail.Detail.{Detail}
 use Rattle.proto_decl.specs.Declares.{simple_name}
 use Rattle.proto_decl.specs.Names.{package_of}
 use Rattle.proto_decl.specs.Facts.{Facts}
@@ -19,6 +19,7 @@ use Rattle.scip_symbol.specs.Entities as symbols
 use Rattle.scip_records.specs.declared.records.SymbolInformation.{SymbolInformation}
 use Rattle.scip_model.specs.Packages.{Packages, package_of_file}
 use Rattle.scip_model.specs.Chosen.{Chosen, IsChosen}
+use Rattle.scip_model.specs.Detailed.{detail_at, details_in, details_with, file_kind, kind_if_asked, package_kind}
 use Rattle.scip_model.specs.Named.{HasDeclaration, NamesIn, Home, text_of, package_at, declaration_in, home_of_file}
 -- an empty text is left out
 pub use Rattle.scip_records.specs.Texts.{unless_empty}
@@ -32,10 +33,14 @@ documentation_of Leading declaration = unless_empty declaration.leading
 documentation_of Trailing declaration = unless_empty declaration.trailing
 documentation_of Both declaration = unless_empty declaration.leading ++ unless_empty declaration.trailing
 
--- of a file, shown by its path
-abbrev pub file_entry : Package → (path : List ℕ) → SymbolInformation
-file_entry id path =
-    record { symbol = text_of id (OfFile path); documentation = []; display_name = path; details = no_details }
+-- of a file, shown by its path, with its kind if details are asked for
+abbrev pub file_entry : Package → (path : List ℕ) → Option (List Detail) → SymbolInformation
+file_entry id path details = record {
+  symbol = text_of id (OfFile path);
+  documentation = [];
+  display_name = path;
+  details = kind_if_asked details file_kind;
+}
 
 -- of the package of the first components of a file's package name, shown by its full name
 abbrev pub package_entry : Package → Facts → (count : ℕ) → SymbolInformation
@@ -43,16 +48,16 @@ package_entry id facts count = record {
   symbol = text_of id (package_at facts count);
   documentation = [];
   display_name = package_of facts.package_name count;
-  details = no_details;
+  details = kind_if_asked facts.details package_kind;
 }
 
--- of a declaration, with the texts chosen for it, shown by its simple name
-abbrev pub declaration_entry : Home → Facts → Declaration → Choice → SymbolInformation
-declaration_entry home facts declared choice = record {
+-- of a declaration, with the texts chosen for it, shown by its simple name, and with its details if they are asked for
+abbrev pub declaration_entry : Home → Facts → Declaration → Option Detail → Choice → SymbolInformation
+declaration_entry home facts declared detail choice = record {
   symbol = text_of home.id (declaration_in home facts declared);
   documentation = documentation_of choice.doc declared;
   display_name = simple_name declared.path;
-  details = no_details;
+  details = details_with home facts declared detail;
 }
 
 -- the entry of a declaration that is kept, by its file's number and its own
@@ -64,12 +69,13 @@ pub record IsKeptEntry (files : List File) (chosen : Chosen) (ids : Packages) (f
   pub has : HasDeclaration files file index facts declaration
   pub is_chosen : IsChosen chosen file index choice
   pub keeps : choice.keep ≡ true
-  pub is : entry ≡ declaration_entry (home_of_file files ids file) facts declaration choice
+  pub is : entry ≡ declaration_entry (home_of_file files ids file) facts declaration
+      (detail_at facts index) choice
 
 -- The entries of a source: the file, each component of its package's name, and each declaration that is kept.
 pub data HasEntry (files : List File) (chosen : Chosen) (ids : Packages) (source : ℕ) : SymbolInformation → Type 0 where
   of_file : {file : File} → slice_get files source ≡ Some file
-      → HasEntry files chosen ids source (file_entry (package_of_file files ids source) file.path)
+      → HasEntry files chosen ids source (file_entry (package_of_file files ids source) file.path (details_in file))
   of_package : {facts : Facts} (index : ℕ) {component : Component} → HasFacts files source facts
       → slice_get facts.package_name index ≡ Some component
       → HasEntry files chosen ids source (package_entry ids.run facts (index + 1))

@@ -13,6 +13,8 @@ pub mod Packages
 pub mod Named
 pub mod Repeated
 pub mod Chosen
+-- what is said of declarations if details are asked for
+pub mod Detailed
 -- what occurs in the document of a source, in which order, and its symbol entries
 pub mod Occurs
 pub mod OccurrenceOrder

@@ -6,6 +6,7 @@ use Rattle.std.specs.Option.{option_map}
 use Rattle.proto_lex.specs.Lexed.{IsPart}
 use Rattle.proto_lex.specs.declared.span.Span.{Span}
 use Rattle.proto_decl.specs.Facts.{Facts}
+use Rattle.proto_decl.specs.Laws.{IsWhole}
 use Rattle.proto_decl.specs.declared.declaration.Declaration.{Declaration}
 use Rattle.proto_decl.specs.declared.imports.Imported.{Imported}
 use Rattle.proto_decl.specs.declared.uses.Component.{Component}
@@ -32,7 +33,7 @@ use Rattle.scip_model.specs.Tables.Listing.{entity_of, declared_by, IsNameable, 
 use Rattle.scip_model.specs.Tables.Listing.{at_import, at_declaration, at_entity, at_part, at_component, at_target}
 use Rattle.scip_model.specs.Tables.Listing.{at_use}
 use Rattle.scip_model.specs.Tables.EntryLists.{choices_for}
-use Rattle.scip_model.specs.Tables.Plans.{HasOwnTexts, own_texts}
+use Rattle.scip_model.specs.Tables.Plans.{Around, HasOwnTexts, around_in, arounds_in, own_texts}
 use Rattle.scip_model.specs.declared.document_maker.DocumentMaker.{DocumentMaker}
 
 module _ (maker : DocumentMaker) where
@@ -58,6 +59,9 @@ module _ (maker : DocumentMaker) where
 
   abbrev pub HasPart : Span → Type 0
   HasPart = IsPart maker.text.now
+
+  abbrev pub HasWhole : Span → Type 0
+  HasWhole = IsWhole maker.text.now
 
   -- ---- its files, and what was chosen for their declarations
 
@@ -111,6 +115,13 @@ module _ (maker : DocumentMaker) where
 
   abbrev pub source_texts : Facts → List (List ℕ)
   source_texts = own_texts source_home maker.package.now.ids.run
+
+  -- the symbols of what its declarations are in, and the ranges over these
+  abbrev pub source_arounds : Facts → List (List ℕ)
+  source_arounds = arounds_in source_home
+
+  abbrev pub around_its : Facts → Around
+  around_its = around_in maker.encoding maker.text.now
 
   abbrev pub HasSourceTexts : (texts : List (List ℕ)) → Type 0
   HasSourceTexts = HasOwnTexts maker.package.now.files maker.package.now.ids maker.source

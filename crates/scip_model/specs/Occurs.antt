@@ -1,6 +1,6 @@
 -- What occurs in the document of a source: exactly this, whatever its order (`scip.proto`, Occurrence and SymbolRole;
 -- which symbols occur, and the file's own range, is the profile's).
-use Rattle.std.specs.Prelude.{◌≡◌, ℕ, ◌+◌, ℤ, pos, Some, None, List, Contains}
+use Rattle.std.specs.Prelude.{◌≡◌, ℕ, ◌+◌, ℤ, pos, Option, Some, None, List, Contains}
 use Rattle.std.specs.List.{slice_get}
 use Rattle.proto_lex.specs.declared.span.Span.{Span}
 use Rattle.proto_lex.specs.declared.position.Encoding.{Encoding}
@@ -10,6 +10,7 @@ use Rattle.scip_records.specs.declared.records.Occurrence.{Occurrence}
 use Rattle.proto_decl.specs.Facts.{Facts}
 use Rattle.proto_decl.specs.declared.imports.Imported.{Imported}
 use Rattle.proto_decl.specs.declared.declaration.Declaration.{Declaration}
+use Rattle.proto_decl.specs.declared.detail.Detail.{Detail}
 use Rattle.proto_decl.specs.declared.uses.Component.{Component}
 use Rattle.scip_symbol.specs.Entities.{OfFile}
 use Rattle.scip_symbol.specs.Entities as symbols
@@ -19,7 +20,8 @@ use Rattle.proto_visibility.specs.declared.lookup.Entity.{Entity}
 use Rattle.proto_visibility.specs.declared.lookup.Entity.TheVariants as link
 use Rattle.scip_model.specs.Packages.{Packages, package_of_path, package_of_file, package_of_part}
 use Rattle.scip_model.specs.Chosen.{Chosen, IsKeptDeclaration}
-use Rattle.scip_model.specs.Named.{HasDeclaration, NamesIn, text_of, package_at, declaration_in, home_of_file}
+use Rattle.scip_model.specs.Detailed.{detail_at}
+use Rattle.scip_model.specs.Named.{HasDeclaration, Home, NamesIn, text_of, package_at, declaration_in, home_of_file}
 
 -- (`scip.proto`, SymbolRole: UnspecifiedSymbolRole, Definition and Import)
 abbrev pub no_role : ℤ
@@ -58,6 +60,20 @@ occurrence_over encoding text id span entity roles =
       enclosing_range = None;
     }
 
+-- over all of a declaration, if details are asked for (`scip.proto`, Occurrence.enclosing_range)
+abbrev pub enclosing_with : Encoding → (text : List ℕ) → Option Detail → Option RangeNumbers
+enclosing_with encoding text None = None
+enclosing_with encoding text (Some detail) = Some (range_over encoding text detail.extent)
+
+-- a declaration's symbol over its name
+abbrev pub definition_over : Encoding → (text : List ℕ) → Home → Facts → Declaration → Option Detail → Occurrence
+definition_over encoding text home facts declared detail = record {
+  range = range_over encoding text declared.name;
+  symbol = text_of home.id (declaration_in home facts declared);
+  symbol_roles = definition_role;
+  enclosing_range = enclosing_with encoding text detail;
+}
+
 -- What occurs in the document of a source, which has this text.
 pub data Occurs (files : List File) (chosen : Chosen) (ids : Packages) (encoding : Encoding) (source : ℕ)
     (text : List ℕ) : Occurrence → Type 0 where
@@ -85,8 +101,7 @@ pub data Occurs (files : List File) (chosen : Chosen) (ids : Packages) (encoding
   of_declaration : {facts : Facts} (index : ℕ) {declared : Declaration}
       → HasDeclaration files source index facts declared → IsKeptDeclaration chosen source index
       → Occurs files chosen ids encoding source text
-      (occurrence_over encoding text (package_of_file files ids source) declared.name
-      (declaration_in (home_of_file files ids source) facts declared) definition_role)
+      (definition_over encoding text (home_of_file files ids source) facts declared (detail_at facts index))
   -- each component of a use that names a package, or a declaration that is kept
   of_component : {component : Component} {part : Entity} {entity : symbols.Entity}
       → NamesIn files ids source component part entity → IsShown chosen part

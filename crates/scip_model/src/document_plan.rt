@@ -3,17 +3,20 @@
 ghost use Rattle.std.specs.Prelude.{◌≡◌, ◌∷◌, []};
 ghost use Rattle.std.specs.List.{slice_get};
 ghost use Rattle.scip_model.specs.Indexes.{encoding_number};
-ghost use Rattle.scip_model.specs.Tables.Plans.{text_at, shown_as, entry_of};
-ghost use Rattle.scip_records.specs.Details.{no_details};
+ghost use Rattle.scip_model.specs.Detailed.{detail_at, kind_if_asked};
+ghost use Rattle.scip_model.specs.Tables.Plans.{text_at, bare_entry, first_kind, shown_as, entry_of};
 
-use crate::entries::ref_entry;
+use crate::entries::{details_at, ref_entry};
+use crate::occurrences::range_around;
+use crate::own_symbols::JoinedTexts;
 use crate::symbol_table::SymbolTable;
 use basics::{OwnedText, Sequence};
 use index_hooks::Choice;
 use proto_decl::FileFacts;
 use proto_lex::{Encoding, Span};
 use scip_records::{
-    DetailsRef, DocumentParts, InformationRef, OccurrenceRef, Range, SymbolRef, TextsRef,
+    DetailsRef, DocumentParts, InformationRef, OccurrenceRef, Range, SignatureRef, SymbolRef,
+    TextsRef,
 };
 use std::alloc::Global;
 use std::marker::Model;
@@ -37,8 +40,12 @@ pub struct DocumentPlan<'a, 't> {
     pub(crate) choices: &'a [Choice],
     /// The full names of the packages: of the first component, the first two, and so on.
     pub(crate) packages: Vec<OwnedText>,
+    /// The symbols of what each declaration is in, if details are asked for.
+    pub(crate) arounds: JoinedTexts,
     pub(crate) texts: SymbolTable,
     pub(crate) occurrences: Vec<PlannedOccurrence>,
+    /// The ranges over all of declarations, if details are asked for.
+    pub(crate) ranges: Vec<Range>,
     pub(crate) entries: Vec<u32>,
     pub(crate) language: &'a str,
     pub(crate) encoding: Encoding,
@@ -48,14 +55,15 @@ impl<'a, 't> Model for DocumentPlan<'a, 't> {
     ghost use Rattle.std.specs.Prelude.{map};
     ghost use Rattle.scip_records.specs.declared.records.Document.{Document};
     ghost use Rattle.scip_model.specs.Indexes.{encoding_number};
-    ghost use Rattle.scip_model.specs.Tables.Plans.{occurrence_of, entry_of};
+    ghost use Rattle.scip_model.specs.Tables.Plans.{around_by, occurrence_of, entry_of};
 
     ghost Value = { Document };
 
     ghost view = { λ plan. record {
       relative_path = plan.path.now;
-      occurrences = map (occurrence_of plan.texts) plan.occurrences.items;
-      symbols = map (entry_of plan.texts plan.path.now plan.packages.items plan.facts.now plan.choices.now)
+      occurrences = map (occurrence_of (around_by plan.facts.now plan.ranges.items) plan.texts)
+          plan.occurrences.items;
+      symbols = map (entry_of plan.texts plan.path.now plan.packages.items plan.facts.now plan.choices.now plan.arounds)
           plan.entries.items;
       language = plan.language.now;
       position_encoding = encoding_number plan.encoding;
@@ -111,59 +119,108 @@ fn name_at<'a>(path: &'a str, names: &'a [OwnedText], number: usize) -> &'a str
 }
 
 /// An entry without documentation.
-fn undocumented<'a>(symbol: SymbolRef<'a>, display_name: &'a str) -> InformationRef<'a>
+fn undocumented<'a>(
+    symbol: SymbolRef<'a>,
+    display_name: &'a str,
+    details: DetailsRef<'a>,
+) -> InformationRef<'a>
     ensures { result ≡ record {
       symbol = symbol.entry;
       documentation = [];
       display_name = display_name.now;
-      details = no_details;
+      details = details.entry;
     } }
 {
     InformationRef {
         symbol,
         documentation: TextsRef::of_list(&[]),
         display_name,
-        details: DetailsRef::none(),
+        details,
+    }
+}
+
+/// A symbol of which nothing else is known.
+fn bare_entry(symbol: SymbolRef<'_>) -> InformationRef<'_>
+    ensures { result ≡ bare_entry symbol.entry }
+{
+    undocumented(symbol, "", DetailsRef::none())
+}
+
+/// What an entry is of that is no declaration's, by its number (`scip.proto`, `SymbolInformation.Kind`).
+fn first_kind(number: usize) -> i32
+    ensures { result ≡ first_kind number }
+{
+    if number == 0 { 16 } else { 35 }
+}
+
+/// The kind alone, if details are asked for.
+fn kind_if_asked<'a>(facts: &FileFacts<'_>, kind: i32) -> DetailsRef<'a>
+    ensures { result ≡ kind_if_asked facts.now.details kind }
+{
+    match facts.details() {
+        Some(_) => DetailsRef {
+            kind,
+            signature: SignatureRef {
+                language: "",
+                text: "",
+            },
+            enclosing_symbol: SymbolRef::whole(""),
+        },
+        None => DetailsRef::none(),
+    }
+}
+
+/// What the entries of a source show besides their symbols.
+#[derive(Drop)]
+struct Shown<'a, 't> {
+    path: &'a str,
+    names: &'a [OwnedText],
+    facts: &'a FileFacts<'t>,
+    choices: &'a [Choice],
+    arounds: &'a JoinedTexts,
+}
+
+/// The symbol of what the declaration with an index is in; the empty text, if it isn't known.
+fn around_at<'a>(arounds: &'a JoinedTexts, index: usize) -> &'a str
+    ensures { result.now ≡ text_at arounds.now index }
+{
+    match arounds.get(index) {
+        Some(around) => around,
+        None => "",
     }
 }
 
 /// The entry of the declaration with an index, whose symbol has this text. Where there is none, an entry without
 /// documentation.
-fn documented<'a>(
-    symbol: SymbolRef<'a>,
-    facts: &'a FileFacts<'_>,
-    choices: &'a [Choice],
-    index: usize,
-) -> InformationRef<'a>
-    ensures { result ≡ shown_as symbol.entry (slice_get facts.now.declarations index) (slice_get choices.now index) }
+fn documented<'a>(symbol: SymbolRef<'a>, shown: &Shown<'a, '_>, index: usize) -> InformationRef<'a>
+    ensures { result ≡ shown_as symbol.entry (slice_get shown.now.facts.now.declarations index)
+        (detail_at shown.now.facts.now index) (text_at shown.now.arounds.now index)
+        (slice_get shown.now.choices.now index) }
 {
-    let Some(declaration) = facts.declarations().get(index) else {
-        return undocumented(symbol, "");
+    let Some(declaration) = shown.facts.declarations().get(index) else {
+        return bare_entry(symbol);
     };
-    match choices.get(index) {
-        Some(choice) => ref_entry(symbol, declaration, *choice),
-        None => undocumented(symbol, ""),
-    }
+    let Some(choice) = shown.choices.get(index) else {
+        return bare_entry(symbol);
+    };
+    let around = around_at(shown.arounds, index);
+    let details = details_at(shown.facts, declaration, index, around);
+    ref_entry(symbol, declaration, details, *choice)
 }
 
 /// The entry with a number.
-fn entry_of<'a>(
-    texts: &'a SymbolTable,
-    path: &'a str,
-    names: &'a [OwnedText],
-    facts: &'a FileFacts<'_>,
-    choices: &'a [Choice],
-    number: u32,
-) -> InformationRef<'a>
-    ensures { result ≡ entry_of texts.now path.now names.now facts.now choices.now number }
+fn entry_of<'a>(texts: &'a SymbolTable, shown: &Shown<'a, '_>, number: u32) -> InformationRef<'a>
+    ensures { result ≡ entry_of texts.now shown.now.path.now shown.now.names.now shown.now.facts.now
+        shown.now.choices.now shown.now.arounds.now number }
 {
     let symbol = texts.at(number);
     let number = number as usize;
-    let first = 1 + names.len();
+    let first = 1 + shown.names.len();
     if number < first {
-        undocumented(symbol, name_at(path, names, number))
+        let kind = kind_if_asked(shown.facts, first_kind(number));
+        undocumented(symbol, name_at(shown.path, shown.names, number), kind)
     } else {
-        documented(symbol, facts, choices, number - first)
+        documented(symbol, shown, number - first)
     }
 }
 
@@ -194,7 +251,12 @@ impl<'a, 't> DocumentParts for DocumentPlan<'a, 't> {
             range: planned.range,
             symbol: self.texts.at(planned.symbol),
             symbol_roles: planned.symbol_roles,
-            enclosing_range: None,
+            enclosing_range: range_around(
+                1 + self.facts.package_name().len(),
+                self.ranges.as_slice(),
+                planned.symbol_roles,
+                planned.symbol,
+            ),
         }
     }
 
@@ -203,15 +265,14 @@ impl<'a, 't> DocumentParts for DocumentPlan<'a, 't> {
     }
 
     fn entry(&self, number: usize) -> InformationRef<'_> {
-        let names = self.packages.as_slice();
-        entry_of(
-            &self.texts,
-            self.path,
-            names,
-            self.facts,
-            self.choices,
-            self.entries[number],
-        )
+        let shown = Shown {
+            path: self.path,
+            names: self.packages.as_slice(),
+            facts: self.facts,
+            choices: self.choices,
+            arounds: &self.arounds,
+        };
+        entry_of(&self.texts, &shown, self.entries[number])
     }
 
     fn language(&self) -> &str {
@@ -224,5 +285,6 @@ impl<'a, 't> DocumentParts for DocumentPlan<'a, 't> {
 
     fn let_occurrences_go(&mut self, alloc: Global) {
         self.occurrences = Vec::new(alloc);
+        self.ranges = Vec::new(alloc);
     }
 }

@@ -1,30 +1,33 @@
 //! The symbol entries of the document of a source, and one of a declaration, with the texts that document it.
 
 ghost use Rattle.std.specs.Prelude.{ℕ, ◌≡◌, ◌+◌, ◌<◌, ◌≤◌, ◌∷◌, [], ◌++◌, IfOk, OnOk, Contains, length, map};
-ghost use Rattle.std.specs.Prelude.{if◌then◌else◌};
+ghost use Rattle.std.specs.Prelude.{if◌then◌else◌, None, Some, MatchOption};
 ghost use Rattle.std.specs.List.{range_with_len};
 ghost use Rattle.proto_decl.specs.Names.{dotted, package_of};
 ghost use Rattle.proto_decl.specs.Laws.{component_names};
 ghost use Rattle.scip_model.specs.Named.{Home};
 ghost use Rattle.scip_records.specs.declared.records.SymbolInformation.{SymbolInformation};
+ghost use Rattle.scip_model.specs.Detailed.{detail_at, details_shown, kind_number};
 ghost use Rattle.scip_model.specs.Entries.{declaration_entry, documentation_of};
 ghost use Rattle.scip_model.specs.Tables.EntryLists.{kept_entries, package_names, AreNumbered};
 ghost use Rattle.scip_model.specs.Tables.OwnTexts.{entry_with};
 ghost use Rattle.scip_model.specs.Tables.Plans.{Grown, entry_of};
 ghost use Rattle.scip_model.specs.Indexes.{info_cmp, IsAscendingListOf};
 ghost use Rattle.scip_model.specs.Makers.{HasChosen, HasChosenFor, HasGoodPaths, HasSourceFacts, HasSourcePath};
-ghost use Rattle.scip_model.specs.Makers.{IsItsEntry, IsOfSource, choices_of, source_texts};
+ghost use Rattle.scip_model.specs.Makers.{IsItsEntry, IsOfSource, choices_of, source_arounds, source_texts};
 
 use crate::document_maker::DocumentMaker;
 use crate::entry_order::{compare_texts, put_near};
 use crate::known_facts::symbols_stand_apart;
 use crate::naming::Home;
 use crate::symbol_table::{SymbolTable, declaration_number, number_at};
-use crate::symbol_texts::declaration_text;
+use crate::symbol_texts::{declaration_text, text_if_asked};
 use basics::OwnedText;
 use index_hooks::{Choice, DocChoice};
-use proto_decl::{Component, Declaration, FileFacts};
-use scip_records::{DetailsRef, InformationRef, SymbolInformation, SymbolRef, TextsRef};
+use proto_decl::{Component, Declaration, DeclarationKind, Detail, FileFacts};
+use scip_records::{
+    DetailsRef, InformationRef, SignatureRef, SymbolInformation, SymbolRef, TextsRef,
+};
 use scip_symbol::PackageId;
 use std::alloc::{AllocError, Global};
 use std::cmp::Ordering;
@@ -83,35 +86,93 @@ pub(crate) fn package_names(
     Ok(names)
 }
 
-/// The entry of a declaration whose symbol has this text.
+/// What is declared (`scip.proto`, `SymbolInformation.Kind`).
+fn kind_number(kind: DeclarationKind) -> i32
+    ensures { result ≡ kind_number kind }
+{
+    match kind {
+        DeclarationKind::Message => 28,
+        DeclarationKind::Enum => 11,
+        DeclarationKind::Service => 21,
+        DeclarationKind::Field => 15,
+        DeclarationKind::Oneof => 59,
+        DeclarationKind::Value => 12,
+        DeclarationKind::Method => 26,
+    }
+}
+
+/// The detail of the declaration with an index, if details are asked for.
+fn detail_at<'a>(facts: &'a FileFacts<'_>, index: usize) -> Option<&'a Detail>
+    ensures { MatchOption result (detail_at facts.now index ≡ None)
+        (λ detail. detail_at facts.now index ≡ Some detail.now) }
+{
+    match facts.details() {
+        Some(details) => details.get(index),
+        None => None,
+    }
+}
+
+/// The details of the declaration with an index, which is in what has this symbol, if they are asked for.
+pub(crate) fn details_at<'a>(
+    facts: &'a FileFacts<'_>,
+    declaration: &Declaration,
+    index: usize,
+    around: &'a str,
+) -> DetailsRef<'a>
+    ensures { result ≡ details_shown declaration.now (detail_at facts.now index) around.now }
+{
+    match detail_at(facts, index) {
+        Some(detail) => DetailsRef {
+            kind: kind_number(declaration.kind()),
+            signature: SignatureRef {
+                language: "Protobuf",
+                text: detail.signature.as_str(),
+            },
+            enclosing_symbol: SymbolRef::whole(around),
+        },
+        None => DetailsRef::none(),
+    }
+}
+
+/// The entry of a declaration whose symbol has this text, with these details.
 pub(crate) fn ref_entry<'a>(
     symbol: SymbolRef<'a>,
     declaration: &'a Declaration,
+    details: DetailsRef<'a>,
     choice: Choice,
 ) -> InformationRef<'a>
-    ensures { result ≡ entry_with symbol.entry declaration.now choice }
+    ensures { result ≡ entry_with symbol.entry declaration.now details.entry choice }
 {
     InformationRef {
         symbol,
         documentation: documentation_of(choice.doc, declaration),
         display_name: declaration.simple_name(),
-        details: DetailsRef::none(),
+        details,
     }
 }
 
-/// That of a declaration, with the texts that were chosen.
+/// That of the declaration with an index, with the texts that were chosen.
 pub(crate) fn declaration_entry(
     alloc: Global,
     home: &Home<'_>,
     facts: &FileFacts,
     declaration: &Declaration,
+    index: usize,
     choice: Choice,
 ) -> Result<SymbolInformation, AllocError>
     requires { Contains facts.now.declarations declaration.now }
-    ensures { IfOk result (λ entry. entry ≡ declaration_entry home.now facts.now declaration.now choice) }
+    ensures { IfOk result (λ entry. entry
+        ≡ declaration_entry home.now facts.now declaration.now (detail_at facts.now index) choice) }
 {
     let symbol = declaration_text(alloc, home, facts, declaration)?;
-    let entry = ref_entry(SymbolRef::whole(symbol.as_str()), declaration, choice);
+    let around = text_if_asked(alloc, home, facts, declaration)?;
+    let details = details_at(facts, declaration, index, around.as_str());
+    let entry = ref_entry(
+        SymbolRef::whole(symbol.as_str()),
+        declaration,
+        details,
+        choice,
+    );
     entry.to_record(alloc)
 }
 
@@ -150,7 +211,7 @@ fn push_declarations(
     ensures { OnOk result ((home : Home) (entry : ℕ → SymbolInformation)
         → AreNumbered home facts.now (choices_of maker.now) entry
         → map entry numbers.new.items ≡ map entry numbers.old.items
-        ++ kept_entries home facts.now facts.now.declarations (choices_of maker.now)) }
+        ++ kept_entries home facts.now 0 facts.now.declarations (choices_of maker.now)) }
 {
     for index in 0..facts.declarations().len() {
         let choice = maker.choices.of(maker.source, index);
@@ -183,7 +244,7 @@ pub(crate) fn entry_numbers(
     ensures { IfOk result (λ numbers. IsAscendingListOf info_cmp
         (IsItsEntry maker.now)
         (map (entry_of texts.now path.now (package_names facts.now.package_name) facts.now
-        (choices_of maker.now)) numbers.items)) }
+        (choices_of maker.now) (source_arounds maker.now facts.now)) numbers.items)) }
 {
     symbols_stand_apart(maker.package);
     let mut numbers = first_numbers(maker.alloc, facts)?;

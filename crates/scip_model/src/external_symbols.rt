@@ -185,7 +185,7 @@ fn external_entry(
     let declarations = facts.declarations();
     let declaration = &declarations[index];
     let choice = choices.of(file, index);
-    declaration_entry(alloc, home, facts, declaration, choice)
+    declaration_entry(alloc, home, facts, declaration, index, choice)
 }
 
 /// The entry of a declaration that a use in a source names, of an included file, and that is kept.

@@ -4,7 +4,7 @@ ghost use Rattle.scip_model.specs.Laws.{NoTies, OneDocument, OneListOfExternals,
 ghost use Rattle.scip_model.specs.Laws.{NothingIsRepeated, SymbolsNameOne, SymbolsMeet};
 ghost use Rattle.scip_model.specs.Pieces.{OneMergeRefusal, OneMergedList};
 
-use proto_decl::{facts_stand_apart, facts_stand_in_text};
+use proto_decl::{facts_in_order, facts_stand_apart, facts_stand_in_text};
 use proto_lex::positions_rise;
 use scip_symbol::{symbols_have_spellings, symbols_name_one_entity, text_spells_one_symbol};
 
@@ -30,10 +30,11 @@ pub fn one_index()
 {}
 
 /// No two occurrences of a document tie in the order of its list: of two with one range and one symbol
-/// the roles are the same too.
+/// the roles and the ranges around are the same too.
 pub fn no_two_occurrences_tie()
     ensures { NoTies }
 {
+    facts_in_order();
     facts_stand_apart();
     facts_stand_in_text();
     positions_rise();

@@ -3,7 +3,7 @@
 ghost use Rattle.std.specs.Prelude.{◌≡◌, IfOk, map};
 ghost use Rattle.std.specs.Ordering.{on};
 ghost use Rattle.scip_model.specs.OccurrenceOrder.{occurrence_cmp};
-ghost use Rattle.scip_model.specs.Tables.Plans.{occurrence_of};
+ghost use Rattle.scip_model.specs.Tables.Plans.{Around, occurrence_of};
 ghost use Rattle.scip_model.specs.Tables.Merges.{IsMerged, AreUntied, TakesLeast, fronts_cmp};
 
 use crate::document_plan::PlannedOccurrence;
@@ -18,7 +18,8 @@ fn compare_occurrences(
     a: &PlannedOccurrence,
     b: &PlannedOccurrence,
 ) -> Ordering
-    ensures { result ≡ occurrence_cmp (occurrence_of texts.now a.now) (occurrence_of texts.now b.now) }
+    ensures { (around : Around) → result ≡ occurrence_cmp (occurrence_of around texts.now a.now)
+        (occurrence_of around texts.now b.now) }
 {
     let start = a.range.start_line().cmp(&b.range.start_line());
     let start = start.then(a.range.start_column().cmp(&b.range.start_column()));
@@ -36,7 +37,8 @@ fn compare_fronts(
     first: &VecDeque<PlannedOccurrence>,
     second: &VecDeque<PlannedOccurrence>,
 ) -> Ordering
-    ensures { result ≡ fronts_cmp (on (occurrence_of texts.now) occurrence_cmp) first.now.items second.now.items }
+    ensures { (around : Around) → result ≡ fronts_cmp (on (occurrence_of around texts.now) occurrence_cmp)
+        first.now.items second.now.items }
 {
     match (first.front(), second.front()) {
         (Some(a), Some(b)) => compare_occurrences(texts, a, b),
@@ -51,7 +53,8 @@ fn take_least(
     first: &mut VecDeque<PlannedOccurrence>,
     second: &mut VecDeque<PlannedOccurrence>,
 ) -> Option<PlannedOccurrence>
-    ensures { TakesLeast (fronts_cmp (on (occurrence_of texts.now) occurrence_cmp) first.old.items second.old.items)
+    ensures { (around : Around) → TakesLeast (fronts_cmp (on (occurrence_of around texts.now) occurrence_cmp)
+        first.old.items second.old.items)
         first.old.items second.old.items result first.new.items second.new.items }
 {
     match compare_fronts(texts, first, second) {
@@ -72,11 +75,11 @@ pub(crate) fn merged(
     first: Vec<PlannedOccurrence>,
     second: Vec<PlannedOccurrence>,
 ) -> Result<Vec<PlannedOccurrence>, AllocError>
-    ensures { IfOk result (λ both.
-        AreUntied occurrence_cmp
-        (map (occurrence_of texts.now) first.items) (map (occurrence_of texts.now) second.items)
-        → IsMerged occurrence_cmp (map (occurrence_of texts.now) first.items)
-        (map (occurrence_of texts.now) second.items) (map (occurrence_of texts.now) both.items)) }
+    ensures { IfOk result (λ both. (around : Around)
+        → AreUntied occurrence_cmp
+        (map (occurrence_of around texts.now) first.items) (map (occurrence_of around texts.now) second.items)
+        → IsMerged occurrence_cmp (map (occurrence_of around texts.now) first.items)
+        (map (occurrence_of around texts.now) second.items) (map (occurrence_of around texts.now) both.items)) }
 {
     let mut both = Vec::with_capacity(alloc, first.len().saturating_add(second.len()))?;
     let mut first_left = VecDeque::from_vec(first);

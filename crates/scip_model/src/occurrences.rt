@@ -2,7 +2,8 @@
 
 ghost use Rattle.std.specs.Prelude.{◌≡◌, ◌<◌, ◌∷◌, [], ℕ, List, Some, length, All, IsTrue, IfOk, OnOk};
 ghost use Rattle.std.specs.List.{slice_get};
-ghost use Rattle.proto_lex.specs.Lexed.{IsPart};
+ghost use Rattle.std.specs.Prelude.{Option};
+ghost use Rattle.proto_decl.specs.Laws.{IsWhole};
 ghost use Rattle.proto_decl.specs.Facts.{Facts};
 ghost use Rattle.proto_decl.specs.declared.uses.Component.{Component};
 ghost use Rattle.proto_decl.specs.declared.declaration.Declaration.{Declaration};
@@ -15,15 +16,17 @@ ghost use Rattle.scip_model.specs.Named.{Home, text_of};
 ghost use Rattle.scip_model.specs.Occurs.{range_over, start_of_text};
 ghost use Rattle.scip_model.specs.Packages.{package_of_path};
 ghost use Rattle.scip_model.specs.Tables.Listing.{own_occurrence, each_from, has_path, at_package};
-ghost use Rattle.scip_model.specs.Tables.Plans.{own_texts, Grown, IsNumberOf, ArePlanned, AreAdded};
-ghost use Rattle.scip_model.specs.Makers.{HasChosenFor, HasGoodPaths, HasPart, at_its_declaration, at_its_import};
-ghost use Rattle.scip_model.specs.Makers.{source_home};
+ghost use Rattle.scip_model.specs.Tables.Plans.{Around, own_texts, Grown, IsNumberOf, ArePlanned, AreAdded};
+ghost use Rattle.scip_model.specs.Tables.Plans.{range_around, ranges_over};
+ghost use Rattle.scip_model.specs.Makers.{HasChosenFor, HasGoodPaths, HasPart, HasTextFor, HasWhole};
+ghost use Rattle.scip_model.specs.Makers.{around_its, at_its_declaration, at_its_import, source_home};
+ghost use Rattle.proto_decl.specs.Facts.{extents_of};
 
 use crate::document_maker::DocumentMaker;
 use crate::document_plan::PlannedOccurrence;
 use crate::symbol_table::{SymbolTable, declaration_number, number_at};
 use crate::symbol_texts::file_text;
-use proto_decl::{Declaration, FileFacts, Imported};
+use proto_decl::{Declaration, Detail, FileFacts, Imported, facts_stand_in_text};
 use proto_lex::{Encoding, Span, Text, positions_fit};
 use proto_link::Linker;
 use scip_records::Range;
@@ -40,7 +43,7 @@ const FILE: usize = 0;
 
 /// The range from where a span begins to where it ends.
 fn range_over(text: &Text<'_>, encoding: Encoding, span: Span) -> Range
-    requires { IsPart text.now span }
+    requires { IsWhole text.now span }
     ensures { result ≡ range_over encoding text.now span }
 {
     // From here on it is known that the bytes are those of a text.
@@ -49,6 +52,56 @@ fn range_over(text: &Text<'_>, encoding: Encoding, span: Span) -> Range
     let start = text.position(span.start as usize, encoding);
     let end = text.position(span.end as usize, encoding);
     Range::new(start.line, start.column, end.line, end.column).unwrap()
+}
+
+/// The ranges over all of a file's declarations, if details are asked for.
+pub(crate) fn declaration_ranges(
+    maker: &DocumentMaker<'_, '_, '_, '_>,
+    facts: &FileFacts,
+) -> Result<Vec<Range>, AllocError>
+    requires { HasTextFor maker.now facts.now }
+    ensures { IfOk result (λ ranges. ranges.items
+        ≡ ranges_over maker.now.encoding maker.now.text.now facts.now.details) }
+{
+    facts_stand_in_text();
+    match facts.details() {
+        Some(details) => ranges_of(maker, details),
+        None => Ok(Vec::new(maker.alloc)),
+    }
+}
+
+/// The ranges over all of declarations with these details.
+fn ranges_of(
+    maker: &DocumentMaker<'_, '_, '_, '_>,
+    details: &[Detail],
+) -> Result<Vec<Range>, AllocError>
+    requires { All (HasWhole maker.now) (extents_of (Some details.now)) }
+    ensures { IfOk result (λ ranges. ranges.items
+        ≡ ranges_over maker.now.encoding maker.now.text.now (Some details.now)) }
+{
+    let mut ranges = Vec::with_capacity(maker.alloc, details.len())?;
+    for detail in details {
+        ranges.push(range_over(maker.text, maker.encoding, detail.extent))?;
+    }
+    Ok(ranges)
+}
+
+/// The range around what has these roles and a symbol with this number: around a declaration's definition. The first
+/// declaration's symbol has the number `first`.
+pub(crate) fn range_around(
+    first: usize,
+    ranges: &[Range],
+    symbol_roles: i32,
+    symbol: u32,
+) -> Option<Range>
+    ensures { result ≡ range_around (record { first = first; ranges = ranges.now }) symbol_roles symbol }
+{
+    let number = symbol as usize;
+    if symbol_roles == DEFINITION && first <= number {
+        ranges.get(number - first).copied()
+    } else {
+        None
+    }
 }
 
 /// A symbol over a span, by the number of its text.
@@ -81,8 +134,9 @@ fn start_of_text() -> Range
 
 /// Only the file's own occurrence, at its start.
 pub(crate) fn own_occurrences(alloc: Global) -> Result<Vec<PlannedOccurrence>, AllocError>
-    ensures { IfOk result (λ list. (home : Home) (run : Package) (facts : Facts)
-        → ArePlanned (own_texts home run facts) list.items (own_occurrence home.id home.path ∷ [])) }
+    ensures { IfOk result (λ list. (around : Around) (home : Home) (run : Package) (facts : Facts)
+        → 0 < around.first
+        → ArePlanned around (own_texts home run facts) list.items (own_occurrence home.id home.path ∷ [])) }
 {
     let mut list = Vec::with_capacity(alloc, 1)?;
     list.push(PlannedOccurrence {
@@ -128,7 +182,7 @@ fn add_import(
     requires part { HasPart maker.now imported.now.span }
     requires paths { HasGoodPaths maker.now }
     ensures grown { OnOk result (Grown texts.old texts.new) }
-    ensures added { OnOk result (AreAdded texts.new list.old.items list.new.items
+    ensures added { OnOk result ((around : Around) → AreAdded around texts.new list.old.items list.new.items
         (at_its_import maker.now 0 imported.now)) }
 {
     if !has_file(maker.package.linker(), imported) {
@@ -148,7 +202,7 @@ pub(crate) fn import_occurrences(
     requires parts { All (λ (imported : Imported). HasPart maker.now imported.span) imports.now }
     requires paths { HasGoodPaths maker.now }
     ensures grown { OnOk result (Grown texts.old texts.new) }
-    ensures planned { IfOk result (λ list. ArePlanned texts.new list.items (each_from
+    ensures planned { IfOk result (λ list. (around : Around) → ArePlanned around texts.new list.items (each_from
         (at_its_import maker.now) 0 imports.now)) }
 {
     let mut list = Vec::with_capacity(maker.alloc, imports.len())?;
@@ -165,7 +219,8 @@ pub(crate) fn package_occurrences(
 ) -> Result<Vec<PlannedOccurrence>, AllocError>
     requires { All (λ (component : Component). HasPart maker.now component.span) facts.now.package_name }
     ensures { IfOk result (λ list. (home : Home)
-        → ArePlanned (own_texts home maker.now.package.now.ids.run facts.now) list.items (each_from
+        → ArePlanned (around_its maker.now facts.now)
+        (own_texts home maker.now.package.now.ids.run facts.now) list.items (each_from
         (at_package maker.now.package.now.ids.run maker.now.encoding maker.now.text.now facts.now)
         0 facts.now.package_name)) }
 {
@@ -189,7 +244,8 @@ fn add_declaration(
     requires part { HasPart maker.now declaration.now.name }
     requires chosen { HasChosenFor maker.now index }
     ensures { OnOk result ((run : Package)
-        → AreAdded (own_texts (source_home maker.now) run facts.now) list.old.items list.new.items
+        → AreAdded (around_its maker.now facts.now)
+        (own_texts (source_home maker.now) run facts.now) list.old.items list.new.items
         (at_its_declaration maker.now facts.now index declaration.now)) }
 {
     let choice = maker.choices.of(maker.source, index);
@@ -210,7 +266,8 @@ pub(crate) fn declaration_occurrences(
     requires chosen { (index : ℕ) → index < length facts.now.declarations
         → HasChosenFor maker.now index }
     ensures { IfOk result (λ list. (run : Package)
-        → ArePlanned (own_texts (source_home maker.now) run facts.now) list.items (each_from
+        → ArePlanned (around_its maker.now facts.now)
+        (own_texts (source_home maker.now) run facts.now) list.items (each_from
         (at_its_declaration maker.now facts.now)
         0 facts.now.declarations)) }
 {

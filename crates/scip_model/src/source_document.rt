@@ -19,6 +19,7 @@ ghost use Rattle.scip_model.specs.Makers.{
   IsOfSource,
   MayRefuseIts,
   OccursIn,
+  around_its,
   source_texts,
 };
 
@@ -28,10 +29,11 @@ use crate::entries::{entry_numbers, package_names};
 use crate::known_facts::facts_occur_in_order;
 use crate::occurrence_order::merged;
 use crate::occurrences::{
-    declaration_occurrences, import_occurrences, own_occurrences, package_occurrences,
+    declaration_occurrences, declaration_ranges, import_occurrences, own_occurrences,
+    package_occurrences,
 };
 use crate::symbol_table::SymbolTable;
-use crate::symbol_texts::own_texts;
+use crate::symbol_texts::{arounds_in, own_texts};
 use crate::use_occurrences::use_occurrences;
 use basics::Sequence;
 use proto_decl::FileFacts;
@@ -58,7 +60,7 @@ fn occurrences(
     requires texts { Grown (source_texts maker.now facts.now) texts.old }
     ensures grown { OnOk result (Grown texts.old texts.new) }
     ensures planned { IfOk result (λ list. IsAscendingListOf occurrence_cmp (OccursIn maker.now)
-        (map (occurrence_of texts.new) list.items)) }
+        (map (occurrence_of (around_its maker.now facts.now) texts.new) list.items)) }
     ensures unresolved_uses { OnOk result (AreItsGaps maker.now unresolved_uses.new.items) }
     ensures refused { IfErr result (λ fault. fault ≡ Memory) }
 {
@@ -112,14 +114,18 @@ pub fn plan_document<'a, 'f>(
     let mut unresolved = Vec::new(alloc);
     let occurrences = occurrences(maker, path, facts, &mut unresolved, &mut texts)?;
     let packages = package_names(alloc, facts.package_name())?;
+    let arounds = arounds_in(alloc, &home, facts)?;
+    let ranges = declaration_ranges(maker, facts)?;
     let entries = entry_numbers(maker, path, &texts, facts)?;
     let document = DocumentPlan {
         path,
         facts,
         choices: maker.choices.of_file(maker.source),
         packages,
+        arounds,
         texts,
         occurrences,
+        ranges,
         entries,
         language: "Protobuf",
         encoding: maker.encoding,

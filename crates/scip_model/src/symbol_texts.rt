@@ -1,18 +1,19 @@
 //! The texts of the symbols of files, packages and declarations.
 
-ghost use Rattle.std.specs.Prelude.{◌≡◌, ◌<◌, ◌≤◌, ◌++◌, ◌∷◌, [], IfOk, OnOk, Contains, length};
+ghost use Rattle.std.specs.Prelude.{ℕ, ◌≡◌, ◌<◌, ◌≤◌, ◌++◌, ◌∷◌, [], IfOk, OnOk, Contains, length, map};
 ghost use Rattle.proto_decl.specs.Laws.{component_names};
 ghost use Rattle.scip_symbol.specs.Entities.{OfFile, OfPackage, OfDeclaration};
 ghost use Rattle.scip_model.specs.Repeated.{file_namespace};
 ghost use Rattle.scip_symbol.specs.Path.{IsGoodPath};
 ghost use Rattle.scip_model.specs.Named.{text_of, package_at, declaration_in};
 ghost use Rattle.scip_model.specs.Tables.OwnTexts.{IsFront, behind, declaration_texts};
-ghost use Rattle.scip_model.specs.Tables.Plans.{package_texts_up_to, own_texts};
+ghost use Rattle.scip_model.specs.Detailed.{detail_at, details_shown, details_with, symbol_around, text_around};
+ghost use Rattle.scip_model.specs.Tables.Plans.{arounds_in, package_texts_up_to, own_texts};
 
 use crate::naming::{Home, file_namespace};
 use crate::own_symbols::{JoinedTexts, OwnSymbols};
 use basics::OwnedText;
-use proto_decl::{Declaration, FileFacts};
+use proto_decl::{Declaration, DeclarationPath, DeclarationStep, FileFacts};
 use scip_symbol::{
     PackageId, print_below, print_declaration, print_declaration_in_file, print_file,
     print_package, print_package_named,
@@ -46,8 +47,24 @@ pub(crate) fn package_text(
     Ok(OwnedText::from_string(printed))
 }
 
-/// Of a declaration of a file, with the file before its package.
+/// Of the declaration of a file to which a path leads, with the file before its package.
 #[tactic(auto, unfolding(crate::specs::Named::text_of))]
+fn path_text_in_file(
+    alloc: Global,
+    home: &Home<'_>,
+    facts: &FileFacts,
+    path: &DeclarationPath,
+) -> Result<OwnedText, AllocError>
+    ensures { IfOk result (λ text. text ≡ text_of home.now.id (OfDeclaration
+        (file_namespace home.now.path ∷ component_names facts.now.package_name) path.now)) }
+{
+    let file = file_namespace(alloc, home.path())?;
+    let components = facts.package_name();
+    let printed = print_declaration_in_file(alloc, home.id(), file.as_str(), components, path)?;
+    Ok(OwnedText::from_string(printed))
+}
+
+/// Of a declaration of a file, with the file before its package.
 fn text_in_file(
     alloc: Global,
     home: &Home<'_>,
@@ -57,15 +74,7 @@ fn text_in_file(
     ensures { IfOk result (λ text. text ≡ text_of home.now.id (OfDeclaration
         (file_namespace home.now.path ∷ component_names facts.now.package_name) declaration.now.path)) }
 {
-    let file = file_namespace(alloc, home.path())?;
-    let printed = print_declaration_in_file(
-        alloc,
-        home.id(),
-        file.as_str(),
-        facts.package_name(),
-        &declaration.path(),
-    )?;
-    Ok(OwnedText::from_string(printed))
+    path_text_in_file(alloc, home, facts, &declaration.path())
 }
 
 /// Of a declaration of a file.
@@ -85,6 +94,112 @@ pub(crate) fn declaration_text(
     }
     let printed = print_declaration(alloc, home.id(), facts.package_name(), &declaration.path())?;
     Ok(OwnedText::from_string(printed))
+}
+
+/// Of the declaration to which these steps lead, empty if there are none.
+#[tactic(auto, unfolding(crate::specs::Named::text_of))]
+fn steps_text(
+    alloc: Global,
+    id: &PackageId,
+    facts: &FileFacts,
+    steps: &[DeclarationStep],
+) -> Result<OwnedText, AllocError>
+    ensures { IfOk result (λ text. text
+        ≡ symbol_around id.now (component_names facts.now.package_name) steps.now) }
+{
+    match steps {
+        [outer @ .., last] => {
+            let path = DeclarationPath::new(outer, last);
+            let printed = print_declaration(alloc, id, facts.package_name(), &path)?;
+            Ok(OwnedText::from_string(printed))
+        }
+        [] => Ok(OwnedText::new(alloc)),
+    }
+}
+
+/// The same, with the file before its package.
+fn steps_text_in_file(
+    alloc: Global,
+    home: &Home<'_>,
+    facts: &FileFacts,
+    steps: &[DeclarationStep],
+) -> Result<OwnedText, AllocError>
+    ensures { IfOk result (λ text. text ≡ symbol_around home.now.id
+        (file_namespace home.now.path ∷ component_names facts.now.package_name) steps.now) }
+{
+    match steps {
+        [outer @ .., last] => {
+            let path = DeclarationPath::new(outer, last);
+            path_text_in_file(alloc, home, facts, &path)
+        }
+        [] => Ok(OwnedText::new(alloc)),
+    }
+}
+
+/// Of what a declaration is in, empty if that is its file.
+fn text_around(
+    alloc: Global,
+    home: &Home<'_>,
+    facts: &FileFacts,
+    declaration: &Declaration,
+) -> Result<OwnedText, AllocError>
+    ensures { IfOk result (λ text. text ≡ text_around home.now facts.now declaration.now) }
+{
+    let path = declaration.path();
+    let (outer, _) = path.parts();
+    let in_front = home.has_in_front(alloc, facts, declaration)?;
+    if in_front {
+        return steps_text_in_file(alloc, home, facts, outer);
+    }
+    steps_text(alloc, home.id(), facts, outer)
+}
+
+/// Of what a declaration is in, if details are asked for.
+pub(crate) fn text_if_asked(
+    alloc: Global,
+    home: &Home<'_>,
+    facts: &FileFacts,
+    declaration: &Declaration,
+) -> Result<OwnedText, AllocError>
+    ensures { IfOk result (λ text. (index : ℕ) → details_shown declaration.now (detail_at facts.now index) text
+        ≡ details_with home.now facts.now declaration.now (detail_at facts.now index)) }
+{
+    match facts.details() {
+        Some(_) => text_around(alloc, home, facts, declaration),
+        None => Ok(OwnedText::new(alloc)),
+    }
+}
+
+/// Adds those of what each declaration of a file is in, in order.
+fn push_arounds(
+    alloc: Global,
+    arounds: &mut JoinedTexts,
+    home: &Home<'_>,
+    facts: &FileFacts,
+) -> Result<(), AllocError>
+    ensures { OnOk result (arounds.new ≡ arounds.old
+        ++ map (text_around home.now facts.now) facts.now.declarations) }
+{
+    for declaration in facts.declarations() {
+        let text = text_around(alloc, home, facts, declaration)?;
+        arounds.push(text.as_str())?;
+    }
+    Ok(())
+}
+
+/// Those of what each declaration of a file is in, if details are asked for.
+pub(crate) fn arounds_in(
+    alloc: Global,
+    home: &Home<'_>,
+    facts: &FileFacts,
+) -> Result<JoinedTexts, AllocError>
+    ensures { IfOk result (λ arounds. arounds ≡ arounds_in home.now facts.now) }
+{
+    let mut arounds = JoinedTexts::with_capacity(alloc, 0)?;
+    if facts.details().is_some() {
+        push_arounds(alloc, &mut arounds, home, facts)?;
+    }
+    Ok(arounds)
 }
 
 /// Of the package with all components of a file's package name, with which the texts of the file's declarations begin.

@@ -15,7 +15,7 @@ ghost use Rattle.scip_symbol.specs.Entities.{OfPackage, IsEntity};
 ghost use Rattle.proto_visibility.specs.declared.fault.LinkFault.TheVariants.{Memory};
 ghost use Rattle.scip_model.specs.Named.{text_of};
 ghost use Rattle.scip_model.specs.Tables.Listing.{each_from, is_shown, unless_found, unresolved_use_at};
-ghost use Rattle.scip_model.specs.Tables.Plans.{Grown, IsNumberIn, ArePlanned, AreAdded};
+ghost use Rattle.scip_model.specs.Tables.Plans.{Around, Grown, IsNumberIn, ArePlanned, AreAdded};
 ghost use Rattle.scip_model.specs.Tables.Plans.{declaration_number};
 ghost use Rattle.scip_model.specs.Makers.{
   CanName,
@@ -210,7 +210,7 @@ fn add_entity(
     requires own { HasSourceTexts maker.now texts.old }
     requires nameable { CanName maker.now name.now part }
     ensures grown { OnOk result (Grown texts.old texts.new) }
-    ensures added { OnOk result (AreAdded texts.new list.old.items list.new.items
+    ensures added { OnOk result ((around : Around) → AreAdded around texts.new list.old.items list.new.items
         (at_its_entity maker.now name.now span part)) }
 {
     let number = entity_number(maker, name, part, texts)?;
@@ -232,7 +232,7 @@ fn add_part(
     requires own { HasSourceTexts maker.now texts.old }
     requires nameable { (entity : Entity) → part ≡ Some entity → CanName maker.now name.now entity }
     ensures grown { OnOk result (Grown texts.old texts.new) }
-    ensures added { OnOk result (AreAdded texts.new list.old.items list.new.items
+    ensures added { OnOk result ((around : Around) → AreAdded around texts.new list.old.items list.new.items
         (at_its_part maker.now name.now span part)) }
 {
     match part {
@@ -267,7 +267,7 @@ fn add_target(
     requires own { HasSourceTexts maker.now texts.old }
     requires nameable { CanNameParts maker.now target.now }
     ensures grown { OnOk result (Grown texts.old texts.new) }
-    ensures added { OnOk result (AreAdded texts.new list.old.items list.new.items (each_from
+    ensures added { OnOk result ((around : Around) → AreAdded around texts.new list.old.items list.new.items (each_from
         (at_its_component maker.now target.now)
         0 type_use.now.components)) }
 {
@@ -292,7 +292,7 @@ fn add_found(
     requires own { HasSourceTexts maker.now texts.old }
     requires nameable { (target : Target) → found.now ≡ Some target → CanNameParts maker.now target }
     ensures grown { OnOk result (Grown texts.old texts.new) }
-    ensures added { OnOk result (AreAdded texts.new list.old.items list.new.items
+    ensures added { OnOk result ((around : Around) → AreAdded around texts.new list.old.items list.new.items
         (at_its_target maker.now found.now type_use.now)) }
 {
     match found {
@@ -320,8 +320,8 @@ fn add_use(
     ensures grown { OnOk result (Grown texts.old texts.new) }
     ensures added { OnOk result ((found : Option Target)
         × Finds maker.now type_use.now found
-        × AreAdded texts.new list.old.items list.new.items
-        (at_its_target maker.now found type_use.now)
+        × ((around : Around) → AreAdded around texts.new list.old.items list.new.items
+        (at_its_target maker.now found type_use.now))
         × (unresolved_uses.new.items ≡ unresolved_uses.old.items ++ unless_found found type_use.now.span)) }
     ensures refused { IfErr result (λ fault. fault ≡ Memory) }
 {
@@ -350,8 +350,8 @@ pub(crate) fn use_occurrences(
     ensures grown { OnOk result (Grown texts.old texts.new) }
     ensures planned { IfOk result (λ list. (found : List (Option Target))
         × AllZip (Finds maker.now) uses.now found
-        × ArePlanned texts.new list.items (each_from
-        (at_its_use maker.now found) 0 uses.now)
+        × ((around : Around) → ArePlanned around texts.new list.items (each_from
+        (at_its_use maker.now found) 0 uses.now))
         × (unresolved_uses.new.items ≡ unresolved_uses.old.items ++ each_from (unresolved_use_at found) 0 uses.now)) }
     ensures refused { IfErr result (λ fault. fault ≡ Memory) }
 {

@@ -7,8 +7,9 @@ ghost use Rattle.scip_model.specs.Conditions.{HaveGoodPaths, AreOfText, HasText}
 ghost use Rattle.scip_model_tests.specs.OneSource.{source_with};
 
 use crate::listed::{add_document, add_externals};
+use comment_texts::CommentForm;
 use index_hooks::{Choice, DocChoice};
-use proto_decl::{Declaration, FileFacts, declare};
+use proto_decl::{Declaration, FactForm, FileFacts, declare_with};
 use proto_lex::{Encoding, Text, lex};
 use proto_link::{Duplicates, LinkFile, Linker, have_own_paths};
 use proto_parse::parse;
@@ -25,7 +26,7 @@ pub(crate) fn see(rt: &impl Abort, holds: bool, case: &str) {
 }
 
 /// The facts of a text, which can be read: so reading tells of no fault but want of memory.
-fn facts_of<'t>(alloc: Global, text: &Text<'t>) -> Result<FileFacts<'t>, AllocError>
+fn facts_of<'t>(alloc: Global, text: &Text<'t>, details: bool) -> Result<FileFacts<'t>, AllocError>
     ensures { IfOk result (AreOfText text.now) }
 {
     let Ok(lexed) = lex(alloc, text) else {
@@ -34,7 +35,11 @@ fn facts_of<'t>(alloc: Global, text: &Text<'t>) -> Result<FileFacts<'t>, AllocEr
     let Ok(tree) = parse(alloc, &lexed) else {
         return Err(AllocError);
     };
-    declare(alloc, 0, &lexed, &tree)
+    let form = FactForm {
+        comments: CommentForm::Raw,
+        details,
+    };
+    declare_with(alloc, form, 0, &lexed, &tree)
 }
 
 const KEPT: Choice = Choice {
@@ -192,24 +197,34 @@ fn is_declared_right(
 }
 
 /// The same of a text.
-fn is_text_right(alloc: Global, text: &Text, listed: &str) -> Result<bool, AllocError> {
-    let facts = facts_of(alloc, text)?;
+fn is_text_right(
+    alloc: Global,
+    text: &Text,
+    details: bool,
+    listed: &str,
+) -> Result<bool, AllocError> {
+    let facts = facts_of(alloc, text, details)?;
     is_declared_right(alloc, text, &facts, listed)
 }
 
 /// The same of the bytes of a source; memory may run out.
-fn is_right_once(alloc: Global, source: &str, listed: &str) -> Result<bool, AllocError> {
+fn is_right_once(
+    alloc: Global,
+    source: &str,
+    details: bool,
+    listed: &str,
+) -> Result<bool, AllocError> {
     match text_of(alloc, source.as_bytes()) {
-        Ok(text) => is_text_right(alloc, &text, listed),
+        Ok(text) => is_text_right(alloc, &text, details, listed),
         Err(_) => Err(AllocError),
     }
 }
 
-/// Whether this is made of the source `a.proto`, of which all is kept. After want of memory it is made again, and the
-/// second answer counts.
-fn is_right(alloc: Global, source: &str, listed: &str) -> Result<bool, AllocError> {
-    match is_right_once(alloc, source, listed) {
-        Err(_) => is_right_once(alloc, source, listed),
+/// Whether this is made of the source `a.proto`, of which all is kept, with details or without. After want of memory it
+/// is made again, and the second answer counts.
+fn is_right(alloc: Global, source: &str, details: bool, listed: &str) -> Result<bool, AllocError> {
+    match is_right_once(alloc, source, details, listed) {
+        Err(_) => is_right_once(alloc, source, details, listed),
         answer => answer,
     }
 }
@@ -226,6 +241,27 @@ const LISTED: &str = "a.proto Protobuf 1  0 0 0 0 1 `a.proto`/; 1 8 1 9 1 p/; 2 
 
 #[test]
 fn a_field_named_like_its_type(rt: HostRuntime) -> Result<(), Fail> {
-    see(&rt, is_right(rt.alloc(), SOURCE, LISTED)?, LISTED);
+    see(&rt, is_right(rt.alloc(), SOURCE, false, LISTED)?, LISTED);
+    Ok(())
+}
+
+/// A source with a comment, and with what is in what, and its document with details: kinds by number, signatures, what
+/// each declaration is in, and where all of it is.
+const DETAILED: &str = "syntax = \"proto3\";\npackage p;\n// An outer one.\nmessage M {\n  \
+enum E { Z = 0; }\n  oneof one { M x = 1 [deprecated = true]; }\n}\nservice S { rpc R(M) returns (M); }\n";
+
+const DETAILS: &str =
+    "a.proto Protobuf 1  0 0 0 0 1 `a.proto`/; 1 8 1 9 1 p/; 3 8 3 9 1 p/M# in 2 0 6 1 ; \
+4 7 4 8 1 p/M#E# in 4 2 4 19 ; 4 11 4 12 1 p/M#E#Z. in 4 11 4 17 ; 5 8 5 11 1 p/M#one: in 5 2 5 44 ; \
+5 14 5 15 0 p/M#; 5 16 5 17 1 p/M#x. in 5 14 5 42 ; 7 8 7 9 1 p/S# in 7 0 7 35 ; \
+7 16 7 17 1 p/S#R(). in 7 12 7 33 ; 7 18 7 19 0 p/M#; 7 30 7 31 0 p/M#;\n \
+`a.proto`/ a.proto = 16 :  in ; p/ p = 35 :  in ; p/M# M | An outer one. = 28 Protobuf: message M in ; \
+p/M#E# E = 11 Protobuf: enum E in p/M#; p/M#E#Z. Z = 12 Protobuf: Z = 0 in p/M#E#; \
+p/M#one: one = 59 Protobuf: oneof one in p/M#; p/M#x. x = 15 Protobuf: M x = 1 in p/M#; \
+p/S# S = 21 Protobuf: service S in ; p/S#R(). R = 26 Protobuf: rpc R(M) returns (M) in p/S#;\n+\n";
+
+#[test]
+fn details_of_a_document(rt: HostRuntime) -> Result<(), Fail> {
+    see(&rt, is_right(rt.alloc(), DETAILED, true, DETAILS)?, DETAILS);
     Ok(())
 }

@@ -100,6 +100,7 @@ fn settings_of(alloc: Global) -> Result<Settings, Fail> {
         encoding: Encoding::Utf8,
         dialect: Dialect::Proto3(CustomOptions::Refuse),
         comments: CommentForm::Raw,
+        details: false,
         faulty: Faulty::Refuse,
         duplicates: Duplicates::Refuse,
     })

@@ -25,7 +25,7 @@ pub(crate) fn arg<'a>(alloc: Global) -> Arg<'a>
     ensures { rule_of result ≡ real_rule }
 {
     let help =
-        "Unless they are given: --accept all --faulty skip --duplicates keep --well-known --doc both --comments clean";
+        "Unless given: --accept all --faulty skip --duplicates keep --well-known --doc both --comments clean --details";
     flag(alloc, NAME, help)
 }
 

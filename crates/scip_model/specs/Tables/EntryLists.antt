@@ -10,6 +10,7 @@ use Rattle.index_hooks.specs.declared.choice.Choice.{Choice}
 use Rattle.scip_symbol.specs.Package.{Package}
 use Rattle.scip_records.specs.declared.records.SymbolInformation.{SymbolInformation}
 use Rattle.scip_model.specs.Chosen.{Chosen}
+use Rattle.scip_model.specs.Detailed.{detail_at}
 use Rattle.scip_model.specs.Entries.{file_entry, package_entry, declaration_entry}
 use Rattle.scip_model.specs.Named.{Home}
 use Rattle.scip_model.specs.Tables.Plans.{declaration_number}
@@ -21,20 +22,22 @@ package_entries_up_to id facts count = map (λ index. package_entry id facts (in
 abbrev pub package_entries : Package → Facts → List SymbolInformation
 package_entries id facts = package_entries_up_to id facts (length facts.package_name)
 
-abbrev pub entry_if_kept : Home → Facts → Declaration → Choice → List SymbolInformation
-entry_if_kept home facts declared choice = if choice.keep then declaration_entry home facts declared choice ∷ [] else []
+abbrev pub entry_if_kept : Home → Facts → (index : ℕ) → Declaration → Choice → List SymbolInformation
+entry_if_kept home facts index declared choice =
+    if choice.keep then declaration_entry home facts declared (detail_at facts index) choice ∷ [] else []
 
--- of declarations, with the choice for each
-abbrev pub kept_entries : Home → Facts → List Declaration → List Choice → List SymbolInformation
-kept_entries home facts [] choices = []
-kept_entries home facts (declared ∷ others) [] = []
-kept_entries home facts (declared ∷ others) (choice ∷ choices) =
-    entry_if_kept home facts declared choice ++ kept_entries home facts others choices
+-- of declarations from the one with this number on, with the choice for each
+abbrev pub kept_entries : Home → Facts → (index : ℕ) → List Declaration → List Choice → List SymbolInformation
+kept_entries home facts index [] choices = []
+kept_entries home facts index (declared ∷ others) [] = []
+kept_entries home facts index (declared ∷ others) (choice ∷ choices) =
+    entry_if_kept home facts index declared choice ++ kept_entries home facts (index + 1) others choices
 
 -- the file's, its packages', which belong to the run, and its declarations'
 abbrev pub source_entries : Home → (run : Package) → Facts → List Choice → List SymbolInformation
 source_entries home run facts choices =
-    file_entry home.id home.path ∷ (package_entries run facts ++ kept_entries home facts facts.declarations choices)
+    file_entry home.id home.path facts.details
+    ∷ (package_entries run facts ++ kept_entries home facts 0 facts.declarations choices)
 
 -- the choices for a file's declarations
 abbrev pub choices_for : Chosen → (file : ℕ) → List Choice
@@ -54,4 +57,4 @@ abbrev pub AreNumbered : Home → Facts → List Choice → (entry : ℕ → Sym
 AreNumbered home facts choices entry =
     (index : ℕ) (declared : Declaration) (choice : Choice) → slice_get facts.declarations index ≡ Some declared
     → slice_get choices index ≡ Some choice
-    → entry (declaration_number facts index) ≡ declaration_entry home facts declared choice
+    → entry (declaration_number facts index) ≡ declaration_entry home facts declared (detail_at facts index) choice

@@ -17,6 +17,7 @@ use Rattle.proto_visibility.specs.declared.lookup.Entity.TheVariants as link
 use Rattle.proto_link.specs.declared.target.Target.{Target}
 use Rattle.scip_model.specs.Packages.{Packages}
 use Rattle.scip_model.specs.Chosen.{Chosen, HasChoice, IsChosen, IsKeptDeclaration}
+use Rattle.scip_model.specs.Detailed.{detail_at}
 use Rattle.scip_model.specs.Entries.{declaration_entry, IsKeptEntry}
 
 abbrev pub Pair : Type 0
@@ -76,7 +77,7 @@ pub record IsEntryAt (chosen : Chosen) (home : Home) (facts : Facts) (file index
   pub choice : Choice
   pub stands : slice_get facts.declarations index ≡ Some declaration
   pub is_chosen : IsChosen chosen file index choice
-  pub is : entry ≡ declaration_entry home facts declaration choice
+  pub is : entry ≡ declaration_entry home facts declaration (detail_at facts index) choice
 
 -- the entry of a declaration that is kept
 abbrev pub IsEntryOf : List File → Chosen → Packages → Pair → SymbolInformation → Type 0

@@ -27,7 +27,9 @@ use Rattle.proto_visibility.specs.declared.fault.LinkFault.TheVariants as fault
 use Rattle.scip_model.specs.Packages.{Packages, package_of_path, package_of_part}
 use Rattle.scip_model.specs.Chosen.{Chosen}
 use Rattle.scip_model.specs.Named.{HasDeclaration, Home, text_of, package_at, declaration_in, home_of_file}
-use Rattle.scip_model.specs.Occurs.{occurrence_over, start_of_text, no_role, definition_role, import_role}
+use Rattle.scip_model.specs.Detailed.{detail_at}
+use Rattle.scip_model.specs.Occurs.{definition_over, occurrence_over, start_of_text, no_role, definition_role}
+use Rattle.scip_model.specs.Occurs.{import_role}
 
 -- What each item of a list gives, by its index, one after the other.
 abbrev pub each_from : {A B : Type 0} → (ℕ → A → List B) → (index : ℕ) → List A → List B
@@ -126,8 +128,8 @@ module _ (id : Package) (encoding : Encoding) (text : List ℕ) where
 abbrev pub at_declaration : Home → Encoding → (text : List ℕ) → Chosen → (file : ℕ) → Facts → ℕ → Declaration
     → List Occurrence
 at_declaration home encoding text chosen file facts index declared =
-    if keeps chosen file index then occurrence_over encoding text home.id declared.name
-    (declaration_in home facts declared) definition_role ∷ [] else []
+    if keeps chosen file index then definition_over encoding text home facts declared
+    (detail_at facts index) ∷ [] else []
 
 -- with that of the file that is named
 module _ (ids : Packages) (encoding : Encoding) (text : List ℕ) where

@@ -1,9 +1,10 @@
 -- The texts of the symbols of a file's own declarations, what has them, and texts that are kept as one.
-use Rattle.std.specs.Prelude.{ℕ, ℤ, None, List, map, ◌≡◌, zero, suc, ◌≤◌, [], ◌∷◌, ◌++◌, length, slice_range}
+use Rattle.std.specs.Prelude.{ℕ, ℤ, Option, List, map, ◌≡◌, zero, suc, ◌≤◌, [], ◌∷◌, ◌++◌, length, slice_range}
 use Rattle.std.specs.Str.{IsCharBoundary}
 use Rattle.proto_lex.specs.declared.span.Span.{Span}
 use Rattle.proto_lex.specs.declared.position.Encoding.{Encoding}
-use Rattle.scip_records.specs.Details.{no_details}
+use Rattle.scip_records.specs.declared.details.Details.{Details}
+use Rattle.scip_records.specs.Range.{RangeNumbers}
 use Rattle.proto_decl.specs.Declares.{simple_name}
 use Rattle.proto_decl.specs.Facts.{Facts}
 use Rattle.proto_decl.specs.declared.declaration.Declaration.{Declaration}
@@ -28,17 +29,18 @@ pub record IsFront (home : Home) (facts : Facts) (front : List ℕ) : Type 0 whe
       → (rest : List ℕ) × (text_of home.id (declaration_in home facts declaration) ≡ front ++ rest)
 
 -- a symbol with this text over a span
-abbrev pub occurrence_with : Encoding → (text : List ℕ) → Span → (symbol : List ℕ) → ℤ → Occurrence
-occurrence_with encoding text span symbol roles =
-    record { range = range_over encoding text span; symbol = symbol; symbol_roles = roles; enclosing_range = None }
+abbrev pub occurrence_with : Encoding → (text : List ℕ) → Span → (symbol : List ℕ) → ℤ
+    → (around : Option RangeNumbers) → Occurrence
+occurrence_with encoding text span symbol roles around =
+    record { range = range_over encoding text span; symbol = symbol; symbol_roles = roles; enclosing_range = around }
 
--- the entry of a declaration whose symbol has this text
-abbrev pub entry_with : (symbol : List ℕ) → Declaration → Choice → SymbolInformation
-entry_with symbol declared choice = record {
+-- the entry of a declaration whose symbol has this text, with these details
+abbrev pub entry_with : (symbol : List ℕ) → Declaration → Details → Choice → SymbolInformation
+entry_with symbol declared details choice = record {
   symbol = symbol;
   documentation = documentation_of choice.doc declared;
   display_name = simple_name declared.path;
-  details = no_details;
+  details = details;
 }
 
 -- ---- texts that are parts of one, one behind the other, and texts that begin alike

@@ -1,23 +1,27 @@
 -- Documents of which each symbol's text is kept once: occurrences and entries have its number.
 use Rattle.std.specs.Prelude.{◌≡◌, ℕ, ◌+◌, ◌-◌, List, [], ◌∷◌, ◌++◌, Option, Some, None, length, map}
-use Rattle.std.specs.Prelude.{slice_index_or, if◌then◌else◌, nat_lt}
+use Rattle.std.specs.Prelude.{slice_index_or, if◌then◌else◌, nat_lt, nat_le, ◌&&◌, ◌==◌, ℤ}
+use Rattle.std.specs.Ordering.{int_eq}
 use Rattle.std.specs.List.{slice_get, range_with_len}
 use Rattle.std.specs.Option.{option_map}
 use Rattle.index_hooks.specs.declared.choice.Choice.{Choice}
-use Rattle.proto_decl.specs.Declares.{simple_name}
-use Rattle.proto_decl.specs.Facts.{Facts}
+use Rattle.proto_lex.specs.declared.position.Encoding.{Encoding}
+use Rattle.proto_decl.specs.Facts.{Facts, extents_of}
+use Rattle.proto_decl.specs.declared.detail.Detail.{Detail}
 use Rattle.proto_decl.specs.declared.declaration.Declaration.{Declaration}
 use Rattle.scip_records.specs.Details.{no_details}
+use Rattle.scip_records.specs.Range.{RangeNumbers}
 use Rattle.scip_records.specs.declared.records.Occurrence.{Occurrence}
 use Rattle.scip_records.specs.declared.records.SymbolInformation.{SymbolInformation}
 use Rattle.proto_visibility.specs.Files.{File, HasFacts}
 use Rattle.scip_symbol.specs.Entities.{OfFile}
 use Rattle.scip_symbol.specs.Entities as symbols
 use Rattle.scip_symbol.specs.Package.{Package}
-use Rattle.scip_model.specs.Entries.{documentation_of}
+use Rattle.scip_model.specs.Detailed.{detail_at, details_shown, file_kind, kind_if_asked, package_kind, text_around}
 use Rattle.scip_model.specs.Named.{Home, home_of_file, text_of, package_at}
 use Rattle.scip_model.specs.Packages.{Packages}
-use Rattle.scip_model.specs.Tables.OwnTexts.{declaration_texts}
+use Rattle.scip_model.specs.Occurs.{definition_role, range_over}
+use Rattle.scip_model.specs.Tables.OwnTexts.{declaration_texts, entry_with}
 use Rattle.scip_model.specs.declared.document_plan.PlannedOccurrence.{PlannedOccurrence}
 
 -- the text with a number; where none has it, the empty one
@@ -32,25 +36,47 @@ Grown texts later = (more : List (List ℕ)) × (later ≡ texts ++ more)
 abbrev pub IsNumberOf : (texts : List (List ℕ)) → (text : List ℕ) → (number : ℕ) → Type 0
 IsNumberOf texts text number = (later : List (List ℕ)) → Grown texts later → text_at later number ≡ text
 
+-- the ranges over all of a source's declarations, if details are asked for, and the number of the first declaration's
+-- symbol
+pub record Around : Type 0 where
+  pub first : ℕ
+  pub ranges : List RangeNumbers
+
+abbrev pub around_by : Facts → List RangeNumbers → Around
+around_by facts ranges = record { first = 1 + length facts.package_name; ranges = ranges }
+
+abbrev pub ranges_over : Encoding → (text : List ℕ) → Option (List Detail) → List RangeNumbers
+ranges_over encoding text details = map (range_over encoding text) (extents_of details)
+
+abbrev pub around_in : Encoding → (text : List ℕ) → Facts → Around
+around_in encoding text facts = around_by facts (ranges_over encoding text facts.details)
+
+-- the range around what has these roles and a symbol with this number: around a declaration's definition
+abbrev pub range_around : Around → (roles : ℤ) → (number : ℕ) → Option RangeNumbers
+range_around around roles number =
+    if int_eq roles definition_role && nat_le around.first number
+    then slice_get around.ranges (number - around.first) else None
+
 -- what is planned, with its symbol's text
-abbrev pub occurrence_of : List (List ℕ) → PlannedOccurrence → Occurrence
-occurrence_of texts planned = record {
+abbrev pub occurrence_of : Around → List (List ℕ) → PlannedOccurrence → Occurrence
+occurrence_of around texts planned = record {
   range = planned.range;
   symbol = text_at texts planned.symbol;
   symbol_roles = planned.symbol_roles;
-  enclosing_range = None;
+  enclosing_range = range_around around planned.symbol_roles planned.symbol;
 }
 
 -- what is planned is these occurrences, whatever the texts grow to
-abbrev pub ArePlanned : (texts : List (List ℕ)) → List PlannedOccurrence → List Occurrence → Type 0
-ArePlanned texts planned occurrences =
-    (later : List (List ℕ)) → Grown texts later → map (occurrence_of later) planned ≡ occurrences
+abbrev pub ArePlanned : Around → (texts : List (List ℕ)) → List PlannedOccurrence → List Occurrence → Type 0
+ArePlanned around texts planned occurrences =
+    (later : List (List ℕ)) → Grown texts later → map (occurrence_of around later) planned ≡ occurrences
 
 -- these are added to what was planned
-abbrev pub AreAdded : (texts : List (List ℕ)) → (old new : List PlannedOccurrence) → List Occurrence → Type 0
-AreAdded texts old new occurrences =
+abbrev pub AreAdded : Around → (texts : List (List ℕ)) → (old new : List PlannedOccurrence) → List Occurrence
+    → Type 0
+AreAdded around texts old new occurrences =
     (later : List (List ℕ)) → Grown texts later
-    → map (occurrence_of later) new ≡ map (occurrence_of later) old ++ occurrences
+    → map (occurrence_of around later) new ≡ map (occurrence_of around later) old ++ occurrences
 
 -- of the first component, the first two, and so on
 abbrev pub package_texts_up_to : (run : Package) → Facts → (count : ℕ) → List (List ℕ)
@@ -78,31 +104,46 @@ IsNumberIn texts id entity number =
 abbrev pub declaration_number : Facts → (index : ℕ) → ℕ
 declaration_number facts index = 1 + length facts.package_name + index
 
--- what documents a declaration, and its name
-abbrev pub shown_as : (symbol : List ℕ) → Option Declaration → Option Choice → SymbolInformation
-shown_as symbol None choice = record { symbol = symbol; documentation = []; display_name = []; details = no_details }
-shown_as symbol (Some declared) None =
-    record { symbol = symbol; documentation = []; display_name = []; details = no_details }
-shown_as symbol (Some declared) (Some choice) = record {
-  symbol = symbol;
-  documentation = documentation_of choice.doc declared;
-  display_name = simple_name declared.path;
-  details = no_details;
-}
+-- the symbols of what each declaration is in, if details are asked for
+abbrev pub arounds_if : Option (List Detail) → List (List ℕ) → List (List ℕ)
+arounds_if None texts = []
+arounds_if (Some details) texts = texts
 
--- The entry with a number, of those of a source: the file is shown by its path, and its packages by these names.
-module _ (texts : List (List ℕ)) (path : List ℕ) (names : List (List ℕ)) (facts : Facts) (choices : List Choice) where
+abbrev pub arounds_in : Home → Facts → List (List ℕ)
+arounds_in home facts = arounds_if facts.details (map (text_around home facts) facts.declarations)
+
+-- a symbol of which nothing else is known
+abbrev pub bare_entry : (symbol : List ℕ) → SymbolInformation
+bare_entry symbol = record { symbol = symbol; documentation = []; display_name = []; details = no_details }
+
+-- what documents a declaration, its name, and its details with the symbol of what it is in
+abbrev pub shown_as : (symbol : List ℕ) → Option Declaration → Option Detail → (around : List ℕ) → Option Choice
+    → SymbolInformation
+shown_as symbol None detail around choice = bare_entry symbol
+shown_as symbol (Some declared) detail around None = bare_entry symbol
+shown_as symbol (Some declared) detail around (Some choice) =
+    entry_with symbol declared (details_shown declared detail around) choice
+
+-- what the entry with a number is of, of those before the declarations'
+abbrev pub first_kind : (number : ℕ) → ℤ
+first_kind number = if number == 0 then file_kind else package_kind
+
+-- The entry with a number, of those of a source: the file is shown by its path, and its packages by these names. The
+-- declarations are in what has these symbols.
+module _ (texts : List (List ℕ)) (path : List ℕ) (names : List (List ℕ)) (facts : Facts) (choices : List Choice)
+    (arounds : List (List ℕ)) where
   abbrev pub undocumented : (number : ℕ) → SymbolInformation
   undocumented number = record {
     symbol = text_at texts number;
     documentation = [];
     display_name = text_at (path ∷ names) number;
-    details = no_details;
+    details = kind_if_asked facts.details (first_kind number);
   }
 
   abbrev pub documented : (number index : ℕ) → SymbolInformation
   documented number index =
-      shown_as (text_at texts number) (slice_get facts.declarations index) (slice_get choices index)
+      shown_as (text_at texts number) (slice_get facts.declarations index) (detail_at facts index)
+      (text_at arounds index) (slice_get choices index)
 
   abbrev pub entry_of : (number : ℕ) → SymbolInformation
   entry_of number =

@@ -28,7 +28,7 @@ items_ordered c facts origin =
 
 names : (c : After-names_have_components) (facts : Facts) → AreOfSomeFile facts → NamesInOrder facts.declarations
 names c facts origin =
-    subst placed (sym (same_names origin.form origin.lexed
+    subst placed (sym (same_names origin.form.comments origin.lexed
     (outlines_of origin.lexed.text origin.file) facts.declarations origin.of_file.declarations))
     (names_in_order origin.lexed.text origin.file (items_ordered c facts origin))
 

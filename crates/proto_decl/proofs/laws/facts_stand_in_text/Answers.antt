@@ -5,6 +5,7 @@ use Rattle.proto_lex.specs.declared.token.Token.{Token}
 use Rattle.proto_lex.specs.Lexed.{Lexed, IsLexed, IsPart, AreInOrder}
 use Rattle.proto_decl.specs.Facts.{component_spans, use_spans}
 use Rattle.proto_decl.specs.declared.imports.Imported.{Imported}
+use Rattle.proto_decl.proofs.ExtentLemmas.{extents_whole}
 use Rattle.proto_decl.proofs.SpanLemmas.{OfToken, parts_hold, imports_hold, package_holds}
 use Rattle.proto_decl.proofs.FactPartLemmas.{uses_part, package_part, names_part, imports_part}
 use Rattle.proto_decl.proofs.laws.facts_stand_in_text.Goals as goal
@@ -43,4 +44,5 @@ returns c = λ facts origin.
       uses = moved _ _ (ap use_spans origin.of_file.uses)
           (uses_part text file (parts_hold P P text lexed.tokens file each
           (c.spans_of_tokens.ensures.items text lexed.tokens file origin.derives)));
+      extents = extents_whole lexed origin.is_lexed origin.form.details file facts.details origin.of_file.details;
     }

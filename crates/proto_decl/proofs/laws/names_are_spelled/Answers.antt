@@ -11,6 +11,6 @@ parts lexed is = λ k d h. (is.token_parts k d h, λ literal. is.token_parts k d
 
 pub returns : goal.returns
 returns c = λ form number lexed file facts is derives of_file.
-    declarations_named form lexed file facts.declarations
+    declarations_named form.comments lexed file facts.declarations
     (parts_hold (IsPart lexed.text) (IsPart lexed.text) lexed.text lexed.tokens file (parts lexed is)
     (c.spans_of_tokens.ensures.items lexed.text lexed.tokens file derives)) of_file.declarations

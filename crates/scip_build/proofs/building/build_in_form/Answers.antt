@@ -1,4 +1,5 @@
 use Rattle.std.proofs.lemmas.Result.{err_from_is_err_and}
+use Rattle.scip_build.specs.FactForms.{form_of}
 use Rattle.scip_build.proofs.ReadyLemmas.{of_tree, present_at}
 use Rattle.scip_build.proofs.BuiltLemmas.{tree_built, if_ok, if_err}
 use Rattle.scip_build.proofs.BuildsRefusalLemmas.{of_parsed_file, of_kept}
@@ -6,19 +7,19 @@ use Rattle.scip_build.proofs.building.build_in_form.Goals as goal
 
 pub build_whole-requires-clause-tree : goal.build_whole-requires-clause-tree
 build_whole-requires-clause-tree g c = λ _ _.
-    of_tree c.args.settings.now.faulty c.args.settings.now.dialect c.args.settings.now.comments
+    of_tree c.args.settings.now.faulty c.args.settings.now.dialect (form_of c.args.settings.now)
     (g.C.Chooses.allows c.args.chooser.now)
     c.args.tree.now c.in_ok-all.all.items c.in_ok-all.ensures c.file_count.ensures.tree
 
 pub build_kept-requires-clause-tree : goal.build_kept-requires-clause-tree
 build_kept-requires-clause-tree g c = λ _ _.
-    of_tree c.args.settings.now.faulty c.args.settings.now.dialect c.args.settings.now.comments
+    of_tree c.args.settings.now.faulty c.args.settings.now.dialect (form_of c.args.settings.now)
     (g.C.Chooses.allows c.args.chooser.now)
     c.args.tree.now c.in_ok-all.all.items c.in_ok-all.ensures c.file_count.ensures.tree
 
 pub build_kept-requires-clause-present : goal.build_kept-requires-clause-present
 build_kept-requires-clause-present g c = λ _ _.
-    present_at c.args.settings.now.faulty c.args.settings.now.dialect c.args.settings.now.comments
+    present_at c.args.settings.now.faulty c.args.settings.now.dialect (form_of c.args.settings.now)
     (g.C.Chooses.allows c.args.chooser.now) c.args.tree.now c.in_ok-all.all.items c.in_ok-all.ensures
 
 pub returns-in-Refuse-clause-built : goal.returns-in-Refuse-clause-built

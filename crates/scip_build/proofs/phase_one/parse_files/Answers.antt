@@ -10,20 +10,20 @@ pub returns-in-Ok : goal.returns-in-Ok
 returns-in-Ok g c =
     let allows = g.C.Chooses.allows c.args.chooser.now in
     let Answer : ℕ → Type 0 =
-    λ n. AnswersEach (GivesParsedFile c.args.faulty c.args.dialect c.args.comments allows c.args.tree.now) n
+    λ n. AnswersEach (GivesParsedFile c.args.faulty c.args.dialect c.args.form allows c.args.tree.now) n
     c.in-Ok.parsed.items in
-    parsed_of c.args.faulty c.args.dialect c.args.comments allows c.args.tree.now c.in-Ok.parsed.items
+    parsed_of c.args.faulty c.args.dialect c.args.form allows c.args.tree.now c.in-Ok.parsed.items
     (subst Answer c.file_count.ensures.count c.in-Ok.ensures.answers)
 
 pub returns-in-Err-Job : goal.returns-in-Err-Job
 returns-in-Err-Job g c =
     let allows = g.C.Chooses.allows c.args.chooser.now in
-    let gives = GivesParsedFile c.args.faulty c.args.dialect c.args.comments allows c.args.tree.now in
+    let gives = GivesParsedFile c.args.faulty c.args.dialect c.args.form allows c.args.tree.now in
     let Refused : PoolFault NoContents → Type 0 =
     λ fault. MayRefuse gives c.file_count.result c.args.run.now.workers fault in
     let Least : ℕ → Type 0 = λ n. IsLeastFault gives n c.in-Err-Job.number c.in-Err-Job.fault in
     let least = subst Least c.file_count.ensures.count
     (subst Refused c.in-Err-Job.field-0-is c.in-Err-Job.ensures.refused) in
     subst (MayRefuseFiles c.args.faulty c.args.dialect c.args.tree.now c.args.run.now.workers) (sym c.refusal.ensures)
-    (refused_of c.args.faulty c.args.dialect c.args.comments allows c.args.tree.now c.args.run.now.workers
+    (refused_of c.args.faulty c.args.dialect c.args.form allows c.args.tree.now c.args.run.now.workers
     c.in-Err-Job.number c.in-Err-Job.fault least)

@@ -10,7 +10,7 @@ use Rattle.scip_model.specs.Entries.{HasEntry}
 use Rattle.scip_model.specs.Indexes.{info_cmp, IsAscendingListOf}
 use Rattle.scip_symbol.specs.Path.{IsGoodPath}
 use Rattle.scip_model.specs.Tables.EntryLists.{source_entries, choices_for, package_names}
-use Rattle.scip_model.specs.Tables.Plans.{text_at, entry_of}
+use Rattle.scip_model.specs.Tables.Plans.{arounds_in, text_at, entry_of}
 use Rattle.scip_model.proofs.NamedApartLemmas.{AreCounted}
 use Rattle.scip_model.proofs.EntryNumberLemmas.{texts_rank, sorted_entries, all_are, are_numbered}
 use Rattle.scip_model.proofs.ConditionLinkedLemmas.{source-counts}
@@ -39,7 +39,8 @@ returns c =
     let choices = choices_for c.args.maker.now.choices.now source in
     let texts = c.args.texts.now in
     let named : path_at files source ≡ c.args.path.now = ap path_if_there file.1 ∙ file.2 in
-    let entry = entry_of texts home.path (package_names facts.package_name) facts choices in
+    let arounds = arounds_in home facts in
+    let entry = entry_of texts home.path (package_names facts.package_name) facts choices arounds in
     let first = c.in_ok-numbers.numbers.items in
     let listed = c.push_declarations.new.numbers.items in
     let near = c.put_near.new.numbers.items in
@@ -55,9 +56,9 @@ returns c =
     let sorted = c.sort_unstable_by.new.self.items in
     let good_path = subst IsGoodPath (sym (ap path_if_there file.1)) (c.requires.paths source file.0 file.1) in
     subst (λ (p : List ℕ). IsAscendingListOf info_cmp (HasEntry files c.args.maker.now.choices.now ids source)
-    (map (entry_of texts p (package_names facts.package_name) facts choices) sorted)) named
+    (map (entry_of texts p (package_names facts.package_name) facts choices arounds) sorted)) named
     (source-list files c.args.maker.now.choices.now ids source file.0 facts file.1 reachable
     (distinct files ids known good source facts reachable good_path choices) (map entry listed) _ all
     (IsPermutation-map entry listed _
     (IsPermutation-trans listed near _ c.in_ok-put_near.ensures c.sort_unstable_by.ensures.permutation))
-    (sorted_entries texts home.path (package_names facts.package_name) facts choices _ up))
+    (sorted_entries texts home.path (package_names facts.package_name) facts choices arounds _ up))

@@ -10,4 +10,5 @@ invariant-loop-index l =
     (home : Home) (entry : ℕ → SymbolInformation)
     → AreNumbered home l.facts (choices_for l.maker.choices.now l.maker.source) entry
     → map entry l.numbers.items ≡ map entry l.fn.numbers.items
-    ++ kept_entries home l.facts (take l.index l.facts.declarations) (choices_for l.maker.choices.now l.maker.source)
+    ++ kept_entries home l.facts 0 (take l.index l.facts.declarations)
+    (choices_for l.maker.choices.now l.maker.source)

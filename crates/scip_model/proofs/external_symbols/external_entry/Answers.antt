@@ -4,6 +4,7 @@ use Rattle.std.proofs.lemmas.Option.{slice_get_read}
 use Rattle.std.proofs.lemmas.Result.{IfOk-weaker}
 use Rattle.proto_decl.specs.declared.declaration.Declaration.{Declaration}
 use Rattle.scip_records.specs.declared.records.SymbolInformation.{SymbolInformation}
+use Rattle.scip_model.specs.Detailed.{detail_at}
 use Rattle.scip_model.specs.Entries.{declaration_entry}
 use Rattle.scip_model.specs.Tables.ExternalLists.{IsEntryAt}
 use Rattle.scip_model.proofs.external_symbols.external_entry.Goals as goal
@@ -19,7 +20,8 @@ returns c =
     subst (λ (ds : List Declaration). slice_get ds c.args.index ≡ Some declaration) c.declarations-declarations.ensures
     (slice_get_read items (length items) c.args.index declaration refl within c.index-declarations-index.is) in
     IfOk-weaker c.declaration_entry.result
-    (λ (entry : SymbolInformation). entry ≡ declaration_entry c.args.home.now facts declaration c.of-choice.result)
+    (λ (entry : SymbolInformation). entry
+    ≡ declaration_entry c.args.home.now facts declaration (detail_at facts c.args.index) c.of-choice.result)
     (IsEntryAt c.args.choices.now c.args.home.now facts c.args.file c.args.index)
     (λ entry is. record {
       declaration = declaration;

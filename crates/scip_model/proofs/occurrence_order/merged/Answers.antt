@@ -1,16 +1,17 @@
-use Rattle.std.proofs.Common.{sym, subst, ap, List, map}
+use Rattle.std.proofs.Common.{sym, subst, ap, List, [], map}
+use Rattle.std.specs.Ordering.{on}
 use Rattle.std.specs.Option.{option_map}
 use Rattle.scip_records.specs.declared.records.Occurrence.{Occurrence}
 use Rattle.scip_model.specs.OccurrenceOrder.{occurrence_cmp}
-use Rattle.scip_model.specs.Tables.Plans.{occurrence_of}
+use Rattle.scip_model.specs.Tables.Plans.{Around, occurrence_of}
 use Rattle.scip_model.proofs.OccurrenceOrderLemmas.{occurrence_total}
-use Rattle.scip_model.proofs.MergeLemmas.{IsMerging, step, ends}
+use Rattle.scip_model.proofs.MergeLemmas.{IsMerging, step, ends, takes_one}
 use Rattle.scip_model.proofs.PlanLemmas.{least_mapped, one_mapped}
 use Rattle.scip_model.proofs.occurrence_order.merged.Goals as goal
 
 pub loop-next-preserved : goal.loop-next-preserved
-loop-next-preserved c = λ untied.
-    let f = occurrence_of c.args.texts.now in
+loop-next-preserved c = λ around untied.
+    let f = occurrence_of around c.args.texts.now in
     let first = map f c.args.first.items in
     let second = map f c.args.second.items in
     let a = c.loop-next.first_left.items in
@@ -23,12 +24,12 @@ loop-next-preserved c = λ untied.
     c.in_ok-push.ensures.items))
     (step occurrence_cmp occurrence_total first second (map f c.loop-next.both.items) (map f a) (map f b)
     (map f a_left) (map f b_left) (option_map f next) (f c.in-Some.next)
-    (least_mapped f occurrence_cmp a b next a_left b_left c.take_least.ensures)
-    (ap (option_map f) c.in-Some.is) untied (c.loop-next.invariant untied))
+    (least_mapped f occurrence_cmp a b next a_left b_left (c.take_least.ensures around))
+    (ap (option_map f) c.in-Some.is) untied (c.loop-next.invariant around untied))
 
 pub returns : goal.returns
-returns c = λ untied.
-    let f = occurrence_of c.args.texts.now in
+returns c = λ around untied.
+    let f = occurrence_of around c.args.texts.now in
     let a = c.loop-next.first_left.items in
     let b = c.loop-next.second_left.items in
     let a_left = c.take_least.new.first.items in
@@ -36,5 +37,12 @@ returns c = λ untied.
     let next = c.take_least.result in
     ends occurrence_cmp (map f c.args.first.items) (map f c.args.second.items) (map f c.loop-next.both.items)
     (map f a) (map f b) (map f a_left) (map f b_left) (option_map f next)
-    (least_mapped f occurrence_cmp a b next a_left b_left c.take_least.ensures)
-    (ap (option_map f) c.in_default.is) (c.loop-next.invariant untied)
+    (least_mapped f occurrence_cmp a b next a_left b_left (c.take_least.ensures around))
+    (ap (option_map f) c.in_default.is) (c.loop-next.invariant around untied)
+
+pub loop-next-smaller : goal.loop-next-smaller
+loop-next-smaller c =
+    let around : Around = record { first = 0; ranges = [] } in
+    takes_one (on (occurrence_of around c.args.texts.now) occurrence_cmp) c.loop-next.first_left.items
+    c.loop-next.second_left.items c.take_least.new.first.items c.take_least.new.second.items c.take_least.result
+    c.in-Some.next (c.take_least.ensures around) c.in-Some.is

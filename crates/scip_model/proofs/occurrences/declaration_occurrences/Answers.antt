@@ -4,7 +4,7 @@ use Rattle.std.proofs.lemmas.Option.{slice_get_read}
 use Rattle.proto_decl.specs.declared.declaration.Declaration.{Declaration}
 use Rattle.scip_model.specs.Makers.{source_home}
 use Rattle.scip_model.specs.Tables.Listing.{each_from, at_declaration}
-use Rattle.scip_model.specs.Tables.Plans.{occurrence_of}
+use Rattle.scip_model.specs.Tables.Plans.{around_in, occurrence_of}
 use Rattle.scip_model.proofs.ListingLemmas.{each_added, each_done}
 use Rattle.scip_model.proofs.occurrences.declaration_occurrences.Goals as goal
 
@@ -26,15 +26,19 @@ loop-index-preserved c = λ run later more.
     let gives = at_declaration (source_home maker) maker.encoding maker.text.now maker.choices.now maker.source facts in
     let there : slice_get items index ≡ Some declaration =
     slice_get_read items (length items) index declaration refl c.loop-index-test.true c.declaration-item.is in
-    each_added gives items index declaration (map (occurrence_of later) c.loop-index.list.items)
-    (map (occurrence_of later) c.add_declaration.new.list.items) (each_from gives 0 items) there
+    let planned = map (occurrence_of (around_in maker.encoding maker.text.now facts) later) in
+    each_added gives items index declaration (planned c.loop-index.list.items)
+    (planned c.add_declaration.new.list.items) (each_from gives 0 items) there
     (c.in_ok-add_declaration.ensures run later more) (c.loop-index.invariant run later more)
 
 pub returns : goal.returns
 returns c = λ run later more.
     let maker = c.args.maker.now in
-    let gives = at_declaration (source_home maker) maker.encoding maker.text.now maker.choices.now maker.source c.args.facts.now in
+    let facts = c.args.facts.now in
+    let home = source_home maker in
+    let gives = at_declaration home maker.encoding maker.text.now maker.choices.now maker.source facts in
     let items = c.declarations-declaration-items.result.now in
-    each_done gives items c.loop-index.index (map (occurrence_of later) c.loop-index.list.items)
+    let planned = map (occurrence_of (around_in maker.encoding maker.text.now facts) later) in
+    each_done gives items c.loop-index.index (planned c.loop-index.list.items)
     (each_from gives 0 items) (omega (arith, c.loop-index-test.false)) (c.loop-index.invariant run later more)
     ∙ ap (λ (declarations : List Declaration). each_from gives 0 declarations) c.declarations-declaration-items.ensures

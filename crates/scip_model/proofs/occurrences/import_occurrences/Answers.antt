@@ -19,10 +19,10 @@ loop-imported-preserved c =
     record {
       grown = grown_then c.args.texts.now c.loop-imported.texts c.add_import.new.texts c.loop-imported.invariant.grown
           c.in_ok-add_import.ensures.grown;
-      added = λ later more.
-          each_added gives imports index imported (map (occurrence_of later) c.loop-imported.list.items)
-          (map (occurrence_of later) c.add_import.new.list.items) (each_from gives 0 imports) there
-          (c.in_ok-add_import.ensures.added later more)
-          (c.loop-imported.invariant.added later
+      added = λ around later more.
+          each_added gives imports index imported (map (occurrence_of around later) c.loop-imported.list.items)
+          (map (occurrence_of around later) c.add_import.new.list.items) (each_from gives 0 imports) there
+          (c.in_ok-add_import.ensures.added around later more)
+          (c.loop-imported.invariant.added around later
           (grown_then c.loop-imported.texts c.add_import.new.texts later c.in_ok-add_import.ensures.grown more));
     }

@@ -1,4 +1,4 @@
-use Rattle.std.proofs.Common.{◌≡◌, ◌∙◌, ap, sym, subst, refl, List, ℕ, [], ◌∷◌, ◌++◌, map}
+use Rattle.std.proofs.Common.{◌≡◌, ◌∙◌, ap, sym, subst, refl, List, ℕ, [], ◌∷◌, ◌++◌, map, arith}
 use Rattle.std.specs.List.{All, AllZip}
 use Rattle.proto_lex.specs.Lexed.{IsPart}
 use Rattle.proto_decl.specs.declared.imports.Imported.{Imported}
@@ -21,7 +21,7 @@ use Rattle.proto_visibility.specs.Clashes.{NoClash}
 use Rattle.proto_visibility.specs.declared.clash.Duplicates.TheVariants.{Keep}
 use Rattle.scip_model.specs.Named.{home_of_file}
 use Rattle.scip_model.specs.Packages.{path_if_there}
-use Rattle.scip_model.specs.Tables.Plans.{own_texts, occurrence_of}
+use Rattle.scip_model.specs.Tables.Plans.{around_in, own_texts, occurrence_of}
 use Rattle.scip_model.proofs.PlanLemmas.{grown_same, grown_then}
 use Rattle.scip_records.specs.declared.records.Occurrence.{Occurrence}
 use Rattle.std.specs.declared.cmp.Ordering.TheVariants.{Equal}
@@ -124,22 +124,23 @@ returns-clause-planned c =
     let path = c.requires.path in
     let origin = c.requires.text.origin in
     let texts = c.use_occurrences.new.texts in
-    let f = occurrence_of texts in
+    let around = around_in encoding text facts in
+    let f = occurrence_of around texts in
     let later = c.in_ok-uses.ensures.grown in
     let grown = grown_then (own_texts home ids.run facts) c.args.texts.now texts c.requires.texts
     (grown_then c.args.texts.now c.import_occurrences.new.texts texts c.in_ok-imports.ensures.grown later) in
-    let own = c.in_ok-own.ensures home ids.run facts texts grown
+    let own = c.in_ok-own.ensures around home ids.run facts (omega arith) texts grown
     ∙ ap (λ (p : List ℕ). own_occurrence home.id p ∷ []) (ap path_if_there path.1) in
     let packages = c.in_ok-packages.ensures home texts grown in
     let names = c.in_ok-names.ensures ids.run texts grown in
-    let imports = c.in_ok-imports.ensures.planned texts later
+    let imports = c.in_ok-imports.ensures.planned around texts later
     ∙ ap (λ (xs : List Imported). each_from (at_import ids encoding text files) 0 xs) c.imports.ensures in
     let untied : (x y : Occurrence) → Occurs files chosen ids encoding source text x
     → Occurs files chosen ids encoding source text y → occurrence_cmp x y ≡ Equal → x ≡ y =
     λ x y first second e. c.facts_occur_in_order.ensures.untied files chosen ids encoding source text
     (λ other known. subst (AreOfText text) (same_facts files source facts other c.requires.known known) c.requires.text)
     x y first second (tied x y e).0 (tied x y e).1 in
-    let uses = made.2 texts (grown_same texts)
+    let uses = made.2 around texts (grown_same texts)
     ∙ ap (λ (xs : List Use). each_from (at_use ids encoding text files chosen found) 0 xs) c.uses.ensures in
     merged_lists ids encoding text c.facts_occur_in_order.ensures.characters files chosen source path.0 path.1 facts
     c.requires.known
@@ -152,7 +153,7 @@ returns-clause-planned c =
     (subst (NoClash Keep) linked c.facts_occur_in_order.ensures.clear.clear) source c.requires.source) untied
     (map f c.in_ok-with_imports.with_imports.items) (map f c.in_ok-with_packages.with_packages.items)
     (map f c.in_ok-with_names.with_names.items) (map f c.in_ok-list.list.items)
-    (merged_of own imports c.in_ok-with_imports.ensures)
-    (merged_of refl packages c.in_ok-with_packages.ensures)
-    (merged_of refl names c.in_ok-with_names.ensures)
-    (merged_of refl uses c.in_ok-list.ensures)
+    (merged_of own imports (c.in_ok-with_imports.ensures around))
+    (merged_of refl packages (c.in_ok-with_packages.ensures around))
+    (merged_of refl names (c.in_ok-with_names.ensures around))
+    (merged_of refl uses (c.in_ok-list.ensures around))

@@ -14,8 +14,11 @@ use Rattle.proto_visibility.specs.Files.{File, HasPathAt}
 use Rattle.index_hooks.specs.declared.choice.Choice.{Choice}
 use Rattle.scip_model.specs.Entries.{HasEntry}
 use Rattle.scip_model.specs.Indexes.{IsAscendingListOf, info_cmp}
-use Rattle.scip_model.specs.Tables.EntryLists.{package_names}
-use Rattle.scip_model.specs.Tables.Plans.{entry_of}
+use Rattle.scip_model.specs.OccurrenceOrder.{occurrence_cmp}
+use Rattle.scip_model.specs.Occurs.{Occurs}
+use Rattle.scip_model.specs.Tables.EntryLists.{choices_for, package_names}
+use Rattle.scip_model.specs.Tables.Plans.{around_by, arounds_in, entry_of, occurrence_of}
+use Rattle.scip_records.specs.Range.{RangeNumbers}
 use Rattle.scip_model.proofs.source_document.plan_document.Goals as goal
 
 pub facts_of-requires : goal.facts_of-requires
@@ -96,6 +99,15 @@ occurrences-requires-clause-texts c =
     ∙ ap (λ (run : Package). own_texts (source_home c.args.maker.now) run facts) c.run.ensures.value)) in
     subst (λ (texts : List (List ℕ)). Grown texts c.new-texts.result) own (grown_same c.new-texts.result)
 
+pub declaration_ranges-requires : goal.declaration_ranges-requires
+declaration_ranges-requires c =
+    let files = c.args.maker.now.package.now.files in
+    let source = c.args.maker.now.source in
+    c.requires.text c.unwrap-facts.result.now
+    (given_facts files source c.facts_of.result c.unwrap-facts.result c.unwrap-facts.ensures
+    (facts_there files c.linker-linker.result.now source c.facts_of.result c.linker-linker.ensures.files
+    c.facts_of.ensures))
+
 pub returns-clause-unresolved_uses : goal.returns-clause-unresolved_uses
 returns-clause-unresolved_uses c = rw c.from_vec.ensures c.in_ok-occurrences.ensures.unresolved_uses
 
@@ -109,19 +121,28 @@ returns-clause-document c =
     c.linker-linker.ensures.files c.path_of-path.ensures in
     let texts = c.occurrences.new.texts in
     let same_file = same_Some _ _ (sym path.1 ∙ c.requires.source.numbered) in
+    let its = c.path_of-path.result.now in
+    let numbers = c.in_ok-entries.entries.items in
+    let arounds = c.in_ok-arounds.arounds in
     let symbols = ap (λ (names : List (List ℕ)).
-    map (entry_of texts c.path_of-path.result.now names facts c.of_file.result.now) c.in_ok-entries.entries.items)
+    map (entry_of texts its names facts c.of_file.result.now arounds) numbers)
     (c.in_ok-packages.ensures ∙ ap package_names c.package_name.ensures)
-    ∙ ap (λ (choices : List Choice).
-    map (entry_of texts c.path_of-path.result.now (package_names facts.package_name) facts choices)
-    c.in_ok-entries.entries.items) c.of_file.ensures in
+    ∙ (ap (λ (choices : List Choice).
+    map (entry_of texts its (package_names facts.package_name) facts choices arounds) numbers) c.of_file.ensures
+    ∙ ap (λ (own : List (List ℕ)). map (entry_of texts its (package_names facts.package_name) facts
+    (choices_for maker.choices.now source) own) numbers)
+    (c.in_ok-arounds.ensures ∙ ap (λ (home : Home). arounds_in home facts) c.home_of-home.ensures)) in
+    let planned = λ (ranges : List RangeNumbers).
+    map (occurrence_of (around_by facts ranges) texts) c.in_ok-occurrences.occurrences.items in
     record {
       file = c.requires.source.file;
       numbered = c.requires.source.numbered;
       is_source = c.requires.source.source;
       present = c.requires.source.present;
       relative_path = sym path.2 ∙ ap (λ (f : File). f.path) same_file;
-      occurrences = c.in_ok-occurrences.ensures.planned;
+      occurrences = subst (IsAscendingListOf occurrence_cmp
+          (Occurs files maker.choices.now maker.package.now.ids maker.encoding source maker.text.now))
+          (ap planned (sym c.in_ok-ranges.ensures)) c.in_ok-occurrences.ensures.planned;
       symbols = subst (IsAscendingListOf info_cmp (HasEntry files maker.choices.now maker.package.now.ids source))
           (sym symbols) c.in_ok-entries.ensures;
       language = refl;

@@ -4,9 +4,11 @@ use Rattle.scip_model.proofs.PlanLemmas.{entity_added}
 use Rattle.scip_model.proofs.use_occurrences.add_entity.Goals as goal
 
 pub returns-clause-added : goal.returns-clause-added
-returns-clause-added c =
+returns-clause-added c = λ around.
     let maker = c.args.maker.now in
-    entity_added maker.encoding maker.text.now (package_of_part maker.package.now.files maker.package.now.ids c.args.part)
-    c.args.span (entity_of maker.package.now.files maker.package.now.ids c.args.name.now c.args.part) c.entity_number.new.texts
+    let files = maker.package.now.files in
+    let ids = maker.package.now.ids in
+    entity_added around maker.encoding maker.text.now (package_of_part files ids c.args.part)
+    c.args.span (entity_of files ids c.args.name.now c.args.part) c.entity_number.new.texts
     c.args.list.now.items c.push.new.self.items c.planned_over.result c.in_ok-number.number c.in_ok-push.ensures.items
     c.planned_over.ensures c.in_ok-number.ensures.number

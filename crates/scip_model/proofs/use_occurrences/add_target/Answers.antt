@@ -30,15 +30,15 @@ loop-index-preserved c =
     record {
       grown = grown_then c.args.texts.now c.loop-index.texts c.add_part.new.texts c.loop-index.invariant.grown
           c.in_ok-add_part.ensures.grown;
-      added = λ later more.
-          let old = map (occurrence_of later) c.loop-index.list.items in
-          let added = c.in_ok-add_part.ensures.added later more
+      added = λ around later more.
+          let old = map (occurrence_of around later) c.loop-index.list.items in
+          let added = c.in_ok-add_part.ensures.added around later more
           ∙ (ap (λ (name : List ℕ). old
           ++ at_part ids encoding text files chosen name component.span c.part_of-part.result) c.as_str-name.ensures
           ∙ ap (λ (part : Option Entity). old
           ++ at_part ids encoding text files chosen target.name component.span part) c.part_of-part.ensures) in
-          each_added gives xs index component old (map (occurrence_of later) c.add_part.new.list.items)
-          (map (occurrence_of later) c.args.list.now.items ++ each_from gives 0 xs) there added
-          (c.loop-index.invariant.added later
+          each_added gives xs index component old (map (occurrence_of around later) c.add_part.new.list.items)
+          (map (occurrence_of around later) c.args.list.now.items ++ each_from gives 0 xs) there added
+          (c.loop-index.invariant.added around later
           (grown_then c.loop-index.texts c.add_part.new.texts later c.in_ok-add_part.ensures.grown more));
     }

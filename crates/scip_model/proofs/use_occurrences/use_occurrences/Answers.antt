@@ -29,7 +29,7 @@ loop-type_use-init c = record {
   so_far = (
     [],
     tt,
-    λ later more. ap (map (occurrence_of later)) c.in_ok-list.ensures.items,
+    λ around later more. ap (map (occurrence_of around later)) c.in_ok-list.ensures.items,
     sym (append-nil c.args.unresolved_uses.now.items),
   );
 }
@@ -63,11 +63,11 @@ loop-type_use-preserved c =
       so_far = (
         more,
         zip_more (IsFound files source) uses index type_use found added.0 there so_far.1 added.1,
-        λ later grown.
-            added.2 later grown
+        λ around later grown.
+            added.2 around later grown
             ∙ (ap (λ (list : List Occurrence). list ++ at added.0 type_use)
-            (so_far.2 later (grown_then c.loop-type_use.texts c.add_use.new.texts later c.in_ok-add_use.ensures.grown
-            grown))
+            (so_far.2 around later (grown_then c.loop-type_use.texts c.add_use.new.texts later
+            c.in_ok-add_use.ensures.grown grown))
             ∙ sym (ap (λ (its : List Use). each_from (at_use ids encoding text files chosen more) 0 its) next
             ∙ more_found at found added.0 front type_use size)),
         added.3
@@ -94,8 +94,8 @@ returns-clause-planned c =
     take_all c.loop-type_use.type_use-index uses (omega (arith, c.loop-type_use-test.false)) in (
       found,
       subst (λ (its : List Use). AllZip (IsFound files source) its found) whole so_far.1,
-      λ later more.
-          so_far.2 later more
+      λ around later more.
+          so_far.2 around later more
           ∙ ap (λ (its : List Use). each_from (at_use ids encoding text files chosen found) 0 its) whole,
       so_far.3 ∙ ap (λ (its : List Use). c.args.unresolved_uses.now.items
           ++ each_from (unresolved_use_at found) 0 its) whole,

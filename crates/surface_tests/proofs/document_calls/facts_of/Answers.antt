@@ -1,7 +1,6 @@
 use Rattle.std.proofs.Common.{rules, refl}
 use Rattle.std.proofs.lemmas.Result.{IfOk-weaker}
-use Rattle.comment_texts.specs.declared.form.CommentForm.TheVariants.{Raw}
-use Rattle.proto_decl.specs.Facts.{AreFactsOf}
+use Rattle.proto_decl.specs.Facts.{AreFactsOf, plain_form}
 use Rattle.proto_parse.specs.dialect.CustomOptions.TheVariants.{Refuse}
 use Rattle.proto_parse.specs.dialect.Dialect.TheVariants.{Proto3}
 use Rattle.scip_model.specs.Conditions.{AreOfText}
@@ -9,10 +8,10 @@ use Rattle.surface_tests.proofs.document_calls.facts_of.Goals as goal
 
 pub returns : goal.returns
 returns c =
-    IfOk-weaker c.declare.result (AreFactsOf Raw 0 c.in-Ok.lexed c.in-Ok-parse.tree) (AreOfText c.args.text.now)
+    IfOk-weaker c.declare.result (AreFactsOf plain_form 0 c.in-Ok.lexed c.in-Ok-parse.tree) (AreOfText c.args.text.now)
     (λ facts of_tree. record {
       origin = record {
-        form = Raw;
+        form = plain_form;
         lexed = c.in-Ok.lexed;
         file = c.in-Ok-parse.tree;
         is_lexed = search rules;
@@ -23,6 +22,7 @@ returns c =
           imports = of_tree.imports;
           declarations = of_tree.declarations;
           uses = of_tree.uses;
+          details = of_tree.details;
         };
       };
       text_is = c.in-Ok.ensures.text;

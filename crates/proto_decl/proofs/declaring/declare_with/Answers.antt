@@ -1,5 +1,5 @@
 use Rattle.std.proofs.Common.{rules}
-use Rattle.proto_decl.proofs.declaring.declare_in.Goals as goal
+use Rattle.proto_decl.proofs.declaring.declare_with.Goals as goal
 
 pub new-requires : goal.new-requires
 new-requires c = record {

@@ -28,7 +28,8 @@ IMPORT = re.compile(r"//[^\n]*|/\*.*?\*/|\bimport\s+(?:public\s+|weak\s+)?\"([^\
 COMMENT = re.compile(rb"//[^\n]*|/\*.*?\*/", re.S)
 WORD = re.compile(rb"//[^\n]*|/\*.*?\*/|(\w+)", re.S)
 TOLD = re.compile(r"protoscip: (?:(skipped): (.*?)@(\d+): (\w+)(?: of (.*)@(\d+))?"
-                  r"|(no target): (.*)@(\d+): (MissingImport|Unresolved|Ambiguous))")
+                  r"|(no target): (.*)@(\d+): (MissingImport|Unresolved|Ambiguous)"
+                  r"|(uncertain): (.*)@(\d+) behind (.*))")
 COUNTS = re.compile(r"protoscip: (\d+) sources indexed, (\d+) skipped, (\d+) imports and (\d+) uses without a target")
 SYMBOL = "scip-protobuf . . . "
 FRONT = re.compile(re.escape(SYMBOL) + "`([^`]+)`/(.+)")
@@ -415,8 +416,9 @@ class Told:
             return False
         own = set(sources)
         keys = [(path not in own, os.fsencode(path), int(at))
-                for path, at in ((line[2] or line[8], line[3] or line[9]) for line in self.lines)]
-        kinds = collections.Counter(line[1] or line[10] for line in self.lines)
+                for path, at in ((line[2] or line[8] or line[12], line[3] or line[9] or line[13])
+                                 for line in self.lines)]
+        kinds = collections.Counter(line[1] or line[10] or line[11] for line in self.lines)
         uses = kinds["Unresolved"] + kinds["Ambiguous"]
         wanted = (len(own - set(self.skipped)), kinds["skipped"], kinds["MissingImport"], uses)
         return keys == sorted(set(keys)) and wanted == tuple(map(int, self.counts.groups()))

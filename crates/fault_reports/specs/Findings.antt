@@ -3,7 +3,7 @@ use Rattle.std.specs.Prelude.{ℕ, List, Option, codes}
 use Rattle.std.specs.Option.{option_map}
 use Rattle.diagnostics.specs.Places.{column, line_number}
 use Rattle.fault_reports.specs.declared.finding.FindingKind.{FindingKind}
-use Rattle.fault_reports.specs.declared.finding.FindingKind.TheVariants.{Fault, Skipped, Unresolved}
+use Rattle.fault_reports.specs.declared.finding.FindingKind.TheVariants.{Fault, Skipped, Unresolved, Uncertain}
 use Rattle.fault_reports.specs.declared.finding.Point.{Point}
 
 -- a file, what it holds, and how many bytes of that come before a place, and before its end, if that is known; without
@@ -47,9 +47,11 @@ abbrev pub word_of : FindingKind → List ℕ
 word_of Fault = codes "fault"
 word_of Skipped = codes "skipped"
 word_of Unresolved = codes "no target"
+word_of Uncertain = codes "uncertain"
 
 -- and the level of a result in SARIF (SARIF 2.1.0, section 3.27.10)
 abbrev pub level_of : FindingKind → List ℕ
 level_of Fault = codes "error"
 level_of Skipped = codes "error"
 level_of Unresolved = codes "warning"
+level_of Uncertain = codes "warning"

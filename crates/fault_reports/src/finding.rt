@@ -24,6 +24,8 @@ pub enum FindingKind {
     Skipped,
     /// An import or a use names nothing.
     Unresolved,
+    /// A use names something, but may name something else once a file can be read.
+    Uncertain,
 }
 
 /// An offset of a text: how many bytes come before it, its line from 1, and its column from 1 in characters.
@@ -122,6 +124,7 @@ impl FindingKind {
             FindingKind::Fault => "fault",
             FindingKind::Skipped => "skipped",
             FindingKind::Unresolved => "no target",
+            FindingKind::Uncertain => "uncertain",
         }
     }
 
@@ -131,7 +134,7 @@ impl FindingKind {
     {
         match self {
             FindingKind::Fault | FindingKind::Skipped => "error",
-            FindingKind::Unresolved => "warning",
+            FindingKind::Unresolved | FindingKind::Uncertain => "warning",
         }
     }
 }

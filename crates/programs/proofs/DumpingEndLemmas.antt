@@ -10,7 +10,7 @@ use Rattle.protoscip.specs.Explanations.{IsFaultText}
 use Rattle.protoscip.specs.FaultTexts.{status_of}
 use Rattle.protoscip.specs.declared.fault.Fault.{Fault}
 use Rattle.protoscip.specs.declared.fault.Fault.TheVariants.{Spawn, Memory, Lex, Syntax, Duplicate, MissingImport}
-use Rattle.protoscip.specs.declared.fault.Fault.TheVariants.{Unresolved, Ambiguous, TooLarge, Write, Read, Answer}
+use Rattle.protoscip.specs.declared.fault.Fault.TheVariants.{Unresolved, Ambiguous, Uncertain, TooLarge, Write, Read, Answer}
 use Rattle.programs.specs.Dumping.{EndsDump, is_write}
 use Rattle.programs.specs.Messages.{TellsOne}
 use Rattle.programs.specs.Printing.{EndsCut}
@@ -70,6 +70,7 @@ module _ {R M : Type 0} (explain : Option Dialect) (closed : Bool) (source : Rea
   of_fault (MissingImport place) tree is said_so = of_source (MissingImport place) tree is said_so
   of_fault (Unresolved place) tree is said_so = of_source (Unresolved place) tree is said_so
   of_fault (Ambiguous place) tree is said_so = of_source (Ambiguous place) tree is said_so
+  of_fault (Uncertain place behind) tree is said_so = of_source (Uncertain place behind) tree is said_so
   of_fault TooLarge tree is said_so = of_source TooLarge tree is said_so
   of_fault (Write count) tree is said_so = of_source (Write count) tree is said_so
   of_fault (Answer count) tree is said_so = of_source (Answer count) tree is said_so

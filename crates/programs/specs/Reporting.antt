@@ -22,7 +22,7 @@ use Rattle.protoscip.specs.FaultTexts.{status_of}
 use Rattle.protoscip.specs.declared.recorded.Recorded.{Recorded}
 use Rattle.protoscip.specs.declared.fault.Fault.{Fault}
 use Rattle.protoscip.specs.declared.fault.Fault.TheVariants.{Spawn, Memory, Lex, Syntax, Duplicate, MissingImport}
-use Rattle.protoscip.specs.declared.fault.Fault.TheVariants.{Unresolved, Ambiguous, TooLarge, Write, Read, Answer}
+use Rattle.protoscip.specs.declared.fault.Fault.TheVariants.{Unresolved, Ambiguous, Uncertain, TooLarge, Write, Read, Answer}
 use Rattle.command_line.specs.declared.options.limits.Limits.{Limits}
 use Rattle.command_line.specs.declared.options.report.ReportOptions.{ReportOptions}
 use Rattle.programs.specs.Limits.{IsBrokenBy, limit_status}
@@ -50,6 +50,7 @@ is_of_files (Duplicate first second) = true
 is_of_files (MissingImport place) = true
 is_of_files (Unresolved place) = true
 is_of_files (Ambiguous place) = true
+is_of_files (Uncertain place behind) = true
 is_of_files TooLarge = false
 is_of_files (Write count) = false
 is_of_files Read = false

@@ -91,7 +91,8 @@ fn is_of_files(fault: &Fault) -> bool
         | Fault::Duplicate(..)
         | Fault::MissingImport(_)
         | Fault::Unresolved(_)
-        | Fault::Ambiguous(_) => true,
+        | Fault::Ambiguous(_)
+        | Fault::Uncertain(..) => true,
         Fault::Spawn
         | Fault::Memory
         | Fault::TooLarge

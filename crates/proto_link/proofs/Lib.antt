@@ -19,3 +19,7 @@ pub mod TargetLemmas
 pub mod TargetOneLemmas
 -- Why uses name nothing: each for one reason at most
 pub mod UseFaultLemmas
+-- Lists of uncertain uses
+pub mod DoubtLemmas
+-- Which scopes are farther out than another one, and which uses are found there
+pub mod UncertainLemmas

@@ -3,6 +3,8 @@ pub mod Resolves
 pub mod Targets
 -- what it names if files are mended
 pub mod Mended
+-- which uses may then name another type
+pub mod Uncertain
 -- the laws
 pub mod Laws
 -- what no public contract names

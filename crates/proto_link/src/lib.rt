@@ -11,6 +11,8 @@ mod lookup;
 mod parts;
 mod resolve;
 mod target;
+mod uncertain;
+mod uncertain_use;
 mod use_faults;
 
 // The laws.
@@ -26,3 +28,4 @@ pub use proto_visibility::{
     have_own_paths, kept_files_are_clear, left_out, nothing_is_left_out_of_good_files, one_kept,
 };
 pub use target::Target;
+pub use uncertain_use::UncertainUse;

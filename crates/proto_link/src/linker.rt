@@ -12,9 +12,13 @@ ghost use Rattle.proto_visibility.specs.Absences.{AreMissing};
 ghost use Rattle.proto_visibility.specs.Linked.{HaveClearNames, CanBeLinked, MayRefuse};
 ghost use Rattle.proto_visibility.specs.declared.fault.LinkFault.{LinkFault};
 ghost use Rattle.proto_link.specs.Targets.{IsTarget, IsUseFault, MayRefuseUse};
+ghost use Rattle.proto_link.specs.declared.uncertain_use.UncertainUse.{UncertainUse};
+ghost use Rattle.proto_link.specs.Uncertain.{IsUncertain};
 
 use crate::resolve::target_of;
 use crate::target::Target;
+use crate::uncertain::uncertain_uses_of;
+use crate::uncertain_use::UncertainUse;
 use crate::use_faults::use_faults_of;
 use proto_decl::{FileFacts, Use};
 use proto_visibility::{
@@ -219,5 +223,15 @@ impl<'a, 't> Linker<'a, 't> {
             ↔ IsUseFault self.now file fault) }
     {
         use_faults_of(alloc, &self.namespace, file)
+    }
+
+    /// The uses of sources that name a type, but may name another one once a file can be read, in order: one that the
+    /// source sees and that has no facts. The first word of such a use is found farther out than the source's package, so
+    /// that file may have it nearer. An error means that memory was refused.
+    pub fn uncertain_uses(&self, alloc: Global) -> Result<Vec<UncertainUse>, AllocError>
+        ensures { IfOk result (λ uses. (uncertain : UncertainUse) → Contains uses.items uncertain
+            ↔ IsUncertain self.now uncertain) }
+    {
+        uncertain_uses_of(alloc, &self.namespace)
     }
 }

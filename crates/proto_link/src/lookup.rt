@@ -30,7 +30,7 @@ fn room_under(scope: &str, name: &str) -> usize {
 }
 
 /// Components joined by dots.
-fn joined(alloc: Global, components: &[Component]) -> Result<String, AllocError>
+pub(crate) fn joined(alloc: Global, components: &[Component]) -> Result<String, AllocError>
     ensures { IfOk result (λ text. string_bytes text ≡ dotted (map (λ component. component.name) components.now)) }
 {
     match components {
@@ -112,7 +112,7 @@ fn one_word(
 
 /// The first of the scopes from this one on in which a file knows a word in this role. The text
 /// is overwritten.
-fn innermost<'s>(
+pub(crate) fn innermost<'s>(
     namespace: &Namespace,
     file: usize,
     role: Role,

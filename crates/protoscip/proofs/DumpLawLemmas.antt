@@ -45,6 +45,7 @@ module _ (accepted : OneIndexingHasNoFault default_choices default_choices) wher
       absurd (let same = none dialect bytes listing (fault.Unresolved place) is refused in cc)
   listed_unless_memory dialect bytes listing (fault.Ambiguous place) is refused =
       absurd (let same = none dialect bytes listing (fault.Ambiguous place) is refused in cc)
+  listed_unless_memory dialect bytes listing (fault.Uncertain place behind) is refused = absurd refused
   listed_unless_memory dialect bytes listing fault.TooLarge is refused =
       absurd (let same = none dialect bytes listing fault.TooLarge is refused in cc)
   listed_unless_memory dialect bytes listing (fault.Write count) is refused = absurd refused

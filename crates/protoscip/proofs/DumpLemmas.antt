@@ -191,6 +191,7 @@ module _ (dialect : Dialect) (bytes : List ℕ) where
         (λ _ parsed. CanBeLinked names.Refuse (linked_files parsed) × IsLeastUnresolved (linked_files parsed) place
         × IsAmbiguousAt (linked_files parsed) place) is.1,
   )
+  refusal_of_all (fault.Uncertain place behind) is = is
   refusal_of_all fault.TooLarge is =
       whole (λ b. IsRefusal dialect b fault.TooLarge) bytes
       (short_source dialect (kept_bytes bytes) is.1.all is.1.read) is
@@ -215,6 +216,7 @@ module _ (dialect : Dialect) (bytes : List ℕ) where
   refused_dumps due (fault.MissingImport place) is = is
   refused_dumps due (fault.Unresolved place) is = is
   refused_dumps due (fault.Ambiguous place) is = is
+  refused_dumps due (fault.Uncertain place behind) is = absurd is
   refused_dumps due fault.TooLarge is = is
   refused_dumps due (fault.Write count) is = absurd is
   refused_dumps due fault.Read is = absurd is
@@ -231,6 +233,7 @@ module _ (dialect : Dialect) (bytes : List ℕ) where
   refused_writer sink out due (fault.MissingImport place) is = refl
   refused_writer sink out due (fault.Unresolved place) is = refl
   refused_writer sink out due (fault.Ambiguous place) is = refl
+  refused_writer sink out due (fault.Uncertain place behind) is = absurd is
   refused_writer sink out due fault.TooLarge is = refl
   refused_writer sink out due (fault.Write count) is = absurd is
   refused_writer sink out due fault.Read is = refl
@@ -252,6 +255,7 @@ module _ (dialect : Dialect) (bytes : List ℕ) where
       files_of_build default_choices (dump_settings dialect) (dump_tree bytes) 1 (build.Unresolved place) is
   dump_files (fault.Ambiguous place) is =
       files_of_build default_choices (dump_settings dialect) (dump_tree bytes) 1 (build.Ambiguous place) is
+  dump_files (fault.Uncertain place behind) is = absurd is
   dump_files fault.TooLarge is = tt
   dump_files (fault.Write count) is = tt
   dump_files fault.Read is = tt
@@ -296,6 +300,7 @@ any_dump_files (fault.Duplicate first second) bytes others has = has
 any_dump_files (fault.MissingImport place) bytes others has = has
 any_dump_files (fault.Unresolved place) bytes others has = has
 any_dump_files (fault.Ambiguous place) bytes others has = has
+any_dump_files (fault.Uncertain place behind) bytes others has = has
 any_dump_files fault.TooLarge bytes others has = has
 any_dump_files (fault.Write count) bytes others has = has
 any_dump_files fault.Read bytes others has = has
@@ -312,6 +317,7 @@ module _ {R : Type 0} (source : Reader R) (tree : List TreeFile) where
   tree_of_fault (fault.MissingImport place) is = is
   tree_of_fault (fault.Unresolved place) is = is
   tree_of_fault (fault.Ambiguous place) is = is
+  tree_of_fault (fault.Uncertain place behind) is = is
   tree_of_fault fault.TooLarge is = is
   tree_of_fault (fault.Write count) is = is
   tree_of_fault fault.Read is = tt

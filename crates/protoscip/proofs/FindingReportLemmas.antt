@@ -90,6 +90,7 @@ fault_key (fault.Duplicate first second) = ((second.file, 0), (0, 0))
 fault_key (fault.MissingImport place) = ((place.file, place.span.start), (place.span.end, 0))
 fault_key (fault.Unresolved place) = ((place.file, place.span.start), (place.span.end, 1))
 fault_key (fault.Ambiguous place) = ((place.file, place.span.start), (place.span.end, 2))
+fault_key (fault.Uncertain place behind) = ((place.file, place.span.start), (place.span.end, 3))
 fault_key other = ((0, 0), (0, 0))
 
 key_of_fault : (told : Omission) → fault_key (fault_of_omission told) ≡ told_key told
@@ -99,6 +100,7 @@ key_of_fault (omitted.Duplicate first second) = refl
 key_of_fault (omitted.MissingImport place) = refl
 key_of_fault (omitted.Unresolved place) = refl
 key_of_fault (omitted.Ambiguous place) = refl
+key_of_fault (omitted.Uncertain place behind) = refl
 
 faults_apart : (told : List Omission) → IsStrictlySortedBy told_cmp told → AreApart (faults_of told)
 faults_apart told rising i j d before within same =
@@ -122,6 +124,7 @@ IsOfFile (fault.Duplicate first second) = ⊤
 IsOfFile (fault.MissingImport place) = ⊤
 IsOfFile (fault.Unresolved place) = ⊤
 IsOfFile (fault.Ambiguous place) = ⊤
+IsOfFile (fault.Uncertain place behind) = ⊤
 IsOfFile fault.TooLarge = ⊥
 IsOfFile (fault.Write count) = ⊥
 IsOfFile fault.Read = ⊥
@@ -135,6 +138,7 @@ told_of_file (omitted.Duplicate first second) = tt
 told_of_file (omitted.MissingImport place) = tt
 told_of_file (omitted.Unresolved place) = tt
 told_of_file (omitted.Ambiguous place) = tt
+told_of_file (omitted.Uncertain place behind) = tt
 
 file_of : (tree : List TreeFile) (told : Omission) → HasFilesOf tree (fault_of_omission told)
     → HasFile tree (told_key told).0.0
@@ -144,6 +148,7 @@ file_of tree (omitted.Duplicate first second) have = have.1
 file_of tree (omitted.MissingImport place) have = have
 file_of tree (omitted.Unresolved place) have = have
 file_of tree (omitted.Ambiguous place) have = have
+file_of tree (omitted.Uncertain place behind) have = have.0
 
 -- where it is told, by the path of the file; it is seen from its finding
 abbrev PathKey : Type 0
@@ -157,6 +162,7 @@ no_place = record { path = []; text = []; offset = None; end = None }
 
 abbrev key_at : FindingKind → (what : ℕ) → FoundPlace → PathKey
 key_at kind.Unresolved what place = ((place.path, unwrap_or place.offset 0), (unwrap_or place.end 0, what))
+key_at kind.Uncertain what place = ((place.path, unwrap_or place.offset 0), (unwrap_or place.end 0, 3))
 key_at kind.Skipped what place = ((place.path, 0), (0, 0))
 key_at kind.Fault what place = ((place.path, 0), (0, 0))
 
@@ -175,6 +181,7 @@ key_found tree (omitted.Duplicate first second) = refl
 key_found tree (omitted.MissingImport place) = refl
 key_found tree (omitted.Unresolved place) = refl
 key_found tree (omitted.Ambiguous place) = refl
+key_found tree (omitted.Uncertain place behind) = refl
 
 module _ (tree : List TreeFile) (own : HaveOwnPaths tree) where
   -- a path is that of one file
@@ -232,6 +239,7 @@ same_fault (fault.Duplicate first second) of = same_number second.file
 same_fault (fault.MissingImport place) of = same_place place
 same_fault (fault.Unresolved place) of = same_place place
 same_fault (fault.Ambiguous place) of = same_place place
+same_fault (fault.Uncertain place behind) of = same_place place
 same_fault fault.TooLarge of = absurd of
 same_fault (fault.Write count) of = absurd of
 same_fault fault.Read of = absurd of

@@ -25,7 +25,7 @@ use Rattle.source_tree.specs.Files.{TreeFile}
 use Rattle.scip_build.specs.FactForms.{form_of}
 use Rattle.scip_build.specs.Builds.{IsBuilt, IsBuildFault}
 use Rattle.scip_build.specs.Kept.{IsLeftFor, IsTold}
-use Rattle.scip_build.specs.Kept.IsTold.{of_file, of_import as told_import, of_use, of_ambiguous}
+use Rattle.scip_build.specs.Kept.IsTold.{of_file, of_import as told_import, of_use, of_ambiguous, of_uncertain}
 use Rattle.scip_build.specs.Files.{ReadFile}
 use Rattle.scip_build.specs.Keeping.{linked_of}
 use Rattle.scip_build.specs.Linking.{linked_file, linked_files, HasFault}
@@ -161,6 +161,11 @@ module _ (allows : Seen → Choice → Type 0) (faulty : Faulty) (dialect : Dial
   file_of_told _ (of_use p is) = let source = is.0 in kept_within p.file source.file source.numbered source.present
   file_of_told _ (of_ambiguous p is) =
       let source = is.0 in kept_within p.file source.file source.numbered source.present
+  file_of_told _ (of_uncertain u n o is numbered out) =
+      let source = is.source in
+      let inside : n < length (linked_files all) =
+      subst (λ (size : ℕ). n < size) are.one_each (slice_get_within omissions n (Some o) out) in
+      (kept_within u.place.file source.file source.numbered source.present, within n inside)
 
   pub files_of_told : (told : List Omission)
       → ((omission : Omission) → Contains told omission → IsTold all omissions omission)

@@ -12,7 +12,7 @@ use Rattle.protoscip.specs.Faults.{fault_of_omission}
 use Rattle.protoscip.specs.Lines.{plain_line, line_at, placed_line}
 use Rattle.protoscip.specs.declared.fault.Fault.{Fault}
 use Rattle.protoscip.specs.declared.fault.Fault.TheVariants.{Spawn, Memory, Lex, Syntax, Duplicate, MissingImport}
-use Rattle.protoscip.specs.declared.fault.Fault.TheVariants.{Unresolved, Ambiguous, TooLarge, Write, Read, Answer}
+use Rattle.protoscip.specs.declared.fault.Fault.TheVariants.{Unresolved, Ambiguous, Uncertain, TooLarge, Write, Read, Answer}
 
 -- ---- lines
 
@@ -25,6 +25,11 @@ abbrev pub duplicate_line : List ℕ → ℕ → List ℕ → ℕ → List ℕ
 duplicate_line path at later_path later_at =
     codes "protoscip: " ++ later_path ++ codes "@" ++ decimal later_at
     ++ codes ": Duplicate of " ++ path ++ codes "@" ++ decimal at
+
+-- `protoscip: uncertain: PATH@OFFSET behind PATH2`
+abbrev pub uncertain_line : List ℕ → ℕ → List ℕ → List ℕ
+uncertain_line path at behind =
+    codes "protoscip: uncertain: " ++ path ++ codes "@" ++ decimal at ++ codes " behind " ++ behind
 
 -- the line of a fault, over this tree, with words before the path of the file at fault: `skipped` if the file is left
 -- out for it, and `unresolved` if it only has an import or a use without a target
@@ -41,6 +46,8 @@ line_with skipped unresolved tree (Unresolved place) =
     line_at (unresolved ++ path_of tree place.file) place.span.start (name_of (Unresolved place))
 line_with skipped unresolved tree (Ambiguous place) =
     line_at (unresolved ++ path_of tree place.file) place.span.start (name_of (Ambiguous place))
+line_with skipped unresolved tree (Uncertain place behind) =
+    uncertain_line (path_of tree place.file) place.span.start (path_of tree behind)
 line_with skipped unresolved tree fault = plain_line (name_of fault)
 
 -- that of a run's fault: without words
@@ -62,6 +69,7 @@ HasFilesOf tree (Duplicate first second) = HasFile tree first.file × HasFile tr
 HasFilesOf tree (MissingImport place) = HasFile tree place.file
 HasFilesOf tree (Unresolved place) = HasFile tree place.file
 HasFilesOf tree (Ambiguous place) = HasFile tree place.file
+HasFilesOf tree (Uncertain place behind) = HasFile tree place.file × HasFile tree behind
 HasFilesOf tree TooLarge = ⊤
 HasFilesOf tree (Write count) = ⊤
 HasFilesOf tree Read = ⊤

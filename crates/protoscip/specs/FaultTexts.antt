@@ -9,7 +9,7 @@ use Rattle.proto_parse.specs.fault.SyntaxFault.{SyntaxFault}
 use Rattle.proto_parse.specs.fault.SyntaxFault.TheVariants as parsing
 use Rattle.protoscip.specs.declared.fault.Fault.{Fault}
 use Rattle.protoscip.specs.declared.fault.Fault.TheVariants.{Spawn, Memory, Lex, Syntax, Duplicate, MissingImport}
-use Rattle.protoscip.specs.declared.fault.Fault.TheVariants.{Unresolved, Ambiguous, TooLarge, Write, Read, Answer}
+use Rattle.protoscip.specs.declared.fault.Fault.TheVariants.{Unresolved, Ambiguous, Uncertain, TooLarge, Write, Read, Answer}
 use Rattle.protoscip.specs.declared.statuses.TheConstants.{MEMORY_STATUS, SOURCES_STATUS, STREAM_STATUS}
 
 -- the sentence is empty for lack of memory
@@ -85,6 +85,9 @@ text_of (MissingImport place) =
 text_of (Unresolved place) = refused (codes "Unresolved") (codes "no type that this source sees has this name")
 text_of (Ambiguous place) =
     refused (codes "Ambiguous") (codes "several files that this source sees declare a type of this name")
+text_of (Uncertain place behind) =
+    refused (codes "Uncertain")
+    (codes "a file that this source sees can't be read: it may declare a nearer type of this name")
 text_of TooLarge = said (codes "TooLarge") (codes "an index has at most 2147483647 bytes") STREAM_STATUS
 text_of (Write count) =
     said (codes "Write") (codes "the output can't be made, or its disk is full, or nobody reads it") STREAM_STATUS

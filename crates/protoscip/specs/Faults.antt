@@ -12,7 +12,7 @@ use Rattle.scip_wire.specs.declared.write_fault.WriteFault.{WriteFault}
 use Rattle.scip_wire.specs.declared.write_fault.WriteFault.TheVariants as writing
 use Rattle.protoscip.specs.declared.fault.Fault.{Fault}
 use Rattle.protoscip.specs.declared.fault.Fault.TheVariants.{Spawn, Memory, Lex, Syntax, Duplicate, MissingImport}
-use Rattle.protoscip.specs.declared.fault.Fault.TheVariants.{Unresolved, Ambiguous, TooLarge, Write, Read, Answer}
+use Rattle.protoscip.specs.declared.fault.Fault.TheVariants.{Unresolved, Ambiguous, Uncertain, TooLarge, Write, Read, Answer}
 
 -- why the file with this number can't be read
 abbrev pub fault_of_file : ℕ → FileFault → Fault
@@ -28,13 +28,14 @@ fault_of_build (build.MissingImport place) = MissingImport place
 fault_of_build (build.Unresolved place) = Unresolved place
 fault_of_build (build.Ambiguous place) = Ambiguous place
 
--- the fault for which a run would be refused that skips it
+-- the fault for which a run would be refused that skips it; for an uncertain use none would be
 abbrev pub fault_of_omission : Omission → Fault
 fault_of_omission (omitted.File number fault) = fault_of_file number fault
 fault_of_omission (omitted.Duplicate first second) = Duplicate first second
 fault_of_omission (omitted.MissingImport place) = MissingImport place
 fault_of_omission (omitted.Unresolved place) = Unresolved place
 fault_of_omission (omitted.Ambiguous place) = Ambiguous place
+fault_of_omission (omitted.Uncertain place behind) = Uncertain place behind
 
 abbrev pub fault_of_writing : WriteFault → Fault
 fault_of_writing writing.TooLarge = TooLarge

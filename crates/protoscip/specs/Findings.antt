@@ -20,6 +20,7 @@ use Rattle.protoscip.specs.ToldLines.{is_import, is_skipped, is_skipped_source, 
 use Rattle.protoscip.specs.Unread.{unread_finding}
 use Rattle.protoscip.specs.declared.fault.Fault.{Fault}
 use Rattle.protoscip.specs.declared.fault.Fault.TheVariants.{Lex, Syntax, Duplicate, MissingImport, Unresolved, Ambiguous}
+use Rattle.protoscip.specs.declared.fault.Fault.TheVariants.{Uncertain}
 
 -- ---- a finding
 
@@ -39,6 +40,7 @@ place_of tree (Duplicate first second) = Some (place_of_span tree second)
 place_of tree (MissingImport place) = Some (place_of_span tree place)
 place_of tree (Unresolved place) = Some (place_of_span tree place)
 place_of tree (Ambiguous place) = Some (place_of_span tree place)
+place_of tree (Uncertain place behind) = Some (place_of_span tree place)
 place_of tree fault = None
 
 -- and this is the first
@@ -63,13 +65,14 @@ finding_of kind tree fault = record {
 
 -- ---- all findings
 
--- of what an index lacks: a file is left out, or an import or a use has no target
+-- of what an index lacks: a file is left out, an import or a use has no target, or a use may have another one
 abbrev pub kind_of : Omission → FindingKind
 kind_of (omitted.File number fault) = kind.Skipped
 kind_of (omitted.Duplicate first second) = kind.Skipped
 kind_of (omitted.MissingImport place) = kind.Unresolved
 kind_of (omitted.Unresolved place) = kind.Unresolved
 kind_of (omitted.Ambiguous place) = kind.Unresolved
+kind_of (omitted.Uncertain place behind) = kind.Uncertain
 
 abbrev pub told_finding : List TreeFile → Omission → Found
 told_finding tree omission = finding_of (kind_of omission) tree (fault_of_omission omission)
@@ -107,6 +110,10 @@ is_use_at place (Unresolved other) = is_one_place place other
 is_use_at place (Ambiguous other) = is_one_place place other
 is_use_at place fault = false
 
+abbrev pub is_uncertain_at : FilePlace → Fault → Bool
+is_uncertain_at place (Uncertain other behind) = is_one_place place other
+is_uncertain_at place fault = false
+
 -- the second tells of the same file, import or use as the first
 abbrev pub tells_same : Fault → Fault → Bool
 tells_same (Lex number fault) other = leaves_out number other
@@ -115,6 +122,7 @@ tells_same (Duplicate first second) other = leaves_out second.file other
 tells_same (MissingImport place) other = is_import_at place other
 tells_same (Unresolved place) other = is_use_at place other
 tells_same (Ambiguous place) other = is_use_at place other
+tells_same (Uncertain place behind) other = is_uncertain_at place other
 tells_same fault other = false
 
 abbrev pub is_other : Fault → Fault → Bool
@@ -124,8 +132,13 @@ is_other fault other = not (tells_same fault other)
 abbrev pub faults_with : Fault → List Fault → List Fault
 faults_with fault faults = fault ∷ filter (is_other fault) faults
 
+-- what each is: for an uncertain use no run is refused
+abbrev pub refused_kind : Fault → FindingKind
+refused_kind (Uncertain place behind) = kind.Uncertain
+refused_kind fault = kind.Fault
+
 abbrev pub refused_in : List TreeFile → List Fault → List Found
-refused_in tree faults = map (finding_of kind.Fault tree) faults
+refused_in tree faults = map (λ fault. finding_of (refused_kind fault) tree fault) faults
 
 -- the fault for which the run is refused, and then what else would be told, in its order
 abbrev pub refused_findings : List TreeFile → Fault → List Omission → List Found

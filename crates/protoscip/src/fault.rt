@@ -47,6 +47,10 @@ pub enum Fault {
     /// may give one name.
     #[error("a use that names several types, {0}")]
     Ambiguous(FilePlace),
+    /// A use that names a type, but may name another one once the file with this number can be read. It is told of an
+    /// index, and nothing stops for it.
+    #[error("a use that is uncertain, {0}, behind file {1}")]
+    Uncertain(FilePlace, usize),
     /// The index would have more than `MAX_INDEX_LEN` bytes.
     #[error("an index has at most {most} bytes", most = MAX_INDEX_LEN)]
     TooLarge,
@@ -103,6 +107,7 @@ impl From<Omission> for Fault {
             Omission::MissingImport(place) => Fault::MissingImport(place),
             Omission::Unresolved(place) => Fault::Unresolved(place),
             Omission::Ambiguous(place) => Fault::Ambiguous(place),
+            Omission::Uncertain(place, behind) => Fault::Uncertain(place, behind),
         }
     }
 }

@@ -1,7 +1,7 @@
 //! The line that says why a run stops.
 
 ghost use Rattle.std.specs.Prelude.{◌≡◌, ◌++◌, IfOk, string_bytes};
-ghost use Rattle.protoscip.specs.FaultLines.{HasFile, HasFilesOf, path_of, duplicate_line, line_of, line_with};
+ghost use Rattle.protoscip.specs.FaultLines.{HasFile, HasFilesOf, path_of, duplicate_line, uncertain_line, line_of, line_with};
 ghost use Rattle.protoscip.specs.Lines.{line_at};
 
 use crate::fault::Fault;
@@ -23,7 +23,8 @@ pub fn fault_line(alloc: Global, tree: &Tree, fault: &Fault) -> Result<String, A
 }
 
 /// The line, without its end, that says this, with words before the path of the file at fault: `skipped` if the file is
-/// left out for it, and `unresolved` if it only has an import or a use without a target.
+/// left out for it, and `unresolved` if it only has an import or a use without a target. The line of an uncertain use has
+/// words of its own.
 pub(crate) fn line_with(
     alloc: Global,
     tree: &Tree,
@@ -53,6 +54,7 @@ pub(crate) fn line_with(
         Fault::MissingImport(place) => line_at_place(alloc, unresolved, tree, place, name),
         Fault::Unresolved(place) => line_at_place(alloc, unresolved, tree, place, name),
         Fault::Ambiguous(place) => line_at_place(alloc, unresolved, tree, place, name),
+        Fault::Uncertain(place, behind) => line_behind(alloc, tree, place, *behind),
         Fault::Spawn
         | Fault::Memory
         | Fault::TooLarge
@@ -105,4 +107,33 @@ fn duplicate_line(
         ≡ duplicate_line path.now offset (words.now ++ later_path.now) later_offset) }
 {
     format!(in alloc; "protoscip: {words}{later_path}@{later_offset}: Duplicate of {path}@{offset}")
+}
+
+/// The line of an uncertain use, by its place and the number of the file behind which it is.
+fn line_behind(
+    alloc: Global,
+    tree: &Tree,
+    place: &FilePlace,
+    behind: usize,
+) -> Result<String, AllocError>
+    requires place { HasFile tree.now place.now.file }
+    requires behind { HasFile tree.now behind }
+    ensures { IfOk result (λ line. string_bytes line
+        ≡ uncertain_line (path_of tree.now place.now.file) place.now.span.start (path_of tree.now behind)) }
+{
+    let path = path_of(tree, place.file);
+    let other = path_of(tree, behind);
+    uncertain_line(alloc, path, place.span.start as usize, other)
+}
+
+/// `protoscip: uncertain: PATH@OFFSET behind PATH2`
+fn uncertain_line(
+    alloc: Global,
+    path: &str,
+    offset: usize,
+    behind: &str,
+) -> Result<String, AllocError>
+    ensures { IfOk result (λ line. string_bytes line ≡ uncertain_line path.now offset behind.now) }
+{
+    format!(in alloc; "protoscip: uncertain: {path}@{offset} behind {behind}")
 }

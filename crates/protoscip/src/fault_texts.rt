@@ -139,6 +139,11 @@ impl Fault {
                 let sentence = "several files that this source sees declare a type of this name";
                 refused("Ambiguous", sentence)
             }
+            Fault::Uncertain(..) => {
+                let sentence =
+                    "a file that this source sees can't be read: it may declare a nearer type of this name";
+                refused("Uncertain", sentence)
+            }
             Fault::TooLarge => {
                 said(
                     "TooLarge",

@@ -17,6 +17,7 @@ ghost use Rattle.protoscip.specs.Findings.{
   is_import_at,
   is_one_place,
   is_other,
+  is_uncertain_at,
   is_use_at,
   kind_of,
   leaves_out,
@@ -24,6 +25,7 @@ ghost use Rattle.protoscip.specs.Findings.{
   place_of_span,
   refused_findings,
   refused_in,
+  refused_kind,
   tells_same,
   told_finding,
   told_findings,
@@ -84,6 +86,7 @@ fn place_of<'a>(counter: &mut TreeCounter<'a>, fault: &Fault) -> Option<Place<'a
         Fault::MissingImport(place) => Some(place_of_span(counter, place)),
         Fault::Unresolved(place) => Some(place_of_span(counter, place)),
         Fault::Ambiguous(place) => Some(place_of_span(counter, place)),
+        Fault::Uncertain(place, _) => Some(place_of_span(counter, place)),
         Fault::Spawn
         | Fault::Memory
         | Fault::TooLarge
@@ -158,6 +161,7 @@ fn kind_of(omission: &Omission) -> FindingKind
         Omission::File(..) | Omission::Duplicate(..) => FindingKind::Skipped,
         Omission::MissingImport(_) => FindingKind::Unresolved,
         Omission::Unresolved(_) | Omission::Ambiguous(_) => FindingKind::Unresolved,
+        Omission::Uncertain(..) => FindingKind::Uncertain,
     }
 }
 
@@ -264,6 +268,16 @@ fn is_use_at(place: &FilePlace, fault: &Fault) -> bool
     }
 }
 
+/// Whether a fault is that of the uncertain use at this place.
+fn is_uncertain_at(place: &FilePlace, fault: &Fault) -> bool
+    ensures { result ≡ is_uncertain_at place.now fault.now }
+{
+    match fault {
+        Fault::Uncertain(other, _) => is_one_place(place, other),
+        _ => false,
+    }
+}
+
 /// Whether the second tells of the same file, import or use as the first.
 fn tells_same(fault: &Fault, other: &Fault) -> bool
     ensures { result ≡ tells_same fault.now other.now }
@@ -274,6 +288,7 @@ fn tells_same(fault: &Fault, other: &Fault) -> bool
         Fault::MissingImport(place) => is_import_at(place, other),
         Fault::Unresolved(place) => is_use_at(place, other),
         Fault::Ambiguous(place) => is_use_at(place, other),
+        Fault::Uncertain(place, _) => is_uncertain_at(place, other),
         _ => false,
     }
 }
@@ -300,7 +315,17 @@ fn faults_with(alloc: Global, own: &Fault, told: &[Fault]) -> Result<Vec<Fault>,
     Ok(faults)
 }
 
-/// The findings of faults: each is one for which a run is refused.
+/// What a fault is of a run that is refused: for an uncertain use none would be.
+fn refused_kind(fault: &Fault) -> FindingKind
+    ensures { result ≡ refused_kind fault.now }
+{
+    match fault {
+        Fault::Uncertain(..) => FindingKind::Uncertain,
+        _ => FindingKind::Fault,
+    }
+}
+
+/// The findings of faults: each is one for which a run is refused, but for uncertain uses.
 fn refused_in<'a>(
     alloc: Global,
     tree: &'a Tree,
@@ -312,7 +337,7 @@ fn refused_in<'a>(
     let mut counters = counters_of(tree);
     let mut findings = Vec::new(alloc);
     for fault in faults {
-        let finding = counted_finding(FindingKind::Fault, tree, &mut counters, fault);
+        let finding = counted_finding(refused_kind(fault), tree, &mut counters, fault);
         findings.push(finding)?;
     }
     Ok(findings)

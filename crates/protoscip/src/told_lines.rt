@@ -1,4 +1,5 @@
-//! The line of what an index lacks: of a file that is left out, of an import or a use without a target.
+//! The line of what an index lacks: of a file that is left out, of an import or a use without a target, of a use that may
+//! have another one.
 
 ghost use Rattle.std.specs.Prelude.{◌≡◌, ◌++◌, ℕ, List, IfOk, OnOk, string_bytes};
 ghost use Rattle.protoscip.specs.FaultLines.{HasFilesOf};

@@ -32,8 +32,9 @@ struct Row {
 }
 
 // The first row reads: in `a.proto`, the import at byte 26 has no target, nor has the use at byte 52; and `b.proto` can't
-// be read, for which the tree is refused.
-static ROWS: [Row; 2] = [
+// be read, for which the tree is refused. In the last row a use may name another type once `a.proto` can be read: no tree
+// is refused for that.
+static ROWS: [Row; 3] = [
     Row {
         files: "b.proto\n@|\
 a.proto\nsyntax = \"proto3\";\nimport \"e.\" 'proto';\nmessage M { D d = 1; }\n",
@@ -61,6 +62,24 @@ a.proto\nsyntax = \"proto3\";\nimport \"e.\" 'proto';\nmessage M { D d = 1; }\n"
 ",
         alone: "{\"column\":12,\"end\":69,\"first\":{\"column\":12,\"end\":46,\"line\":3,\"offset\":42,\"path\":\"a.proto\"},\"import\":null,\"kind\":\"fault\",\"line\":4,\"message\":\"this full name is given already\",\"name\":\"Duplicate\",\"offset\":65,\"path\":\"a.proto\"}
 {\"imports\":0,\"kind\":\"counts\",\"skipped\":0,\"sources\":1,\"status\":1,\"uses\":0}
+",
+    },
+    Row {
+        files: "a.proto\n@|\
+b.proto\nsyntax = \"proto3\";\npackage p;\nimport \"a.proto\";\nimport \"c.proto\";\nmessage M { T t = 1; }\n|\
+c.proto\nsyntax = \"proto3\";\nmessage T {}\n",
+        skipped: "{\"column\":1,\"end\":null,\"first\":null,\"import\":null,\"kind\":\"skipped\",\"line\":1,\"message\":\"this character can't be here\",\"name\":\"BadByte\",\"offset\":0,\"path\":\"a.proto\"}
+{\"column\":8,\"end\":46,\"first\":null,\"import\":\"a.proto\",\"kind\":\"no target\",\"line\":3,\"message\":\"the file with this path is left out\",\"name\":\"MissingImport\",\"offset\":37,\"path\":\"b.proto\"}
+{\"column\":13,\"end\":79,\"first\":null,\"import\":null,\"kind\":\"uncertain\",\"line\":5,\"message\":\"a file that this source sees can't be read: it may declare a nearer type of this name\",\"name\":\"Uncertain\",\"offset\":78,\"path\":\"b.proto\"}
+{\"imports\":1,\"kind\":\"counts\",\"skipped\":1,\"sources\":2,\"status\":0,\"uses\":0}
+",
+        refused: "{\"column\":1,\"end\":null,\"first\":null,\"import\":null,\"kind\":\"fault\",\"line\":1,\"message\":\"this character can't be here\",\"name\":\"BadByte\",\"offset\":0,\"path\":\"a.proto\"}
+{\"column\":8,\"end\":46,\"first\":null,\"import\":\"a.proto\",\"kind\":\"fault\",\"line\":3,\"message\":\"the file with this path is left out\",\"name\":\"MissingImport\",\"offset\":37,\"path\":\"b.proto\"}
+{\"column\":13,\"end\":79,\"first\":null,\"import\":null,\"kind\":\"uncertain\",\"line\":5,\"message\":\"a file that this source sees can't be read: it may declare a nearer type of this name\",\"name\":\"Uncertain\",\"offset\":78,\"path\":\"b.proto\"}
+{\"imports\":1,\"kind\":\"counts\",\"skipped\":1,\"sources\":2,\"status\":1,\"uses\":0}
+",
+        alone: "{\"column\":1,\"end\":null,\"first\":null,\"import\":null,\"kind\":\"fault\",\"line\":1,\"message\":\"this character can't be here\",\"name\":\"BadByte\",\"offset\":0,\"path\":\"a.proto\"}
+{\"imports\":0,\"kind\":\"counts\",\"skipped\":0,\"sources\":3,\"status\":1,\"uses\":0}
 ",
     },
 ];

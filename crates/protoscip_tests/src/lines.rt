@@ -30,7 +30,7 @@ struct Row {
 
 // The first row reads: in `a.proto`, the value `ZERO` at byte 65 has the full name of the one at byte 42; so the file
 // is left out, and nothing is left.
-static ROWS: [Row; 8] = [
+static ROWS: [Row; 9] = [
     Row {
         duplicates: Duplicates::Refuse,
         files: "a.proto\nsyntax = \"proto3\";\nmessage M {\n  enum A { ZERO = 0; }\n  enum B { ZERO = 0; }\n}\n",
@@ -109,6 +109,17 @@ c.proto\nsyntax = \"proto3\";\nimport \"a.proto\";\nimport \"b.proto\";\nmessage
         told: "protoscip: no target: c.proto@67: Ambiguous
 protoscip: no target: c.proto@76: Unresolved
 protoscip: 3 sources indexed, 0 skipped, 0 imports and 2 uses without a target",
+    },
+    Row {
+        duplicates: Duplicates::Refuse,
+        files: "a.proto\nsyntax = \"proto3\";\nmessage T {}\n|\
+b.proto\nsyntax = \"proto3\";\npackage p;\nmessage {}\n|\
+d.proto\nsyntax = \"proto3\";\npackage p;\nimport \"a.proto\";\nimport \"b.proto\";\nmessage M { T t = 1; .T u = 2; M m = 3; }\n",
+        line: "protoscip: b.proto@38: Grammar",
+        told: "protoscip: skipped: b.proto@38: Grammar
+protoscip: no target: d.proto@55: MissingImport
+protoscip: uncertain: d.proto@78 behind b.proto
+protoscip: 2 sources indexed, 1 skipped, 1 imports and 0 uses without a target",
     },
 ];
 

@@ -21,7 +21,7 @@ const OTHER: FilePlace = FilePlace {
 };
 
 /// Faults, their names and their texts.
-const FAULTS: [(Fault, &str, &str); 12] = [
+const FAULTS: [(Fault, &str, &str); 13] = [
     (Fault::Spawn, "Spawn", "a thread could not be started"),
     (Fault::Memory, "Memory", "memory ran out"),
     (
@@ -53,6 +53,11 @@ const FAULTS: [(Fault, &str, &str); 12] = [
         Fault::Ambiguous(PLACE),
         "Ambiguous",
         "a use that names several types, at byte 2 of file 1",
+    ),
+    (
+        Fault::Uncertain(OTHER, 1),
+        "Uncertain",
+        "a use that is uncertain, at byte 5 of file 4, behind file 1",
     ),
     (
         Fault::TooLarge,

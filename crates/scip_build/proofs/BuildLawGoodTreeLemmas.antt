@@ -44,7 +44,7 @@ use Rattle.proto_link.specs.Targets.{MayRefuseUse}
 use Rattle.scip_build.specs.BuildLaws.{SetTheSame, BuiltWhereNothingIsTold}
 use Rattle.scip_build.specs.Keeping.{linked_of}
 use Rattle.scip_build.specs.Kept.{IsTold, AreKept, NothingIsToldOfAGoodTree}
-use Rattle.scip_build.specs.Kept.IsTold.{of_file, of_import, of_use, of_ambiguous}
+use Rattle.scip_build.specs.Kept.IsTold.{of_file, of_import, of_use, of_ambiguous, of_uncertain}
 use Rattle.scip_build.proofs.ToldUseLemmas.{unresolved_there, ambiguous_there}
 use Rattle.scip_build.proofs.LinkingLemmas.{mapped_at}
 use Rattle.scip_build.proofs.KeptTreeLemmas.{all_linked}
@@ -123,6 +123,7 @@ module _ (all : List ReadFile) (omissions : Omissions) (one_each : length omissi
       let Resolve : List ReadFile → Type 0 = λ rs. AllResolve (linked_files rs) in
       let files = linked_files (linked_of omissions all) in
       all_are_named files (subst Resolve (sym all_are) resolve) p (ambiguous_there files p is)
+  none_told duplicates can resolve _ (of_uncertain u n o is numbered out) = none-some o (sym (kept_at n (Some o) out))
 
 none_listed : (told : List Omission) → ((fault : Omission) → Contains told fault → ⊥) → told ≡ []
 none_listed [] none = refl

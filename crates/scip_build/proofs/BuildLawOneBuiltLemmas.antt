@@ -45,9 +45,10 @@ use Rattle.scip_build.specs.Files.{FileContents, ReadFile}
 use Rattle.scip_build.specs.ParsedFiles.{seen_of, AreChosen, AreContentsOf, HasContents, AreParsedFiles}
 use Rattle.scip_build.specs.Linking.{linked_file, linked_files, choices_in, choices_of, HasFault}
 use Rattle.scip_build.specs.Documents.{text_in, text_of, texts_of, IsToldUse}
-use Rattle.scip_build.specs.Keeping.{as_left_out, linked_of}
+use Rattle.proto_link.specs.Uncertain.{IsUncertain}
+use Rattle.scip_build.specs.Keeping.{as_left_out, linked_numbers, linked_of}
 use Rattle.scip_build.specs.Kept.{IsLeftFor, place_among_all, IsTold, Key, told_key, key_cmp}
-use Rattle.scip_build.specs.Kept.IsTold.{of_file, of_import, of_use, of_ambiguous}
+use Rattle.scip_build.specs.Kept.IsTold.{of_file, of_import, of_use, of_ambiguous, of_uncertain}
 use Rattle.proto_visibility.specs.declared.fault.LinkFault.TheVariants as link_fault
 use Rattle.scip_build.specs.Builds.{IsBuilt}
 use Rattle.scip_build.specs.Laws.{OneListOfFacts, NoFactsWhereUnreadable, OneFileFault}
@@ -295,6 +296,15 @@ module _ (one : OneListOfFacts) (apart : NoFactsWhereUnreadable) (one_fault : On
       let place : place_among_all a p ≡ place_among_all b p = ap (λ o. place_among_all o p) same_omissions in
       let use_too = subst (λ fs. IsToldUse fs p (link_fault.Ambiguous p)) kept_files is_use in
       subst (IsTold again b) (ap omitted.Ambiguous (sym place)) (of_ambiguous p use_too)
+  told_too _ (of_uncertain u n o is_use numbered out) =
+      let place : place_among_all a u.place ≡ place_among_all b u.place =
+      ap (λ x. place_among_all x u.place) same_omissions in
+      let use_too = subst (λ fs. IsUncertain fs u) kept_files is_use in
+      let numbered_too =
+      subst (λ (x : Omissions). slice_get (linked_numbers x) u.behind ≡ Some n) same_omissions numbered in
+      let out_too = subst (λ (x : Omissions). slice_get x n ≡ Some (Some o)) same_omissions out in
+      subst (IsTold again b) (ap (λ p. omitted.Uncertain p n) (sym place))
+      (of_uncertain u n o use_too numbered_too out_too)
 
   keys_there : (key : Key) → Contains (map told_key built.told) key → Contains (map told_key other.told) key
   keys_there key there =

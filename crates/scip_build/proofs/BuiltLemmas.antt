@@ -8,7 +8,7 @@ use Rattle.basics.proofs.ListLemmas.{in_nothing}
 use Rattle.proto_visibility.specs.declared.files.FilePlace.{FilePlace}
 use Rattle.proto_visibility.specs.declared.clash.Duplicates.{Duplicates}
 use Rattle.proto_visibility.specs.Files.{HaveOwnPaths}
-use Rattle.proto_visibility.specs.Absences.{AreMissing}
+use Rattle.proto_visibility.specs.Absences.{AreMissing, NoneBroken}
 use Rattle.proto_visibility.specs.Linked.{HaveClearNames}
 use Rattle.proto_visibility.specs.Kept.{Omissions, AreOmissions, KeptFilesAreClear}
 use Rattle.proto_decl.specs.Values.{Seen}
@@ -29,11 +29,13 @@ use Rattle.scip_build.specs.Keeping.{linked_of}
 use Rattle.scip_build.specs.Ready.{AreOfTree, ArePresent}
 use Rattle.scip_build.specs.Documents.{IsUnresolvedAt}
 use Rattle.scip_build.specs.Kept.{told_cmp, AreKept}
-use Rattle.scip_build.specs.Telling.{AreInOrder, all_told, AreKeptFiles, AreUseFaults}
+use Rattle.scip_build.specs.Telling.{AreInOrder, all_told, AreKeptFiles, AreUncertainUses, AreUseFaults}
+use Rattle.proto_link.specs.declared.uncertain_use.UncertainUse.{UncertainUse}
 use Rattle.proto_visibility.specs.declared.fault.LinkFault.{LinkFault}
 use Rattle.scip_build.specs.Forms.{IsMadeOf, IsLinkedAndMade, IsBuiltOfInForm, IsBuiltInForm}
 use Rattle.scip_build.proofs.BuildsRefusalLemmas.{not_both}
 use Rattle.scip_build.proofs.KeptTreeLemmas.{linked_is, linked_tree, all_linked}
+use Rattle.scip_build.proofs.KeptUncertainLemmas.{behind_left}
 use Rattle.scip_build.proofs.KeptToldLemmas.{is_told, told_is, own_keys}
 use Rattle.scip_build.proofs.BuildLawGoodTreeLemmas.{all_kept, good_files_are_kept, are_all_kept, none_told}
 
@@ -101,11 +103,13 @@ kept_ready kept_clear duplicates all parsed omissions tree present are kept =
 
 pub kept_built : {Out : Type 0} (Is : Document → Out → Type 0) (all parsed : List ReadFile) (settings : Settings)
     (made : Made Out) (numbers : List ℕ) (left once : List Omission) (missing : List FilePlace)
-    (faults : List LinkFault) → settings.faulty ≡ Skip → (of_files : AreKeptFiles settings.duplicates all parsed numbers left)
+    (faults : List LinkFault) (uncertain : List UncertainUse) → ArePresent all → settings.faulty ≡ Skip → (of_files : AreKeptFiles settings.duplicates all parsed numbers left)
     → IsMadeOf Is parsed settings made → AreMissing (linked_files parsed) missing
     → AreUseFaults (linked_files parsed) made.unresolved_uses faults
-    → AreInOrder (all_told left numbers missing faults) once → IsBuiltOfInForm Is all settings made.choices once made.parts
-kept_built Is all parsed settings made numbers left once missing faults skip kept of missing_are faults_are order =
+    → AreUncertainUses (linked_files parsed) uncertain → AreInOrder (all_told left numbers missing faults uncertain) once
+    → IsBuiltOfInForm Is all settings made.choices once made.parts
+kept_built Is all parsed settings made numbers left once missing faults uncertain present skip kept of missing_are
+    faults_are uncertain_are order =
     let omissions = kept.omissions in
     let missing_too = subst (λ (rs : List ReadFile). AreMissing (linked_files rs) missing) kept.kept missing_are in
     let Gaps : List ReadFile → Type 0 = λ rs. (place : FilePlace)
@@ -113,10 +117,15 @@ kept_built Is all parsed settings made numbers left once missing faults skip kep
     let unresolved_too = subst Gaps kept.kept of.in_form.made.unresolved in
     let faults_too = subst (λ (rs : List ReadFile). AreUseFaults (linked_files rs) made.unresolved_uses faults) kept.kept
     faults_are in
-    let order_too = subst (λ ns. AreInOrder (all_told left ns missing faults) once)
+    let uncertain_too = subst (λ (rs : List ReadFile). AreUncertainUses (linked_files rs) uncertain) kept.kept
+    uncertain_are in
+    let order_too = subst (λ ns. AreInOrder (all_told left ns missing faults uncertain) once)
     kept.numbers_are order in
-    let own = own_keys settings.duplicates all omissions kept.left_out left missing made.unresolved_uses faults
-    kept.left_are missing_too unresolved_too faults_too in
+    let size : length omissions ≡ length all = kept.left_out.one_each ∙ length-map all linked_file in
+    let read = subst (λ (rs : List ReadFile). NoneBroken (linked_files rs)) kept.kept of.clear.read in
+    let behind = behind_left all omissions size present read in
+    let own = own_keys settings.duplicates all omissions kept.left_out left missing made.unresolved_uses faults uncertain
+    kept.left_are missing_too unresolved_too faults_too uncertain_too behind in
     record {
       index = of.in_form.index;
       built = record {
@@ -129,9 +138,11 @@ kept_built Is all parsed settings made numbers left once missing faults skip kep
           told_is = record {
             exact = λ fault. (
               λ there. is_told settings.duplicates all omissions kept.left_out left missing made.unresolved_uses faults
-                  kept.left_are missing_too unresolved_too faults_too fault ((order_too.same own fault).0 there),
+                  uncertain kept.left_are missing_too unresolved_too faults_too uncertain_too behind fault
+                  ((order_too.same own fault).0 there),
               λ is. (order_too.same own fault).1 (told_is settings.duplicates all omissions kept.left_out left missing
-                  made.unresolved_uses faults kept.left_are missing_too unresolved_too faults_too fault is),
+                  made.unresolved_uses faults uncertain kept.left_are missing_too unresolved_too faults_too uncertain_too
+                  behind fault is),
             );
             ascends = order_too.rising;
           };

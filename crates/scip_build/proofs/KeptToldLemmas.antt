@@ -2,6 +2,7 @@
 use Rattle.std.proofs.Common.{◌≡◌, ◌∙◌, ◌↔◌, inl, inr, ℕ, ◌-◌, ◌++◌, false, true≢false, List, []}
 use Rattle.std.proofs.Common.{length, map, Option, Some, None, Result, Err, ap, sym, refl, subst, arith}
 use Rattle.std.specs.List.{Contains, flat_map, slice_get}
+use Rattle.std.specs.Option.{unwrap_or}
 use Rattle.std.specs.declared.cmp.Ordering.TheVariants.{Equal}
 use Rattle.std.specs.Ordering.{nat_cmp, ordering_then, is_lt}
 use Rattle.std.specs.Cmp.{IsTotalOrder, IsStrictWeakOrder}
@@ -16,6 +17,8 @@ use Rattle.proto_visibility.specs.declared.files.FilePlace.{FilePlace}
 use Rattle.proto_visibility.specs.declared.fault.LinkFault.{LinkFault}
 use Rattle.proto_visibility.specs.declared.fault.LinkFault.TheVariants as link
 use Rattle.proto_link.specs.Targets.{IsUseFault}
+use Rattle.proto_link.specs.declared.uncertain_use.UncertainUse.{UncertainUse}
+use Rattle.proto_link.specs.Uncertain.{IsFirstUnread, IsUncertain}
 use Rattle.proto_visibility.specs.declared.omissions.FileOmission.{FileOmission}
 use Rattle.proto_visibility.specs.declared.omissions.FileOmission.TheVariants as left_for
 use Rattle.proto_visibility.specs.declared.clash.Duplicates.{Duplicates}
@@ -27,26 +30,27 @@ use Rattle.proto_visibility.specs.Absences.{IsNeeded, IsMissing, AreMissing}
 use Rattle.proto_visibility.specs.Absences.IsNeeded.{of_source, of_included}
 use Rattle.proto_visibility.specs.Kept.{Omissions, IsMet, IsOmission, AreOmissions, IsTakenBefore, Precedes, kept_of}
 use Rattle.proto_visibility.specs.Kept.{left_of as behind_of, number_among_all}
-use Rattle.proto_visibility.proofs.KeptAmongLemmas.{behind, from_mapped, is_kept}
+use Rattle.proto_visibility.proofs.KeptAmongLemmas.{behind, from_mapped, is_kept, one_number}
 use Rattle.proto_visibility.proofs.KeptLemmas.{excludes_as}
 use Rattle.proto_visibility.proofs.KeptOrderLemmas.{taken_one_way}
 use Rattle.proto_visibility.proofs.SeeingLemmas.{slice_get_prefix}
 use Rattle.scip_build.specs.declared.fault.FileFault.{FileFault}
 use Rattle.scip_build.specs.declared.omission.Omission.{Omission}
 use Rattle.scip_build.specs.declared.omission.Omission.TheVariants.{File, MissingImport, Unresolved}
-use Rattle.scip_build.specs.declared.omission.Omission.TheVariants.{Ambiguous}
+use Rattle.scip_build.specs.declared.omission.Omission.TheVariants.{Ambiguous, Uncertain}
 use Rattle.scip_build.specs.Files.{FileContents, ReadFile}
 use Rattle.scip_build.specs.Linking.{linked_file, linked_files, HasFault}
 use Rattle.scip_build.specs.Documents.{IsUnresolvedAt}
 use Rattle.scip_build.specs.Kept.{IsLeftFor, place_among_all, IsTold, Key, told_key, key_cmp, told_cmp}
-use Rattle.scip_build.specs.Kept.IsTold.{of_file, of_import, of_use, of_ambiguous}
-use Rattle.scip_build.specs.Keeping.{kept_numbers, as_left_out, linked_of}
+use Rattle.scip_build.specs.Kept.IsTold.{of_file, of_import, of_use, of_ambiguous, of_uncertain}
+use Rattle.scip_build.specs.Keeping.{linked_numbers, as_left_out, linked_of}
 use Rattle.scip_build.specs.Telling.{Adds, FromFront, IsLeftIf, place_by, told_import, told_use, HaveOwnKeys}
-use Rattle.scip_build.specs.Telling.{AreUseFaults, IsFaultAt}
+use Rattle.scip_build.specs.Telling.{AreUncertainUses, AreUseFaults, IsFaultAt, number_in, told_uncertain}
 use Rattle.scip_build.proofs.ToldUseLemmas.{from_lists, to_lists, unresolved_file, ambiguous_file}
 use Rattle.scip_build.proofs.ToldUseLemmas.{unresolved_there, ambiguous_there}
 use Rattle.scip_build.proofs.LinkingLemmas.{mapped_at}
 use Rattle.scip_build.proofs.KeptTreeLemmas.{number_of}
+use Rattle.scip_build.proofs.KeptUncertainLemmas.{IsLeftBehind, one_behind}
 use Rattle.source_tree.proofs.TreeLemmas.{mapped_from}
 use Rattle.scip_model.proofs.OccurrenceOrderLemmas.{both_equal}
 
@@ -218,6 +222,9 @@ module _ (duplicates : Duplicates) (all : List ReadFile) (omissions : Omissions)
   one_told a _ (of_file n o at left) (of_ambiguous q is) same =
       let there = use_at q is.0 in
       absurd (not_kept n o at q.file there.0 there.1 (sym (left_of n o a at left) ∙ same.file))
+  one_told a _ (of_file n o at left) (of_uncertain v m more is numbered out) same =
+      let there = use_at v.place is.source in
+      absurd (not_kept n o at v.place.file there.0 there.1 (sym (left_of n o a at left) ∙ same.file))
   one_told _ b (of_import p missing) (of_file m o and right) same =
       let there = import_at p missing in
       absurd (not_kept m o and p.file there.0 there.1 (sym (left_of m o b and right) ∙ sym same.file))
@@ -226,6 +233,7 @@ module _ (duplicates : Duplicates) (all : List ReadFile) (omissions : Omissions)
       same.end)
   one_told _ _ (of_import p missing) (of_use q is) same = absurd (omega (arith, same.what))
   one_told _ _ (of_import p missing) (of_ambiguous q is) same = absurd (omega (arith, same.what))
+  one_told _ _ (of_import p missing) (of_uncertain v m more is numbered out) same = absurd (omega (arith, same.what))
   one_told _ b (of_use p is) (of_file m o and right) same =
       let there = use_at p is.0 in
       absurd (not_kept m o and p.file there.0 there.1 (sym (left_of m o b and right) ∙ sym same.file))
@@ -234,6 +242,7 @@ module _ (duplicates : Duplicates) (all : List ReadFile) (omissions : Omissions)
       ap Unresolved (one_place (place_among_all omissions p) (place_among_all omissions q) same.file same.start
       same.end)
   one_told _ _ (of_use p is) (of_ambiguous q also) same = absurd (omega (arith, same.what))
+  one_told _ _ (of_use p is) (of_uncertain v m more also numbered out) same = absurd (omega (arith, same.what))
   one_told _ b (of_ambiguous p is) (of_file m o and right) same =
       let there = use_at p is.0 in
       absurd (not_kept m o and p.file there.0 there.1 (sym (left_of m o b and right) ∙ sym same.file))
@@ -242,6 +251,23 @@ module _ (duplicates : Duplicates) (all : List ReadFile) (omissions : Omissions)
   one_told _ _ (of_ambiguous p is) (of_ambiguous q also) same =
       ap Ambiguous (one_place (place_among_all omissions p) (place_among_all omissions q) same.file same.start
       same.end)
+  one_told _ _ (of_ambiguous p is) (of_uncertain v m more also numbered out) same =
+      absurd (omega (arith, same.what))
+  one_told _ b (of_uncertain u n less is numbered out) (of_file m o and right) same =
+      let there = use_at u.place is.source in
+      absurd (not_kept m o and u.place.file there.0 there.1 (sym (left_of m o b and right) ∙ sym same.file))
+  one_told _ _ (of_uncertain u n less is numbered out) (of_import q missing) same = absurd (omega (arith, same.what))
+  one_told _ _ (of_uncertain u n less is numbered out) (of_use q also) same = absurd (omega (arith, same.what))
+  one_told _ _ (of_uncertain u n less is numbered out) (of_ambiguous q also) same = absurd (omega (arith, same.what))
+  one_told _ _ (of_uncertain u n less is numbered out) (of_uncertain v m more also too again) same =
+      let place = one_place (place_among_all omissions u.place) (place_among_all omissions v.place) same.file same.start
+      same.end in
+      let file : u.place.file ≡ v.place.file = one_number omissions u.place.file v.place.file same.file in
+      let first = subst (λ k. IsFirstUnread linked k u.behind) file is.behind in
+      let behind_same : u.behind ≡ v.behind = one_behind linked v.place.file u.behind v.behind first also.behind in
+      let number : n ≡ m =
+      same_Some n m (sym numbered ∙ (ap (slice_get (linked_numbers omissions)) behind_same ∙ too)) in
+      λ i. Uncertain (place i) (number i)
 
   -- ---- what is told
 
@@ -251,39 +277,42 @@ module _ (duplicates : Duplicates) (all : List ReadFile) (omissions : Omissions)
   of_left number (Some left) told at is = of_file number left at is
 
   moved : (place : FilePlace) (parsed_file : ReadFile) → slice_get (kept_of omissions all) place.file ≡ Some parsed_file
-      → place_by (kept_numbers 0 omissions) place ≡ place_among_all omissions place
+      → place_by (linked_numbers omissions) place ≡ place_among_all omissions place
   moved place parsed_file at =
       let to : ℕ → FilePlace = λ n. record { file = n; span = place.span } in
       ap to (number_of omissions all place.file parsed_file at)
 
   module _ (left : List Omission) (missing unresolved_uses : List FilePlace) (faults : List LinkFault)
+      (uncertain : List UncertainUse)
       (left_are : Adds (FromFront (IsLeftIf all) omissions (length omissions)) [] left)
       (missing_are : AreMissing linked missing)
       (unresolved_are : (place : FilePlace) → Contains unresolved_uses place ↔ IsUnresolvedAt linked place)
-      (faults_are : AreUseFaults linked unresolved_uses faults) where
+      (faults_are : AreUseFaults linked unresolved_uses faults)
+      (uncertain_are : AreUncertainUses linked uncertain)
+      (left_behind : (u : UncertainUse) → IsUncertain linked u → IsLeftBehind omissions u.behind) where
     abbrev imports : List Omission
-    imports = map (told_import (kept_numbers 0 omissions)) missing
+    imports = map (told_import (linked_numbers omissions)) missing
 
     abbrev uses : List Omission
-    uses = flat_map (told_use (kept_numbers 0 omissions)) faults
+    uses = flat_map (told_use (linked_numbers omissions)) faults
 
     -- a use that names nothing for this is told
     told_by : (of : LinkFault) (x : Omission) → IsFaultAt linked unresolved_uses of
-        → Contains (told_use (kept_numbers 0 omissions) of) x → IsTold all omissions x
+        → Contains (told_use (linked_numbers omissions) of) x → IsTold all omissions x
     told_by (link.Unresolved p) x at there =
         let same : p.file ≡ at.place.file = unresolved_file linked at.place.file p at.is in
         let is = subst (λ n. IsUseFault linked n (link.Unresolved p)) (sym same) at.is in
         let source = subst (files.IsSource linked) (sym same) ((unresolved_are at.place).0 at.listed).source in
         let kept = use_at p source in
         subst (IsTold all omissions) (ap Unresolved (sym (moved p kept.0 kept.1))
-        ∙ only (Unresolved (place_by (kept_numbers 0 omissions) p)) x there) (of_use p (source, is))
+        ∙ only (Unresolved (place_by (linked_numbers omissions) p)) x there) (of_use p (source, is))
     told_by (link.Ambiguous p) x at there =
         let same : p.file ≡ at.place.file = ambiguous_file linked at.place.file p at.is in
         let is = subst (λ n. IsUseFault linked n (link.Ambiguous p)) (sym same) at.is in
         let source = subst (files.IsSource linked) (sym same) ((unresolved_are at.place).0 at.listed).source in
         let kept = use_at p source in
         subst (IsTold all omissions) (ap Ambiguous (sym (moved p kept.0 kept.1))
-        ∙ only (Ambiguous (place_by (kept_numbers 0 omissions) p)) x there) (of_ambiguous p (source, is))
+        ∙ only (Ambiguous (place_by (linked_numbers omissions) p)) x there) (of_ambiguous p (source, is))
     told_by (link.Broken number) x at there = absurd (in_nothing x there)
     told_by (link.Duplicate first second) x at there = absurd (in_nothing x there)
     told_by (link.MissingImport place) x at there = absurd (in_nothing x there)
@@ -291,30 +320,62 @@ module _ (duplicates : Duplicates) (all : List ReadFile) (omissions : Omissions)
 
     -- and of such a use this is told
     use_told : (p : FilePlace) (of : LinkFault) (x : Omission) → IsUnresolvedAt linked p → IsUseFault linked p.file of
-        → Contains (told_use (kept_numbers 0 omissions) of) x → Contains uses x
+        → Contains (told_use (linked_numbers omissions) of) x → Contains uses x
     use_told p of x unresolved is there =
-        to_lists (told_use (kept_numbers 0 omissions)) faults of x
+        to_lists (told_use (linked_numbers omissions)) faults of x
         ((faults_are of).1 (record { place = p; listed = (unresolved_are p).1 unresolved; is = is })) there
 
-    pub is_told : (fault : Omission) → Contains ((left ++ imports) ++ uses) fault → IsTold all omissions fault
-    is_told fault there = elim (Contains-append_cases (left ++ imports) uses fault there) [
-      | inl front ↦ elim (Contains-append_cases left imports fault front) [
+    abbrev front : List Omission
+    front = (left ++ imports) ++ uses
+
+    abbrev more : List Omission
+    more = map (told_uncertain (linked_numbers omissions)) uncertain
+
+    front_told : (fault : Omission) → Contains front fault → IsTold all omissions fault
+    front_told fault there = elim (Contains-append_cases (left ++ imports) uses fault there) [
+      | inl before ↦ elim (Contains-append_cases left imports fault before) [
         | inl one ↦ elim ((left_are fault).0 one) [
           | inl none ↦ absurd (in_nothing fault none)
           | inr from ↦ of_left from.index from.element fault from.stands from.is
         ]
         | inr import ↦ (
-            let of = mapped_from (told_import (kept_numbers 0 omissions)) missing fault import in
+            let of = mapped_from (told_import (linked_numbers omissions)) missing fault import in
             let is = (missing_are.each of.0).0 of.1 in
             let at = import_at of.0 is in
             subst (IsTold all omissions) (ap MissingImport (sym (moved of.0 at.0 at.1)) ∙ of.2) (of_import of.0 is))
       ]
       | inr use_ ↦ (
-          let of = from_lists (told_use (kept_numbers 0 omissions)) faults fault use_ in
+          let of = from_lists (told_use (linked_numbers omissions)) faults fault use_ in
           told_by of.0 fault ((faults_are of.0).0 of.1) of.2)
     ]
 
-    pub told_is : (fault : Omission) → IsTold all omissions fault → Contains ((left ++ imports) ++ uses) fault
+    -- what is told of an uncertain use
+    uncertain_is : (u : UncertainUse) (number : ℕ) → IsUncertain linked u
+        → slice_get (linked_numbers omissions) u.behind ≡ Some number
+        → told_uncertain (linked_numbers omissions) u ≡ Uncertain (place_among_all omissions u.place) number
+    uncertain_is u number is numbered =
+        let at = use_at u.place is.source in
+        let place = moved u.place at.0 at.1 in
+        let behind_is : number_in (linked_numbers omissions) u.behind ≡ number =
+        ap (λ (o : Option ℕ). unwrap_or o u.behind) numbered in
+        λ i. Uncertain (place i) (behind_is i)
+
+    pub is_told : (fault : Omission) → Contains (front ++ more) fault → IsTold all omissions fault
+    is_told fault there = elim (Contains-append_cases front more fault there) [
+      | inl before ↦ front_told fault before
+      | inr last ↦ (
+          let of = mapped_from (told_uncertain (linked_numbers omissions)) uncertain fault last in
+          let is = (uncertain_are of.0).0 of.1 in
+          let out = left_behind of.0 is in
+          subst (IsTold all omissions) (sym (uncertain_is of.0 out.number is out.numbered) ∙ of.2)
+          (of_uncertain of.0 out.number out.omission is out.numbered out.left_out))
+    ]
+
+    in_uses : (fault : Omission) → Contains uses fault → Contains (front ++ more) fault
+    in_uses fault there =
+        Contains-append_left front more fault (Contains-append_right (left ++ imports) uses fault there)
+
+    pub told_is : (fault : Omission) → IsTold all omissions fault → Contains (front ++ more) fault
     told_is fault (of_file n o at found) =
         let there = (left_are fault).1 (inr (record {
           index = n;
@@ -323,28 +384,32 @@ module _ (duplicates : Duplicates) (all : List ReadFile) (omissions : Omissions)
           stands = at;
           is = found;
         })) in
-        Contains-append_left (left ++ imports) uses fault (Contains-append_left left imports fault there)
+        Contains-append_left front more fault
+        (Contains-append_left (left ++ imports) uses fault (Contains-append_left left imports fault there))
     told_is _ (of_import p is) =
         let at = import_at p is in
-        let there = contains_map (told_import (kept_numbers 0 omissions)) missing p ((missing_are.each p).1 is) in
+        let there = contains_map (told_import (linked_numbers omissions)) missing p ((missing_are.each p).1 is) in
         let fault : Omission = MissingImport (place_among_all omissions p) in
-        Contains-append_left (left ++ imports) uses fault (Contains-append_right left imports fault
-        (subst (Contains imports) (ap MissingImport (moved p at.0 at.1)) there))
+        Contains-append_left front more fault
+        (Contains-append_left (left ++ imports) uses fault (Contains-append_right left imports fault
+        (subst (Contains imports) (ap MissingImport (moved p at.0 at.1)) there)))
     told_is _ (of_use p is) =
         let at = use_at p is.0 in
-        let its : Omission = Unresolved (place_by (kept_numbers 0 omissions) p) in
+        let its : Omission = Unresolved (place_by (linked_numbers omissions) p) in
         let there = use_told p (link.Unresolved p) its (unresolved_there linked p is) is.1 (in_front its []) in
-        let fault : Omission = Unresolved (place_among_all omissions p) in
-        Contains-append_right (left ++ imports) uses fault
+        in_uses (Unresolved (place_among_all omissions p))
         (subst (Contains uses) (ap Unresolved (moved p at.0 at.1)) there)
     told_is _ (of_ambiguous p is) =
         let at = use_at p is.0 in
-        let its : Omission = Ambiguous (place_by (kept_numbers 0 omissions) p) in
+        let its : Omission = Ambiguous (place_by (linked_numbers omissions) p) in
         let there = use_told p (link.Ambiguous p) its (ambiguous_there linked p is) is.1 (in_front its []) in
-        let fault : Omission = Ambiguous (place_among_all omissions p) in
-        Contains-append_right (left ++ imports) uses fault
+        in_uses (Ambiguous (place_among_all omissions p))
         (subst (Contains uses) (ap Ambiguous (moved p at.0 at.1)) there)
+    told_is _ (of_uncertain u n o is numbered out) =
+        let fault : Omission = Uncertain (place_among_all omissions u.place) n in
+        let there = contains_map (told_uncertain (linked_numbers omissions)) uncertain u ((uncertain_are u).1 is) in
+        Contains-append_right front more fault (subst (Contains more) (uncertain_is u n is numbered) there)
 
-    pub own_keys : HaveOwnKeys ((left ++ imports) ++ uses)
+    pub own_keys : HaveOwnKeys (front ++ more)
     own_keys a b first second equal =
         one_told a b (is_told a first) (is_told b second) (one_key (told_key a) (told_key b) equal)

@@ -21,7 +21,7 @@ use Rattle.proto_visibility.proofs.SeeingLemmas.{slice_get_prefix}
 use Rattle.scip_build.specs.Files.{ReadFile}
 use Rattle.scip_build.specs.Linking.{linked_file, linked_files}
 use Rattle.scip_build.specs.Ready.{AreOfTree, ArePresent, IsOfTree, parsed_file_cmp}
-use Rattle.scip_build.specs.Keeping.{kept_numbers, as_left_out, linked_of}
+use Rattle.scip_build.specs.Keeping.{kept_numbers, left_numbers, linked_numbers, as_left_out, linked_of}
 use Rattle.scip_build.specs.Telling.{number_in}
 
 pub map_kept : {X Y : Type 0} (f : X → Y) (omissions : Omissions) (xs : List X)
@@ -195,10 +195,53 @@ number_listed first (Some fault ∷ omissions) (y ∷ ys) k x at =
 
 pub number_of : {X : Type 0} (omissions : Omissions) (xs : List X) (k : ℕ) (x : X)
     → slice_get (kept_of omissions xs) k ≡ Some x
-    → number_in (kept_numbers 0 omissions) k ≡ number_among_all omissions k
+    → number_in (linked_numbers omissions) k ≡ number_among_all omissions k
 number_of omissions xs k x at =
     let same : 0 + number_among_all omissions k ≡ number_among_all omissions k = omega arith in
-    ap (λ (o : Option ℕ). unwrap_or o k) (number_listed 0 omissions xs k x at) ∙ same
+    let there = number_listed 0 omissions xs k x at in
+    let within = slice_get_within (kept_numbers 0 omissions) k (0 + number_among_all omissions k) there in
+    let front = slice_get_prefix (kept_numbers 0 omissions) (left_numbers 0 omissions) k within in
+    ap (λ (o : Option ℕ). unwrap_or o k) (front ∙ there) ∙ same
+
+-- ---- and of those that are left out
+
+left_listed : {X : Type 0} (first : ℕ) (omissions : Omissions) (xs : List X) (k : ℕ) (x : X)
+    → slice_get (left_of omissions xs) k ≡ Some x
+    → slice_get (left_numbers first omissions) k ≡ Some (first + left_among_all omissions k)
+left_listed first [] xs k x at = absurd (none-some x at)
+left_listed first (None ∷ omissions) [] k x at = absurd (none-some x at)
+left_listed first (Some fault ∷ omissions) [] k x at = absurd (none-some x at)
+left_listed first (Some fault ∷ omissions) (y ∷ ys) zero x at =
+    let same : first ≡ first + 0 = omega arith in ap Some same
+left_listed first (Some fault ∷ omissions) (y ∷ ys) (suc k) x at =
+    let same : first + 1 + left_among_all omissions k ≡ first + suc (left_among_all omissions k) = omega arith in
+    left_listed (first + 1) omissions ys k x at ∙ ap Some same
+left_listed first (None ∷ omissions) (y ∷ ys) k x at =
+    let same : first + 1 + left_among_all omissions k ≡ first + suc (left_among_all omissions k) = omega arith in
+    left_listed (first + 1) omissions ys k x at ∙ ap Some same
+
+pub kept_count : {X : Type 0} (first : ℕ) (omissions : Omissions) (xs : List X) → length omissions ≡ length xs
+    → length (kept_numbers first omissions) ≡ length (kept_of omissions xs)
+kept_count first [] [] size = refl
+kept_count first [] (x ∷ xs) size = absurd (omega (arith, size))
+kept_count first (omission ∷ omissions) [] size = absurd (omega (arith, size))
+kept_count first (None ∷ omissions) (x ∷ xs) size =
+    ap suc (kept_count (first + 1) omissions xs (omega (arith, size)))
+kept_count first (Some fault ∷ omissions) (x ∷ xs) size = kept_count (first + 1) omissions xs (omega (arith, size))
+
+-- the number of one that is left out, as it is linked behind those that are kept
+pub left_number : {X : Type 0} (omissions : Omissions) (xs : List X) (k : ℕ) (x : X)
+    → length omissions ≡ length xs → length (kept_of omissions xs) ≤ k
+    → slice_get (left_of omissions xs) (k - length (kept_of omissions xs)) ≡ Some x
+    → slice_get (linked_numbers omissions) k ≡ Some (left_among_all omissions (k - length (kept_of omissions xs)))
+left_number omissions xs k x size later at =
+    let count = kept_count 0 omissions xs size in
+    let past : length (kept_numbers 0 omissions) ≤ k = omega (arith, count, later) in
+    let index = k - length (kept_of omissions xs) in
+    let same : 0 + left_among_all omissions index ≡ left_among_all omissions index = omega arith in
+    behind (kept_numbers 0 omissions) (left_numbers 0 omissions) k past
+    ∙ (ap (λ n. slice_get (left_numbers 0 omissions) (k - n)) count
+    ∙ (left_listed 0 omissions xs index x at ∙ ap Some same))
 
 -- ---- where all are kept
 

@@ -35,7 +35,7 @@ use Rattle.scip_build.specs.Keeping.{kept_numbers}
 use Rattle.scip_build.specs.Linking.{linked_files}
 use Rattle.scip_build.specs.KeptUses.{entity_among_all, target_among_all, IsTargetOfKept, NamesTheSame, ResolveAlike}
 use Rattle.scip_build.specs.KeptUses.{KeptResolvesAlike}
-use Rattle.scip_build.proofs.KeptTreeLemmas.{linked_is}
+use Rattle.scip_build.proofs.KeptTreeLemmas.{kept_count, linked_is}
 
 -- ---- where each file is linked
 
@@ -374,15 +374,6 @@ IsPartAt name skipped facts owner index =
     IsEntityOf owner facts (prefix_of name (skipped + index + 1)) (skipped + index + 1)
 
 -- ---- both ways
-
-kept_count : {X : Type 0} (first : ℕ) (omissions : Omissions) (xs : List X) → length omissions ≡ length xs
-    → length (kept_numbers first omissions) ≡ length (kept_of omissions xs)
-kept_count first [] [] size = refl
-kept_count first [] (x ∷ xs) size = absurd (omega (arith, size))
-kept_count first (omission ∷ omissions) [] size = absurd (omega (arith, size))
-kept_count first (None ∷ omissions) (x ∷ xs) size =
-    ap suc (kept_count (first + 1) omissions xs (omega (arith, size)))
-kept_count first (Some fault ∷ omissions) (x ∷ xs) size = kept_count (first + 1) omissions xs (omega (arith, size))
 
 module _ (files : List File) (omissions : Omissions) (size : length omissions ≡ length files) (number : ℕ)
     (is_kept_one : number < length (kept_numbers 0 omissions)) (type_use : Use) where

@@ -21,6 +21,8 @@ mod KeptLemmas
 mod KeptToldLemmas
 -- What holds of the files of a tree holds of those that are linked
 pub mod KeptTreeLemmas
+-- Uses of kept files that may name another type once a file that is left out can be read
+mod KeptUncertainLemmas
 -- A use of a kept file names, as files are linked, what it names in the whole tree
 mod KeptUseLemmas
 -- Proofs of the laws

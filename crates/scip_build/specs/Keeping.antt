@@ -9,6 +9,16 @@ kept_numbers number [] = []
 kept_numbers number (None ∷ omissions) = number ∷ kept_numbers (number + 1) omissions
 kept_numbers number (Some fault ∷ omissions) = kept_numbers (number + 1) omissions
 
+-- the numbers of the files that are left out
+abbrev pub left_numbers : (number : ℕ) → Omissions → List ℕ
+left_numbers number [] = []
+left_numbers number (None ∷ omissions) = left_numbers (number + 1) omissions
+left_numbers number (Some fault ∷ omissions) = number ∷ left_numbers (number + 1) omissions
+
+-- The numbers that files have among all, in the order in which they are linked: first those of the files that are kept.
+abbrev pub linked_numbers : Omissions → List ℕ
+linked_numbers omissions = kept_numbers 0 omissions ++ left_numbers 0 omissions
+
 abbrev pub is_source : ReadFile → Bool
 is_source parsed_file = not parsed_file.is_included && not parsed_file.is_left_out
 

@@ -15,9 +15,11 @@ use Rattle.scip_model.specs.Indexes.{IsAscendingListOf}
 use Rattle.scip_build.specs.declared.fault.FileFault.{FileFault}
 use Rattle.scip_build.specs.declared.omission.Omission.{Omission}
 use Rattle.scip_build.specs.declared.omission.Omission.TheVariants.{File, Duplicate, MissingImport, Unresolved}
-use Rattle.scip_build.specs.declared.omission.Omission.TheVariants.{Ambiguous}
+use Rattle.scip_build.specs.declared.omission.Omission.TheVariants.{Ambiguous, Uncertain}
 use Rattle.scip_build.specs.Files.{ReadFile}
-use Rattle.scip_build.specs.Keeping.{linked_of}
+use Rattle.proto_link.specs.declared.uncertain_use.UncertainUse.{UncertainUse}
+use Rattle.proto_link.specs.Uncertain.{IsUncertain}
+use Rattle.scip_build.specs.Keeping.{linked_numbers, linked_of}
 use Rattle.scip_build.specs.Linking.{linked_files, HasFault}
 use Rattle.proto_visibility.specs.declared.fault.LinkFault.TheVariants as link
 use Rattle.scip_build.specs.Documents.{AllAreDecided, IsToldUse}
@@ -33,7 +35,7 @@ abbrev pub place_among_all : Omissions → FilePlace → FilePlace
 place_among_all omissions place = record { file = number_among_all omissions place.file; span = place.span }
 
 -- What is told of files that were read, of which some are left out: just this, each by the fault for which it would be
--- refused.
+-- refused, or by the file for which it isn't sure.
 pub data IsTold (all : List ReadFile) (omissions : Omissions) : Omission → Type 0 where
   -- A file is left out;
   of_file : (number : ℕ) (omission : FileOmission) {told : Omission}
@@ -48,6 +50,12 @@ pub data IsTold (all : List ReadFile) (omissions : Omissions) : Omission → Typ
   -- such a use is ambiguous.
   of_ambiguous : (place : FilePlace) → IsToldUse (linked_files (linked_of omissions all)) place (link.Ambiguous place)
       → IsTold all omissions (Ambiguous (place_among_all omissions place))
+  -- A use of a source that is kept names a type, but may name another one once a file that is left out can be read.
+  of_uncertain : (uncertain : UncertainUse) (number : ℕ) (omission : FileOmission)
+      → IsUncertain (linked_files (linked_of omissions all)) uncertain
+      → slice_get (linked_numbers omissions) uncertain.behind ≡ Some number
+      → slice_get omissions number ≡ Some (Some omission)
+      → IsTold all omissions (Uncertain (place_among_all omissions uncertain.place) number)
 
 -- Where it is told: the file, the place's start and end, and a number for what it is. Of a file that is left out nothing
 -- else is told, so where in the file doesn't matter.
@@ -60,6 +68,7 @@ told_key (Duplicate first second) = ((second.file, 0), (0, 0))
 told_key (MissingImport place) = ((place.file, place.span.start), (place.span.end, 0))
 told_key (Unresolved place) = ((place.file, place.span.start), (place.span.end, 1))
 told_key (Ambiguous place) = ((place.file, place.span.start), (place.span.end, 2))
+told_key (Uncertain place behind) = ((place.file, place.span.start), (place.span.end, 3))
 
 -- by file, then by where it begins and ends, then by what it is
 abbrev pub key_cmp : Key → Key → Ordering

@@ -12,13 +12,16 @@ use Rattle.proto_visibility.specs.declared.fault.LinkFault.TheVariants as link
 use Rattle.proto_visibility.specs.declared.clash.Duplicates.{Duplicates}
 use Rattle.proto_visibility.specs.Files.{File}
 use Rattle.proto_link.specs.Targets.{IsUseFault}
+use Rattle.proto_link.specs.declared.uncertain_use.UncertainUse.{UncertainUse}
+use Rattle.proto_link.specs.Uncertain.{IsUncertain}
 use Rattle.proto_visibility.specs.Kept.{Omissions, IsOmission, AreOmissions}
 use Rattle.scip_build.specs.declared.omission.Omission.{Omission}
 use Rattle.scip_build.specs.declared.omission.Omission.TheVariants.{MissingImport, Unresolved, Ambiguous}
+use Rattle.scip_build.specs.declared.omission.Omission.TheVariants.{Uncertain}
 use Rattle.scip_build.specs.Files.{ReadFile}
 use Rattle.scip_build.specs.Linking.{linked_files}
 use Rattle.scip_build.specs.Kept.{IsLeftFor, told_cmp}
-use Rattle.scip_build.specs.Keeping.{kept_numbers, linked_of}
+use Rattle.scip_build.specs.Keeping.{linked_numbers, linked_of}
 
 -- the list has what it had, and besides just these
 abbrev pub Adds : (Omission → Type 0) → (old new : List Omission) → Type 0
@@ -65,6 +68,15 @@ told_use numbers (link.Duplicate first second) = []
 told_use numbers (link.MissingImport place) = []
 told_use numbers link.Memory = []
 
+-- what is told of a use that names a type, but may name another one
+abbrev pub told_uncertain : List ℕ → UncertainUse → Omission
+told_uncertain numbers uncertain =
+    Uncertain (place_by numbers uncertain.place) (number_in numbers uncertain.behind)
+
+-- these are the uses of files that may name another type
+abbrev pub AreUncertainUses : List File → List UncertainUse → Type 0
+AreUncertainUses files uses = (uncertain : UncertainUse) → Contains uses uncertain ↔ IsUncertain files uncertain
+
 -- a file in which one of these places is has a use that names nothing for this
 pub record IsFaultAt (files : List File) (places : List FilePlace) (fault : LinkFault) : Type 0 where
   pub place : FilePlace
@@ -93,15 +105,17 @@ pub record AreInOrder (told once : List Omission) : Type 0 where
   pub same : HaveOwnKeys told → (omission : Omission) → Contains once omission ↔ Contains told omission
   pub rising : IsStrictlySortedBy told_cmp once
 
-abbrev pub all_told : (left : List Omission) → (numbers : List ℕ) → List FilePlace → List LinkFault → List Omission
-all_told left numbers imports faults =
-    (left ++ map (told_import numbers) imports) ++ flat_map (told_use numbers) faults
+abbrev pub all_told : (left : List Omission) → (numbers : List ℕ) → List FilePlace → List LinkFault
+    → List UncertainUse → List Omission
+all_told left numbers imports faults uncertain =
+    ((left ++ map (told_import numbers) imports) ++ flat_map (told_use numbers) faults)
+    ++ map (told_uncertain numbers) uncertain
 
--- the files that are kept, their numbers among all, and what is told of the others
+-- the files as they are linked, their numbers among all, and what is told of those that are left out
 pub record AreKeptFiles (duplicates : Duplicates) (all parsed : List ReadFile) (numbers : List ℕ)
     (left : List Omission) : Type 0 where
   pub omissions : Omissions
   pub left_out : AreOmissions duplicates (linked_files all) omissions
   pub kept : parsed ≡ linked_of omissions all
-  pub numbers_are : numbers ≡ kept_numbers 0 omissions
+  pub numbers_are : numbers ≡ linked_numbers omissions
   pub left_are : Adds (FromFront (IsLeftIf all) omissions (length omissions)) [] left

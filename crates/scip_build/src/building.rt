@@ -9,7 +9,7 @@ ghost use Rattle.scip_build.specs.FactForms.{form_of};
 ghost use Rattle.scip_build.specs.declared.faulty.Faulty.TheVariants.{Refuse, Skip};
 ghost use Rattle.scip_build.specs.Linking.{linked_files};
 ghost use Rattle.scip_build.specs.Documents.{MayRefuseLinked};
-ghost use Rattle.scip_build.specs.Telling.{AreUseFaults};
+ghost use Rattle.scip_build.specs.Telling.{AreUncertainUses, AreUseFaults};
 ghost use Rattle.scip_build.specs.Ready.{AreOfTree, ArePresent};
 ghost use Rattle.scip_build.specs.Making.{MayRefuseMaking, MayRefuseSkipping};
 ghost use Rattle.scip_build.specs.Forms.{index_of, IsMadeOf, IsLinkedAndMade, IsBuiltOfInForm};
@@ -148,7 +148,8 @@ fn make_whole<R: Threads + Wait, G: Gate, F: DocumentForm + Sync>(
     make_linked(run, &linker, parsed, settings, form)
 }
 
-/// What is made of the files that are kept, the imports of them that name no file, and why uses of them name nothing.
+/// What is made of the files that are kept, the imports of them that name no file, why uses of them name nothing, and
+/// which of them may name another type.
 #[tactic(auto, using(crate::proofs::LinkingRefusalRules::of_skipping))]
 fn make_kept<R: Threads + Wait, G: Gate, F: DocumentForm + Sync>(
     run: &Run<'_, R, G>,
@@ -162,7 +163,8 @@ fn make_kept<R: Threads + Wait, G: Gate, F: DocumentForm + Sync>(
     ensures { MatchResult result
         (λ kept. IsMadeOf F.is_kept parsed.now settings.now kept.made
         × AreMissing (linked_files parsed.now) kept.missing.items
-        × AreUseFaults (linked_files parsed.now) kept.made.unresolved_uses kept.faults.items)
+        × AreUseFaults (linked_files parsed.now) kept.made.unresolved_uses kept.faults.items
+        × AreUncertainUses (linked_files parsed.now) kept.uncertain.items)
         (MayRefuseSkipping run.now.workers) }
 {
     let files = linked_files(run.alloc, parsed)?;
@@ -170,10 +172,12 @@ fn make_kept<R: Threads + Wait, G: Gate, F: DocumentForm + Sync>(
     let missing = linker.missing_imports(run.alloc)?;
     let made = make_linked(run, &linker, parsed, settings, form)?;
     let faults = faults_at(run.alloc, &linker, made.unresolved_uses.as_slice())?;
+    let uncertain = linker.uncertain_uses(run.alloc)?;
     Ok(KeptParts {
         made,
         missing,
         faults,
+        uncertain,
     })
 }
 
@@ -222,6 +226,7 @@ fn build_kept<'a, R: Threads + Wait, G: Gate, F: DocumentForm + Sync>(
         kept.numbers.as_slice(),
         of_kept.missing.as_slice(),
         of_kept.faults.as_slice(),
+        of_kept.uncertain.as_slice(),
     )?;
     Ok(BuiltParts {
         parts: of_kept.made.parts,
@@ -280,7 +285,8 @@ fn index_of(parts: Parts<Document>) -> Index
 /// is made.
 ///
 /// If faults are skipped, the files that have one are left out, and imports and uses that then name nothing don't
-/// occur; what is told beside the index is just these, and `Spawn` and `Memory` alone are refusals. Else nothing is
+/// occur; what is told beside the index is just these, and the uses that may name another type once a file can be read;
+/// and `Spawn` and `Memory` alone are refusals. Else nothing is
 /// told, and of the refusals the first is answered: `Spawn`, `Memory`, or the first source that can't be read; then
 /// the first included file that some source sees and that can't be read; then `Duplicate`, `MissingImport`; then
 /// `Spawn`, `Memory`, or the first use of the first source in which one names no type. A refused growth ends the step

@@ -12,7 +12,7 @@ pub struct Built {
     pub index: Index,
     /// For each file that is kept, by its number among these, the choice for each of its declarations.
     pub choices: Choices,
-    /// What was left out, and what has no target, in order of file and place; nothing if faults are refused. File
-    /// numbers are those of the tree.
+    /// What was left out, what has no target, and which uses may have another one, in order of file and place; nothing
+    /// if faults are refused. File numbers are those of the tree.
     pub told: Sequence<Omission>,
 }

@@ -5,7 +5,7 @@ ghost use Rattle.std.specs.List.{prefix_len};
 ghost use Rattle.proto_visibility.specs.Files.{HaveOwnPaths};
 ghost use Rattle.proto_visibility.specs.Kept.{AreOmissions};
 ghost use Rattle.scip_build.specs.Linking.{linked_files};
-ghost use Rattle.scip_build.specs.Keeping.{kept_numbers, is_source, linked_of};
+ghost use Rattle.scip_build.specs.Keeping.{kept_numbers, left_numbers, linked_numbers, is_source, linked_of};
 ghost use Rattle.scip_build.specs.Telling.{AreKeptFiles};
 
 use crate::linking::linked_files;
@@ -41,6 +41,32 @@ fn kept_numbers(alloc: Global, omissions: &[Option<FileOmission>]) -> Result<Vec
     Ok(numbers)
 }
 
+/// The numbers of the files that are left out, in order.
+fn left_numbers(alloc: Global, omissions: &[Option<FileOmission>]) -> Result<Vec<usize>, AllocError>
+    ensures { IfOk result (λ numbers. numbers.items ≡ left_numbers 0 omissions.now) }
+{
+    let mut numbers = Vec::new(alloc);
+    for (number, omission) in omissions.iter().enumerate() {
+        if omission.is_some() {
+            numbers.push(number)?;
+        }
+    }
+    Ok(numbers)
+}
+
+/// The numbers of all files, in the order in which they are linked.
+fn linked_numbers(
+    alloc: Global,
+    omissions: &[Option<FileOmission>],
+) -> Result<Vec<usize>, AllocError>
+    ensures { IfOk result (λ numbers. numbers.items ≡ linked_numbers omissions.now) }
+{
+    let mut numbers = kept_numbers(alloc, omissions)?;
+    let mut left = left_numbers(alloc, omissions)?;
+    numbers.append(&mut left)?;
+    Ok(numbers)
+}
+
 /// The parsed files as they are linked: those that are kept, in order, and behind them those that are left out.
 fn linked_parsed<'a>(
     alloc: Global,
@@ -68,7 +94,7 @@ fn linked_parsed<'a>(
 #[derive(Drop)]
 pub(crate) struct KeptFiles<'a> {
     pub(crate) parsed: Vec<ParsedFile<'a>>,
-    /// The number that each kept one has among all files.
+    /// The number that each has among all files.
     pub(crate) numbers: Vec<usize>,
     pub(crate) told: Vec<Omission>,
 }
@@ -86,7 +112,7 @@ pub(crate) fn keep_files<'a>(
     let mut told = Vec::new(alloc);
     let omissions = omissions_of(alloc, all.as_slice(), duplicates)?;
     push_omissions(&mut told, all.as_slice(), omissions.as_slice())?;
-    let numbers = kept_numbers(alloc, omissions.as_slice())?;
+    let numbers = linked_numbers(alloc, omissions.as_slice())?;
     let parsed = linked_parsed(alloc, all, omissions)?;
     Ok(KeptFiles {
         parsed,

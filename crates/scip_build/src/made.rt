@@ -3,7 +3,7 @@
 use crate::parts::Parts;
 use basics::Sequence;
 use proto_lex::Span;
-use proto_link::{FilePlace, LinkFault};
+use proto_link::{FilePlace, LinkFault, UncertainUse};
 use scip_model::Choices;
 
 /// What is kept of a source's document, and the places of its uses that name no type, in order.
@@ -31,4 +31,6 @@ pub(crate) struct KeptParts<T> {
     pub(crate) missing: Vec<FilePlace>,
     /// Why uses name nothing.
     pub(crate) faults: Vec<LinkFault>,
+    /// The uses that may name another type once a file can be read.
+    pub(crate) uncertain: Vec<UncertainUse>,
 }

@@ -28,6 +28,6 @@ pub struct BuiltParts<'a, T> {
     /// What is known of the files that are kept. It is of no further use, but letting it go takes time, which
     /// a program that ends can save.
     pub parsed: Vec<ParsedFile<'a>>,
-    /// What was left out, and what has no target, as `Built` has it.
+    /// What was left out, what has no target, and which uses may have another one, as `Built` has it.
     pub told: Sequence<Omission>,
 }

@@ -6,12 +6,12 @@ ghost use Rattle.std.specs.Ordering.{eq_by_cmp};
 ghost use Rattle.scip_build.specs.Linking.{linked_files};
 ghost use Rattle.scip_build.specs.Kept.{IsLeftFor, told_key, told_cmp};
 ghost use Rattle.scip_build.specs.Telling.{Adds, FromFront, IsLeftIf, IsSomeOmission, AreSomeOmissions};
-ghost use Rattle.scip_build.specs.Telling.{number_in, told_import, told_use, AreInOrder, all_told};
+ghost use Rattle.scip_build.specs.Telling.{number_in, told_import, told_use, told_uncertain, AreInOrder, all_told};
 
 use crate::linking::fault_at;
 use crate::omission::Omission;
 use crate::parsed_file::ParsedFile;
-use proto_link::{FileOmission, FilePlace, LinkFault};
+use proto_link::{FileOmission, FilePlace, LinkFault, UncertainUse};
 use std::alloc::AllocError;
 use std::cmp::Ordering;
 
@@ -59,16 +59,22 @@ pub(crate) fn push_omissions(
     Ok(())
 }
 
+/// What a list of numbers has at a number; the number itself after its end.
+fn number_in(numbers: &[usize], number: usize) -> usize
+    ensures { result ≡ number_in numbers.now number }
+{
+    match numbers.get(number) {
+        Some(number) => *number,
+        None => number,
+    }
+}
+
 /// A place of a kept file, by the file's number in a list of numbers.
 fn moved(numbers: &[usize], place: &FilePlace) -> FilePlace
     ensures { result ≡ record { file = number_in numbers.now place.now.file; span = place.now.span } }
 {
-    let file = match numbers.get(place.file) {
-        Some(number) => *number,
-        None => place.file,
-    };
     FilePlace {
-        file,
+        file: number_in(numbers, place.file),
         span: place.span,
     }
 }
@@ -117,6 +123,21 @@ fn push_uses(
     Ok(())
 }
 
+/// Adds the uses of kept files that may name another type, each by the number of the file for which it may.
+fn push_uncertain(
+    told: &mut Vec<Omission>,
+    numbers: &[usize],
+    uncertain: &[UncertainUse],
+) -> Result<(), AllocError>
+    ensures { OnOk result (told.new.items ≡ told.old.items ++ map (told_uncertain numbers.now) uncertain.now) }
+{
+    for type_use in uncertain {
+        let behind = number_in(numbers, type_use.behind);
+        told.push(Omission::Uncertain(moved(numbers, &type_use.place), behind))?;
+    }
+    Ok(())
+}
+
 /// Where in the tree an omission is told.
 fn told_key(omission: &Omission) -> ((usize, usize), (usize, usize))
     ensures { result ≡ told_key omission.now }
@@ -135,6 +156,10 @@ fn told_key(omission: &Omission) -> ((usize, usize), (usize, usize))
         Omission::Ambiguous(place) => (
             (place.file, place.span.start as usize),
             (place.span.end as usize, 2),
+        ),
+        Omission::Uncertain(place, _) => (
+            (place.file, place.span.start as usize),
+            (place.span.end as usize, 3),
         ),
     }
 }
@@ -163,18 +188,21 @@ fn in_order(told: Vec<Omission>) -> Result<Vec<Omission>, AllocError>
     Ok(told)
 }
 
-/// All that is told: what is left out, the imports of kept files without a target, and why uses of them name nothing;
-/// kept files have these numbers among all.
+/// All that is told: what is left out, the imports of kept files without a target, why uses of them name nothing, and
+/// which uses of them may name another type; files have these numbers among all.
 pub(crate) fn tell(
     left: Vec<Omission>,
     numbers: &[usize],
     imports: &[FilePlace],
     faults: &[LinkFault],
+    uncertain: &[UncertainUse],
 ) -> Result<Vec<Omission>, AllocError>
-    ensures { IfOk result (λ once. AreInOrder (all_told left.items numbers.now imports.now faults.now) once.items) }
+    ensures { IfOk result (λ once. AreInOrder
+        (all_told left.items numbers.now imports.now faults.now uncertain.now) once.items) }
 {
     let mut told = left;
     push_imports(&mut told, numbers, imports)?;
     push_uses(&mut told, numbers, faults)?;
+    push_uncertain(&mut told, numbers, uncertain)?;
     in_order(told)
 }

@@ -15,3 +15,5 @@ mod hooks;
 mod names;
 #[cfg(test)]
 mod plans;
+#[cfg(test)]
+mod uncertain;

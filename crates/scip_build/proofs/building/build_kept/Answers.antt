@@ -21,10 +21,11 @@ make_kept-requires-clause-clear g c = λ _ _.
 pub returns : goal.returns
 returns g c =
     let made = rw c.as_slice.ensures.value at c.in_ok-of_kept.ensures in
-    let order = rw (c.as_slice-2.ensures.value, c.as_slice-3.ensures.value, c.as_slice-4.ensures.value) at
+    let order = rw (c.as_slice-2.ensures.value, c.as_slice-3.ensures.value, c.as_slice-4.ensures.value, c.as_slice-5.ensures.value) at
     c.in_ok-told.ensures in
     rw c.from_vec.ensures
     (kept_built g.F.DocumentForm.is_kept c.args.all.items c.in_ok-kept.kept.parsed.items c.args.settings.now
     c.in_ok-of_kept.of_kept.made c.in_ok-kept.kept.numbers.items c.in_ok-kept.kept.told.items c.in_ok-told.told.items
-    c.in_ok-of_kept.of_kept.missing.items c.in_ok-of_kept.of_kept.faults.items c.requires.skip c.in_ok-kept.ensures
-    made.0 made.1 made.2 order)
+    c.in_ok-of_kept.of_kept.missing.items c.in_ok-of_kept.of_kept.faults.items
+    c.in_ok-of_kept.of_kept.uncertain.items c.requires.present c.requires.skip c.in_ok-kept.ensures made.0 made.1
+    made.2 made.3 order)

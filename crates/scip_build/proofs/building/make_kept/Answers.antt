@@ -6,7 +6,7 @@ use Rattle.scip_build.specs.Linking.{linked_files}
 use Rattle.proto_visibility.specs.Files.{File}
 use Rattle.proto_visibility.specs.declared.files.FilePlace.{FilePlace}
 use Rattle.scip_build.specs.Making.MayRefuseSkipping.{skipping_lacks_memory}
-use Rattle.scip_build.specs.Telling.{AreUseFaults}
+use Rattle.scip_build.specs.Telling.{AreUncertainUses, AreUseFaults}
 use Rattle.scip_build.proofs.ToldUseLemmas.{all_within}
 use Rattle.scip_build.proofs.BuildsRefusalLemmas.{of_skipping}
 use Rattle.scip_build.proofs.building.make_kept.Goals as goal
@@ -32,7 +32,14 @@ returns g c =
       subst (λ fs. AreUseFaults fs c.in_ok-made.made.unresolved_uses faults) files
           (subst (λ places. AreUseFaults c.in_ok-linker.linker places faults) c.as_slice-2.ensures
           c.in_ok-faults.ensures),
+      subst (λ fs. AreUncertainUses fs c.in_ok-uncertain.uncertain.items) files c.in_ok-uncertain.ensures,
     )
+
+pub returns-in_err-uncertain : goal.returns-in_err-uncertain
+returns-in_err-uncertain g c =
+    let p = err_from_is_err_and c.from_residual-in_err-uncertain.result
+    c.from_residual-in_err-uncertain.ensures.1 in
+    rw (p.1, p.2) skipping_lacks_memory
 
 pub faults_at-requires : goal.faults_at-requires
 faults_at-requires g c =

@@ -4,7 +4,7 @@ use Rattle.proto_visibility.specs.Kept.{Omissions, AreOmissions}
 use Rattle.scip_build.specs.declared.omission.Omission.{Omission}
 use Rattle.scip_build.specs.Files.{ReadFile}
 use Rattle.scip_build.specs.Linking.{linked_file, linked_files}
-use Rattle.scip_build.specs.Keeping.{kept_numbers}
+use Rattle.scip_build.specs.Keeping.{linked_numbers}
 use Rattle.scip_build.specs.Telling.{Adds, FromFront, IsLeftIf}
 use Rattle.scip_build.proofs.keeping.keep_files.Goals as goal
 
@@ -41,6 +41,6 @@ returns c =
       omissions = omissions;
       left_out = subst Are c.as_slice.ensures.value c.in_ok-omissions.ensures;
       kept = c.in_ok-parsed.ensures;
-      numbers_are = c.in_ok-numbers.ensures ∙ ap (kept_numbers 0) c.as_slice-4.ensures.value;
+      numbers_are = c.in_ok-numbers.ensures ∙ ap linked_numbers c.as_slice-4.ensures.value;
       left_are = subst (λ list. From all omissions list) c.new-told.ensures.items third;
     }

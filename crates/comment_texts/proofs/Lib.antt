@@ -10,3 +10,5 @@ mod OtherLineLemmas
 mod JoinLemmas
 -- Worked texts, by computation
 mod CleanExamples
+-- What is shown of a text up to its first NUL, and behind it
+mod NulLemmas

@@ -4,5 +4,9 @@ pub mod Lines
 pub mod Comments
 -- the text of comments, cleaned
 pub mod Cleaned
+-- texts with U+FFFD in place of each NUL
+pub mod Nul
+-- the forms in which texts of comments are given
+pub mod Forms
 -- what no public contract names
 pub mod Steps

@@ -11,9 +11,13 @@ mod comment;
 mod cleaned;
 mod joined;
 
+// What is shown of NULs.
+mod nul;
+
 // Whether texts are given so, or as they are written.
 mod form;
 
 pub use cleaned::clean_text;
 pub use comment::between_marks;
 pub use form::CommentForm;
+pub use nul::without_nul;

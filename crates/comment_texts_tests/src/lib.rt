@@ -5,3 +5,5 @@
 mod calls;
 #[cfg(test)]
 mod cleaned;
+#[cfg(test)]
+mod nul;

@@ -12,6 +12,7 @@ use Rattle.std.proofs.lemmas.List.Folds.{list_any-append}
 use Rattle.std.proofs.lemmas.Slice.Eq.{bytes_eq-Decides}
 use Rattle.basics.proofs.ListLemmas.{zip_append as zip-append}
 use Rattle.scip_symbol.specs.Package.{Package, IsPackage}
+use Rattle.scip_build.specs.AsRead.{AreReadIn}
 use Rattle.scip_model.specs.Packages.{Root, Packages, ArePackages, all_in, with_path, package_among, package_of_path}
 use Rattle.command_line.specs.declared.options.IndexOptions.{IndexOptions}
 use Rattle.command_line.specs.declared.options.include.PackageFolder.{PackageFolder}
@@ -284,12 +285,14 @@ unloaded_of_run lists gives options fault none named may =
 -- where no folder has a package of its own
 pub folders_of_run : (lists : List ℕ → List ℕ → Option Listing → Type 0)
     (gives : List ℕ → Option (List ℕ) → Type 0)
-    (options : IndexOptions) (tree : List TreeFile) (unread : List (List ℕ)) → options.include_packages.items ≡ []
+    (options : IndexOptions) (files tree : List TreeFile) (unread : List (List ℕ))
+    → options.include_packages.items ≡ []
     → IsPackage (package_in options)
     → IsTreeBelow lists gives (leaves_out options.faulty) (string_bytes options.root)
-    (map string_bytes options.include.items) tree unread
+    (map string_bytes options.include.items) files unread
+    → AreReadIn options.dialect files tree
     → AreFolders lists gives options tree unread (all_in (package_in options))
-folders_of_run lists gives options tree unread none good of =
+folders_of_run lists gives options files tree unread none good of read =
     let roots : included_in options ≡ map string_bytes options.include.items =
     ap (λ (folders : List PackageFolder). map string_bytes options.include.items
     ++ map (λ folder. string_bytes folder.folder) folders) none ∙ append-nil (map string_bytes options.include.items) in
@@ -297,6 +300,7 @@ folders_of_run lists gives options tree unread none good of =
     record {
       own = paths_of of.own.files;
       others = each;
+      files = files;
       below = record {
         own = of.own;
         others = of.others;
@@ -305,5 +309,6 @@ folders_of_run lists gives options tree unread none good of =
             names of.others) (sym roots) of.below_each;
         holds = (of.holds, refl, refl);
       };
+      read = read;
       by = by_no_folder options (paths_of of.own.files) each none good;
     }

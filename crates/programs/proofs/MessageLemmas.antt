@@ -39,19 +39,6 @@ pub open_ends : {M : Type 0} (closed : Bool) (due : Type 0) (messages : Writer M
 open_ends true due messages status is said = absurd cc
 open_ends false due messages status is said = said
 
--- what follows from what is due is due, too
-pub cut_other : {M : Type 0} (closed : Bool) (due other : Type 0) (messages : Writer M) (status : ℕ) → (due → other)
-    → EndsCut closed due messages status → EndsCut closed other messages status
-cut_other true due other messages status holds ends = ends
-cut_other false due other messages status holds ends = holds ends
-
--- or is also one of which more holds
-pub tells_other : {M : Type 0} (messages : Writer M) (status due : ℕ) (Due Other : List ℕ → Type 0)
-    → ((line : List ℕ) → Due line → Other line)
-    → TellsOne Due due messages status → TellsOne Other due messages status
-tells_other messages status due Due Other holds (inl one) = inl (one.0, holds one.0 one.1, one.2)
-tells_other messages status due Due Other holds (inr said) = inr said
-
 -- a text is written, all of it or a first part
 pub written_or_cut : {W : Type 0} (sink : SinkOf W) (text : List ℕ) (before after : W)
     (done : Result (Unit {0}) CutOff) → OnOk done (IsWritten (writing sink before after) text)

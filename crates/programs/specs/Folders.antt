@@ -7,6 +7,7 @@ use Rattle.source_tree.specs.Files.{TreeFile}
 use Rattle.source_files.specs.Listings.{Listing}
 use Rattle.source_files.specs.Loads.{IsLoadedBelow}
 use Rattle.scip_symbol.specs.Package.{Package, IsPackage}
+use Rattle.scip_build.specs.AsRead.{AreReadIn}
 use Rattle.scip_model.specs.Packages.{Root, Packages, ArePackages, package_among, package_of_path}
 use Rattle.command_line.specs.declared.options.IndexOptions.{IndexOptions}
 use Rattle.command_line.specs.declared.options.include.PackageFolder.{PackageFolder}
@@ -62,15 +63,17 @@ pub record AreByFolder (options : IndexOptions) (own : List (List ℕ)) (others 
   pub each : (path : List ℕ) → package_of_path ids path
       ≡ package_among (package_in options) path (roots_of (packages_in options) (own ∷ others))
 
--- the tree is that of the files below the folders, this couldn't be read there and was left out, and these are the
--- packages of the tree's files
+-- the tree is that of the files below the folders, as they are read in the options' dialect; this couldn't be read
+-- there and was left out, and these are the packages of the tree's files
 pub record AreFolders (lists : List ℕ → List ℕ → Option Listing → Type 0)
     (gives : List ℕ → Option (List ℕ) → Type 0)
     (options : IndexOptions) (tree : List TreeFile) (unread : List (List ℕ)) (ids : Packages) : Type 0 where
   pub own : List (List ℕ)
   pub others : List (List (List ℕ))
+  pub files : List TreeFile
   pub below : IsLoadedBelow lists gives (leaves_out options.faulty) (string_bytes options.root) (included_in options)
-      tree own others unread
+      files own others unread
+  pub read : AreReadIn options.dialect files tree
   pub by : AreByFolder options own others ids
 
 -- the options name packages

@@ -89,7 +89,7 @@ pub(crate) fn dump_source<R: Threads + Wait, F, I: Feed, W: Sink + Caused, M: Si
         (reader I.Feed input) (writer W.Sink out) done
         × LeavesReader (reader I.Feed input) done
         × IsReadBriefly (reader I.Feed input)
-        × EndsDump (explain_in options.now.explain options.now.dialect)
+        × EndsDump options.now.dialect (explain_in options.now.explain options.now.dialect)
         (is_closed (W.cause out.new)) (reader I.Feed input) done
         (writer M.Sink messages) result }
 {

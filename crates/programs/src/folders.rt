@@ -20,6 +20,7 @@ use crate::package::package_of;
 use crate::start_fault::StartFault;
 use command_line::{IndexOptions, PackageFolder};
 use index_pool::Gate;
+use scip_build::as_read;
 use scip_model::{FilePackages, RootPackage};
 use scip_symbol::PackageId;
 use source_files::{Loaded, LoadedTree, ReadFiles, Readers, load_tree, load_tree_with_paths};
@@ -181,9 +182,9 @@ fn packages_by(
     Ok(packages)
 }
 
-/// The tree of the sources below the root and of the files below the included folders, and the packages
-/// that they belong to: of files with one path the first counts. Whether what can't be read is left out, the options
-/// have to say as the readers do.
+/// The tree of the sources below the root and of the files below the included folders, as they are read in the dialect
+/// of the options, and the packages that they belong to: of files with one path the first counts. Whether what can't be
+/// read is left out, the options have to say as the readers do.
 ///
 /// `BadPart`, of the run, or `BadFolder`, of the first folder whose package has a bad part; then the faults of
 /// `load_tree`.
@@ -206,8 +207,9 @@ pub(crate) fn load_folders<R: Threads + Wait, G: Gate, F: ReadFiles + Sync>(
     if options.include_packages.is_empty() {
         let found = load_tree(readers, root, &options.include)?;
         let Loaded { tree, unread } = found;
+        let read = as_read(alloc, options.dialect, tree)?;
         return Ok(Folders {
-            tree,
+            tree: read,
             unread,
             packages: FilePackages::of_run(alloc, run),
         });
@@ -221,8 +223,9 @@ pub(crate) fn load_folders<R: Threads + Wait, G: Gate, F: ReadFiles + Sync>(
         unread,
     } = loaded;
     let packages = packages_by(alloc, options, ids, own, others)?;
+    let read = as_read(alloc, options.dialect, tree)?;
     Ok(Folders {
-        tree,
+        tree: read,
         unread,
         packages,
     })

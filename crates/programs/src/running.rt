@@ -163,7 +163,7 @@ where
         ((done : Result (Unit {0}) Fault)
         × IsDumped options.dialect (reader I.Feed input) (writer W.Sink out) done
         × LeavesReader (reader I.Feed input) done × IsReadBriefly (reader I.Feed input)
-        × EndsDump (explain_in options.explain options.dialect)
+        × EndsDump options.dialect (explain_in options.explain options.dialect)
         (is_closed (W.cause out.new)) (reader I.Feed input) done (writer M.Sink messages) result)
         × (places.new ≡ places.old))) }
     // What `query` promises of its answers, and what becomes of that.

@@ -8,17 +8,20 @@ use Rattle.proto_lex.specs.CommentTexts.{Touches, StandsAlone, NoneBetween, comm
 use Rattle.proto_lex.specs.declared.span.Span.{Span}
 use Rattle.proto_lex.specs.declared.token.Comment.{Comment}
 use Rattle.comment_texts.specs.Cleaned.{clean_text, written_in}
+use Rattle.comment_texts.specs.Nul.{without_nul}
 use Rattle.comment_texts.specs.declared.form.CommentForm.{CommentForm}
-use Rattle.comment_texts.specs.declared.form.CommentForm.TheVariants.{Raw, Clean}
+use Rattle.comment_texts.specs.declared.form.CommentForm.TheVariants.{Raw, Clean, RawWithoutNul, CleanWithoutNul}
 
 -- the text of a comment, without its marks
 abbrev pub text_of : Lexed → Comment → List ℕ
 text_of lexed comment = comment_text comment.kind (part_of lexed.text comment.span)
 
--- the texts of comments: as they are written, a line each, or cleaned
+-- the texts of comments: as they are written, a line each, or cleaned; and the same without NUL
 abbrev pub texts_in : CommentForm → Lexed → List Comment → List ℕ
 texts_in Raw lexed comments = join_with_byte ascii.line_feed (map (text_of lexed) comments)
 texts_in Clean lexed comments = clean_text (map (written_in lexed.text) comments)
+texts_in RawWithoutNul lexed comments = without_nul (join_with_byte ascii.line_feed (map (text_of lexed) comments))
+texts_in CleanWithoutNul lexed comments = without_nul (clean_text (map (written_in lexed.text) comments))
 
 -- the line on which a span begins, and that on which it ends
 abbrev pub first_line : Lexed → Span → ℕ

@@ -11,6 +11,7 @@ ghost use Rattle.proto_lex.specs.declared.token.Comment.{Comment};
 ghost use Rattle.proto_lex.specs.Ascii as ascii;
 ghost use Rattle.proto_lex.specs.CommentTexts as texts;
 ghost use Rattle.comment_texts.specs.Comments.{IsCommentIn};
+ghost use Rattle.comment_texts.specs.Cleaned.{clean_text as cleaned_text, written_in};
 ghost use Rattle.proto_decl.specs.Layout.{AreBegun, IsFreeFrom};
 ghost use Rattle.proto_decl.specs.Extents.{BeginsAt};
 ghost use Rattle.proto_decl.specs.Comments.{text_of};
@@ -21,7 +22,7 @@ use crate::layout::{
     is_on_later_line,
 };
 use basics::{KeptText, OwnedText};
-use comment_texts::{CommentForm, between_marks, clean_text};
+use comment_texts::{CommentForm, between_marks, clean_text, without_nul};
 use proto_lex::{Comment, CommentKind, Span, Tokens};
 use std::alloc::{AllocError, Global};
 
@@ -127,6 +128,18 @@ fn texts_of<'t>(
     }
 }
 
+/// The cleaned text of comments.
+fn cleaned<'t>(
+    alloc: Global,
+    lexed: &Tokens<'_, 't>,
+    comments: &[Comment],
+) -> Result<KeptText<'t>, AllocError>
+    requires { All (IsCommentIn lexed.now.text) comments.now }
+    ensures { IfOk result (λ text. text ≡ cleaned_text (map (written_in lexed.now.text) comments.now)) }
+{
+    clean_text(alloc, lexed.text().as_str(), comments)
+}
+
 /// The texts of comments, in a form.
 fn texts_in<'t>(
     alloc: Global,
@@ -139,7 +152,9 @@ fn texts_in<'t>(
 {
     match form {
         CommentForm::Raw => texts_of(alloc, lexed, comments),
-        CommentForm::Clean => clean_text(alloc, lexed.text().as_str(), comments),
+        CommentForm::Clean => cleaned(alloc, lexed, comments),
+        CommentForm::RawWithoutNul => without_nul(alloc, texts_of(alloc, lexed, comments)?),
+        CommentForm::CleanWithoutNul => without_nul(alloc, cleaned(alloc, lexed, comments)?),
     }
 }
 

@@ -1,28 +1,28 @@
 -- What a dump answers, by where it stops.
 use Rattle.std.proofs.Common.{◌≡◌, inl, inr, ℕ, zero, suc, ◌<◌, ◌≤◌, List, [], ◌∷◌, length, Some, Option}
-use Rattle.std.proofs.Common.{Result, Ok, Err, refl, sym, subst, arith}
+use Rattle.std.proofs.Common.{Result, Ok, Err, refl, ap, sym, subst, arith}
+use Rattle.std.proofs.lemmas.Bool.{cases_lt}
+use Rattle.std.proofs.lemmas.List.Elements.{length_all_zip}
 use Rattle.std.specs.Prelude.{true, false, IfErr, IfSome, MatchResult}
 use Rattle.std.proofs.lemmas.Option.{same_Some, none-some}
 use Rattle.std.proofs.lemmas.List.{take_all, length-take}
 use Rattle.proto_lex.specs.declared.fault.LexFault.{LexFault}
 use Rattle.proto_lex.specs.declared.fault.LexFault.TheVariants as lexing
-use Rattle.proto_lex.specs.Text.{IsText, IsNoText, max_text_length}
-use Rattle.proto_lex.specs.Faults.{IsFirstFault}
+use Rattle.proto_lex.specs.Text.{IsNoText, max_text_length}
 use Rattle.proto_decl.specs.Facts.{plain_form}
 use Rattle.proto_parse.specs.dialect.Dialect.{Dialect}
+use Rattle.proto_parse.specs.dialect.Dialect.TheVariants.{Proto3, All}
 use Rattle.proto_decl.specs.Values.{Seen}
 use Rattle.index_hooks.specs.declared.choice.Choice.{Choice}
 use Rattle.source_tree.specs.Files.{TreeFile}
 use Rattle.source_tree.specs.Reading.{kept_bytes, max_kept_length}
+use Rattle.source_tree.specs.Mending.{IsMended, IsMendedFile, in_comments, outside, too_long}
+use Rattle.scip_build.specs.AsRead.{AreReadIn}
 use Rattle.scip_build.specs.Builds.{IsBuilt, IsBuildFault}
 use Rattle.streams.specs.Readers.{Reader}
 use Rattle.streams.specs.Writers.{SinkOf, Writer, writing}
-use Rattle.proto_visibility.specs.declared.clash.Duplicates.TheVariants as names
-use Rattle.proto_visibility.specs.Linked.{CanBeLinked}
-use Rattle.scip_build.specs.Documents.{IsAmbiguousAt, IsLeastUnresolved}
 use Rattle.scip_build.specs.Files.{FileContents, ReadFile}
-use Rattle.scip_build.specs.Linking.{linked_files, MayRefuseParsed}
-use Rattle.scip_build.specs.Parsed.{IsUnparsed, IsUnreadable}
+use Rattle.scip_build.specs.Parsed.{IsUnreadable}
 use Rattle.scip_build.specs.declared.faulty.Faulty.TheVariants.{Refuse}
 use Rattle.scip_build.specs.ParsedFiles.{HasContents, AreParsedFiles, IsFirstFaulty}
 use Rattle.scip_build.specs.declared.built.Built.{Built}
@@ -58,7 +58,22 @@ refused_of_build allows settings tree workers (build.Unresolved place) is = is
 refused_of_build allows settings tree workers (build.Ambiguous place) is = is
 
 module _ (dialect : Dialect) (bytes : List ℕ) (settings : Settings) (tree : List TreeFile)
-    (set : settings ≡ dump_settings dialect) (alone : tree ≡ dump_tree bytes) where
+    (set : settings ≡ dump_settings dialect) (read : AreReadIn dialect (dump_tree bytes) tree) where
+  by_refusal : (e : Fault) → IsRefused default_choices (dump_settings dialect) tree 1 e → IsRefusal dialect bytes e
+  by_refusal fault.Spawn is = (tree, read, is)
+  by_refusal fault.Memory is = tt
+  by_refusal (fault.Lex number e) is = (tree, read, is)
+  by_refusal (fault.Syntax number e) is = (tree, read, is)
+  by_refusal (fault.Duplicate first second) is = (tree, read, is)
+  by_refusal (fault.MissingImport place) is = (tree, read, is)
+  by_refusal (fault.Unresolved place) is = (tree, read, is)
+  by_refusal (fault.Ambiguous place) is = (tree, read, is)
+  by_refusal (fault.Uncertain place behind) is = (tree, read, is)
+  by_refusal fault.TooLarge is = (tree, read, is)
+  by_refusal (fault.Write count) is = (tree, read, is)
+  by_refusal fault.Read is = (tree, read, is)
+  by_refusal (fault.Answer count) is = (tree, read, is)
+
   -- why its tree isn't built is why a source has no listing
   pub refusal_of_build : (workers : ℕ) (e : BuildFault) → workers ≡ 1
       → IsBuildFault default_choices settings tree workers e
@@ -67,16 +82,12 @@ module _ (dialect : Dialect) (bytes : List ℕ) (settings : Settings) (tree : Li
       let of : IsRefused default_choices settings tree workers (fault_of_build e) =
       refused_of_build default_choices settings tree workers e is in
       let by_settings = subst (λ (s : Settings). IsRefused default_choices s tree workers (fault_of_build e)) set of in
-      let of_tree = subst (λ (t : List TreeFile). IsRefused default_choices (dump_settings dialect) t workers
-      (fault_of_build e)) alone by_settings in
-      subst (λ (n : ℕ). IsRefused default_choices (dump_settings dialect) (dump_tree bytes) n (fault_of_build e)) one
-      of_tree
+      by_refusal (fault_of_build e)
+      (subst (λ (n : ℕ). IsRefused default_choices (dump_settings dialect) tree n (fault_of_build e)) one by_settings)
 
   built_of_dump : (built : Built) → IsBuilt default_choices settings tree built
-      → IsBuilt default_choices (dump_settings dialect) (dump_tree bytes) built
-  built_of_dump built is =
-      subst (λ (t : List TreeFile). IsBuilt default_choices (dump_settings dialect) t built) alone
-      (subst (λ (s : Settings). IsBuilt default_choices s tree built) set is)
+      → IsBuilt default_choices (dump_settings dialect) tree built
+  built_of_dump built is = subst (λ (s : Settings). IsBuilt default_choices s tree built) set is
 
   -- the listing of its index is that of the source; where it has none, the source has none
   pub listed_or_refused : {S : Type 0} (text : S → List ℕ) (built : Built) (listed : Result S Fault)
@@ -84,13 +95,16 @@ module _ (dialect : Dialect) (bytes : List ℕ) (settings : Settings) (tree : Li
       → MatchResult listed (λ s. IsListingOf built.index (text s)) (IsNotReadBack built.index)
       → MatchResult listed (λ s. IsListing dialect bytes (text s)) (IsRefusal dialect bytes)
   listed_or_refused text built (Ok s) is listing = record {
+    tree = tree;
+    read = read;
     recorded = recorded_of built.choices built.told;
     spelling = spelling_of built.index;
     indexed = record { index = built.index; built = built_of_dump built is; spelled = listing.0 };
     listing_is = listing.1;
   }
   listed_or_refused text built (Err _) is (reading_lacks_memory short) = tt
-  listed_or_refused text built (Err _) is (has_no_bytes large) = (built, built_of_dump built is, large)
+  listed_or_refused text built (Err _) is (has_no_bytes large) =
+      (tree, read, (built, built_of_dump built is, large))
 
 -- ---- what is kept of bytes is all of them, where that isn't too long
 
@@ -107,7 +121,7 @@ whole P bytes short p = subst P (all_kept bytes short) p
 -- a source that was read isn't too long
 module _ (dialect : Dialect) (bytes : List ℕ) where
   abbrev pub alone : TreeFile
-  alone = record { path = source_path; bytes = bytes; is_included = false }
+  alone = record { path = source_path; bytes = bytes; text = bytes; is_included = false }
 
   short_contents : (contents : Result FileContents FileFault)
       → HasContents Refuse dialect plain_form default_choices zero alone contents → length bytes ≤ max_text_length
@@ -121,90 +135,137 @@ module _ (dialect : Dialect) (bytes : List ℕ) where
   short_source (parsed_file ∷ others) are = short_contents parsed_file.contents
       (are.each zero alone parsed_file refl refl).contents
 
-module _ (dialect : Dialect) (bytes : List ℕ) where
-  no_text_of_all : (e : LexFault) → IsNoText (kept_bytes bytes) e → IsNoText bytes e
-  no_text_of_all lexing.TooLong is = longer bytes is
-  no_text_of_all (lexing.NotUtf8 at) is = whole (λ b. IsNoText b (lexing.NotUtf8 at)) bytes is.0 is
-  no_text_of_all (lexing.BadByte at) is = is
-  no_text_of_all (lexing.OpenString at) is = is
-  no_text_of_all (lexing.OpenComment at) is = is
-  no_text_of_all (lexing.BadEscape at) is = is
-  no_text_of_all (lexing.BadNumber at) is = is
-  no_text_of_all lexing.Memory is = is
+-- what is kept of bytes that are too long is read as it is
+long_text : (bytes text : List ℕ) → max_text_length < length bytes → IsMended bytes text → text ≡ bytes
+long_text bytes text long (in_comments short reads same) = absurd (omega (arith, short, long))
+long_text bytes _ long (outside read at short reads first other) = absurd (omega (arith, short, long))
+long_text bytes _ long (too_long longer) = refl
 
-  unreadable_of_all : (e : FileFault) → IsUnreadable dialect (kept_bytes bytes) e → IsUnreadable dialect bytes e
-  unreadable_of_all (file.Lex e) (inl none) = inl (no_text_of_all e none)
-  unreadable_of_all (file.Lex e) (inr is) = inr (whole (λ b. IsText b × IsFirstFault b e) bytes is.0.short is)
-  unreadable_of_all (file.Syntax e) is = whole (λ b. IsUnparsed dialect b e) bytes is.lexing.text.short is
+long_tree : (dialect : Dialect) (bytes : List ℕ) → max_text_length < length bytes → (tree : List TreeFile)
+    → AreReadIn dialect (dump_tree bytes) tree → tree ≡ dump_tree bytes
+long_tree (Proto3 custom) bytes long tree read = read
+long_tree All bytes long [] read = absurd read
+long_tree All bytes long (f ∷ (g ∷ others)) read = absurd read.1
+long_tree All bytes long (f ∷ []) read =
+    let text = long_text bytes f.text long read.0.text in
+    let is : f ≡ record { path = source_path; bytes = bytes; text = bytes; is_included = false } = λ i. record {
+      path = read.0.path i;
+      bytes = read.0.bytes i;
+      text = text i;
+      is_included = read.0.is_included i;
+    } in
+    ap (λ (x : TreeFile). x ∷ []) is
+
+long_read : (dialect : Dialect) (bytes : List ℕ) → max_text_length < length bytes
+    → AreReadIn dialect (dump_tree bytes) (dump_tree bytes)
+long_read (Proto3 custom) bytes long = refl
+long_read All bytes long = (record { path = refl; bytes = refl; text = too_long long; is_included = refl }, tt)
+
+module _ (dialect : Dialect) (bytes : List ℕ) (long : max_text_length < length (kept_bytes bytes)) where
+  long_no_text : (e : LexFault) → IsNoText (kept_bytes bytes) e → IsNoText bytes e
+  long_no_text lexing.TooLong is = longer bytes is
+  long_no_text (lexing.NotUtf8 at) is = absurd (omega (arith, long, is.0))
+  long_no_text (lexing.BadByte at) is = is
+  long_no_text (lexing.OpenString at) is = is
+  long_no_text (lexing.OpenComment at) is = is
+  long_no_text (lexing.BadEscape at) is = is
+  long_no_text (lexing.BadNumber at) is = is
+  long_no_text lexing.Memory is = is
+
+  long_unreadable : (e : FileFault) → IsUnreadable dialect (kept_bytes bytes) e → IsUnreadable dialect bytes e
+  long_unreadable (file.Lex e) (inl none) = inl (long_no_text e none)
+  long_unreadable (file.Lex e) (inr is) = absurd (omega (arith, long, is.0.short))
+  long_unreadable (file.Syntax e) is = absurd (omega (arith, long, is.lexing.text.short))
 
   -- the one source is the first that can't be read
-  faulty_of_all : (number : ℕ) (e : FileFault) → IsFirstFaulty dialect (dump_tree (kept_bytes bytes)) number e
+  long_faulty : (number : ℕ) (e : FileFault) → IsFirstFaulty dialect (dump_tree (kept_bytes bytes)) number e
       → IsFirstFaulty dialect (dump_tree bytes) number e
-  faulty_of_all zero e is =
+  long_faulty zero e is =
       let one : is.file ≡ alone dialect (kept_bytes bytes) = sym (same_Some _ is.file is.numbered) in
-      let faulty = subst (λ (f : TreeFile). IsUnreadable dialect f.bytes e) one is.faulty.unreadable in
+      let faulty = subst (λ (f : TreeFile). IsUnreadable dialect f.text e) one is.faulty.unreadable in
       record {
-        file = record { path = source_path; bytes = bytes; is_included = false };
+        file = record { path = source_path; bytes = bytes; text = bytes; is_included = false };
         numbered = refl;
-        faulty = record { source = refl; unreadable = unreadable_of_all e faulty };
+        faulty = record { source = refl; unreadable = long_unreadable e faulty };
         before = λ lesser other less at. absurd (omega arith);
       }
-  faulty_of_all (suc number) e is = absurd (none-some is.file is.numbered)
+  long_faulty (suc number) e is = absurd (none-some is.file is.numbered)
 
-  of_parsed : (P : List TreeFile → List ReadFile → Type 0)
-      → (parsed : List ReadFile)
-      × AreParsedFiles Refuse dialect plain_form default_choices (dump_tree (kept_bytes bytes)) parsed
-      × P (dump_tree (kept_bytes bytes)) parsed
-      → (parsed : List ReadFile) × AreParsedFiles Refuse dialect plain_form default_choices (dump_tree bytes) parsed
-      × P (dump_tree bytes) parsed
-  of_parsed P of =
-      whole (λ b. (parsed : List ReadFile)
-      × AreParsedFiles Refuse dialect plain_form default_choices (dump_tree b) parsed
-      × P (dump_tree b) parsed) bytes (short_source dialect (kept_bytes bytes) of.0 of.1) of
+  not_parsed : {X : Type 0} → (parsed : List ReadFile)
+      → AreParsedFiles Refuse dialect plain_form default_choices (dump_tree (kept_bytes bytes)) parsed → X
+  not_parsed parsed are = absurd (omega (arith, long, short_source dialect (kept_bytes bytes) parsed are))
 
-  fault_of_all : (number : ℕ) (e : FileFault)
+  long_fault : (number : ℕ) (e : FileFault)
       → IsBuildFault default_choices (dump_settings dialect) (dump_tree (kept_bytes bytes)) 1 (build.File number e)
       → IsBuildFault default_choices (dump_settings dialect) (dump_tree bytes) 1 (build.File number e)
-  fault_of_all number e (refuse, inl first) = (refuse, inl (faulty_of_all number e first))
-  fault_of_all number e (refuse, inr of) =
-      (refuse, inr (of_parsed (λ _ parsed. MayRefuseParsed names.Refuse parsed (build.File number e)) of))
+  long_fault number e (refuse, inl first) = (refuse, inl (long_faulty number e first))
+  long_fault number e (refuse, inr of) = not_parsed of.0 of.1
 
+  long_refused : (e : Fault)
+      → IsRefused default_choices (dump_settings dialect) (dump_tree (kept_bytes bytes)) 1 e
+      → IsRefused default_choices (dump_settings dialect) (dump_tree bytes) 1 e
+  long_refused fault.Spawn is = is
+  long_refused fault.Memory is = tt
+  long_refused (fault.Lex number e) is = long_fault number (file.Lex e) is
+  long_refused (fault.Syntax number e) is = long_fault number (file.Syntax e) is
+  long_refused (fault.Duplicate first second) is = not_parsed is.1.0 is.1.1
+  long_refused (fault.MissingImport place) is = not_parsed is.1.0 is.1.1
+  long_refused (fault.Unresolved place) is = not_parsed is.1.0 is.1.1
+  long_refused (fault.Ambiguous place) is = not_parsed is.1.0 is.1.1
+  long_refused (fault.Uncertain place behind) is = is
+  long_refused fault.TooLarge is = not_parsed is.1.all is.1.read
+  long_refused (fault.Write count) is = is
+  long_refused fault.Read is = is
+  long_refused (fault.Answer count) is = is
+
+  of_kept : (e : Fault) (tree : List TreeFile) → AreReadIn dialect (dump_tree (kept_bytes bytes)) tree
+      → IsRefused default_choices (dump_settings dialect) tree 1 e
+      → (other : List TreeFile) × AreReadIn dialect (dump_tree bytes) other
+      × IsRefused default_choices (dump_settings dialect) other 1 e
+  of_kept e tree read is = (
+    dump_tree bytes,
+    long_read dialect bytes (longer bytes long),
+    long_refused e
+        (subst (λ (t : List TreeFile). IsRefused default_choices (dump_settings dialect) t 1 e)
+        (long_tree dialect (kept_bytes bytes) long tree read) is),
+  )
+
+  long_refusal : (e : Fault) → IsRefusal dialect (kept_bytes bytes) e → IsRefusal dialect bytes e
+  long_refusal fault.Spawn is = of_kept fault.Spawn is.0 is.1 is.2
+  long_refusal fault.Memory is = tt
+  long_refusal (fault.Lex number e) is = of_kept (fault.Lex number e) is.0 is.1 is.2
+  long_refusal (fault.Syntax number e) is = of_kept (fault.Syntax number e) is.0 is.1 is.2
+  long_refusal (fault.Duplicate first second) is = of_kept (fault.Duplicate first second) is.0 is.1 is.2
+  long_refusal (fault.MissingImport place) is = of_kept (fault.MissingImport place) is.0 is.1 is.2
+  long_refusal (fault.Unresolved place) is = of_kept (fault.Unresolved place) is.0 is.1 is.2
+  long_refusal (fault.Ambiguous place) is = of_kept (fault.Ambiguous place) is.0 is.1 is.2
+  long_refusal (fault.Uncertain place behind) is = of_kept (fault.Uncertain place behind) is.0 is.1 is.2
+  long_refusal fault.TooLarge is = of_kept fault.TooLarge is.0 is.1 is.2
+  long_refusal (fault.Write count) is = of_kept (fault.Write count) is.0 is.1 is.2
+  long_refusal fault.Read is = of_kept fault.Read is.0 is.1 is.2
+  long_refusal (fault.Answer count) is = of_kept (fault.Answer count) is.0 is.1 is.2
+
+  long_listing : (listing : List ℕ) → IsListing dialect (kept_bytes bytes) listing → IsListing dialect bytes listing
+  long_listing listing is =
+      let built = is.indexed.built in
+      not_parsed built.all
+      (subst (λ (t : List TreeFile). AreParsedFiles Refuse dialect plain_form default_choices t built.all)
+      (long_tree dialect (kept_bytes bytes) long is.tree is.read) built.read)
+
+module _ (dialect : Dialect) (bytes : List ℕ) where
   -- what holds of the bytes that are kept holds of all
   pub refusal_of_all : (e : Fault) → IsRefusal dialect (kept_bytes bytes) e → IsRefusal dialect bytes e
-  refusal_of_all fault.Spawn is = is
-  refusal_of_all fault.Memory is = is
-  refusal_of_all (fault.Lex number e) is = fault_of_all number (file.Lex e) is
-  refusal_of_all (fault.Syntax number e) is = fault_of_all number (file.Syntax e) is
-  refusal_of_all (fault.Duplicate first second) is =
-      (is.0, of_parsed (λ _ parsed. MayRefuseParsed names.Refuse parsed (build.Duplicate first second)) is.1)
-  refusal_of_all (fault.MissingImport place) is =
-      (is.0, of_parsed (λ _ parsed. MayRefuseParsed names.Refuse parsed (build.MissingImport place)) is.1)
-  refusal_of_all (fault.Unresolved place) is = (
-    is.0,
-    of_parsed
-        (λ _ parsed. CanBeLinked names.Refuse (linked_files parsed) × IsLeastUnresolved (linked_files parsed) place
-        × (IsAmbiguousAt (linked_files parsed) place → ⊥)) is.1,
-  )
-  refusal_of_all (fault.Ambiguous place) is = (
-    is.0,
-    of_parsed
-        (λ _ parsed. CanBeLinked names.Refuse (linked_files parsed) × IsLeastUnresolved (linked_files parsed) place
-        × IsAmbiguousAt (linked_files parsed) place) is.1,
-  )
-  refusal_of_all (fault.Uncertain place behind) is = is
-  refusal_of_all fault.TooLarge is =
-      whole (λ b. IsRefusal dialect b fault.TooLarge) bytes
-      (short_source dialect (kept_bytes bytes) is.1.all is.1.read) is
-  refusal_of_all (fault.Write count) is = is
-  refusal_of_all fault.Read is = is
-  refusal_of_all (fault.Answer count) is = is
+  refusal_of_all e is = elim (cases_lt max_text_length (length (kept_bytes bytes))) [
+    | inl long ↦ long_refusal dialect bytes long e is
+    | inr short ↦ whole (λ b. IsRefusal dialect b e) bytes short is
+  ]
 
   pub listing_of_all : (listing : List ℕ) → IsListing dialect (kept_bytes bytes) listing
       → IsListing dialect bytes listing
-  listing_of_all listing is =
-      let built = is.indexed.built in
-      whole (λ b. IsListing dialect b listing) bytes
-      (short_source dialect (kept_bytes bytes) built.all built.read) is
+  listing_of_all listing is = elim (cases_lt max_text_length (length (kept_bytes bytes))) [
+    | inl long ↦ long_listing dialect bytes long listing is
+    | inr short ↦ whole (λ b. IsListing dialect b listing) bytes short is
+  ]
 
   -- a source that has no listing is refused,
   pub refused_dumps : (due : List ℕ) (e : Fault) → IsRefusal dialect bytes e → Dumps dialect bytes due (Err e)
@@ -216,10 +277,10 @@ module _ (dialect : Dialect) (bytes : List ℕ) where
   refused_dumps due (fault.MissingImport place) is = is
   refused_dumps due (fault.Unresolved place) is = is
   refused_dumps due (fault.Ambiguous place) is = is
-  refused_dumps due (fault.Uncertain place behind) is = absurd is
+  refused_dumps due (fault.Uncertain place behind) is = absurd is.2
   refused_dumps due fault.TooLarge is = is
-  refused_dumps due (fault.Write count) is = absurd is
-  refused_dumps due fault.Read is = absurd is
+  refused_dumps due (fault.Write count) is = absurd is.2
+  refused_dumps due fault.Read is = absurd is.2
   refused_dumps due (fault.Answer count) is = is
 
   -- with the writer as it was,
@@ -233,33 +294,74 @@ module _ (dialect : Dialect) (bytes : List ℕ) where
   refused_writer sink out due (fault.MissingImport place) is = refl
   refused_writer sink out due (fault.Unresolved place) is = refl
   refused_writer sink out due (fault.Ambiguous place) is = refl
-  refused_writer sink out due (fault.Uncertain place behind) is = absurd is
+  refused_writer sink out due (fault.Uncertain place behind) is = absurd is.2
   refused_writer sink out due fault.TooLarge is = refl
-  refused_writer sink out due (fault.Write count) is = absurd is
+  refused_writer sink out due (fault.Write count) is = absurd is.2
   refused_writer sink out due fault.Read is = refl
   refused_writer sink out due (fault.Answer count) is = refl
 
-  -- and of no other file
-  pub dump_files : (e : Fault) → IsRefusal dialect bytes e → HasFilesOf (dump_tree bytes) e
-  dump_files fault.Spawn is = tt
-  dump_files fault.Memory is = tt
-  dump_files (fault.Lex number e) is =
-      files_of_build default_choices (dump_settings dialect) (dump_tree bytes) 1 (build.File number (file.Lex e)) is
-  dump_files (fault.Syntax number e) is =
-      files_of_build default_choices (dump_settings dialect) (dump_tree bytes) 1 (build.File number (file.Syntax e)) is
-  dump_files (fault.Duplicate first second) is =
-      files_of_build default_choices (dump_settings dialect) (dump_tree bytes) 1 (build.Duplicate first second) is
-  dump_files (fault.MissingImport place) is =
-      files_of_build default_choices (dump_settings dialect) (dump_tree bytes) 1 (build.MissingImport place) is
-  dump_files (fault.Unresolved place) is =
-      files_of_build default_choices (dump_settings dialect) (dump_tree bytes) 1 (build.Unresolved place) is
-  dump_files (fault.Ambiguous place) is =
-      files_of_build default_choices (dump_settings dialect) (dump_tree bytes) 1 (build.Ambiguous place) is
-  dump_files (fault.Uncertain place behind) is = absurd is
-  dump_files fault.TooLarge is = tt
-  dump_files (fault.Write count) is = tt
-  dump_files fault.Read is = tt
-  dump_files (fault.Answer count) is = tt
+-- more files have those of a fault, too
+more_files : (e : Fault) (tree others : List TreeFile) → length tree ≤ length others → HasFilesOf tree e
+    → HasFilesOf others e
+more_files fault.Spawn tree others more has = tt
+more_files fault.Memory tree others more has = tt
+more_files (fault.Lex number e) tree others more has = omega (arith, has, more)
+more_files (fault.Syntax number e) tree others more has = omega (arith, has, more)
+more_files (fault.Duplicate first second) tree others more has =
+    (omega (arith, has.0, more), omega (arith, has.1, more))
+more_files (fault.MissingImport place) tree others more has = omega (arith, has, more)
+more_files (fault.Unresolved place) tree others more has = omega (arith, has, more)
+more_files (fault.Ambiguous place) tree others more has = omega (arith, has, more)
+more_files (fault.Uncertain place behind) tree others more has =
+    (omega (arith, has.0, more), omega (arith, has.1, more))
+more_files fault.TooLarge tree others more has = tt
+more_files (fault.Write count) tree others more has = tt
+more_files fault.Read tree others more has = tt
+more_files (fault.Answer count) tree others more has = tt
+
+length_read : (dialect : Dialect) (files tree : List TreeFile) → AreReadIn dialect files tree
+    → length tree ≡ length files
+length_read (Proto3 custom) files tree read = ap length read
+length_read All files tree read = sym (length_all_zip IsMendedFile files tree read)
+
+-- a refusal is of no other file than the first
+module _ (dialect : Dialect) (bytes : List ℕ) where
+  one_file : (tree : List TreeFile) → AreReadIn dialect (dump_tree bytes) tree → (others : List TreeFile)
+      → 1 ≤ length others → length tree ≤ length others
+  one_file tree read others some = omega (arith, length_read dialect (dump_tree bytes) tree read, some)
+
+  pub dump_files : (e : Fault) → IsRefusal dialect bytes e → (others : List TreeFile) → 1 ≤ length others
+      → HasFilesOf others e
+  dump_files fault.Spawn is others some = tt
+  dump_files fault.Memory is others some = tt
+  dump_files (fault.Lex number e) is others some =
+      more_files (fault.Lex number e) is.0 others (one_file is.0 is.1 others some)
+      (files_of_build default_choices (dump_settings dialect) is.0 1 (build.File number (file.Lex e)) is.2)
+  dump_files (fault.Syntax number e) is others some =
+      more_files (fault.Syntax number e) is.0 others (one_file is.0 is.1 others some)
+      (files_of_build default_choices (dump_settings dialect) is.0 1 (build.File number (file.Syntax e)) is.2)
+  dump_files (fault.Duplicate first second) is others some =
+      more_files (fault.Duplicate first second) is.0 others (one_file is.0 is.1 others some)
+      (files_of_build default_choices (dump_settings dialect) is.0 1 (build.Duplicate first second) is.2)
+  dump_files (fault.MissingImport place) is others some =
+      more_files (fault.MissingImport place) is.0 others (one_file is.0 is.1 others some)
+      (files_of_build default_choices (dump_settings dialect) is.0 1 (build.MissingImport place) is.2)
+  dump_files (fault.Unresolved place) is others some =
+      more_files (fault.Unresolved place) is.0 others (one_file is.0 is.1 others some)
+      (files_of_build default_choices (dump_settings dialect) is.0 1 (build.Unresolved place) is.2)
+  dump_files (fault.Ambiguous place) is others some =
+      more_files (fault.Ambiguous place) is.0 others (one_file is.0 is.1 others some)
+      (files_of_build default_choices (dump_settings dialect) is.0 1 (build.Ambiguous place) is.2)
+  dump_files (fault.Uncertain place behind) is others some = absurd is.2
+  dump_files fault.TooLarge is others some = tt
+  dump_files (fault.Write count) is others some = tt
+  dump_files fault.Read is others some = tt
+  dump_files (fault.Answer count) is others some = tt
+
+-- the tree of a source has a file
+pub has_file : (dialect : Dialect) (bytes : List ℕ) (tree : List TreeFile) → AreReadIn dialect (dump_tree bytes) tree
+    → 1 ≤ length tree
+has_file dialect bytes tree read = omega (arith, length_read dialect (dump_tree bytes) tree read)
 
 -- where the listing is written, or cut off
 module _ {W : Type 0} (out : Writer W) (due : List ℕ) where
@@ -289,26 +391,9 @@ module _ {R W : Type 0} (source : Reader R) (sink : SinkOf W) (dialect : Dialect
   pub starved_dumped : IsDumped dialect source (writing sink out out) (Err fault.Memory)
   starved_dumped = record { due = []; writer = refl; some = ([], tt); told = λ bytes known. tt }
 
--- the tree of a source has the same files, whatever it holds
-pub any_dump_files : (e : Fault) (bytes others : List ℕ) → HasFilesOf (dump_tree bytes) e
-    → HasFilesOf (dump_tree others) e
-any_dump_files fault.Spawn bytes others has = has
-any_dump_files fault.Memory bytes others has = has
-any_dump_files (fault.Lex number e) bytes others has = has
-any_dump_files (fault.Syntax number e) bytes others has = has
-any_dump_files (fault.Duplicate first second) bytes others has = has
-any_dump_files (fault.MissingImport place) bytes others has = has
-any_dump_files (fault.Unresolved place) bytes others has = has
-any_dump_files (fault.Ambiguous place) bytes others has = has
-any_dump_files (fault.Uncertain place behind) bytes others has = has
-any_dump_files fault.TooLarge bytes others has = has
-any_dump_files (fault.Write count) bytes others has = has
-any_dump_files fault.Read bytes others has = has
-any_dump_files (fault.Answer count) bytes others has = has
-
 -- a source that was read has the tree in which any fault has its places
-module _ {R : Type 0} (source : Reader R) (tree : List TreeFile) where
-  pub tree_of_fault : (e : Fault) → IsTreeOfSource source tree → IsTreeOfFault source tree e
+module _ {R : Type 0} (dialect : Dialect) (source : Reader R) (tree : List TreeFile) where
+  pub tree_of_fault : (e : Fault) → IsTreeOfSource dialect source tree → IsTreeOfFault dialect source tree e
   tree_of_fault fault.Spawn is = is
   tree_of_fault fault.Memory is = tt
   tree_of_fault (fault.Lex number e) is = is
@@ -323,7 +408,7 @@ module _ {R : Type 0} (source : Reader R) (tree : List TreeFile) where
   tree_of_fault fault.Read is = tt
   tree_of_fault (fault.Answer count) is = is
 
-  pub tree_of_done : (done : Result (Unit {0}) Fault) → IsTreeOfSource source tree
-      → IfErr done (IsTreeOfFault source tree)
+  pub tree_of_done : (done : Result (Unit {0}) Fault) → IsTreeOfSource dialect source tree
+      → IfErr done (IsTreeOfFault dialect source tree)
   tree_of_done (Ok done) is = tt
   tree_of_done (Err e) is = tree_of_fault e is

@@ -187,7 +187,7 @@ module _ (tree : List TreeFile) (own : HaveOwnPaths tree) where
   -- a path is that of one file
   one_number : (m n : ℕ) → HasFile tree m → HasFile tree n → path_of tree m ≡ path_of tree n → m ≡ n
   one_number m n first second same =
-      let none : TreeFile = record { path = []; bytes = []; is_included = false } in
+      let none : TreeFile = record { path = []; bytes = []; text = []; is_included = false } in
       let a = slice_get-get_or tree m none first in
       let b = slice_get-get_or tree n none second in
       own m n (get_or tree m none) (get_or tree n none) a b

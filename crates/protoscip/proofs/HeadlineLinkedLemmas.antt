@@ -18,7 +18,7 @@ use Rattle.scip_symbol.specs.Path.{IsGoodPath}
 use Rattle.scip_model.specs.Conditions.{HaveGoodPaths}
 use Rattle.source_tree.specs.Files.{TreeFile}
 use Rattle.scip_build.specs.declared.fault.FileFault.{FileFault}
-use Rattle.scip_build.specs.Parsed.{AreFactsIn}
+use Rattle.scip_build.specs.Parsed.{form_by, AreFactsIn}
 use Rattle.scip_build.specs.Files.{FileContents, ReadFile}
 use Rattle.scip_build.specs.declared.faulty.Faulty.{Faulty}
 use Rattle.scip_build.specs.ParsedFiles.{HasContents, IsParsedFile, AreParsedFiles}
@@ -71,9 +71,9 @@ module _ (faulty : Faulty) (dialect : Dialect) (form : FactForm) (allows : Seen 
   of_some_file : (number : ℕ) (bytes : List ℕ) (facts : Facts) → AreFactsIn dialect form number bytes facts
       → AreOfSomeFile facts
   of_some_file number bytes facts has =
-      let Of : ℕ → Type 0 = λ n. AreFactsOf form n has.lexed has.tree facts in
+      let Of : ℕ → Type 0 = λ n. AreFactsOf (form_by dialect form) n has.lexed has.tree facts in
       record {
-        form = form;
+        form = form_by dialect form;
         lexed = has.lexed;
         file = has.tree;
         is_lexed = has.lexing.is_lexed;
@@ -86,7 +86,7 @@ module _ (faulty : Faulty) (dialect : Dialect) (form : FactForm) (allows : Seen 
       → AreOfSomeFile facts
   origin_in number file (Ok contents) has facts known =
       subst AreOfSomeFile (same_Some contents.facts facts known)
-      (of_some_file number file.bytes contents.facts has.1.facts_in)
+      (of_some_file number file.text contents.facts has.1.facts_in)
   origin_in number file (Err fault) has facts known = absurd (none-some facts known)
 
   pub have_origins : HaveOrigins (linked_files parsed)

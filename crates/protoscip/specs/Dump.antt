@@ -14,6 +14,7 @@ use Rattle.streams.specs.Readers.{Reader, known_before, IsReadFault, IsReadThrou
 use Rattle.streams.specs.Writers.{Writer, IsWritten, IsCutOff, IsUntouched}
 use Rattle.proto_visibility.specs.declared.clash.Duplicates.TheVariants as names
 use Rattle.scip_model.specs.Packages.{all_in}
+use Rattle.scip_build.specs.AsRead.{AreReadIn}
 use Rattle.scip_build.specs.declared.settings.Settings.{Settings}
 use Rattle.scip_build.specs.declared.faulty.Faulty.TheVariants.{Refuse}
 use Rattle.scip_records.specs.declared.records.Index.{Index}
@@ -30,7 +31,7 @@ source_path = codes "input.proto"
 
 -- its tree: only this source
 abbrev pub dump_tree : List ℕ → List TreeFile
-dump_tree bytes = record { path = source_path; bytes = bytes; is_included = false } ∷ []
+dump_tree bytes = record { path = source_path; bytes = bytes; text = bytes; is_included = false } ∷ []
 
 -- what it accepts if nothing else is said: proto3 without custom options
 abbrev pub plain_dialect : Dialect
@@ -53,20 +54,25 @@ dump_settings dialect = record {
 abbrev pub default_choices : Seen → Choice → Type 0
 default_choices seen choice = IsDefaultChoice choice
 
--- the listing of a source: that of its index
+-- the listing of a source: that of the index of its tree, as it is read
 pub record IsListing (dialect : Dialect) (bytes listing : List ℕ) : Type 0 where
+  pub tree : List TreeFile
+  pub read : AreReadIn dialect (dump_tree bytes) tree
   pub recorded : Recorded
   pub spelling : List ℕ
-  pub indexed : IsIndexed default_choices (dump_settings dialect) (dump_tree bytes) recorded spelling
+  pub indexed : IsIndexed default_choices (dump_settings dialect) tree recorded spelling
   pub listing_is : listing ≡ dump_text indexed.index
 
 -- the listing of an index that has a spelling
 abbrev pub IsListingOf : Index → List ℕ → Type 0
 IsListingOf index listing = IsSpelled index (spelling_of index) × (listing ≡ dump_text index)
 
--- why a source has no listing: why its tree isn't indexed, by one worker
+-- why a source has no listing: why its tree, as it is read, isn't indexed, by one worker; nothing is said about memory
 abbrev pub IsRefusal : Dialect → List ℕ → Fault → Type 0
-IsRefusal dialect bytes fault = IsRefused default_choices (dump_settings dialect) (dump_tree bytes) 1 fault
+IsRefusal dialect bytes Memory = Unit {0}
+IsRefusal dialect bytes fault =
+    (tree : List TreeFile) × AreReadIn dialect (dump_tree bytes) tree
+    × IsRefused default_choices (dump_settings dialect) tree 1 fault
 
 -- what a dump of these bytes answers, and what it has to write: the listing, of which all is written, or, if a write
 -- fails, a part of it from its start; or why there is none. (Read says nothing about the bytes.)
@@ -98,15 +104,15 @@ pub record IsDumped {R W : Type 0} (dialect : Dialect) (source : Reader R) (out 
   pub some : (bytes : List ℕ) × Dumps dialect bytes due done
   pub told : (bytes : List ℕ) → known_before source ≡ Some bytes → Dumps dialect bytes due done
 
--- The tree is that of what was kept of a source: of the bytes which the reader tells that it has left; if it tells
--- none, of some bytes.
-pub record IsTreeOfSource {R : Type 0} (source : Reader R) (tree : List TreeFile) : Type 0 where
+-- The tree is that of what was kept of a source, as it is read: of the bytes which the reader tells that it has left;
+-- if it tells none, of some bytes.
+pub record IsTreeOfSource {R : Type 0} (dialect : Dialect) (source : Reader R) (tree : List TreeFile) : Type 0 where
   pub kept : List ℕ
-  pub tree_is : tree ≡ dump_tree kept
+  pub tree_is : AreReadIn dialect (dump_tree kept) tree
   pub told : (bytes : List ℕ) → known_before source ≡ Some bytes → kept ≡ kept_bytes bytes
 
 -- the tree in which a dump's fault has its places; any tree if the source wasn't read, or memory ran out
-abbrev pub IsTreeOfFault : {R : Type 0} → Reader R → List TreeFile → Fault → Type 0
-IsTreeOfFault source tree Read = Unit {0}
-IsTreeOfFault source tree Memory = Unit {0}
-IsTreeOfFault source tree fault = IsTreeOfSource source tree
+abbrev pub IsTreeOfFault : {R : Type 0} → Dialect → Reader R → List TreeFile → Fault → Type 0
+IsTreeOfFault dialect source tree Read = Unit {0}
+IsTreeOfFault dialect source tree Memory = Unit {0}
+IsTreeOfFault dialect source tree fault = IsTreeOfSource dialect source tree

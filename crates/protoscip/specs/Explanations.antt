@@ -35,6 +35,10 @@ first_sentence = codes "it is given here"
 abbrev pub bytes_of : List TreeFile → ℕ → List ℕ
 bytes_of tree number = unwrap_or (option_map (λ (file : TreeFile). file.bytes) (slice_get tree number)) []
 
+-- what is read of it
+abbrev pub text_of : List TreeFile → ℕ → List ℕ
+text_of tree number = unwrap_or (option_map (λ (file : TreeFile). file.text) (slice_get tree number)) []
+
 -- a place of a file, a sentence about it, and its line, so many bytes of it marked
 abbrev pub explained : (path text : List ℕ) → (at len : ℕ) → (sentence : List ℕ) → List ℕ
 explained path text at len sentence = codes "\n" ++ place_text path text at ++ sentence ++ excerpt text at len
@@ -79,7 +83,7 @@ AreSyntaxHints dialect text fault hints = hints ≡ []
 
 -- of a tree whose sources are parsed in this dialect
 abbrev pub AreHintsOf : Dialect → List TreeFile → Fault → (hints : List ℕ) → Type 0
-AreHintsOf dialect tree (Syntax number fault) hints = AreSyntaxHints dialect (bytes_of tree number) fault hints
+AreHintsOf dialect tree (Syntax number fault) hints = AreSyntaxHints dialect (text_of tree number) fault hints
 AreHintsOf dialect tree fault hints = hints ≡ []
 
 -- ---- sentences, by what the tree holds

@@ -4,6 +4,7 @@ ghost use Rattle.std.specs.Prelude.{◌≡◌, ℕ, List, [], IfOk, IfErr, Match
 ghost use Rattle.std.specs.String.{string_bytes};
 ghost use Rattle.streams.specs.Readers.{IsReadBriefly, reader};
 ghost use Rattle.streams.specs.Writers.{writer};
+ghost use Rattle.scip_build.specs.AsRead.{AreReadIn};
 ghost use Rattle.protoscip.specs.Dump.{
   dump_tree,
   dump_settings,
@@ -30,7 +31,7 @@ use index_pool::{NoGate, Workers};
 use proto_decl::DeclView;
 use proto_lex::Encoding;
 use proto_parse::{CustomOptions, Dialect};
-use scip_build::{Duplicates, Faulty, Run, Settings, build};
+use scip_build::{Duplicates, Faulty, Run, Settings, as_read, build};
 use scip_model::FilePackages;
 use scip_records::Index;
 use scip_symbol::PackageId;
@@ -116,7 +117,7 @@ fn listing_by<R: Threads + Wait>(
     tree: &Tree,
 ) -> Result<String, Fault>
     ensures { (dialect : Dialect) → (bytes : List ℕ) → settings.now ≡ dump_settings dialect
-        → tree.now ≡ dump_tree bytes → MatchResult result
+        → AreReadIn dialect (dump_tree bytes) tree.now → MatchResult result
         (λ listing. IsListing dialect bytes (string_bytes listing)) (IsRefusal dialect bytes) }
 {
     let workers = one_worker();
@@ -137,18 +138,24 @@ fn listing_of<R: Threads + Wait>(
     dialect: Dialect,
     tree: &Tree,
 ) -> Result<String, Fault>
-    ensures { (bytes : List ℕ) → tree.now ≡ dump_tree bytes → MatchResult result
+    ensures { (bytes : List ℕ) → AreReadIn dialect (dump_tree bytes) tree.now → MatchResult result
         (λ listing. IsListing dialect bytes (string_bytes listing)) (IsRefusal dialect bytes) }
 {
     let settings = dump_settings(alloc, dialect)?;
     listing_by(rt, alloc, &settings, tree)
 }
 
-/// Makes a tree that of these bytes.
-fn keep_source(alloc: Global, bytes: Vec<u8>, tree: &mut Tree) -> Result<(), AllocError>
-    ensures { OnOk result (tree.new ≡ dump_tree bytes.items) }
+/// Makes a tree that of these bytes, as it is read.
+fn keep_source(
+    alloc: Global,
+    dialect: Dialect,
+    bytes: Vec<u8>,
+    tree: &mut Tree,
+) -> Result<(), AllocError>
+    ensures { OnOk result (AreReadIn dialect (dump_tree bytes.items) tree.new) }
 {
-    *tree = dump_tree(alloc, bytes)?;
+    let source = dump_tree(alloc, bytes)?;
+    *tree = as_read(alloc, dialect, source)?;
     Ok(())
 }
 
@@ -163,7 +170,7 @@ pub fn dump_and_keep<R: Threads + Wait, F: Feed, W: Sink>(
     out: &mut W,
 ) -> Result<(), Fault>
     ensures dumped { IsDumped dialect (reader F.Feed source) (writer W.Sink out) result }
-    ensures tree { IfErr result (IsTreeOfFault (reader F.Feed source) tree.new) }
+    ensures tree { IfErr result (IsTreeOfFault dialect (reader F.Feed source) tree.new) }
     ensures files { IfErr result (HasFilesOf tree.new) }
     ensures alone { IfErr result (HasFilesOf (dump_tree [])) }
     ensures reader { LeavesReader (reader F.Feed source) result }
@@ -173,7 +180,7 @@ pub fn dump_and_keep<R: Threads + Wait, F: Feed, W: Sink>(
         Some(bytes) => bytes,
         None => return Err(Fault::Read),
     };
-    keep_source(alloc, bytes, tree)?;
+    keep_source(alloc, dialect, bytes, tree)?;
     let listing = listing_of(rt, alloc, dialect, tree)?;
     write_text(out, listing.as_str())
 }

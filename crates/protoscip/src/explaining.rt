@@ -131,7 +131,7 @@ fn hints_of(
     ensures { IfOk result (λ hints. AreHintsOf dialect tree.now fault.now (string_bytes hints)) }
 {
     match fault {
-        Fault::Syntax(file, fault) => { hints_at(alloc, tree.bytes(*file), fault, dialect) }
+        Fault::Syntax(file, fault) => { hints_at(alloc, tree.text(*file), fault, dialect) }
         Fault::Spawn
         | Fault::Memory
         | Fault::Lex(..)

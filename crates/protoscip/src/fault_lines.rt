@@ -54,7 +54,12 @@ pub(crate) fn line_with(
         Fault::MissingImport(place) => line_at_place(alloc, unresolved, tree, place, name),
         Fault::Unresolved(place) => line_at_place(alloc, unresolved, tree, place, name),
         Fault::Ambiguous(place) => line_at_place(alloc, unresolved, tree, place, name),
-        Fault::Uncertain(place, behind) => line_behind(alloc, tree, place, *behind),
+        Fault::Uncertain(place, behind) => uncertain_line(
+            alloc,
+            path_of(tree, place.file),
+            place.span.start as usize,
+            path_of(tree, *behind),
+        ),
         Fault::Spawn
         | Fault::Memory
         | Fault::TooLarge
@@ -109,24 +114,7 @@ fn duplicate_line(
     format!(in alloc; "protoscip: {words}{later_path}@{later_offset}: Duplicate of {path}@{offset}")
 }
 
-/// The line of an uncertain use, by its place and the number of the file behind which it is.
-fn line_behind(
-    alloc: Global,
-    tree: &Tree,
-    place: &FilePlace,
-    behind: usize,
-) -> Result<String, AllocError>
-    requires place { HasFile tree.now place.now.file }
-    requires behind { HasFile tree.now behind }
-    ensures { IfOk result (λ line. string_bytes line
-        ≡ uncertain_line (path_of tree.now place.now.file) place.now.span.start (path_of tree.now behind)) }
-{
-    let path = path_of(tree, place.file);
-    let other = path_of(tree, behind);
-    uncertain_line(alloc, path, place.span.start as usize, other)
-}
-
-/// `protoscip: uncertain: PATH@OFFSET behind PATH2`
+/// `protoscip: uncertain: PATH@OFFSET behind OTHER`, of the paths of two files.
 fn uncertain_line(
     alloc: Global,
     path: &str,

@@ -16,7 +16,7 @@ use proto_link::one_declaration_a_name;
 use scip_build::{Settings, built_has_no_fault, one_build_fault, one_built};
 use scip_model::symbols_name_one_entity_in_packages;
 use scip_symbol::files_are_without_clash;
-use source_tree::Tree;
+use source_tree::{Tree, one_reading};
 
 /// A tree has one fault at most, whatever was chosen.
 pub fn one_fault<C: Chooses, D: Chooses>(chooser: &C, other: &D)
@@ -101,6 +101,7 @@ pub(crate) fn headline_of_tree<C: Chooses>(chooser: &C, tree: &Tree, settings: &
 pub fn one_listing()
     ensures { OneListing }
 {
+    one_reading();
     one_indexing(&DefaultChoices, &DefaultChoices);
 }
 
@@ -108,5 +109,6 @@ pub fn one_listing()
 pub fn listed_unless_memory()
     ensures { ListedUnlessMemory }
 {
+    one_reading();
     one_indexing(&DefaultChoices, &DefaultChoices);
 }

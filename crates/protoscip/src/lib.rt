@@ -70,7 +70,7 @@ pub use basics::{OwnedText, Sequence};
 pub use comment_texts::CommentForm;
 pub use proto_lex::Encoding;
 pub use proto_parse::{CustomOptions, Dialect};
-pub use scip_build::{Built, Duplicates, Faulty, Run, Settings, build};
+pub use scip_build::{Built, Duplicates, Faulty, Run, Settings, as_read, build};
 pub use scip_model::{Choices, FilePackages, RootPackage};
 pub use scip_query::Manner;
 pub use scip_symbol::{BadPart, PackageId};

@@ -237,7 +237,7 @@ module _ (allows others : Seen → Choice → Type 0) (one_linking : OneLinking 
 record IsNamed (dialect : Dialect) (tree : List TreeFile) (number : ℕ) (fault : FileFault) : Type 0 where
   file : TreeFile
   numbered : slice_get tree number ≡ Some file
-  unreadable : IsUnreadable dialect file.bytes fault
+  unreadable : IsUnreadable dialect file.text fault
 
 named : (settings : Settings) (allows : Seen → Choice → Type 0) (tree : List TreeFile) (workers number : ℕ)
     (fault : FileFault) → IsBuildFault allows settings tree workers (build.File number fault)
@@ -262,8 +262,8 @@ file_fault_is_one one allows others settings tree workers more number fault othe
     let first = named settings allows tree workers number fault is in
     let second = named settings others tree more number other also in
     let same : first.file ≡ second.file = same_Some first.file second.file (sym first.numbered ∙ second.numbered) in
-    let Of : TreeFile → Type 0 = λ file. IsUnreadable settings.dialect file.bytes other in
-    one settings.dialect first.file.bytes fault other first.unreadable (subst Of (sym same) second.unreadable)
+    let Of : TreeFile → Type 0 = λ file. IsUnreadable settings.dialect file.text other in
+    one settings.dialect first.file.text fault other first.unreadable (subst Of (sym same) second.unreadable)
 
 -- the fault that a cause says, but of a file
 of_cause : LinkFault → BuildFault

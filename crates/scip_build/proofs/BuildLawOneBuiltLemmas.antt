@@ -66,7 +66,7 @@ unreadable : (faulty : Faulty) (dialect : Dialect) (form : FactForm) (allows : S
     (tree : List TreeFile) (parsed : List ReadFile) → AreParsedFiles faulty dialect form allows tree parsed
     → (number : ℕ) (fault : FileFault)
     → HasFault parsed number fault
-    → (file : TreeFile) × (slice_get tree number ≡ Some file) × IsUnreadable dialect file.bytes fault
+    → (file : TreeFile) × (slice_get tree number ≡ Some file) × IsUnreadable dialect file.text fault
 unreadable faulty dialect form allows tree parsed are number fault has =
     let within : number < length tree =
     rw (sym are.one_each) (slice_get_within parsed number has.parsed_file has.numbered) in
@@ -93,24 +93,24 @@ module _ (apart : NoFactsWhereUnreadable) (allows others : Seen → Choice → T
     (dialect : Dialect) (form : FactForm) where
   -- what is the same of contents, and of any two faults, is of one file read twice
   same_in : {Y : Type 0} (f : Result FileContents FileFault → Y) (number : ℕ) (file : TreeFile)
-      → ((a b : FileContents) → AreContentsOf dialect form allows number file.bytes a
-      → AreContentsOf dialect form others number file.bytes b → f (Ok a) ≡ f (Ok b))
+      → ((a b : FileContents) → AreContentsOf dialect form allows number file.text a
+      → AreContentsOf dialect form others number file.text b → f (Ok a) ≡ f (Ok b))
       → ((fault other : FileFault) → f (Err fault) ≡ f (Err other))
       → (a b : Result FileContents FileFault)
       → HasContents faulty dialect form allows number file a → HasContents another dialect form others number file b
       → f a ≡ f b
   same_in f number file read unread (Ok a) (Ok b) has also = read a b has also
   same_in f number file read unread (Ok a) (Err fault) has also =
-      absurd (apart dialect form number file.bytes a.facts fault has.1.facts_in also.1)
+      absurd (apart dialect form number file.text a.facts fault has.1.facts_in also.1)
   same_in f number file read unread (Err fault) (Ok b) has also =
-      absurd (apart dialect form number file.bytes b.facts fault also.1.facts_in has.1)
+      absurd (apart dialect form number file.text b.facts fault also.1.facts_in has.1)
   same_in f number file read unread (Err fault) (Err other) has also = unread fault other
 
   chosen_alike : OneListOfFacts → AllowOne allows others → (number : ℕ) (file : TreeFile) (a b : FileContents)
-      → AreContentsOf dialect form allows number file.bytes a → AreContentsOf dialect form others number file.bytes b
+      → AreContentsOf dialect form allows number file.text a → AreContentsOf dialect form others number file.text b
       → a.choices ≡ b.choices
   chosen_alike one agree number file a b has also =
-      let facts : a.facts ≡ b.facts = one dialect form number file.bytes a.facts b.facts has.1.facts_in also.1.facts_in
+      let facts : a.facts ≡ b.facts = one dialect form number file.text a.facts b.facts has.1.facts_in also.1.facts_in
       in
       let Of : Facts → Type 0 = λ f. AreChosen others f.declarations b.choices in
       same_choices allows others agree a.facts.declarations a.choices b.choices has.1.chosen
@@ -260,9 +260,9 @@ module _ (one : OneListOfFacts) (apart : NoFactsWhereUnreadable) (one_fault : On
       let x = unreadable settings.faulty settings.dialect (form_of settings) allows tree all is.read number fault has in
       let y = unreadable another.faulty another.dialect (form_of another) others tree again also.read number more too in
       let file : x.0 ≡ y.0 = same_Some x.0 y.0 (sym x.1 ∙ y.1) in
-      let bytes = subst (λ (f : TreeFile). IsUnreadable another.dialect f.bytes more) (sym file) y.2 in
-      one_fault settings.dialect x.0.bytes fault more x.2
-      (subst (λ c. IsUnreadable c x.0.bytes more) (sym same.dialect) bytes)
+      let bytes = subst (λ (f : TreeFile). IsUnreadable another.dialect f.text more) (sym file) y.2 in
+      one_fault settings.dialect x.0.text fault more x.2
+      (subst (λ c. IsUnreadable c x.0.text more) (sym same.dialect) bytes)
 
   of_left : (number : ℕ) (omission : FileOmission) (told : Omission) → slice_get b number ≡ Some (Some omission)
       → IsOmission another.duplicates (linked_files again) b number (Some omission) → IsLeftFor all number omission told

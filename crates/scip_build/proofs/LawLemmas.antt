@@ -21,7 +21,7 @@ use Rattle.proto_decl.specs.Facts.{Facts, AreFactsOf}
 use Rattle.proto_decl.specs.Laws.{OneFacts}
 use Rattle.scip_build.specs.declared.fault.FileFault.{FileFault}
 use Rattle.scip_build.specs.declared.fault.FileFault.TheVariants.{Lex, Syntax}
-use Rattle.scip_build.specs.Parsed.{HasLexing, AreFactsIn, IsUnlexed, IsUnparsed}
+use Rattle.scip_build.specs.Parsed.{form_by, HasLexing, AreFactsIn, IsUnlexed, IsUnparsed}
 use Rattle.source_tree.specs.Files.{TreeFile}
 use Rattle.scip_build.specs.ParsedFiles.{IsFirstFaulty}
 use Rattle.scip_build.specs.Laws.{OneListOfFacts, NoFactsWhereUnreadable, LexedWhereUnparsed, OneFileFault}
@@ -107,12 +107,13 @@ module _ (one_tokens : OneTokens) (one_comments : OneComments) where
   pub one_list_of_facts : OneTree → OneFacts → OneListOfFacts
   one_list_of_facts one_tree one_facts dialect form number bytes facts other a b =
       let Here : Lexed → Type 0 =
-      λ lexed. Derives dialect lexed.text lexed.tokens b.tree × AreFactsOf form number lexed b.tree other in
+      λ lexed. Derives dialect lexed.text lexed.tokens b.tree
+      × AreFactsOf (form_by dialect form) number lexed b.tree other in
       let moved : Here a.lexed =
       subst Here (sym (same_lexing bytes a.lexed b.lexed a.lexing b.lexing)) (b.derives, b.of_tree) in
       let trees : a.tree ≡ b.tree = one_tree dialect a.lexed.text a.lexed.tokens a.tree b.tree a.derives moved.0 in
-      let Of : File → Type 0 = λ tree. AreFactsOf form number a.lexed tree other in
-      one_facts form number a.lexed a.tree facts other a.lexing.is_lexed a.of_tree (subst Of (sym trees) moved.1)
+      let Of : File → Type 0 = λ tree. AreFactsOf (form_by dialect form) number a.lexed tree other in
+      one_facts (form_by dialect form) number a.lexed a.tree facts other a.lexing.is_lexed a.of_tree (subst Of (sym trees) moved.1)
 
   -- so two faults of one file are one
   pub one_file_fault : OneFirstFault → OneSyntaxFault → LexedWhereUnparsed → OneFileFault
@@ -162,7 +163,7 @@ module _ (no_facts : NoFactsWhereUnreadable) where
       → IsFirstFaulty dialect files number fault → IsFirstFaulty dialect files other another → number < other → ⊥
   not_before dialect files number other fault another first second less =
       let has = second.before number first.file less first.numbered first.faulty.source in
-      no_facts dialect has.0 number first.file.bytes has.1 fault has.2 first.faulty.unreadable
+      no_facts dialect has.0 number first.file.text has.1 fault has.2 first.faulty.unreadable
 
   pub one_first_faulty : OneFirstFaulty
   one_first_faulty dialect files number other fault another first second = elim (cases_order number other) [

@@ -43,3 +43,5 @@ mod TellingAddLemmas
 mod UnresolvedUseLemmas
 -- Uses that are told, each by why it names nothing
 mod ToldUseLemmas
+-- The files of a tree as they are read are a tree
+pub mod AsReadLemmas

@@ -62,11 +62,11 @@ module _ (one : OneListOfFacts) (apart : NoFactsWhereUnreadable) (faulty other :
       → HasContents faulty dialect form allows number file a → HasContents other dialect form others number file b
       → facts_in a ≡ facts_in b
   same_facts number file (Ok a) (Ok b) has also =
-      ap Some (one dialect form number file.bytes a.facts b.facts has.1.facts_in also.1.facts_in)
+      ap Some (one dialect form number file.text a.facts b.facts has.1.facts_in also.1.facts_in)
   same_facts number file (Ok a) (Err f) has also =
-      absurd (apart dialect form number file.bytes a.facts f has.1.facts_in also.1)
+      absurd (apart dialect form number file.text a.facts f has.1.facts_in also.1)
   same_facts number file (Err f) (Ok b) has also =
-      absurd (apart dialect form number file.bytes b.facts f also.1.facts_in has.1)
+      absurd (apart dialect form number file.text b.facts f also.1.facts_in has.1)
   same_facts number file (Err f) (Err g) has also = refl
 
   same_linked : (number : ℕ) (file : TreeFile) (a b : ReadFile) → IsParsedFile faulty dialect form allows number file a

@@ -1,8 +1,8 @@
 -- What the phase answers, file by file.
-use Rattle.std.proofs.Common.{◌≡◌, ◌∙◌, ℕ, ◌<◌, true, true≢false, List, length, Option, Some}
+use Rattle.std.proofs.Common.{◌≡◌, ◌∙◌, ℕ, ◌<◌, Bool, true, true≢false, List, length, Option, None, Some}
 use Rattle.std.proofs.Common.{Result, Ok, Err, sym, subst}
 use Rattle.std.specs.List.{slice_get}
-use Rattle.std.specs.Option.{IfSome}
+use Rattle.std.specs.Option.{IfSome, option_map}
 use Rattle.std.proofs.lemmas.Option.{slice_get_within}
 use Rattle.basics.proofs.ListLemmas.{item_at}
 use Rattle.proto_decl.specs.declared.form.FactForm.{FactForm}
@@ -27,6 +27,27 @@ use Rattle.scip_build.specs.ParsedFiles.MayRefuseFiles.{files_lack_memory, first
 holds_at : {X : Type 0} (P : X → Type 0) (xs : List X) (k : ℕ) (x : X) → slice_get xs k ≡ Some x
     → IfSome (slice_get xs k) P → P x
 holds_at {X} P xs k x at holds = let Q : Option X → Type 0 = λ o. IfSome o P in subst Q at holds
+
+same_file : (file : TreeFile) (path text : List ℕ) (is_included : Bool) → file.path ≡ path → file.text ≡ text
+    → file.is_included ≡ is_included
+    → file ≡ record { path = path; bytes = file.bytes; text = text; is_included = is_included }
+same_file file path text is_included paths texts flags =
+    λ i. record { path = paths i; bytes = file.bytes; text = texts i; is_included = flags i }
+
+-- what holds of any file with this path, this text and this mark, holds of the file that has them
+pub given_at : (Holds : TreeFile → Type 0) (found : Option TreeFile) (path text : List ℕ) (is_included : Bool)
+    → option_map (λ (file : TreeFile). file.path) found ≡ Some path
+    → option_map (λ (file : TreeFile). file.text) found ≡ Some text
+    → option_map (λ (file : TreeFile). file.is_included) found ≡ Some is_included
+    → ((held : List ℕ)
+    → Holds (record { path = path; bytes = held; text = text; is_included = is_included }))
+    → IfSome found Holds
+given_at Holds None path text is_included paths texts flags each = tt
+given_at Holds (Some file) path text is_included paths texts flags each =
+    let path_is : file.path ≡ path = cc in
+    let text_is : file.text ≡ text = cc in
+    let flag_is : file.is_included ≡ is_included = cc in
+    subst Holds (sym (same_file file path text is_included path_is text_is flag_is)) (each file.bytes)
 
 -- a source that was read has facts, where it is refused else
 pub source_has_facts : (faulty : Faulty) → faulty ≡ Refuse
@@ -87,4 +108,4 @@ module _ (faulty : Faulty) (dialect : Dialect) (form : FactForm) (allows : Seen 
       let there = item_at parsed number within in
       let has = source_has_facts faulty refused dialect form allows number first.file there.0.contents
       (are.each number first.file there.0 first.numbered there.1).contents first.faulty.source in
-      no_facts dialect has.0 number first.file.bytes has.1 fault has.2 first.faulty.unreadable
+      no_facts dialect has.0 number first.file.text has.1 fault has.2 first.faulty.unreadable

@@ -29,7 +29,7 @@ use Rattle.source_tree.specs.Files.{TreeFile, file_cmp}
 use Rattle.source_tree.specs.Trees.{IsTree}
 use Rattle.scip_build.specs.declared.faulty.Faulty.{Faulty}
 use Rattle.scip_build.specs.declared.fault.FileFault.{FileFault}
-use Rattle.scip_build.specs.Parsed.{AreFactsIn}
+use Rattle.scip_build.specs.Parsed.{form_by, AreFactsIn}
 use Rattle.scip_build.specs.Files.{FileContents, ReadFile}
 use Rattle.scip_build.specs.ParsedFiles.{seen_of, HasContents, IsParsedFile, AreParsedFiles}
 use Rattle.scip_build.specs.Linking.{facts_in, linked_file, linked_files, choices_in, choices_of}
@@ -49,10 +49,10 @@ mapped f xs k x at = slice_get-map f xs k ∙ ap (option_map f) at
 of_text : (dialect : Dialect) (form : FactForm) (number : ℕ) (bytes : List ℕ) (facts : Facts)
     → AreFactsIn dialect form number bytes facts → AreOfText bytes facts
 of_text dialect form number bytes facts has =
-    let Of : ℕ → Type 0 = λ n. AreFactsOf form n has.lexed has.tree facts in
+    let Of : ℕ → Type 0 = λ n. AreFactsOf (form_by dialect form) n has.lexed has.tree facts in
     record {
       origin = record {
-        form = form;
+        form = form_by dialect form;
         lexed = has.lexed;
         file = has.tree;
         is_lexed = has.lexing.is_lexed;
@@ -69,7 +69,7 @@ whole faulty dialect form allows number file (Ok contents) has =
     let Of : List ℕ → Type 0 = λ bytes. AreOfText bytes contents.facts in
     let may_come : Declaration → Choice → Type 0 = λ declaration choice. allows (seen_of declaration) choice in
     record {
-      of_text = subst Of (sym has.0) (of_text dialect form number file.bytes contents.facts has.1.facts_in);
+      of_text = subst Of (sym has.0) (of_text dialect form number file.text contents.facts has.1.facts_in);
       chosen = λ index declared at.
           beside may_come contents.facts.declarations contents.choices index declared has.1.chosen at;
     }

@@ -1,5 +1,7 @@
 -- what the bytes of a file say, and why they say nothing
 pub mod Parsed
+-- the files of a tree as they are read in a dialect
+pub mod AsRead
 -- what is known of a file after it was read
 pub mod Files
 -- what files are read as, and the first that can't be

@@ -4,8 +4,10 @@ use Rattle.proto_lex.specs.Text.{IsText, IsNoText}
 use Rattle.proto_lex.specs.Lexed.{Lexed, IsLexed}
 use Rattle.proto_lex.specs.Faults.{IsFirstFault}
 use Rattle.proto_lex.specs.declared.fault.LexFault.{LexFault}
+use Rattle.comment_texts.specs.Forms.{without_nul}
 use Rattle.proto_decl.specs.declared.form.FactForm.{FactForm}
 use Rattle.proto_parse.specs.dialect.Dialect.{Dialect}
+use Rattle.proto_parse.specs.dialect.Dialect.TheVariants.{Proto3, All}
 use Rattle.proto_parse.specs.tree.File.{File}
 use Rattle.proto_parse.specs.fault.SyntaxFault.{SyntaxFault}
 use Rattle.proto_parse.specs.Derives.{Derives}
@@ -20,6 +22,12 @@ pub record HasLexing (bytes : List ℕ) (lexed : Lexed) : Type 0 where
   pub of_bytes : lexed.text ≡ bytes
   pub is_lexed : IsLexed lexed.text lexed.tokens lexed.comments
 
+-- The form in which a file's facts are told: in the dialect of all sources U+FFFD stands for each NUL of a comment, as a
+-- NUL is read for each byte in a comment that isn't UTF-8.
+abbrev pub form_by : Dialect → FactForm → FactForm
+form_by (Proto3 custom) form = form
+form_by All form = record { comments = without_nul form.comments; details = form.details }
+
 -- the facts of the file with this number and these bytes: those of a tree that the tokens of its text derive,
 -- in a form
 pub record AreFactsIn (dialect : Dialect) (form : FactForm) (number : ℕ) (bytes : List ℕ)
@@ -28,7 +36,7 @@ pub record AreFactsIn (dialect : Dialect) (form : FactForm) (number : ℕ) (byte
   pub tree : File
   pub lexing : HasLexing bytes lexed
   pub derives : Derives dialect lexed.text lexed.tokens tree
-  pub of_tree : AreFactsOf form number lexed tree facts
+  pub of_tree : AreFactsOf (form_by dialect form) number lexed tree facts
 
 -- the bytes are no text, or the text has no lexing
 abbrev pub IsUnlexed : List ℕ → LexFault → Type 0

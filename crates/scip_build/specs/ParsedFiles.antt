@@ -56,9 +56,9 @@ may_be_unread Skip is_included = true
 abbrev pub HasContents : Faulty → Dialect → FactForm → (allows : Seen → Choice → Type 0) → (number : ℕ) → TreeFile
     → Result FileContents FileFault → Type 0
 HasContents faulty dialect form allows number file (Ok contents) =
-    AreContentsOf dialect form allows number file.bytes contents
+    AreContentsOf dialect form allows number file.text contents
 HasContents faulty dialect form allows number file (Err fault) =
-    (may_be_unread faulty file.is_included ≡ true) × IsUnreadable dialect file.bytes fault
+    (may_be_unread faulty file.is_included ≡ true) × IsUnreadable dialect file.text fault
 
 -- a file after it was read
 pub record IsParsedFile (faulty : Faulty) (dialect : Dialect) (form : FactForm) (allows : Seen → Choice → Type 0)
@@ -79,12 +79,12 @@ pub record AreParsedFiles (faulty : Faulty) (dialect : Dialect) (form : FactForm
 -- a source, which can't be read
 pub record IsFaultySource (dialect : Dialect) (file : TreeFile) (fault : FileFault) : Type 0 where
   pub source : file.is_included ≡ false
-  pub unreadable : IsUnreadable dialect file.bytes fault
+  pub unreadable : IsUnreadable dialect file.text fault
 
 -- the file has facts, if it is a source, in some form
 abbrev pub IsReadIfSource : Dialect → ℕ → TreeFile → Type 0
 IsReadIfSource dialect number file = file.is_included ≡ false
-    → (form : FactForm) × (facts : Facts) × AreFactsIn dialect form number file.bytes facts
+    → (form : FactForm) × (facts : Facts) × AreFactsIn dialect form number file.text facts
 
 -- the file with this number is the first source that can't be read
 pub record IsFirstFaulty (dialect : Dialect) (files : List TreeFile) (number : ℕ)

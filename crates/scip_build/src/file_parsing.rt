@@ -1,9 +1,9 @@
 //! From the bytes of a file to its contents.
 
-ghost use Rattle.std.specs.Prelude.{◌≡◌, ◌<◌, length, MatchResult};
+ghost use Rattle.std.specs.Prelude.{◌≡◌, ◌<◌, ℕ, List, length, MatchResult};
 ghost use Rattle.proto_lex.specs.Text.{IsText};
 ghost use Rattle.scip_build.specs.FileFaults.{fault_of_lexing, fault_of_parsing, MayRefuseFile};
-ghost use Rattle.scip_build.specs.Parsed.{AreFactsIn};
+ghost use Rattle.scip_build.specs.Parsed.{form_by, AreFactsIn};
 ghost use Rattle.scip_build.specs.ParsedFiles.{AreContentsOf, GivesParsedFile, IsParsedFile, MayRefuseParsing};
 
 use crate::choosing::choose_each;
@@ -67,6 +67,20 @@ fn unparsed(fault: SyntaxFault) -> NoContents
     }
 }
 
+/// The form in which facts are told in a dialect. If bytes in comments needn't be UTF-8, a NUL is read for each that
+/// isn't, and U+FFFD is given for it.
+fn form_by(dialect: Dialect, form: FactForm) -> FactForm
+    ensures { result ≡ form_by dialect form }
+{
+    match dialect {
+        Dialect::Proto3(_) => form,
+        Dialect::All => FactForm {
+            comments: form.comments.without_nul(),
+            details: form.details,
+        },
+    }
+}
+
 /// The facts of a text: it is lexed whole, then parsed, then declared.
 fn facts_of<'a>(
     alloc: Global,
@@ -86,10 +100,10 @@ fn facts_of<'a>(
         Ok(tree) => tree,
         Err(fault) => return Err(unparsed(fault)),
     };
-    Ok(declare_with(alloc, form, number, &lexed, &tree)?)
+    Ok(declare_with(alloc, form_by(dialect, form), number, &lexed, &tree)?)
 }
 
-/// The contents of the file with this number and these bytes.
+/// The contents of the file with this number, of which these bytes are read.
 fn contents_of<'a, C: Chooses>(
     reader: &Reader<'_, C>,
     number: usize,
@@ -112,8 +126,8 @@ fn contents_of<'a, C: Chooses>(
     })
 }
 
-/// Reads the file with this number, which has this path and these bytes. A file that can't be read, and
-/// isn't refused for it, has its fault in place of contents.
+/// Reads the file with this number, which has this path, and of which these bytes are read. A file that can't be read,
+/// and isn't refused for it, has its fault in place of contents.
 fn read_parts<'a, C: Chooses>(
     reader: &Reader<'_, C>,
     number: usize,
@@ -121,11 +135,11 @@ fn read_parts<'a, C: Chooses>(
     bytes: &'a [u8],
     is_included: bool,
 ) -> Result<ParsedFile<'a>, NoContents>
-    ensures { MatchResult result
+    ensures { (held : List ℕ) → MatchResult result
         (IsParsedFile reader.now.faulty reader.now.dialect reader.now.form (C.allows reader.now.chooser.now) number
-        (record { path = path.now; bytes = bytes.now; is_included = is_included }))
+        (record { path = path.now; bytes = held; text = bytes.now; is_included = is_included }))
         (MayRefuseParsing reader.now.faulty reader.now.dialect
-        (record { path = path.now; bytes = bytes.now; is_included = is_included })) }
+        (record { path = path.now; bytes = held; text = bytes.now; is_included = is_included })) }
 {
     match contents_of(reader, number, bytes) {
         Ok(contents) => Ok(ParsedFile {
@@ -164,7 +178,7 @@ pub(crate) fn read_file<'a, C: Chooses>(
         reader,
         number,
         tree.path(number),
-        tree.bytes(number),
+        tree.text(number),
         tree.is_included(number),
     )
 }

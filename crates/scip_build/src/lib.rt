@@ -20,6 +20,7 @@ mod chosen;
 mod file_parsing;
 mod parsed_file;
 mod phase_one;
+mod reading;
 
 // The link.
 mod linking;
@@ -60,5 +61,6 @@ pub use parsed_file::{Contents, ParsedFile};
 pub use parts::{BuiltParts, Parts};
 pub use phase_one::parse_files;
 pub use proto_link::Duplicates;
+pub use reading::as_read;
 pub use run::Run;
 pub use settings::Settings;

@@ -5,6 +5,14 @@ pub mod CountingLemmas
 pub mod FilePlaceLemmas
 -- The laws: one tree, and one fault
 pub mod LawLemmas
+-- The tree in which files are mended
+pub mod MendedTreeLemmas
+-- What is read of bytes that needn't be UTF-8 in comments
+pub mod MendingLemmas
+-- Another byte than there is is read in comments alone
+pub mod MendingLawLemmas
+-- Of bytes one text is read, which is as long
+pub mod MendingOneLemmas
 -- What `all` says of each element
 pub mod PathComponentLemmas
 -- Lists of files sorted by path: a file with the path of an earlier one stands next to it

@@ -10,14 +10,18 @@ pub record SourceFile : Type 0 where
   pub path : List ℕ
   pub bytes : List ℕ
 
--- a file of a tree: the same, and whether it is included; a file that isn't included is a source
+-- a file of a tree: the same, what is read of its bytes, and whether it is included; a file that isn't included is a
+-- source
 pub record TreeFile : Type 0 where
   pub path : List ℕ
   pub bytes : List ℕ
+  pub text : List ℕ
   pub is_included : Bool
 
+-- of a file that is handed in, its bytes are read as they are
 abbrev pub in_tree : Bool → SourceFile → TreeFile
-in_tree included file = record { path = file.path; bytes = file.bytes; is_included = included }
+in_tree included file =
+    record { path = file.path; bytes = file.bytes; text = file.bytes; is_included = included }
 
 abbrev pub paths_of : List SourceFile → List (List ℕ)
 paths_of files = map (λ file. file.path) files

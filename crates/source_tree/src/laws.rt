@@ -1,6 +1,10 @@
 //! Laws about trees, each the contract of an empty function.
 
 ghost use Rattle.source_tree.specs.Laws.{OneTree, OneSortingByPath, RefusalsExcludeEachOther, TreesAreNotRefused};
+ghost use Rattle.source_tree.specs.MendingLaws.{OtherBytesAreInComments, Utf8IsReadAsItIs};
+ghost use Rattle.source_tree.specs.MendingLaws.{OneReading, ReadsAsMany};
+
+use proto_lex::one_first_fault;
 
 /// Sources and included files have one tree at most.
 pub fn one_tree()
@@ -21,3 +25,18 @@ pub fn refusals_exclude_each_other()
 pub fn trees_are_not_refused()
     ensures { TreesAreNotRefused }
 {}
+
+/// What is read of bytes, if it is UTF-8 and lexes, differs from them in comments alone. Of bytes that are UTF-8 just
+/// these are read.
+pub fn other_bytes_are_in_comments()
+    ensures others { OtherBytesAreInComments }
+    ensures same { Utf8IsReadAsItIs }
+{}
+
+/// Of bytes one text is read, which is as long.
+pub fn one_reading()
+    ensures one { OneReading }
+    ensures long { ReadsAsMany }
+{
+    one_first_fault();
+}

@@ -11,13 +11,17 @@ mod source;
 mod by_path;
 mod counting;
 mod fault;
+mod mending;
 mod tree;
 
 // The laws.
 mod laws;
 
 pub use fault::TreeFault;
-pub use laws::{one_sorting_by_path, one_tree, refusals_exclude_each_other, trees_are_not_refused};
+pub use laws::{
+    one_reading, one_sorting_by_path, one_tree, other_bytes_are_in_comments,
+    refusals_exclude_each_other, trees_are_not_refused,
+};
 pub use path::{MAX_PATH_LENGTH, is_good_path};
 pub use reading::read_source;
 pub use source::Source;

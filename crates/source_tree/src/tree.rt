@@ -9,7 +9,11 @@ ghost use Rattle.std.specs.Prelude.{
   ◌↔◌,
   ◌++◌,
   [],
+  ◌∷◌,
+  List,
+  Option,
   Some,
+  OnOk,
   IsTrue,
   IfOk,
   IfErr,
@@ -19,13 +23,18 @@ ghost use Rattle.std.specs.Prelude.{
 };
 ghost use Rattle.std.specs.Option.{option_map};
 ghost use Rattle.source_tree.specs.Trees.{max_files, IsTree, IsSourceCount, IsTreeOf, HaveGoodPaths};
+ghost use Rattle.source_tree.specs.Files.{SourceFile};
+ghost use Rattle.source_tree.specs.Mending.{AreMended, IsMended};
+ghost use Rattle.source_tree.specs.Marks.{AreTexts, text_or};
 ghost use Rattle.source_tree.specs.Refusals.{AreTooMany, IsFirstBad, MayRefuse, ComeBack};
 
 use crate::by_path::{first_repeat, sort_by_path, sort_distinct_by_path};
 use crate::counting::Counting;
 use crate::fault::TreeFault;
+use crate::mending::mended_text;
 use crate::source::Source;
-use std::alloc::Global;
+use basics::Sequence;
+use std::alloc::{AllocError, Global};
 use std::marker::Model;
 
 /// The most files of a tree, the sources and the included ones together.
@@ -40,19 +49,22 @@ pub const MAX_FILES: usize = 65_536;
 pub struct Tree {
     sources: Vec<Source>,
     included: Vec<Source>,
+    // What is read of each file, in order, where it isn't the file's bytes; of files behind these, it is.
+    texts: Vec<Option<Sequence<u8>>>,
 }
 
 impl Model for Tree {
     ghost use Rattle.std.specs.Prelude.{List};
     ghost use Rattle.source_tree.specs.Files.{TreeFile};
-    ghost use Rattle.source_tree.specs.Marks.{files_of};
+    ghost use Rattle.source_tree.specs.Marks.{files_of, with_texts};
     ghost use Rattle.source_tree.specs.Trees.{IsTree};
 
     ghost Value = { List TreeFile };
 
-    ghost view = { λ tree. files_of tree.sources.items tree.included.items };
+    ghost view = { λ tree. with_texts tree.texts.items (files_of tree.sources.items tree.included.items) };
 
-    ghost invariant = { λ tree. IsTree (files_of tree.sources.items tree.included.items) };
+    ghost invariant = { λ tree.
+        IsTree (with_texts tree.texts.items (files_of tree.sources.items tree.included.items)) };
 }
 
 impl Tree {
@@ -114,7 +126,11 @@ impl Tree {
         }
         let mut included = counting.counted(included);
         sort_distinct_by_path(&mut included);
-        Ok(Tree { sources, included })
+        Ok(Tree {
+            sources,
+            included,
+            texts: Vec::new(alloc),
+        })
     }
 
     /// How many files the tree has.
@@ -148,6 +164,35 @@ impl Tree {
         self.file(number).bytes()
     }
 
+    /// What is read of the file with a number, which has to be below `file_count`: what it holds, unless the tree is
+    /// mended.
+    pub fn text(&self, number: usize) -> &[u8]
+        requires { number < length self.now }
+        ensures { option_map (λ file. file.text) (slice_get self.now number) ≡ Some result.now }
+    {
+        match self.texts.get(number) {
+            Some(Some(text)) => text.as_slice(),
+            Some(None) => self.bytes(number),
+            None => self.bytes(number),
+        }
+    }
+
+    /// The tree of the same files, which may hold bytes in comments that aren't UTF-8: a NUL is read for each byte there
+    /// that isn't part of a well-formed sequence. All else of what they hold is read as it is. An error means that
+    /// memory was refused.
+    pub fn mended(self, alloc: Global) -> Result<Tree, AllocError>
+        ensures { IfOk result (AreMended self) }
+    {
+        let mut texts = Vec::with_capacity(alloc, self.file_count())?;
+        push_texts(alloc, &mut texts, &self.sources)?;
+        push_texts(alloc, &mut texts, &self.included)?;
+        Ok(Tree {
+            sources: self.sources,
+            included: self.included,
+            texts,
+        })
+    }
+
     /// Whether the file with a number, which has to be below `file_count`, is included, and so no source.
     pub fn is_included(&self, number: usize) -> bool
         requires { number < length self.now }
@@ -167,6 +212,35 @@ impl Tree {
             None => &self.included[number - self.sources.len()],
         }
     }
+}
+
+/// Appends what is read of a file, if it isn't just what the file holds.
+fn push_text(
+    alloc: Global,
+    texts: &mut Vec<Option<Sequence<u8>>>,
+    file: &Source,
+) -> Result<(), AllocError>
+    ensures { OnOk result ((text : Option (List ℕ)) × (texts.new.items ≡ texts.old.items ++ text ∷ [])
+        × IsMended file.now.bytes (text_or text file.now.bytes)) }
+{
+    let text = mended_text(alloc, file.bytes())?;
+    texts.push(text)?;
+    Ok(())
+}
+
+/// Appends what is read of each file, if it isn't just what the file holds.
+fn push_texts(
+    alloc: Global,
+    texts: &mut Vec<Option<Sequence<u8>>>,
+    files: &[Source],
+) -> Result<(), AllocError>
+    ensures { OnOk result ((before : List SourceFile) → AreTexts before texts.old.items
+        → AreTexts (before ++ files.now) texts.new.items) }
+{
+    for file in files {
+        push_text(alloc, texts, file)?;
+    }
+    Ok(())
 }
 
 /// Whether there are more files than a tree has.

@@ -6,4 +6,6 @@ mod calls;
 #[cfg(test)]
 mod limits;
 #[cfg(test)]
+mod mended;
+#[cfg(test)]
 mod trees;

@@ -22,7 +22,7 @@ returns-in-Err g c =
       record { due = []; writer = refl; some = ([], tt); told = λ bytes known. tt },
       refl,
       omega arith,
-      of_fault
+      of_fault c.args.options.now.dialect
           (explain_in c.args.options.now.explain c.args.options.now.dialect)
           (is_closed (g.W.Caused.cause c.args.out.now))
           (reading g.I.Feed c.args.input.now c.args.input.now) (writing g.M.Sink c.args.messages.now
@@ -50,6 +50,6 @@ returns g c =
       of.dumped,
       of.reader,
       of.briefly,
-      of_fault explain closed source messages c.stop_listing.result fault tree of.tree
+      of_fault c.args.options.now.dialect explain closed source messages c.stop_listing.result fault tree of.tree
           said,
     )

@@ -20,11 +20,11 @@ returns-then-is_empty-clause-folders g c =
     (ap (λ (folders : List PackageFolder). length folders) (sym c.deref.ensures.value) ∙ c.deref.ensures.len)
     (sym c.is_empty.ensures ∙ c.if-is_empty.true) in
     let Of : Package → Packages = all_in in
-    let Here : Packages → Type 0 = λ packages. AreFolders lists gives options found.tree unread packages in
+    let Here : Packages → Type 0 = λ packages. AreFolders lists gives options c.in_ok-read.read unread packages in
     subst Here (sym (c.of_run.ensures ∙ ap Of c.in_ok-run.ensures.named.0))
-    (folders_of_run lists gives options found.tree unread none c.in_ok-run.ensures.named.1
+    (folders_of_run lists gives options found.tree c.in_ok-read.read unread none c.in_ok-run.ensures.named.1
     (rw (c.as_str-root.ensures.value, c.deref-then-is_empty.ensures.value, c.requires)
-    at c.in_ok-found.ensures.tree))
+    at c.in_ok-found.ensures.tree) c.in_ok-read.ensures)
 
 -- there is no tree of files below folders of which none has a package of its own
 pub returns-in_err-found-clause-stops : goal.returns-in_err-found-clause-stops

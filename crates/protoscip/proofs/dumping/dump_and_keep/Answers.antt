@@ -1,15 +1,13 @@
-use Rattle.std.proofs.Common.{ap, sym, subst, Ok, List, ℕ, []}
+use Rattle.std.proofs.Common.{ap, subst, Ok, List, ℕ, [], arith}
 use Rattle.std.proofs.lemmas.Result.{err_from_is_err_and}
 use Rattle.std.specs.String.{string_bytes}
-use Rattle.source_tree.specs.Files.{TreeFile}
 use Rattle.streams.specs.Readers.{reading}
 use Rattle.streams.specs.Writers.{writing}
-use Rattle.protoscip.specs.Dump.{IsRefusal, IsListing}
-use Rattle.protoscip.specs.FaultLines.{HasFilesOf}
+use Rattle.protoscip.specs.Dump.{dump_tree, IsRefusal, IsListing}
 use Rattle.protoscip.specs.Output.{Writes}
 use Rattle.protoscip.proofs.DumpLemmas.{refusal_of_all, listing_of_all, refused_dumps, refused_writer, dump_files}
 use Rattle.protoscip.proofs.DumpLemmas.{starved_dumped, unread_dumped, said_of_read, written_dumps, written_writer}
-use Rattle.protoscip.proofs.DumpLemmas.{any_dump_files, tree_of_fault, tree_of_done}
+use Rattle.protoscip.proofs.DumpLemmas.{has_file, tree_of_fault, tree_of_done}
 use Rattle.protoscip.proofs.dumping.dump_and_keep.Goals as goal
 
 -- where the source isn't read
@@ -59,7 +57,7 @@ pub returns-in_err-listing-clause-tree : goal.returns-in_err-listing-clause-tree
 returns-in_err-listing-clause-tree g c =
     let p = err_from_is_err_and c.from_residual-in_err-listing.result c.from_residual-in_err-listing.ensures.1 in
     let kept = said_of_read _ c.in_ok-bytes.field-0 c.in-Some.bytes c.in-Some.is c.in_ok-bytes.ensures.bytes in
-    rw (p.1, p.2) (tree_of_fault (reading g.F.Feed c.args.source.now _) c.keep_source.new.tree
+    rw (p.1, p.2) (tree_of_fault c.args.dialect (reading g.F.Feed c.args.source.now _) c.keep_source.new.tree
     c.in_err-listing.field-0.0
     (record { kept = c.in-Some.bytes.items; tree_is = c.in_ok-keep_source.ensures; told = kept }))
 
@@ -69,8 +67,8 @@ returns-in_err-listing-clause-files g c =
     let e = c.in_err-listing.field-0.0 in
     let bytes = c.in-Some.bytes.items in
     let is = c.in_err-listing.ensures bytes c.in_ok-keep_source.ensures in
-    rw (p.1, p.2) (subst (λ (t : List TreeFile). HasFilesOf t e) (sym c.in_ok-keep_source.ensures)
-    (dump_files c.args.dialect bytes e is))
+    rw (p.1, p.2) (dump_files c.args.dialect bytes e is c.keep_source.new.tree
+    (has_file c.args.dialect bytes c.keep_source.new.tree c.in_ok-keep_source.ensures))
 
 pub returns-in_err-listing-clause-alone : goal.returns-in_err-listing-clause-alone
 returns-in_err-listing-clause-alone g c =
@@ -78,7 +76,7 @@ returns-in_err-listing-clause-alone g c =
     let e = c.in_err-listing.field-0.0 in
     let bytes = c.in-Some.bytes.items in
     let is = c.in_err-listing.ensures bytes c.in_ok-keep_source.ensures in
-    rw (p.1, p.2) (any_dump_files e bytes [] (dump_files c.args.dialect bytes e is))
+    rw (p.1, p.2) (dump_files c.args.dialect bytes e is (dump_tree []) (omega arith))
 
 -- where the listing is written, or cut off
 
@@ -109,5 +107,5 @@ returns-clause-dumped g c =
 pub returns-clause-tree : goal.returns-clause-tree
 returns-clause-tree g c =
     let kept = said_of_read _ c.in_ok-bytes.field-0 c.in-Some.bytes c.in-Some.is c.in_ok-bytes.ensures.bytes in
-    tree_of_done (reading g.F.Feed c.args.source.now _) c.keep_source.new.tree c.write_text.result
+    tree_of_done c.args.dialect (reading g.F.Feed c.args.source.now _) c.keep_source.new.tree c.write_text.result
     (record { kept = c.in-Some.bytes.items; tree_is = c.in_ok-keep_source.ensures; told = kept })

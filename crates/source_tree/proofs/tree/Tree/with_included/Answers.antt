@@ -1,8 +1,8 @@
-use Rattle.std.proofs.Common.{ℕ, ◌≤◌, ◌+◌, ◌++◌, ◌∙◌, length, ap, sym, subst, arith}
+use Rattle.std.proofs.Common.{ℕ, ◌≡◌, ◌≤◌, ◌+◌, ◌++◌, ◌∙◌, length, ap, sym, subst, arith}
 use Rattle.std.proofs.lemmas.Bool.{false≢true}
 use Rattle.source_tree.specs.Files.{paths_of, IsByPath, RepeatsAPath}
-use Rattle.source_tree.specs.Trees.{max_files, HaveGoodPaths}
-use Rattle.source_tree.specs.Marks.{marks_of}
+use Rattle.source_tree.specs.Trees.{max_files, HaveGoodPaths, IsTree, IsTreeOf}
+use Rattle.source_tree.specs.Marks.{marks_of, files_of, with_texts}
 use Rattle.source_tree.proofs.CountingLemmas.{length-marks}
 use Rattle.source_tree.proofs.TreeLemmas.{IsMade, made_tree, made_tree_of, made_from, few_from, if_not_err}
 use Rattle.source_tree.proofs.tree.Tree.with_included.Goals as goal
@@ -12,7 +12,7 @@ counted-included-requires-clause-marks c =
     ap length c.in-Ok.ensures.marks ∙ length-marks (paths_of c.deref-5.result.now) c.deref-6.result.now
     ∙ ap length c.deref-6.ensures.value
 
-is_made : (c : goal.After-sort_distinct_by_path)
+is_made : (c : goal.After-new)
     → IsMade c.args.sources.items c.args.included.items c.sort_by_path.new.files.items
     c.sort_distinct_by_path.new.files.items
 is_made c =
@@ -38,10 +38,19 @@ is_made c =
     c.sort_distinct_by_path.ensures.complete
     c.sort_distinct_by_path.ensures.ascends
 
+plain : (c : goal.After-new)
+    → files_of c.sort_by_path.new.files.items c.sort_distinct_by_path.new.files.items
+    ≡ with_texts c.new.result.items (files_of c.sort_by_path.new.files.items c.sort_distinct_by_path.new.files.items)
+plain c =
+    let files = files_of c.sort_by_path.new.files.items c.sort_distinct_by_path.new.files.items in
+    ap (λ texts. with_texts texts files) (sym c.new.ensures.items)
+
 pub invariant_of-result : goal.invariant_of-result
-invariant_of-result c = made_tree c.args.sources.items c.args.included.items c.sort_by_path.new.files.items
-    c.sort_distinct_by_path.new.files.items (is_made c)
+invariant_of-result c = subst IsTree (plain c)
+    (made_tree c.args.sources.items c.args.included.items c.sort_by_path.new.files.items
+    c.sort_distinct_by_path.new.files.items (is_made c))
 
 pub returns-clause-tree : goal.returns-clause-tree
-returns-clause-tree c = made_tree_of c.args.sources.items c.args.included.items c.sort_by_path.new.files.items
-    c.sort_distinct_by_path.new.files.items (is_made c)
+returns-clause-tree c = subst (IsTreeOf c.args.sources.items c.args.included.items) (plain c)
+    (made_tree_of c.args.sources.items c.args.included.items c.sort_by_path.new.files.items
+    c.sort_distinct_by_path.new.files.items (is_made c))

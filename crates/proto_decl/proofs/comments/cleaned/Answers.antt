@@ -1,7 +1,7 @@
 use Rattle.std.proofs.Common.{◌∙◌, sym, subst, List, ℕ}
 use Rattle.std.specs.List.{All}
 use Rattle.comment_texts.specs.Comments.{IsCommentIn}
-use Rattle.proto_decl.proofs.comments.texts_in.Goals as goal
+use Rattle.proto_decl.proofs.comments.cleaned.Goals as goal
 
 pub clean_text-requires : goal.clean_text-requires
 clean_text-requires c =

@@ -1,10 +1,11 @@
 -- What the programs are told by their options: a file for each, with its words, its rule and what it says.
 use Rattle.std.specs.Prelude.{◌≡◌, List, [], ◌∷◌, ◌++◌, codes, map, string_bytes}
 use Rattle.std.specs.Option.{option_map}
-use Rattle.clap.specs.Words.{Row, Rule}
+use Rattle.clap.specs.Words.{Row, Rule, Text}
 use Rattle.command_line.specs.Arguments.{texts_at}
 use Rattle.command_line.specs.Values.{text_of, texts_of}
 use Rattle.command_line.specs.Options.Accept.{accept_rule, accept_words, dialect_of}
+use Rattle.command_line.specs.Options.Also.{also_of}
 use Rattle.command_line.specs.Options.Comments.{comments_of, comments_rule, comments_words}
 use Rattle.command_line.specs.Options.CustomOptions.{custom_options_rule, custom_options_words}
 use Rattle.command_line.specs.Options.Details.{details_in, details_rule}
@@ -41,6 +42,7 @@ use Rattle.command_line.specs.declared.options.ShellRequest.{ShellRequest}
 use Rattle.command_line.specs.declared.options.SnapshotOptions.{SnapshotOptions}
 use Rattle.command_line.specs.declared.options.WordLists.{WordLists}
 pub mod Accept
+pub mod Also
 pub mod Comments
 pub mod CustomOptions
 pub mod Details
@@ -156,7 +158,7 @@ pub record CarriesShell (rows : List Row) (given : ShellRequest) : Type 0 where
 
 -- and the options of `query`
 pub record CarriesQuery (rows : List Row) (options : QueryOptions) : Type 0 where
-  pub index : string_bytes options.index ≡ text_of (codes "INDEX") rows
+  pub indexes : map string_bytes options.indexes.items ≡ texts_of (codes "INDEX") rows
   pub explain : options.explain ≡ explains_in rows
   pub more : options.more ≡ more_in rows
 
@@ -165,16 +167,20 @@ pub record CarriesDump (rows : List Row) (options : DumpOptions) : Type 0 where
   pub dialect : options.dialect ≡ dialect_of rows
   pub explain : options.explain ≡ explains_in rows
 
+-- the path of an index, and those of further ones
+abbrev pub indexes_of : List Row → List Text
+indexes_of rows = texts_of (codes "INDEX") rows ++ also_of rows
+
 -- and those of `snapshot`
 pub record CarriesSnapshot (rows : List Row) (options : SnapshotOptions) : Type 0 where
-  pub index : string_bytes options.index ≡ text_of (codes "INDEX") rows
+  pub indexes : map string_bytes options.indexes.items ≡ indexes_of rows
   pub root : string_bytes options.root ≡ text_of (codes "ROOT") rows
   pub to : option_map string_bytes options.to ≡ to_of rows
   pub explain : options.explain ≡ explains_in rows
 
 -- and those of `pages`
 pub record CarriesPages (rows : List Row) (options : PagesOptions) : Type 0 where
-  pub index : string_bytes options.index ≡ text_of (codes "INDEX") rows
+  pub indexes : map string_bytes options.indexes.items ≡ indexes_of rows
   pub root : string_bytes options.root ≡ text_of (codes "ROOT") rows
   pub out : string_bytes options.out ≡ text_of (codes "OUT") rows
   pub explain : options.explain ≡ explains_in rows

@@ -6,6 +6,7 @@ use Rattle.clap.specs.Words.{App, Rule, Shape, Text, new_app, with_rule, with_su
 use Rattle.command_line.specs.Arguments.{repeated, required_rule}
 use Rattle.command_line.specs.Options.{index_option_rules, tree_rules}
 use Rattle.command_line.specs.Options.Accept.{accept_rule}
+use Rattle.command_line.specs.Options.Also.{also_rule}
 use Rattle.command_line.specs.Options.CustomOptions.{custom_options_rule}
 use Rattle.command_line.specs.Options.Explain.{explain_rule}
 use Rattle.command_line.specs.Options.JoinedRoot.{joined_root_rule}
@@ -39,21 +40,26 @@ shell_rules lists = required_rule (codes "ROOT") ∷ more_rule ∷ tree_rules li
 abbrev pub shell_line : WordLists → Shape
 shell_line lists = line_of (codes "shell") (shell_rules lists)
 
--- `query` wants one argument, the path of an index
+-- `query` wants the paths of one index or more
 abbrev pub query_line : Shape
-query_line = line_of (codes "query") (required_rule (codes "INDEX") ∷ more_rule ∷ explain_rule ∷ [])
+query_line = line_of (codes "query") (repeated (required_rule (codes "INDEX")) ∷ more_rule ∷ explain_rule ∷ [])
 
--- `snapshot` wants the path of an index, and the folder with its sources
+-- `snapshot` wants the path of an index, and the folder with its sources; the paths of further indexes are an option's
 abbrev pub snapshot_line : Shape
 snapshot_line =
     line_of (codes "snapshot")
-    (required_rule (codes "INDEX") ∷ required_rule (codes "ROOT") ∷ to_rule ∷ explain_rule ∷ [])
+    (required_rule (codes "INDEX") ∷ required_rule (codes "ROOT") ∷ also_rule ∷ to_rule ∷ explain_rule ∷ [])
 
 -- `pages` wants a folder for them, too
 abbrev pub pages_line : Shape
 pages_line =
     line_of (codes "pages")
-    (required_rule (codes "INDEX") ∷ required_rule (codes "ROOT") ∷ required_rule (codes "OUT") ∷ explain_rule ∷ [])
+    (required_rule (codes "INDEX")
+    ∷ required_rule (codes "ROOT")
+    ∷ required_rule (codes "OUT")
+    ∷ also_rule
+    ∷ explain_rule
+    ∷ [])
 
 -- `join` wants the path of a file for the index, and then the paths of one index or more
 abbrev pub join_line : Shape

@@ -1,5 +1,5 @@
 -- What a request is.
-use Rattle.std.specs.Prelude.{◌≡◌, ◌≢◌, ◌⊎◌, ⊤, Bool, true, false, Option, Some, None, string_bytes}
+use Rattle.std.specs.Prelude.{◌≡◌, ◌≢◌, ◌⊎◌, ⊤, Bool, true, false, List, Option, Some, None, map, string_bytes}
 use Rattle.clap.specs.Words.{Text}
 use Rattle.clap.specs.declared.error.kind.ErrorKind.{ErrorKind}
 use Rattle.clap.specs.declared.error.kind.ErrorKind.TheVariants as kind
@@ -38,10 +38,10 @@ abbrev pub dump_options : Request → Option DumpOptions
 dump_options (request.Dump options) = Some options
 dump_options _ = None
 
--- the path of the index about which commands are to be answered
-abbrev pub index_path : Request → Option Text
-index_path (request.Query options) = Some (string_bytes options.index)
-index_path _ = None
+-- the paths of the indexes about which commands are to be answered
+abbrev pub index_paths : Request → Option (List Text)
+index_paths (request.Query options) = Some (map string_bytes options.indexes.items)
+index_paths _ = None
 
 -- what the index that is to be written is asked for with
 abbrev pub index_request : Request → Option IndexRequest

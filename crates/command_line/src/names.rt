@@ -14,7 +14,7 @@ pub(crate) const SHELL: &str = "shell";
 
 pub(crate) const SNAPSHOT: &str = "snapshot";
 
-/// The argument that `query`, `snapshot` and `pages` want, and `join` once or more.
+/// The argument that `snapshot` and `pages` want, and `query` and `join` once or more.
 pub(crate) const INDEX_FILE: &str = "INDEX";
 
 /// The argument that `index` and `shell` want, and the second one of `snapshot` and `pages`.

@@ -1,7 +1,7 @@
 //! What the programs are told by their options. Each option has a file: its name, words, default and text of help, and
 //! how it is read.
 
-ghost use Rattle.std.specs.Prelude.{◌≡◌, ◌++◌, IfOk, OnOk, map};
+ghost use Rattle.std.specs.Prelude.{◌≡◌, ◌++◌, IfOk, OnOk, map, string_bytes};
 ghost use Rattle.clap.specs.Words.{found_of, rows_of, rule_of};
 ghost use Rattle.command_line.specs.Options.{
   AreListed,
@@ -15,6 +15,7 @@ ghost use Rattle.command_line.specs.Options.{
   CarriesSnapshot,
   choice_rules,
   index_option_rules,
+  indexes_of,
   own_rules,
   reading_rules,
   search_rules,
@@ -23,6 +24,7 @@ ghost use Rattle.command_line.specs.Options.{
 };
 
 pub(crate) mod accept;
+pub(crate) mod also;
 mod comments;
 pub(crate) mod custom_options;
 mod details;
@@ -189,8 +191,8 @@ pub struct ShellRequest {
 /// What `query` is given.
 #[derive(Debug, Drop)]
 pub struct QueryOptions {
-    /// The path of the file that holds the index.
-    pub index: String,
+    /// The paths of the files that hold the indexes, in the order of the words.
+    pub indexes: Vec<String>,
     /// Whether a fault is explained.
     pub explain: bool,
     /// Whether more commands are known.
@@ -209,8 +211,8 @@ pub struct DumpOptions {
 /// What `snapshot` is given.
 #[derive(Debug, Drop)]
 pub struct SnapshotOptions {
-    /// The path of the file that holds the index.
-    pub index: String,
+    /// The paths of the files that hold the indexes: INDEX, and those of `--also` in the order of the words.
+    pub indexes: Vec<String>,
     /// The folder below which the sources of its documents are.
     pub root: String,
     /// The folder below which each snapshot goes to a file of its own; they are printed if it isn't given.
@@ -222,8 +224,8 @@ pub struct SnapshotOptions {
 /// What `pages` is given.
 #[derive(Debug, Drop)]
 pub struct PagesOptions {
-    /// The path of the file that holds the index.
-    pub index: String,
+    /// The paths of the files that hold the indexes: INDEX, and those of `--also` in the order of the words.
+    pub indexes: Vec<String>,
     /// The folder below which the sources of its documents are.
     pub root: String,
     /// The folder that the pages go to.
@@ -406,9 +408,9 @@ pub(crate) fn query_options_of(
 ) -> Result<QueryOptions, AllocError>
     ensures { IfOk result (CarriesQuery (rows_of (found_of given.now))) }
 {
-    let file = text_of(alloc, given, INDEX_FILE)?;
+    let indexes = texts_of(alloc, given, INDEX_FILE)?;
     Ok(QueryOptions {
-        index: file,
+        indexes,
         explain: explains_in(given),
         more: more_in(given),
     })
@@ -424,6 +426,15 @@ pub(crate) fn dump_options_of(given: &ArgMatches<'_>) -> DumpOptions
     }
 }
 
+/// The path INDEX, and those of `--also`.
+fn indexes_of(alloc: Global, given: &ArgMatches<'_>) -> Result<Vec<String>, AllocError>
+    ensures { IfOk result (λ v. map string_bytes v.items ≡ indexes_of (rows_of (found_of given.now))) }
+{
+    let mut indexes = texts_of(alloc, given, INDEX_FILE)?;
+    indexes.append(&mut texts_of(alloc, given, also::NAME)?)?;
+    Ok(indexes)
+}
+
 /// What `snapshot` is given.
 pub(crate) fn snapshot_options_of(
     alloc: Global,
@@ -432,7 +443,7 @@ pub(crate) fn snapshot_options_of(
     ensures { IfOk result (CarriesSnapshot (rows_of (found_of given.now))) }
 {
     Ok(SnapshotOptions {
-        index: text_of(alloc, given, INDEX_FILE)?,
+        indexes: indexes_of(alloc, given)?,
         root: text_of(alloc, given, ROOT)?,
         to: optional_text_of(alloc, given, to::NAME)?,
         explain: explains_in(given),
@@ -446,11 +457,11 @@ pub(crate) fn pages_options_of(
 ) -> Result<PagesOptions, AllocError>
     ensures { IfOk result (CarriesPages (rows_of (found_of given.now))) }
 {
-    let index = text_of(alloc, given, INDEX_FILE)?;
+    let indexes = indexes_of(alloc, given)?;
     let root = text_of(alloc, given, ROOT)?;
     let out = text_of(alloc, given, OUT)?;
     Ok(PagesOptions {
-        index,
+        indexes,
         root,
         out,
         explain: explains_in(given),

@@ -20,8 +20,8 @@ ghost use Rattle.command_line.specs.Program.{
 use crate::arguments::{repeated, required};
 use crate::names::{DUMP, INDEX, INDEX_FILE, JOIN, OUT, PAGES, QUERY, ROOT, SHELL, SNAPSHOT};
 use crate::options::{
-    WordLists, accept, add_index_options, add_tree_options, custom_options, explain, joined_root,
-    more, replace, to,
+    WordLists, accept, add_index_options, add_tree_options, also, custom_options, explain,
+    joined_root, more, replace, to,
 };
 use basics::tool::{NAME, VERSION};
 use clap::{Arg, Command};
@@ -115,11 +115,8 @@ fn query_program<'a>(alloc: Global) -> Result<Command<'a>, AllocError>
     ensures local { IfOk result (λ c. (fields_of c).has_globals ≡ false) }
 {
     let about = "Answers commands from standard input about an index";
-    let args = vec![in alloc;
-        required(alloc, INDEX_FILE, "A file with a SCIP index"),
-        more::arg(alloc),
-        explain::arg(alloc),
-    ]?;
+    let index = required(alloc, INDEX_FILE, "A file with a SCIP index");
+    let args = vec![in alloc; repeated(index), more::arg(alloc), explain::arg(alloc)]?;
     program_of(alloc, QUERY, about, QUERY_EXAMPLE, args)
 }
 
@@ -132,6 +129,7 @@ fn snapshot_program<'a>(alloc: Global) -> Result<Command<'a>, AllocError>
     let args = vec![in alloc;
         required(alloc, INDEX_FILE, "A file with a SCIP index"),
         required(alloc, ROOT, "The folder with the sources that were indexed"),
+        also::arg(alloc),
         to::arg(alloc),
         explain::arg(alloc),
     ]?;
@@ -149,6 +147,7 @@ fn pages_program<'a>(alloc: Global) -> Result<Command<'a>, AllocError>
         required(alloc, INDEX_FILE, "A file with a SCIP index"),
         required(alloc, ROOT, "The folder with the sources that were indexed"),
         required(alloc, OUT, out),
+        also::arg(alloc),
         explain::arg(alloc),
     ]?;
     program_of(alloc, PAGES, about, PAGES_EXAMPLE, args)

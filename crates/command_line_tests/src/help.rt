@@ -91,10 +91,10 @@ Example session. The lines that begin with a word are typed; Ctrl-D ends the ses
         "query --help",
         "Answers commands from standard input about an index
 
-Usage: protoscip query [OPTIONS] <INDEX>
+Usage: protoscip query [OPTIONS] <INDEX>...
 
 Arguments:
-  <INDEX>  A file with a SCIP index
+  <INDEX>...  A file with a SCIP index
 
 Options:
       --more     Knows more commands, as on a terminal; the command help lists them
@@ -119,9 +119,10 @@ Arguments:
   <ROOT>   The folder with the sources that were indexed
 
 Options:
-      --to <DIR>  Writes each document to a file below this folder; if not given, they are printed
-      --explain   Explains a fault: adds its line and column, a sentence, and the text of that line
-  -h, --help      Print help
+      --also <INDEX>  A file with an index that is taken as one with INDEX; may be given again
+      --to <DIR>      Writes each document to a file below this folder; if not given, they are printed
+      --explain       Explains a fault: adds its line and column, a sentence, and the text of that line
+  -h, --help          Print help
 
 Example: show the sources below api with what the index says about them:
 
@@ -142,8 +143,9 @@ Arguments:
   <OUT>    The folder for the pages, which must be empty or not exist yet
 
 Options:
-      --explain  Explains a fault: adds its line and column, a sentence, and the text of that line
-  -h, --help     Print help
+      --also <INDEX>  A file with an index that is taken as one with INDEX; may be given again
+      --explain       Explains a fault: adds its line and column, a sentence, and the text of that line
+  -h, --help          Print help
 
 Example: make pages of the sources below api; then open pages/index.html in a browser:
 

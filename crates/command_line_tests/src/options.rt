@@ -73,14 +73,18 @@ struct Asked {
 
 // The fourth row reads: `dump --explain --custom-options skip` asks for a dump that reads past custom options, and
 // explains a fault.
-static ASKED: [Asked; 19] = [
+static ASKED: [Asked; 22] = [
     Asked {
         words: "query a.scip",
-        request: "Query(QueryOptions { index: \"a.scip\", explain: false, more: false })",
+        request: "Query(QueryOptions { indexes: [\"a.scip\"], explain: false, more: false })",
     },
     Asked {
         words: "query --explain a.scip --more",
-        request: "Query(QueryOptions { index: \"a.scip\", explain: true, more: true })",
+        request: "Query(QueryOptions { indexes: [\"a.scip\"], explain: true, more: true })",
+    },
+    Asked {
+        words: "query a b --more a -- -c",
+        request: "Query(QueryOptions { indexes: [\"a\", \"b\", \"a\", \"-c\"], explain: false, more: true })",
     },
     Asked {
         words: "dump",
@@ -128,19 +132,27 @@ static ASKED: [Asked; 19] = [
     },
     Asked {
         words: "snapshot a.scip api",
-        request: "Snapshot(SnapshotOptions { index: \"a.scip\", root: \"api\", to: None, explain: false })",
+        request: "Snapshot(SnapshotOptions { indexes: [\"a.scip\"], root: \"api\", to: None, explain: false })",
     },
     Asked {
         words: "snapshot --explain a.scip --to shown api",
-        request: "Snapshot(SnapshotOptions { index: \"a.scip\", root: \"api\", to: Some(\"shown\"), explain: true })",
+        request: "Snapshot(SnapshotOptions { indexes: [\"a.scip\"], root: \"api\", to: Some(\"shown\"), explain: true })",
+    },
+    Asked {
+        words: "snapshot --also c a --also=b api --also a",
+        request: "Snapshot(SnapshotOptions { indexes: [\"a\", \"c\", \"b\", \"a\"], root: \"api\", to: None, explain: false })",
     },
     Asked {
         words: "pages a.scip api out",
-        request: "Pages(PagesOptions { index: \"a.scip\", root: \"api\", out: \"out\", explain: false })",
+        request: "Pages(PagesOptions { indexes: [\"a.scip\"], root: \"api\", out: \"out\", explain: false })",
     },
     Asked {
         words: "pages a.scip --explain api -- -out",
-        request: "Pages(PagesOptions { index: \"a.scip\", root: \"api\", out: \"-out\", explain: true })",
+        request: "Pages(PagesOptions { indexes: [\"a.scip\"], root: \"api\", out: \"-out\", explain: true })",
+    },
+    Asked {
+        words: "pages a api out --also b",
+        request: "Pages(PagesOptions { indexes: [\"a\", \"b\"], root: \"api\", out: \"out\", explain: false })",
     },
     Asked {
         words: "join all a",
@@ -229,6 +241,15 @@ error: the argument '--only <PREFIX>' cannot be used multiple times
 index api out --include-package
 error: a value is required for '--include-package <MANAGER> <NAME> <RELEASE> <DIR>' but none was supplied
 
+snapshot a api b
+error: unexpected argument 'b' found
+
+snapshot a api --also
+error: a value is required for '--also <INDEX>' but none was supplied
+
+query a --also b
+error: unexpected argument '--also' found
+
 index api out --include-package m n r
 error: 4 values required for '--include-package <MANAGER> <NAME> <RELEASE> <DIR>' but 3 were provided
 
@@ -248,7 +269,8 @@ fn words_of_the_system(rt: HostRuntime) -> Result<(), Fail> {
     let text = asked(rt.alloc(), "query a.scip", By::System)?;
     see(
         &rt,
-        text.as_str() == "Query(QueryOptions { index: \"a.scip\", explain: false, more: false })",
+        text.as_str()
+            == "Query(QueryOptions { indexes: [\"a.scip\"], explain: false, more: false })",
         text.as_str(),
     );
     Ok(())

@@ -28,6 +28,14 @@ shell
 error: the following required arguments were not provided:
   <ROOT>
 
+query --more
+error: the following required arguments were not provided:
+  <INDEX>...
+
+snapshot a
+error: the following required arguments were not provided:
+  <ROOT>
+
 join all
 error: the following required arguments were not provided:
   <INDEX>...

@@ -9,7 +9,7 @@ mod FolderLemmas
 mod FolderPlaceLemmas
 -- What the program `join` makes of the indexes that files hold
 mod JoiningLemmas
--- Why no index comes behind others, and why there is no join
+-- Why no join is put
 mod JoiningRules
 -- The headline, of the tree of the files that options name
 mod LawLemmas
@@ -21,10 +21,12 @@ mod NoSourceLemmas
 mod PlacingLemmas
 -- Why no part is begun, and no report is made, and what becomes of a place
 mod PlacingRules
--- What the program `query` answers of an index's bytes
+-- What files hold together
+mod IndexFileLemmas
+-- What is read from a file, why no index comes behind others, and why there is no join
+mod IndexFileRules
+-- What the program `query` answers of the index that files hold
 mod QueryLemmas
--- What is read from a file that may hold an index
-mod QueryRules
 -- What is reported of a run, by what it answers, and where the report goes
 mod ReportingLemmas
 -- A run about a tree that ends with the status 0 made an index that navigates the tree

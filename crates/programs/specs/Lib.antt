@@ -4,9 +4,12 @@ pub mod Messages
 pub mod Printing
 -- why the system refuses
 pub mod Causes
+-- the index that files hold, or why they hold none
+pub mod IndexFaults
+pub mod FilesFaults
+pub mod IndexFiles
 -- `query`
 pub mod QueryFaults
-pub mod QueryExplanations
 pub mod Queries
 pub mod Answering
 -- `snapshot`

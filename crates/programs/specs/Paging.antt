@@ -2,7 +2,7 @@
 -- `frees` is what asking whether a folder is free may answer, `gives` what reading a file may give, `blames` what may
 -- be said of why it can't be read, and `messages` the stream of messages.
 use Rattle.std.specs.Prelude.{◌≡◌, ◌++◌, ℕ, Bool, true, false, List, [], Option, Result, Ok, Err, codes, string_bytes}
-use Rattle.std.specs.Prelude.{if◌then◌else◌}
+use Rattle.std.specs.Prelude.{if◌then◌else◌, map}
 use Rattle.source_files.specs.Makers.{MakeFilesOf, making}
 use Rattle.source_files.specs.declared.folder_place.FolderPlace.{Ghosts as FolderPlaceOf}
 use Rattle.streams.specs.Writers.{IsUntouched, Writer, writing}
@@ -16,11 +16,11 @@ use Rattle.scip_site.specs.declared.site_fault.SiteFault.TheVariants.{Show}
 use Rattle.protoscip.specs.Lines.{path_line}
 use Rattle.protoscip.specs.declared.statuses.TheConstants.{STREAM_STATUS}
 use Rattle.command_line.specs.declared.options.PagesOptions.{PagesOptions}
-use Rattle.programs.specs.declared.query_fault.QueryFault.{QueryFault}
+use Rattle.programs.specs.declared.files_fault.FilesFault.{FilesFault}
+use Rattle.programs.specs.declared.files_fault.ToldBy.TheVariants.{Other}
+use Rattle.programs.specs.FilesFaults.{IsTold as IsFilesTold, status_of as files_status}
+use Rattle.programs.specs.IndexFiles.{IsIndexOf}
 use Rattle.programs.specs.Messages.{IsSilent, Says, Tells, TellsOne, memory_line, memory_status}
-use Rattle.programs.specs.Queries.{IsReadFrom}
-use Rattle.programs.specs.QueryExplanations.{IsTold as IsQueryTold}
-use Rattle.programs.specs.QueryFaults.{status_of as query_status}
 use Rattle.programs.specs.SiteFaults.{told, status_of}
 
 -- of a folder that isn't free, explained where that is asked for (the texts are this project's own)
@@ -114,15 +114,15 @@ pub record MakesAndEnds {P F M : Type 0} (gives : List ℕ → Option (List ℕ)
       (writing messages.sink messages.before now) done
   pub ends : EndsPaged options.explain done (writing messages.sink now messages.after) status
 
--- the index of the file with a path can't be read, and nothing is made; or it is read, and pages are made
+-- the files hold no index, and nothing is made; or they hold one, and pages are made
 pub data ReadsAndMakes {P F M : Type 0} (gives blames : List ℕ → Option (List ℕ) → Type 0) (options : PagesOptions)
     (places : FolderPlaces P F) (messages : Writer M) (status : ℕ) : Type 0 where
-  unread : (fault : QueryFault) → IsReadFrom (gives (string_bytes options.index)) (Err fault)
+  unread : (fault : FilesFault) → IsIndexOf gives (map string_bytes options.indexes.items) (Err fault)
       → AreLeft places
-      → TellsOne (IsQueryTold blames options.explain (string_bytes options.index) fault) (query_status fault) messages
-      status
+      → TellsOne (IsFilesTold blames Other options.explain (map string_bytes options.indexes.items) fault)
+      (files_status fault) messages status
       → ReadsAndMakes gives blames options places messages status
-  read : (index : Index) → IsReadFrom (gives (string_bytes options.index)) (Ok index)
+  read : (index : Index) → IsIndexOf gives (map string_bytes options.indexes.items) (Ok index)
       → MakesAndEnds gives options index places messages status
       → ReadsAndMakes gives blames options places messages status
 

@@ -1,103 +1,43 @@
--- Why commands about the index of a file aren't answered: what is said about it, and the exit status. (Texts and
+-- Why commands about the index of files aren't answered: what is said about it, and the exit status. (Texts and
 -- statuses are this project's own.)
-use Rattle.std.specs.Prelude.{ℕ, List, [], codes}
+use Rattle.std.specs.Prelude.{◌≡◌, Bool, ℕ, List, [], Option, codes}
 use Rattle.scip_query.specs.AnswerFaults.{name_of as answer_name}
 use Rattle.scip_query.specs.declared.answer_fault.AnswerFault.{AnswerFault}
 use Rattle.scip_query.specs.declared.answer_fault.AnswerFault.TheVariants as answer
-use Rattle.scip_wire.specs.WireFaults.{name_of as wire_name}
-use Rattle.scip_wire.specs.declared.wire_fault.WireFault.{WireFault}
-use Rattle.scip_wire.specs.declared.wire_fault.WireFault.TheVariants as wire
-use Rattle.protoscip.specs.Lines.{line_at, path_line, plain_line}
+use Rattle.protoscip.specs.Lines.{plain_line}
 use Rattle.protoscip.specs.declared.statuses.TheConstants.{MEMORY_STATUS, STREAM_STATUS}
-use Rattle.programs.specs.declared.query_fault.QueryPlace.{QueryPlace}
-use Rattle.programs.specs.declared.query_fault.QueryPlace.TheVariants.{Nowhere, WholeFile, Offset}
+use Rattle.programs.specs.FaultTexts.{explained}
+use Rattle.programs.specs.FilesFaults.{IsTold as IsFilesTold, status_of as status_of_files}
+use Rattle.programs.specs.declared.files_fault.ToldBy.TheVariants.{Other}
 use Rattle.programs.specs.declared.query_fault.QueryFault.{QueryFault}
-use Rattle.programs.specs.declared.query_fault.QueryFault.TheVariants.{Unreadable, Wire, Answers}
-use Rattle.programs.specs.declared.statuses.TheConstants.{INDEX_STATUS}
-
--- the name in its line, and where in the index's file that says it is; what explains it, behind a line end, but nothing
--- for lack of memory; and the exit status: 3 if a stream or the file fails, 5 if the file holds no index, 4 if memory
--- runs out
-pub record QuerySaid : Type 0 where
-  pub name : List ℕ
-  pub place : QueryPlace
-  pub explanation : List ℕ
-  pub status : ℕ
-
-abbrev pub said : (name : List ℕ) → (place : QueryPlace) → (explanation : List ℕ) → (status : ℕ) → QuerySaid
-said name place explanation status =
-    record { name = name; place = place; explanation = explanation; status = status }
-
--- nowhere in the file
-abbrev pub nowhere : (name explanation : List ℕ) → (status : ℕ) → QuerySaid
-nowhere name explanation status = said name Nowhere explanation status
-
--- ---- of bytes that decode to no index
-
--- at the offset of the record that can't be read
-abbrev pub no_index : (name : List ℕ) → (at : ℕ) → (explanation : List ℕ) → QuerySaid
-no_index name at explanation = said name (Offset at) explanation INDEX_STATUS
-
-abbrev pub wire_said : WireFault → QuerySaid
-wire_said (wire.Truncated at) =
-    no_index (wire_name (wire.Truncated at)) at
-    (codes "\nthis file is no SCIP index, or was cut off: the record here runs past the end")
-wire_said (wire.Varint at) =
-    no_index (wire_name (wire.Varint at)) at
-    (codes "\nthis file is no SCIP index: the number here is too large")
-wire_said (wire.FieldZero at) =
-    no_index (wire_name (wire.FieldZero at)) at
-    (codes "\nthis file is no SCIP index: no field has the number 0")
-wire_said (wire.Group at) =
-    no_index (wire_name (wire.Group at)) at (codes "\nthis file is no SCIP index: the record here is a group")
-wire_said (wire.WireType at) =
-    no_index (wire_name (wire.WireType at)) at
-    (codes "\nthis file is no SCIP index: no record has this wire type")
-wire_said (wire.Repeated at) =
-    no_index (wire_name (wire.Repeated at)) at
-    (codes "\nthis file is no SCIP index: the record here may come only once")
-wire_said (wire.Utf8 at) =
-    no_index (wire_name (wire.Utf8 at)) at (codes "\nthis file is no SCIP index: the text here isn't UTF-8")
-wire_said (wire.BadRange at) =
-    no_index (wire_name (wire.BadRange at)) at
-    (codes "\nthis file is no SCIP index: a range has three or four numbers, none of them negative")
-wire_said wire.Memory = nowhere (wire_name wire.Memory) [] MEMORY_STATUS
+use Rattle.programs.specs.declared.query_fault.QueryFault.TheVariants.{NoIndex, Answers}
 
 -- ---- of reading commands, and of writing answers
 
-abbrev pub answer_said : AnswerFault → QuerySaid
-answer_said answer.Read =
-    nowhere (answer_name answer.Read) (codes "\nstandard input couldn't be read to its end") STREAM_STATUS
-answer_said (answer.Write count) =
-    nowhere (answer_name (answer.Write count))
-    (codes "\nthe output can't be made, or its disk is full, or nobody reads it") STREAM_STATUS
-answer_said answer.Memory = nowhere (answer_name answer.Memory) [] MEMORY_STATUS
+-- what explains it, behind a line end; nothing for lack of memory
+abbrev pub answer_explanation : AnswerFault → List ℕ
+answer_explanation answer.Read = codes "\nstandard input couldn't be read to its end"
+answer_explanation (answer.Write count) = codes "\nthe output can't be made, or its disk is full, or nobody reads it"
+answer_explanation answer.Memory = []
 
--- ---- of them all
+-- 3 if a stream fails, 4 if memory runs out
+abbrev pub answer_status : AnswerFault → ℕ
+answer_status answer.Read = STREAM_STATUS
+answer_status (answer.Write count) = STREAM_STATUS
+answer_status answer.Memory = MEMORY_STATUS
 
-abbrev pub said_of : QueryFault → QuerySaid
-said_of Unreadable =
-    said (codes "Unreadable") WholeFile (codes "\nit isn't there, or is a folder, or can't be read") STREAM_STATUS
-said_of (Wire fault) = wire_said fault
-said_of (Answers fault) = answer_said fault
+-- the line, explained if that is asked for
+abbrev pub answer_told : (explain : Bool) → AnswerFault → List ℕ
+answer_told explain fault = explained explain (plain_line (answer_name fault)) (answer_explanation fault)
 
--- a line that says where it is in the file with this path
-abbrev pub line_with : (path : List ℕ) → QueryPlace → (name : List ℕ) → List ℕ
-line_with path Nowhere name = plain_line name
-line_with path WholeFile name = path_line path name
-line_with path (Offset at) name = line_at path at name
+-- ---- of both
 
--- the line of a fault, of the index with this path
-abbrev pub line_of : List ℕ → QueryFault → List ℕ
-line_of path fault = line_with path (said_of fault).place (said_of fault).name
-
-abbrev pub explanation_of : QueryFault → List ℕ
-explanation_of fault = (said_of fault).explanation
+-- what is told of the files with these paths; `blames` is what may be said of why a path can't be read
+abbrev pub IsTold : (blames : List ℕ → Option (List ℕ) → Type 0) → (explain : Bool) → (paths : List (List ℕ))
+    → QueryFault → (text : List ℕ) → Type 0
+IsTold blames explain paths (NoIndex fault) text = IsFilesTold blames Other explain paths fault text
+IsTold blames explain paths (Answers fault) text = text ≡ answer_told explain fault
 
 abbrev pub status_of : QueryFault → ℕ
-status_of fault = (said_of fault).status
-
--- lack of memory is one fault, whichever step it comes in
-abbrev pub fault_of_wire : WireFault → QueryFault
-fault_of_wire wire.Memory = Answers answer.Memory
-fault_of_wire fault = Wire fault
+status_of (NoIndex fault) = status_of_files fault
+status_of (Answers fault) = answer_status fault

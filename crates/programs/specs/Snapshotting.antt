@@ -1,7 +1,8 @@
 -- What the program `snapshot` does.
 -- `gives` is what reading a file may give, `blames` what may be said of why it can't be read, `cause` why the last
 -- write failed, and `messages` the stream of messages.
-use Rattle.std.specs.Prelude.{◌≡◌, ◌&&◌, ℕ, Bool, true, false, List, Option, None, Some, Result, Ok, Err, string_bytes}
+use Rattle.std.specs.Prelude.{◌≡◌, ◌&&◌, ℕ, Bool, true, false, List, Option, None, Some, Result, Ok, Err, map}
+use Rattle.std.specs.Prelude.{string_bytes}
 use Rattle.std.specs.Option.{option_map}
 use Rattle.streams.specs.Writers.{Writer, writing}
 use Rattle.source_files.specs.Makers.{Maker}
@@ -11,12 +12,12 @@ use Rattle.scip_site.specs.declared.show_fault.ShowFault.{ShowFault}
 use Rattle.scip_site.specs.declared.show_fault.ShowFault.TheVariants.{Write}
 use Rattle.source_files.specs.declared.cause.Cause.{Cause}
 use Rattle.command_line.specs.declared.options.SnapshotOptions.{SnapshotOptions}
-use Rattle.programs.specs.declared.query_fault.QueryFault.{QueryFault}
+use Rattle.programs.specs.declared.files_fault.FilesFault.{FilesFault}
+use Rattle.programs.specs.declared.files_fault.ToldBy.TheVariants.{Other}
+use Rattle.programs.specs.FilesFaults.{IsTold as IsFilesTold, status_of as files_status}
+use Rattle.programs.specs.IndexFiles.{IsIndexOf}
 use Rattle.programs.specs.Messages.{IsSilent, Tells, TellsOne}
 use Rattle.programs.specs.Printing.{EndsCut, is_closed}
-use Rattle.programs.specs.Queries.{IsReadFrom}
-use Rattle.programs.specs.QueryExplanations.{IsTold as IsQueryTold}
-use Rattle.programs.specs.QueryFaults.{status_of as query_status}
 use Rattle.programs.specs.ShowFaults.{told, status_of}
 
 -- nothing more is said after a success; after a fault its line is, explained if that is asked for, with its status
@@ -56,16 +57,15 @@ pub record ShowsAndEnds {W O M : Type 0} (gives : List ℕ → Option (List ℕ)
   pub ends : EndsTo options.explain (option_map string_bytes options.to) (is_closed (cause out.after)) done
       (writing messages.sink now messages.after) status
 
--- the index of the file with a path can't be read, and nothing is printed or made; or it is read, and its documents are
--- shown
+-- the files hold no index, and nothing is printed or made; or they hold one, and its documents are shown
 pub data RunsSnapshot {W O M : Type 0} (gives blames : List ℕ → Option (List ℕ) → Type 0) (cause : W → Option Cause)
     (options : SnapshotOptions) (out : Writer W) (files : Maker O) (messages : Writer M) (status : ℕ)
     : Type 0 where
-  unread : (fault : QueryFault) → IsReadFrom (gives (string_bytes options.index)) (Err fault)
+  unread : (fault : FilesFault) → IsIndexOf gives (map string_bytes options.indexes.items) (Err fault)
       → out.after ≡ out.before → files.after ≡ files.before
-      → TellsOne (IsQueryTold blames options.explain (string_bytes options.index) fault) (query_status fault) messages
-      status
+      → TellsOne (IsFilesTold blames Other options.explain (map string_bytes options.indexes.items) fault)
+      (files_status fault) messages status
       → RunsSnapshot gives blames cause options out files messages status
-  read : (index : Index) → IsReadFrom (gives (string_bytes options.index)) (Ok index)
+  read : (index : Index) → IsIndexOf gives (map string_bytes options.indexes.items) (Ok index)
       → ShowsAndEnds gives cause options index out files messages status
       → RunsSnapshot gives blames cause options out files messages status

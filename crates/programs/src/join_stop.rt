@@ -1,51 +1,50 @@
 //! Why several indexes aren't joined: what is said about it, and the exit status.
 
-ghost use Rattle.std.specs.Prelude.{◌≡◌, IfOk, map, string_bytes};
-ghost use Rattle.std.specs.Option.{option_map};
-ghost use Rattle.programs.specs.JoinStops.{
-  explanation_of,
-  line_of,
-  path_at,
-  status_of,
-  told,
-  twice_line,
-  unread_path,
-};
+ghost use Rattle.std.specs.Prelude.{◌≡◌, [], IfOk, map, string_bytes};
+ghost use Rattle.streams.specs.Writers.{writer};
+ghost use Rattle.programs.specs.JoinStops.{IsTold, status_of, write_told};
+ghost use Rattle.programs.specs.Messages.{TellsOne};
 
 use crate::fault_texts::explained;
-use crate::query_explanations::unread_path;
-use crate::query_fault::QueryFault;
-use crate::statuses::INDEX_STATUS;
-use protoscip::{MEMORY_STATUS, STREAM_STATUS, path_line, plain_line};
-use scip_join::TwoDocuments;
+use crate::files_fault::{FilesFault, ToldBy};
+use crate::files_report::report_files;
+use crate::host::Host;
+use crate::messages::report;
+use protoscip::{STREAM_STATUS, plain_line};
 use scip_wire::WriteFault;
+use source_files::LookAgain;
 use std::alloc::{AllocError, Global};
+use streams::Sink;
 
-/// Why several indexes aren't joined: the first of those that hold. Memory may run out at any step.
+/// Why several indexes aren't joined: the first of those that hold.
 #[derive(Debug, Drop)]
 pub(crate) enum JoinStop {
-    /// No index is read from the file with this number, from 0.
-    Read(usize, QueryFault),
-    /// No project root is asked for, and the index of the file with this number has another one than the first.
-    OtherRoot(usize),
-    /// Two documents have one path, and none is to be replaced.
-    Twice(TwoDocuments),
-    /// The join is larger than an index may be.
-    TooLarge,
+    /// They have no join, or memory ran out.
+    NoJoin(FilesFault),
     /// A write fails, or the place refuses what was written.
     Write,
-    /// Memory ran out.
-    Memory,
+}
+
+impl From<FilesFault> for JoinStop {
+    ghost use Rattle.std.specs.Prelude.{◌≡◌};
+    ghost use Rattle.programs.specs.declared.join_stop.JoinStop.TheVariants.{NoJoin};
+
+    ghost from_gives = { λ fault e. e ≡ NoJoin fault };
+
+    fn from(fault: FilesFault) -> JoinStop {
+        JoinStop::NoJoin(fault)
+    }
 }
 
 impl From<AllocError> for JoinStop {
     ghost use Rattle.std.specs.Prelude.{◌≡◌};
-    ghost use Rattle.programs.specs.declared.join_stop.JoinStop.TheVariants.{Memory};
+    ghost use Rattle.programs.specs.declared.files_fault.FilesFault.TheVariants.{Memory};
+    ghost use Rattle.programs.specs.declared.join_stop.JoinStop.TheVariants.{NoJoin};
 
-    ghost from_gives = { λ _ e. e ≡ Memory };
+    ghost from_gives = { λ _ e. e ≡ NoJoin Memory };
 
     fn from(_refused: AllocError) -> JoinStop {
-        JoinStop::Memory
+        JoinStop::NoJoin(FilesFault::Memory)
     }
 }
 
@@ -56,110 +55,37 @@ impl From<WriteFault> for JoinStop {
 
     fn from(fault: WriteFault) -> JoinStop {
         match fault {
-            WriteFault::TooLarge => JoinStop::TooLarge,
+            WriteFault::TooLarge => JoinStop::NoJoin(FilesFault::TooLarge),
             WriteFault::Write(_) => JoinStop::Write,
         }
     }
 }
 
-/// The path with this number, from 0; empty if there is none.
-fn path_at(paths: &[String], number: usize) -> &str
-    ensures { result.now ≡ path_at (map string_bytes paths.now) number }
+/// The line, without its end, of a write that fails, explained if that is asked for.
+fn write_text(alloc: Global, explain: bool) -> Result<String, AllocError>
+    ensures { IfOk result (λ text. string_bytes text ≡ write_told explain) }
 {
-    match paths.get(number) {
-        Some(path) => path.as_str(),
-        None => "",
-    }
+    let line = plain_line(alloc, "Write")?;
+    let explanation = "\nthe output can't be made, or its disk is full, or nobody reads it";
+    explained(line, explanation, explain)
 }
 
-/// `protoscip: PATH: Twice in EARLIER and LATER`
-fn twice_line(alloc: Global, path: &str, earlier: &str, later: &str) -> Result<String, AllocError>
-    ensures { IfOk result (λ line. string_bytes line ≡ twice_line path.now earlier.now later.now) }
+/// Says why the indexes of the files with these paths aren't joined, explained if that is asked for, and gives the exit
+/// status.
+pub(crate) fn report_join<R, F: LookAgain, M: Sink>(
+    host: &Host<'_, R, F>,
+    stop: &JoinStop,
+    paths: &[String],
+    explain: bool,
+    messages: &mut M,
+) -> u8
+    ensures { TellsOne (IsTold (F.blames host.now.files.now [] []) explain (map string_bytes paths.now) stop.now)
+        (status_of stop.now) (writer M.Sink messages) result }
 {
-    let mut line = path_line(alloc, path, "Twice in ")?;
-    line.push_str(earlier)?;
-    line.push_str(" and ")?;
-    line.push_str(later)?;
-    Ok(line)
-}
-
-impl JoinStop {
-    /// The line, without its end, that says this of the files with these paths.
-    fn line(&self, alloc: Global, paths: &[String]) -> Result<String, AllocError>
-        ensures { IfOk result (λ line. string_bytes line ≡ line_of (map string_bytes paths.now) self.now) }
-    {
-        match self {
-            JoinStop::Read(number, fault) => fault.line(alloc, path_at(paths, *number)),
-            JoinStop::OtherRoot(number) => {
-                path_line(alloc, path_at(paths, *number), "OtherRoot")
-            }
-            JoinStop::Twice(two) => {
-                let earlier = path_at(paths, two.earlier);
-                let later = path_at(paths, two.later);
-                twice_line(alloc, two.path.as_str(), earlier, later)
-            }
-            JoinStop::TooLarge => plain_line(alloc, "TooLarge"),
-            JoinStop::Write => plain_line(alloc, "Write"),
-            JoinStop::Memory => plain_line(alloc, "Memory"),
+    match stop {
+        JoinStop::NoJoin(fault) => {
+            report_files(host, fault, ToldBy::Join, paths, explain, messages)
         }
-    }
-
-    /// A sentence after a line end; nothing for lack of memory.
-    fn explanation(&self) -> &'static str
-        ensures { result.now ≡ explanation_of self.now }
-    {
-        match self {
-            JoinStop::Read(_, fault) => fault.said().explanation,
-            JoinStop::OtherRoot(_) => {
-                "\nits project root isn't that of the first index: --project-root gives the join one"
-            }
-            JoinStop::Twice(_) => {
-                "\nboth have a document with this path: --replace takes that of the later one"
-            }
-            JoinStop::TooLarge => "\nan index has at most 2147483647 bytes",
-            JoinStop::Write => {
-                "\nthe output can't be made, or its disk is full, or nobody reads it"
-            }
-            JoinStop::Memory => "",
-        }
-    }
-
-    /// The line, without its end, explained if that is asked for.
-    pub(crate) fn text(
-        &self,
-        alloc: Global,
-        paths: &[String],
-        explain: bool,
-    ) -> Result<String, AllocError>
-        ensures { IfOk result (λ text. string_bytes text ≡ told explain (map string_bytes paths.now) self.now) }
-    {
-        let line = self.line(alloc, paths)?;
-        explained(line, self.explanation(), explain)
-    }
-
-    /// The path of a file that can't be read, if that is to be explained.
-    pub(crate) fn unread_path<'a>(&self, paths: &'a [String], explain: bool) -> Option<&'a str>
-        ensures { option_map (λ path. path.now) result ≡ unread_path explain (map string_bytes paths.now) self.now }
-    {
-        match self {
-            JoinStop::Read(number, fault) => unread_path(fault, path_at(paths, *number), explain),
-            JoinStop::OtherRoot(_)
-            | JoinStop::Twice(_)
-            | JoinStop::TooLarge
-            | JoinStop::Write
-            | JoinStop::Memory => None,
-        }
-    }
-
-    /// The exit status.
-    pub(crate) fn status(&self) -> u8
-        ensures { result ≡ status_of self.now }
-    {
-        match self {
-            JoinStop::Read(_, fault) => fault.status(),
-            JoinStop::OtherRoot(_) | JoinStop::Twice(_) => INDEX_STATUS,
-            JoinStop::TooLarge | JoinStop::Write => STREAM_STATUS,
-            JoinStop::Memory => MEMORY_STATUS,
-        }
+        JoinStop::Write => report(write_text(host.alloc, explain), STREAM_STATUS, messages),
     }
 }

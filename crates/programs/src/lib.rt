@@ -9,8 +9,13 @@ mod running;
 // `dump`: a source is read, indexed and listed.
 mod dumping;
 
-// `query`: an index is read from a file, and answers commands.
-mod query_explanations;
+// The index that files hold, or why they hold none.
+mod files_fault;
+mod files_report;
+mod index_fault;
+mod index_files;
+
+// `query`: an index is read from files, and answers commands.
 mod query_fault;
 mod querying;
 

@@ -13,11 +13,12 @@ ghost use Rattle.programs.specs.Paging.{
   taken_told,
 };
 
+use crate::files_fault::ToldBy;
+use crate::files_report::report_files;
 use crate::host::Host;
+use crate::index_files::queries_of;
 use crate::messages::report;
-use crate::query_explanations::report_query;
 use crate::site_faults::{site_status, site_text};
-use crate::snapshotting::queries_of;
 use command_line::PagesOptions;
 use protoscip::{MEMORY_STATUS, STREAM_STATUS, path_line};
 use scip_query::Queries;
@@ -121,7 +122,7 @@ fn make<R, F: ReadFiles, P: FolderPlace, M: Sink>(
     end(host.alloc, options.explain, done, messages)
 }
 
-/// Reads the index that a file holds, makes the pages of its documents, and gives the exit status. Why it
+/// Reads the index that files hold, makes the pages of its documents, and gives the exit status. Why it
 /// stops, if it does, is said.
 fn read_and_make<R, F: ReadFiles + LookAgain, P: FolderPlace, M: Sink>(
     host: &Host<'_, R, F>,
@@ -133,10 +134,13 @@ fn read_and_make<R, F: ReadFiles + LookAgain, P: FolderPlace, M: Sink>(
         (folder_places P.FolderPlace P.Folder.MakeFiles places.old places.new)
         (writer M.Sink messages) result }
 {
-    let path = options.index.as_str();
-    match queries_of(host.alloc, host.files, path) {
+    let paths = options.indexes.as_slice();
+    match queries_of(host.alloc, host.files, paths) {
         Ok(queries) => make(host, options, &queries, places, messages),
-        Err(fault) => report_query(host, &fault, path, options.explain, messages),
+        Err(fault) => {
+            let explain = options.explain;
+            report_files(host, &fault, ToldBy::Other, paths, explain, messages)
+        },
     }
 }
 

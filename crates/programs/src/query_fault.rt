@@ -1,224 +1,90 @@
-//! Why commands about the index of a file aren't answered.
+//! Why commands about the index of files aren't answered: what is said about it, and the exit status.
 
-ghost use Rattle.std.specs.Prelude.{◌≡◌, IfOk, string_bytes};
-ghost use Rattle.programs.specs.QueryFaults.{
-  answer_said,
-  line_of,
-  line_with,
-  no_index,
-  nowhere,
-  said_of,
-  status_of,
-  wire_said,
-};
+ghost use Rattle.std.specs.Prelude.{◌≡◌, [], IfOk, map, string_bytes};
+ghost use Rattle.streams.specs.Writers.{writer};
+ghost use Rattle.programs.specs.Messages.{TellsOne};
+ghost use Rattle.programs.specs.QueryFaults.{IsTold, answer_explanation, answer_status, answer_told, status_of};
 
-use crate::statuses::INDEX_STATUS;
-use protoscip::{MEMORY_STATUS, STREAM_STATUS, path_line, placed_line, plain_line};
+use crate::fault_texts::explained;
+use crate::files_fault::{FilesFault, ToldBy};
+use crate::files_report::report_files;
+use crate::host::Host;
+use crate::messages::report;
+use protoscip::{MEMORY_STATUS, STREAM_STATUS, plain_line};
 use scip_query::AnswerFault;
-use scip_wire::WireFault;
+use source_files::LookAgain;
 use std::alloc::{AllocError, Global};
+use streams::Sink;
 
-/// Why commands about the index that a file holds aren't answered: the first of those that hold. Memory may run out
-/// at any step.
-#[derive(Clone, Copy, Debug, Drop)]
+/// Why commands about the index that files hold aren't answered: the first of those that hold.
+#[derive(Debug, Drop)]
 pub(crate) enum QueryFault {
-    /// The file can't be read.
-    Unreadable,
-    /// Its bytes decode to no index.
-    Wire(WireFault),
-    /// Reading commands or writing answers failed, or memory ran out, there or before.
+    /// They hold none, or memory ran out.
+    NoIndex(FilesFault),
+    /// Reading commands or writing answers failed, or memory ran out.
     Answers(AnswerFault),
 }
 
-impl From<AllocError> for QueryFault {
-    ghost use Rattle.scip_query.specs.declared.answer_fault.AnswerFault.TheVariants.{Memory};
-    ghost use Rattle.programs.specs.declared.query_fault.QueryFault.TheVariants.{Answers};
+impl From<FilesFault> for QueryFault {
+    ghost use Rattle.programs.specs.declared.query_fault.QueryFault.TheVariants.{NoIndex};
 
-    ghost from_gives = { λ _ e. e ≡ Answers Memory };
+    ghost from_gives = { λ fault e. e ≡ NoIndex fault };
 
-    fn from(_refused: AllocError) -> QueryFault {
-        QueryFault::Answers(AnswerFault::Memory)
+    fn from(fault: FilesFault) -> QueryFault {
+        QueryFault::NoIndex(fault)
     }
 }
 
-impl From<WireFault> for QueryFault {
-    ghost use Rattle.programs.specs.QueryFaults.{fault_of_wire};
-
-    ghost from_gives = { λ fault e. e ≡ fault_of_wire fault };
-
-    fn from(fault: WireFault) -> QueryFault {
-        match fault {
-            WireFault::Memory => QueryFault::Answers(AnswerFault::Memory),
-            _ => QueryFault::Wire(fault),
-        }
-    }
-}
-
-/// Where in the index's file the line of a fault says that it is.
-#[derive(Clone, Copy)]
-pub(crate) enum QueryPlace {
-    /// Nowhere in it.
-    Nowhere,
-    /// In all of it.
-    WholeFile,
-    /// At an offset in bytes.
-    Offset(usize),
-}
-
-/// What is said of why commands aren't answered.
-#[derive(Clone, Copy)]
-pub(crate) struct QuerySaid {
-    /// The name in its line: the variant's, or that of what it holds.
-    pub(crate) name: &'static str,
-    /// Where its line says that it is.
-    pub(crate) place: QueryPlace,
-    /// A sentence after a line end; nothing for lack of memory.
-    pub(crate) explanation: &'static str,
-    /// The exit status.
-    pub(crate) status: u8,
-}
-
-/// What is said of a fault that is nowhere in the file.
-fn nowhere(name: &'static str, explanation: &'static str, status: u8) -> QuerySaid
-    ensures name { result.name.now ≡ (nowhere name.now explanation.now status).name }
-    ensures place { result.place ≡ (nowhere name.now explanation.now status).place }
-    ensures explanation { result.explanation.now ≡ (nowhere name.now explanation.now status).explanation }
-    ensures status { result.status ≡ (nowhere name.now explanation.now status).status }
+/// What explains that commands can't be read, or answers written, after a line end; nothing for lack of memory.
+fn answer_explanation(fault: AnswerFault) -> &'static str
+    ensures { result.now ≡ answer_explanation fault }
 {
-    QuerySaid {
-        name,
-        place: QueryPlace::Nowhere,
-        explanation,
-        status,
-    }
-}
-
-/// What is said of bytes that decode to no index, at the offset of the record that can't be read.
-fn no_index(name: &'static str, offset: usize, explanation: &'static str) -> QuerySaid
-    ensures name { result.name.now ≡ (no_index name.now offset explanation.now).name }
-    ensures place { result.place ≡ (no_index name.now offset explanation.now).place }
-    ensures explanation { result.explanation.now ≡ (no_index name.now offset explanation.now).explanation }
-    ensures status { result.status ≡ (no_index name.now offset explanation.now).status }
-{
-    QuerySaid {
-        name,
-        place: QueryPlace::Offset(offset),
-        explanation,
-        status: INDEX_STATUS,
-    }
-}
-
-/// What is said of bytes that decode to no index, and of lack of memory for it.
-fn wire_said(fault: WireFault) -> QuerySaid
-    ensures name { result.name.now ≡ (wire_said fault).name }
-    ensures place { result.place ≡ (wire_said fault).place }
-    ensures explanation { result.explanation.now ≡ (wire_said fault).explanation }
-    ensures status { result.status ≡ (wire_said fault).status }
-{
-    let name = fault.name();
     match fault {
-        WireFault::Truncated(at) => {
-            let explanation =
-                "\nthis file is no SCIP index, or was cut off: the record here runs past the end";
-            no_index(name, at, explanation)
-        }
-        WireFault::Varint(at) => {
-            let explanation = "\nthis file is no SCIP index: the number here is too large";
-            no_index(name, at, explanation)
-        }
-        WireFault::FieldZero(at) => {
-            let explanation = "\nthis file is no SCIP index: no field has the number 0";
-            no_index(name, at, explanation)
-        }
-        WireFault::Group(at) => {
-            let explanation = "\nthis file is no SCIP index: the record here is a group";
-            no_index(name, at, explanation)
-        }
-        WireFault::WireType(at) => {
-            let explanation = "\nthis file is no SCIP index: no record has this wire type";
-            no_index(name, at, explanation)
-        }
-        WireFault::Repeated(at) => {
-            let explanation = "\nthis file is no SCIP index: the record here may come only once";
-            no_index(name, at, explanation)
-        }
-        WireFault::Utf8(at) => {
-            let explanation = "\nthis file is no SCIP index: the text here isn't UTF-8";
-            no_index(name, at, explanation)
-        }
-        WireFault::BadRange(at) => {
-            let explanation =
-                "\nthis file is no SCIP index: a range has three or four numbers, none of them negative";
-            no_index(name, at, explanation)
-        }
-        WireFault::Memory => nowhere(name, "", MEMORY_STATUS),
-    }
-}
-
-/// What is said of commands that can't be read, and of answers that can't be written.
-fn answer_said(fault: AnswerFault) -> QuerySaid
-    ensures name { result.name.now ≡ (answer_said fault).name }
-    ensures place { result.place ≡ (answer_said fault).place }
-    ensures explanation { result.explanation.now ≡ (answer_said fault).explanation }
-    ensures status { result.status ≡ (answer_said fault).status }
-{
-    let name = fault.name();
-    match fault {
-        AnswerFault::Read => {
-            let explanation = "\nstandard input couldn't be read to its end";
-            nowhere(name, explanation, STREAM_STATUS)
-        }
+        AnswerFault::Read => "\nstandard input couldn't be read to its end",
         AnswerFault::Write(_) => {
-            let explanation = "\nthe output can't be made, or its disk is full, or nobody reads it";
-            nowhere(name, explanation, STREAM_STATUS)
+            "\nthe output can't be made, or its disk is full, or nobody reads it"
         }
-        AnswerFault::Memory => nowhere(name, "", MEMORY_STATUS),
+        AnswerFault::Memory => "",
     }
 }
 
-/// The line, without its end, that says where it is in the file with this path.
-fn line_with(alloc: Global, path: &str, place: QueryPlace, name: &str) -> Result<String, AllocError>
-    ensures { IfOk result (λ line. string_bytes line ≡ line_with path.now place name.now) }
+/// The exit status of that.
+fn answer_status(fault: AnswerFault) -> u8
+    ensures { result ≡ answer_status fault }
 {
-    match place {
-        QueryPlace::Nowhere => plain_line(alloc, name),
-        QueryPlace::WholeFile => path_line(alloc, path, name),
-        QueryPlace::Offset(offset) => placed_line(alloc, path, Some(offset), name),
+    match fault {
+        AnswerFault::Read | AnswerFault::Write(_) => STREAM_STATUS,
+        AnswerFault::Memory => MEMORY_STATUS,
     }
 }
 
-impl QueryFault {
-    /// What is said of it.
-    pub(crate) fn said(&self) -> QuerySaid
-        ensures name { result.name.now ≡ (said_of self.now).name }
-        ensures place { result.place ≡ (said_of self.now).place }
-        ensures explanation { result.explanation.now ≡ (said_of self.now).explanation }
-        ensures status { result.status ≡ (said_of self.now).status }
-    {
-        match *self {
-            QueryFault::Unreadable => QuerySaid {
-                name: "Unreadable",
-                place: QueryPlace::WholeFile,
-                explanation: "\nit isn't there, or is a folder, or can't be read",
-                status: STREAM_STATUS,
-            },
-            QueryFault::Wire(fault) => wire_said(fault),
-            QueryFault::Answers(fault) => answer_said(fault),
+/// The line, without its end, of that, explained if that is asked for.
+fn answer_text(alloc: Global, fault: AnswerFault, explain: bool) -> Result<String, AllocError>
+    ensures { IfOk result (λ text. string_bytes text ≡ answer_told explain fault) }
+{
+    let line = plain_line(alloc, fault.name())?;
+    explained(line, answer_explanation(fault), explain)
+}
+
+/// Says why commands about the index that the files with these paths hold aren't answered, explained if that is asked
+/// for, and gives the exit status.
+pub(crate) fn report_query<R, F: LookAgain, M: Sink>(
+    host: &Host<'_, R, F>,
+    fault: &QueryFault,
+    paths: &[String],
+    explain: bool,
+    messages: &mut M,
+) -> u8
+    ensures { TellsOne (IsTold (F.blames host.now.files.now [] []) explain (map string_bytes paths.now) fault.now)
+        (status_of fault.now) (writer M.Sink messages) result }
+{
+    match fault {
+        QueryFault::NoIndex(fault) => {
+            report_files(host, fault, ToldBy::Other, paths, explain, messages)
         }
-    }
-
-    /// The line, without its end, that says this about the index with this path. Offsets are in bytes.
-    pub(crate) fn line(&self, alloc: Global, path: &str) -> Result<String, AllocError>
-        ensures { IfOk result (λ line. string_bytes line ≡ line_of path.now self.now) }
-    {
-        let said = self.said();
-        line_with(alloc, path, said.place, said.name)
-    }
-
-    /// The exit status.
-    pub(crate) fn status(&self) -> u8
-        ensures { result ≡ status_of self.now }
-    {
-        self.said().status
+        QueryFault::Answers(fault) => {
+            let text = answer_text(host.alloc, *fault, explain);
+            report(text, answer_status(*fault), messages)
+        }
     }
 }

@@ -1,13 +1,13 @@
 //! What the program does with its files and streams, and the exit status that it ends with.
 
-ghost use Rattle.std.specs.Prelude.{◌≡◌, [], None, Result, IfSome, IfOk, IfErr, string_bytes};
+ghost use Rattle.std.specs.Prelude.{◌≡◌, [], None, Result, IfSome, IfOk, IfErr, map, string_bytes};
 ghost use Rattle.streams.specs.Readers.{IsReadBriefly, reader};
 ghost use Rattle.streams.specs.Writers.{writer};
 ghost use Rattle.source_files.specs.Makers.{making};
 ghost use Rattle.command_line.specs.Requests.{
   dump_options,
   explains,
-  index_path,
+  index_paths,
   index_request,
   join_options,
   out_path,
@@ -44,7 +44,7 @@ use crate::messages::report;
 use crate::output::print;
 use crate::paging::pages;
 use crate::places::Places;
-use crate::query_explanations::report_query;
+use crate::query_fault::report_query;
 use crate::querying::query;
 use crate::serving::shell_searched;
 use crate::snapshotting::snapshot;
@@ -66,23 +66,25 @@ fn refuse<M: Sink>(text: &str, messages: &mut M) -> u8
     COMMAND_LINE_STATUS
 }
 
-/// Answers commands about the index that a file holds, and gives the exit status. If it stops early, it reports why,
+/// Answers commands about the index that files hold, and gives the exit status. If it stops early, it reports why,
 /// explained if that is asked for.
 fn answer<R, F: ReadFiles + LookAgain, I: Feed, W: Sink, M: Sink>(
     host: &Host<'_, R, F>,
-    path: &str,
+    paths: &[String],
     explain: bool,
     input: &mut I,
     out: &mut W,
     messages: &mut M,
 ) -> u8
     ensures { (done : Result (Unit {0}) QueryFault)
-        × Queried host.now.manner (F.gives host.now.files.now path.now) (reader I.Feed input) (writer W.Sink out) done
-        × Answers (F.blames host.now.files.now [] []) explain path.now done (writer M.Sink messages) result }
+        × Queried host.now.manner (F.gives host.now.files.now) (map string_bytes paths.now)
+        (reader I.Feed input) (writer W.Sink out) done
+        × Answers (F.blames host.now.files.now [] []) explain (map string_bytes paths.now) done
+        (writer M.Sink messages) result }
 {
-    match query(host, path, input, out) {
+    match query(host, paths, input, out) {
         Ok(()) => 0,
-        Err(fault) => report_query(host, &fault, path, explain, messages),
+        Err(fault) => report_query(host, &fault, paths, explain, messages),
     }
 }
 
@@ -167,10 +169,10 @@ where
         (is_closed (W.cause out.new)) (reader I.Feed input) done (writer M.Sink messages) result)
         × (places.new ≡ places.old))) }
     // What `query` promises of its answers, and what becomes of that.
-    ensures queried { IfOk asked.now (λ request. IfSome (index_path request) (λ path.
+    ensures queried { IfOk asked.now (λ request. IfSome (index_paths request) (λ paths.
         ((done : Result (Unit {0}) QueryFault)
-        × Queried host.now.manner (F.gives host.now.files.now path) (reader I.Feed input) (writer W.Sink out) done
-        × Answers (F.blames host.now.files.now [] []) (explains request) path done (writer M.Sink messages) result)
+        × Queried host.now.manner (F.gives host.now.files.now) paths (reader I.Feed input) (writer W.Sink out) done
+        × Answers (F.blames host.now.files.now [] []) (explains request) paths done (writer M.Sink messages) result)
         × (places.new ≡ places.old))) }
     // What `index` does.
     ensures indexed { IfOk asked.now (λ request. IfSome (index_request request) (λ given.
@@ -220,8 +222,8 @@ where
         Ok(request) => match request {
             Request::Dump(options) => dump_source(host, options, input, out, messages),
             Request::Query(options) => {
-                let (path, explain) = (options.index.as_str(), options.explain);
-                answer(host, path, explain, input, out, messages)
+                let (paths, explain) = (options.indexes.as_slice(), options.explain);
+                answer(host, paths, explain, input, out, messages)
             }
             Request::Snapshot(options) => {
                 snapshot(host, options, out, &mut places.file, messages)

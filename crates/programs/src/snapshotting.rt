@@ -3,39 +3,22 @@
 ghost use Rattle.std.specs.Prelude.{◌≡◌, ◌&&◌, []};
 ghost use Rattle.streams.specs.Writers.{writer};
 ghost use Rattle.source_files.specs.Makers.{maker};
-ghost use Rattle.programs.specs.Queries.{IsReadFrom};
 ghost use Rattle.programs.specs.Printing.{EndsCut, is_closed};
 ghost use Rattle.programs.specs.Snapshotting.{EndsShown, RunsSnapshot, ShowsAndEnds, is_write};
 
+use crate::files_fault::ToldBy;
+use crate::files_report::report_files;
 use crate::host::Host;
+use crate::index_files::queries_of;
 use crate::messages::report;
 use crate::output::is_closed;
-use crate::query_explanations::report_query;
-use crate::query_fault::QueryFault;
-use crate::querying::index_of_file;
 use crate::show_faults::{show_status, show_text};
 use command_line::SnapshotOptions;
-use scip_query::{AnswerFault, Queries};
+use scip_query::Queries;
 use scip_site::{Folders, ShowFault, file_all, print_all};
 use source_files::{Caused, LookAgain, MakeFiles, ReadFiles};
 use std::alloc::Global;
 use streams::Sink;
-
-/// The index that the file with a path holds, with its tables.
-#[tactic(auto, using(crate::proofs::QueryRules::of_index))]
-pub(crate) fn queries_of<F: ReadFiles>(
-    alloc: Global,
-    files: &F,
-    path: &str,
-) -> Result<Queries, QueryFault>
-    ensures { IsReadFrom (F.gives files.now path.now) result }
-{
-    let index = index_of_file(alloc, files, path)?;
-    match Queries::new(alloc, index) {
-        Ok(queries) => Ok(queries),
-        Err(_) => Err(QueryFault::Answers(AnswerFault::Memory)),
-    }
-}
 
 /// Gives the exit status. Why the documents aren't all shown, if they aren't, is said.
 fn end<M: Sink>(alloc: Global, explain: bool, done: Result<(), ShowFault>, messages: &mut M) -> u8
@@ -117,7 +100,7 @@ fn show<R, F: ReadFiles, W: Sink + Caused, O: MakeFiles, M: Sink>(
     }
 }
 
-/// Reads the index that a file holds, prints the snapshots of its documents or makes a file of each, as the options
+/// Reads the index that files hold, prints the snapshots of its documents or makes a file of each, as the options
 /// say, and gives the exit status. It reports each document that is left out. If it stops early, it reports why, but of
 /// a pipe that is closed by its reader.
 pub(crate) fn snapshot<R, F: ReadFiles + LookAgain, W: Sink + Caused, O: MakeFiles, M: Sink>(
@@ -130,9 +113,12 @@ pub(crate) fn snapshot<R, F: ReadFiles + LookAgain, W: Sink + Caused, O: MakeFil
     ensures { RunsSnapshot (F.gives host.now.files.now) (F.blames host.now.files.now [] []) W.cause options.now
         (writer W.Sink out) (maker O.MakeFiles made) (writer M.Sink messages) result }
 {
-    let path = options.index.as_str();
-    match queries_of(host.alloc, host.files, path) {
+    let paths = options.indexes.as_slice();
+    match queries_of(host.alloc, host.files, paths) {
         Ok(queries) => show(host, options, &queries, out, made, messages),
-        Err(fault) => report_query(host, &fault, path, options.explain, messages),
+        Err(fault) => {
+            let explain = options.explain;
+            report_files(host, &fault, ToldBy::Other, paths, explain, messages)
+        },
     }
 }

@@ -5,7 +5,7 @@ use std::test::Fail;
 
 // The first row reads: the place of the index takes 30 bytes, so there is no space left for it. The folder of the pages
 // takes 48 bytes. Of a closed pipe of which nothing is said, no cause is either; nor of a fault that isn't explained.
-static ROWS: [Row; 22] = [
+static ROWS: [Row; 23] = [
     Row {
         words: "index api out --explain",
         fits: 30,
@@ -170,6 +170,14 @@ none/secret: permission denied\n",
     },
     Row {
         words: "query none.scip --explain",
+        status: 3,
+        said: "protoscip: none.scip: Unreadable
+it isn't there, or is a folder, or can't be read
+none.scip: no such file or directory\n",
+        ..SILENT
+    },
+    Row {
+        words: "pages a.scip src to --explain --also none.scip",
         status: 3,
         said: "protoscip: none.scip: Unreadable
 it isn't there, or is a folder, or can't be read

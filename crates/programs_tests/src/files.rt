@@ -71,9 +71,9 @@ const SEEN: &[u8] =
 \x12\x16\x0a\x07b/c.txt\x12\x09\x0a\x03\x00\x01\x02\x12\x02X#0\x01";
 
 /// The sources of `ENTRIES`, and beside them the index `a.scip` of one document `a` with one occurrence,
-/// `cut.scip`, which is cut off, `empty.scip` without documents, and `SEEN` with sources below `src`. No folder but
-/// `full` has an entry, and `links`, where no source is. Below `gaps` are a folder `d`, which can't be listed, and a file
-/// whose name isn't UTF-8.
+/// `pair.scip` of two with one path, `cut.scip`, which is cut off, `empty.scip` without documents, and `SEEN` with
+/// sources below `src`. No folder but `full` has an entry, and `links`, where no source is. Below `gaps` are a folder
+/// `d`, which can't be listed, and a file whose name isn't UTF-8.
 #[derive(Clone, Copy)]
 pub(crate) struct Files {
     /// Where the memory of what is said of them is taken.
@@ -163,6 +163,7 @@ impl ReadFiles for Files {
             "a.scip" =>
                 b"\x12\x0f\x0a\x01a\x12\x0a\x0a\x03\x01\x08\x09\x12\x01x\x18\x01".as_slice(),
             "cut.scip" => b"\x0a".as_slice(),
+            "pair.scip" => b"\x12\x03\x0a\x01a\x12\x03\x0a\x01a".as_slice(),
             "twice.scip" => b"\x0a\x00\x0a\x00".as_slice(),
             "seen.scip" => SEEN,
             "empty.scip" => b"".as_slice(),

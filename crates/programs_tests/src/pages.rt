@@ -5,7 +5,7 @@ use std::test::Fail;
 
 // The first row reads: of the three documents of the index two have pages; then come the files that pages share. In
 // the second there is room for three files, so the fourth can't be made, and the folder isn't put at its place.
-static ROWS: [Row; 9] = [
+static ROWS: [Row; 11] = [
     Row {
         words: "pages seen.scip src out",
         written: b"out[src/a.txt.html][src/b/c.txt.html][pages.css][search.js][symbols.js][index.html]\0",
@@ -51,6 +51,18 @@ full/new: permission denied\n",
         words: "pages seen.scip nowhere out",
         status: 3,
         said: "protoscip: a.txt: Unreadable\nprotoscip: no.txt: Unreadable\nprotoscip: b/c.txt: Unreadable\nprotoscip: NothingThere\n",
+        ..SILENT
+    },
+    Row {
+        words: "pages a.scip src out --also seen.scip --also empty.scip",
+        written: b"out[src/a.txt.html][src/b/c.txt.html][pages.css][search.js][symbols.js][index.html]\0",
+        said: "protoscip: a: Unreadable\nprotoscip: no.txt: Unreadable\n",
+        ..SILENT
+    },
+    Row {
+        words: "pages a.scip src out --also a.scip",
+        status: 5,
+        said: "protoscip: a: Twice in a.scip and a.scip\n",
         ..SILENT
     },
     Row {

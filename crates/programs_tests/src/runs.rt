@@ -55,7 +55,7 @@ pub(crate) const SILENT: Row = Row {
 };
 
 // The second row reads: there is no program `zzz`, which is said, with status 2.
-static ROWS: [Row; 20] = [
+static ROWS: [Row; 27] = [
     Row {
         words: "--version",
         printed: "protoscip 1\n\0",
@@ -128,6 +128,63 @@ input.proto:1:8: met `=`: the grammar wants something else here: `(` or a name
         input: "sym a\n",
         status: 5,
         said: "protoscip: twice.scip@2: Repeated\n",
+        ..SILENT
+    },
+    // several indexes: as one; a path of two of them; a path twice in one, which is refused beside another alone; and
+    // files that hold none
+    Row {
+        words: "query seen.scip a.scip empty.scip",
+        input: "ref 1 8 a\nref 0 1 b/c.txt",
+        printed: "1 8 1 9 1 a\n= 1\n0 0 0 2 1 a.txt\n0 1 0 2 0 b/c.txt\n= 2\n\0",
+        ..SILENT
+    },
+    Row {
+        words: "query seen.scip --explain a.scip seen.scip",
+        input: "ref 1 8 a",
+        status: 5,
+        said: "protoscip: a.txt: Twice in seen.scip and seen.scip
+both have a document with this path: join --replace takes that of the later one\n",
+        ..SILENT
+    },
+    Row {
+        words: "query pair.scip",
+        input: "sym b",
+        printed: "? no document\n\0",
+        ..SILENT
+    },
+    Row {
+        words: "query empty.scip pair.scip",
+        input: "sym b",
+        status: 5,
+        said: "protoscip: a: Twice in pair.scip and pair.scip\n",
+        ..SILENT
+    },
+    Row {
+        words: "query a.scip none.scip cut.scip",
+        input: "ref 1 8 a",
+        status: 3,
+        said: "protoscip: none.scip: Unreadable\n",
+        ..SILENT
+    },
+    Row {
+        words: "snapshot seen.scip src --also none.scip",
+        status: 3,
+        said: "protoscip: none.scip: Unreadable\n",
+        ..SILENT
+    },
+    Row {
+        words: "snapshot seen.scip src --also a.scip",
+        printed: "a.txt
+  ab
+//^^ definition X#
+//documentation
+//> One.
+  
+b/c.txt
+  \tx
+//\t^ reference X#
+\0",
+        said: "protoscip: a: Unreadable\nprotoscip: no.txt: Unreadable\n",
         ..SILENT
     },
     Row {

@@ -3,7 +3,8 @@ use Rattle.std.specs.Global.{Global}
 use Rattle.std.proofs.Common.{subst, map, List, String}
 use Rattle.std.proofs.lemmas.Result.{err_from_is_err_and}
 use Rattle.scip_join.specs.declared.choices.JoinChoices.{JoinChoices}
-use Rattle.programs.specs.Joining.{HasNoJoin, HasPieces, choices_in, paths_in}
+use Rattle.programs.specs.IndexFiles.{HasNoJoin, HasPieces}
+use Rattle.programs.specs.Joining.{choices_in, paths_in}
 use Rattle.programs.specs.Joining.PutsNone.{unjoined}
 use Rattle.programs.specs.Placing.{place}
 use Rattle.programs.proofs.JoiningLemmas.{puts, puts_not}

@@ -1,26 +1,28 @@
-use Rattle.std.proofs.Common.{refl, subst, List, [], ℕ, Ok, Err}
+use Rattle.std.specs.String.{string_bytes}
+use Rattle.std.specs.Global.{Global}
+use Rattle.std.proofs.Common.{refl, subst, map, List, [], String, Ok, Err}
 use Rattle.streams.specs.Writers.{writing}
 use Rattle.programs.specs.Messages.{TellsOne}
-use Rattle.programs.specs.Queries.{IsReadFrom}
-use Rattle.programs.specs.QueryExplanations.{IsTold}
-use Rattle.programs.specs.QueryFaults.{status_of}
+use Rattle.programs.specs.FilesFaults.{IsTold, status_of}
+use Rattle.programs.specs.declared.files_fault.ToldBy.TheVariants.{Other}
+use Rattle.programs.specs.IndexFiles.{IsIndexOf}
 use Rattle.programs.specs.Snapshotting.{read, unread}
 use Rattle.programs.proofs.snapshotting.snapshot.Goals as goal
 
 pub returns-in-Ok : goal.returns-in-Ok
 returns-in-Ok g c =
-    let Read : List ℕ → Type 0 =
-    λ path. IsReadFrom (g.F.ReadFiles.gives c.args.host.now.files.now path) (Ok c.in-Ok.queries) in
-    read c.in-Ok.queries (subst Read c.as_str-path.ensures.value c.in-Ok.ensures) c.show.ensures
+    let Read : List (String Global) → Type 0 = λ paths.
+    IsIndexOf (g.F.ReadFiles.gives c.args.host.now.files.now) (map string_bytes paths) (Ok c.in-Ok.queries) in
+    read c.in-Ok.queries (subst Read c.as_slice-paths.ensures.value c.in-Ok.ensures) c.show.ensures
 
 pub returns-in-Err : goal.returns-in-Err
 returns-in-Err g c =
     let fault = c.in-Err.fault in
-    let Read : List ℕ → Type 0 =
-    λ path. IsReadFrom (g.F.ReadFiles.gives c.args.host.now.files.now path) (Err fault) in
-    let Said : List ℕ → Type 0 = λ path. TellsOne
-    (IsTold (g.F.LookAgain.blames c.args.host.now.files.now [] []) c.args.options.now.explain path fault)
-    (status_of fault) (writing g.M.Sink c.args.messages.now c.report_query.new.messages)
-    c.report_query.result in
-    let path = c.as_str-path.ensures.value in
-    unread fault (subst Read path c.in-Err.ensures) refl refl (subst Said path c.report_query.ensures)
+    let Read : List (String Global) → Type 0 = λ paths.
+    IsIndexOf (g.F.ReadFiles.gives c.args.host.now.files.now) (map string_bytes paths) (Err fault) in
+    let Said : List (String Global) → Type 0 = λ paths. TellsOne
+    (IsTold (g.F.LookAgain.blames c.args.host.now.files.now [] []) Other c.args.options.now.explain
+    (map string_bytes paths) fault) (status_of fault)
+    (writing g.M.Sink c.args.messages.now c.report_files.new.messages) c.report_files.result in
+    let paths = c.as_slice-paths.ensures.value in
+    unread fault (subst Read paths c.in-Err.ensures) refl refl (subst Said paths c.report_files.ensures)

@@ -1,7 +1,7 @@
 -- What is kept is that of the files so far.
 use Rattle.std.proofs.Common.{map, take, string_bytes}
-use Rattle.programs.specs.Joining.{AreGathered}
-use Rattle.programs.proofs.joining.add_files.Given as goal
+use Rattle.programs.specs.IndexFiles.{AreGathered}
+use Rattle.programs.proofs.index_files.add_files.Given as goal
 
 abbrev pub invariant-loop-number : goal.invariant-loop-number
 invariant-loop-number g l =

@@ -7,9 +7,9 @@ use Rattle.std.proofs.lemmas.Result.{err_from_is_err_and}
 use Rattle.scip_records.specs.declared.records.Index.{Index}
 use Rattle.scip_join.specs.Gathered.{gathered}
 use Rattle.source_files.proofs.LoadLemmas.{parted_at}
-use Rattle.programs.specs.Joining.{Adds, AreGathered, HasNoNext}
-use Rattle.programs.proofs.JoiningLemmas.{added_more, counted, none_yet, stopped_at}
-use Rattle.programs.proofs.joining.add_files.Goals as goal
+use Rattle.programs.specs.IndexFiles.{Adds, AreGathered, HasNoNext}
+use Rattle.programs.proofs.IndexFileLemmas.{added_more, counted, none_yet, stopped_at}
+use Rattle.programs.proofs.index_files.add_files.Goals as goal
 
 pub loop-number-init : goal.loop-number-init
 loop-number-init g c =

@@ -1,9 +1,9 @@
 use Rattle.std.proofs.Common.{subst, List, ℕ, Some, sym}
 use Rattle.std.proofs.lemmas.Result.{err_from_is_err_and}
 use Rattle.source_files.proofs.SystemFileKeptLemmas.{read_some, read_none}
-use Rattle.programs.specs.Queries.IsReadFrom.{is_index, is_unreadable}
-use Rattle.programs.proofs.QueryLemmas.{refused_bytes}
-use Rattle.programs.proofs.querying.index_of_file.Goals as goal
+use Rattle.programs.specs.IndexFiles.IsReadFrom.{is_index, is_unreadable}
+use Rattle.programs.proofs.IndexFileLemmas.{refused_bytes}
+use Rattle.programs.proofs.index_files.index_of_file.Goals as goal
 
 pub returns-in-None : goal.returns-in-None
 returns-in-None g c =

@@ -4,8 +4,8 @@ use Rattle.scip_records.specs.declared.records.Index.{Index}
 use Rattle.scip_join.specs.Gathered.{gathered}
 use Rattle.scip_join.specs.Refused.{MayRefuse}
 use Rattle.scip_join.specs.declared.join_fault.JoinFault.{JoinFault}
-use Rattle.programs.proofs.JoiningLemmas.{has_twice}
-use Rattle.programs.proofs.joining.join_files.Goals as goal
+use Rattle.programs.proofs.IndexFileLemmas.{has_twice}
+use Rattle.programs.proofs.index_files.join_files.Goals as goal
 
 pub returns-in-Err-Twice-clause-stops : goal.returns-in-Err-Twice-clause-stops
 returns-in-Err-Twice-clause-stops g c =

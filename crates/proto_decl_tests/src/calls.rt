@@ -18,7 +18,7 @@ fn facts_once<'t>(
     match parse_with(alloc, tokens, Dialect::All) {
         Ok(file) => match form {
             CommentForm::Raw => declare(alloc, 7, tokens, &file).ok(),
-            CommentForm::Clean => declare_in(alloc, form, 7, tokens, &file).ok(),
+            form => declare_in(alloc, form, 7, tokens, &file).ok(),
         },
         Err(_) => None,
     }

@@ -263,6 +263,8 @@ fn facts_of_sources(rt: HostRuntime) {
         (CommentForm::Raw, COMMENTED, COMMENTS_LISTED),
         (CommentForm::Raw, DECORATED, DECORATED_LISTED),
         (CommentForm::Clean, DECORATED, CLEAN_LISTED),
+        (CommentForm::RawWithoutNul, DECORATED, DECORATED_LISTED),
+        (CommentForm::CleanWithoutNul, DECORATED, CLEAN_LISTED),
         (CommentForm::Raw, EXTENDING, EXTENDING_LISTED),
     ] {
         assert!(rt; is_source_listed(rt.alloc(), form, source, want), "{want}");

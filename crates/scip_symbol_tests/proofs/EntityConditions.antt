@@ -7,7 +7,7 @@ use Rattle.std.proofs.lemmas.List.Sums.{AllPass-from_list_all}
 use Rattle.std.proofs.lemmas.Bool.{leb-true}
 use Rattle.proto_lex.specs.Lexes.{identifier}
 use Rattle.scip_symbol.specs.Path.{IsComponent}
-use Rattle.scip_symbol.specs.Entities.{IsIdentifier, OfFile, OfPackage, OfDeclaration, IsEntity}
+use Rattle.scip_symbol.specs.Entities.{IsIdentifier, OfFile, OfPackage, OfDeclaration, IsEntity, of_package}
 use Rattle.proto_decl.specs.declared.declaration.DeclarationStep.{DeclarationStep}
 
 printable : (xs : List ℕ) → list_all (nat_le 32) xs ≡ true → All (λ b. 32 ≤ b) xs
@@ -39,7 +39,7 @@ IsNamed s = IsIdentifier s.name
 
 one_message : (a : DeclarationStep) → a.name ≡ codes "A" → IsEntity (OfDeclaration [] (a ∷ []))
 one_message a e = (
-  All-nil IsIdentifier,
+  of_package (All-nil IsIdentifier),
   λ none. cc,
   All-cons IsNamed a [] (word a.name (codes "A") (identifier refl refl) e) (All-nil IsNamed),
 )

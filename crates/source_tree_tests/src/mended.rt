@@ -52,7 +52,9 @@ fn mended(alloc: Global, bytes: &[u8]) -> Result<Option<Tree>, AllocError> {
 /// Whether these bytes are read as this, and are held as they are.
 fn is_read_as(alloc: Global, bytes: &[u8], text: &[u8]) -> bool {
     match mended(alloc, bytes) {
-        Ok(Some(tree)) => *tree.text(0) == *text && *tree.bytes(0) == *bytes,
+        Ok(Some(tree)) => tree.file_count() == 1
+            && *tree.text(0) == *text
+            && *tree.bytes(0) == *bytes,
         _ => false,
     }
 }

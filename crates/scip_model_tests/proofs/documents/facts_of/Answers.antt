@@ -1,6 +1,8 @@
 use Rattle.std.proofs.Common.{rules, refl}
 use Rattle.std.proofs.lemmas.Result.{IfOk-weaker}
-use Rattle.proto_decl.specs.Facts.{AreFactsOf, plain_form}
+use Rattle.comment_texts.specs.declared.form.CommentForm.TheVariants.{Raw}
+use Rattle.proto_decl.specs.declared.form.FactForm.{FactForm}
+use Rattle.proto_decl.specs.Facts.{AreFactsOf}
 use Rattle.proto_parse.specs.dialect.CustomOptions.TheVariants.{Refuse}
 use Rattle.proto_parse.specs.dialect.Dialect.TheVariants.{Proto3}
 use Rattle.scip_model.specs.Conditions.{AreOfText}
@@ -8,10 +10,11 @@ use Rattle.scip_model_tests.proofs.documents.facts_of.Goals as goal
 
 pub returns : goal.returns
 returns c =
-    IfOk-weaker c.declare.result (AreFactsOf plain_form 0 c.in-Ok.lexed c.in-Ok-parse.tree) (AreOfText c.args.text.now)
+    let form : FactForm = record { comments = Raw; details = c.args.details } in
+    IfOk-weaker c.declare_with.result (AreFactsOf form 0 c.in-Ok.lexed c.in-Ok-parse.tree) (AreOfText c.args.text.now)
     (λ facts of_tree. record {
       origin = record {
-        form = plain_form;
+        form = form;
         lexed = c.in-Ok.lexed;
         file = c.in-Ok-parse.tree;
         is_lexed = search rules;
@@ -27,4 +30,4 @@ returns c =
       };
       text_is = c.in-Ok.ensures.text;
     })
-    c.declare.ensures
+    c.declare_with.ensures

@@ -1,7 +1,7 @@
 use Rattle.std.proofs.Common.{◌≡◌, List, [], ◌∷◌, codes, refl, sym, subst, ap}
 use Rattle.std.proofs.lemmas.List.Elements.{All-cons, All-nil}
 use Rattle.proto_lex.specs.Lexes.{identifier}
-use Rattle.scip_symbol.specs.Entities.{IsIdentifier, OfDeclaration, IsEntity}
+use Rattle.scip_symbol.specs.Entities.{IsIdentifier, OfDeclaration, IsEntity, of_package}
 use Rattle.proto_decl.specs.declared.declaration.DeclarationStep.{DeclarationStep}
 use Rattle.surface_tests.proofs.scip_symbol_calls.message_text.Goals as goal
 
@@ -10,7 +10,7 @@ IsNamed s = IsIdentifier s.name
 
 one_message : (a : DeclarationStep) → a.name ≡ codes "A" → IsEntity (OfDeclaration [] (a ∷ []))
 one_message a e = (
-  All-nil IsIdentifier,
+  of_package (All-nil IsIdentifier),
   λ none. cc,
   All-cons IsNamed a [] (subst IsIdentifier (sym e) (identifier refl refl)) (All-nil IsNamed),
 )

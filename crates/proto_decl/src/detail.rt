@@ -121,6 +121,15 @@ fn at_begun(lexed: &Tokens<'_, '_>, begun: usize, span: Span)
     lexed.tokens();
 }
 
+/// No fewer bytes than the signature with these tokens has: those from the first one's start to the last one's end.
+fn room_for(first: Span, others: &[Token]) -> usize {
+    let end = match others.last() {
+        Some(last) => last.span.end,
+        None => first.end,
+    };
+    end.saturating_sub(first.start) as usize
+}
+
 /// The signature of a declaration with this first token, which has this index.
 fn signature_of(
     alloc: Global,
@@ -134,10 +143,10 @@ fn signature_of(
         ++ spec.spelled_behind lexed.now.text first (spec.up_to_ending (drop (index + 1) lexed.now.tokens))) }
 {
     let text = lexed.text().as_str();
-    let others = behind(lexed.tokens(), index + 1);
-    let mut signature = String::new(alloc);
+    let others = up_to_ending(behind(lexed.tokens(), index + 1));
+    let mut signature = String::with_capacity(alloc, room_for(first, others))?;
     signature.push_str(spelling_at(text, first))?;
-    push_behind(&mut signature, text, first, up_to_ending(others))?;
+    push_behind(&mut signature, text, first, others)?;
     Ok(OwnedText::from_string(signature))
 }
 

@@ -19,11 +19,23 @@ ghost use Rattle.scip_symbol.specs.SpellsSymbol.{SpellsSymbol};
 use crate::symbol::{Descriptor, GlobalSymbol, Suffix, Symbol, SymbolParts};
 use std::alloc::{AllocError, Global};
 
-/// Whether `byte` may be in a simple identifier (`scip.proto`, the comment of `Symbol`).
+/// Each byte that may be in a simple identifier stands at its own place, and a comma at every other place.
+static IDENTIFIER_CHARACTERS: [u8; 256] = *b"\
+    ,,,,,,,,,,,,,,,,,,,,,,,,,,,,,,,,\
+    ,,,,$,,,,,,+,-,,0123456789,,,,,,\
+    ,ABCDEFGHIJKLMNOPQRSTUVWXYZ,,,,_\
+    ,abcdefghijklmnopqrstuvwxyz,,,,,\
+    ,,,,,,,,,,,,,,,,,,,,,,,,,,,,,,,,\
+    ,,,,,,,,,,,,,,,,,,,,,,,,,,,,,,,,\
+    ,,,,,,,,,,,,,,,,,,,,,,,,,,,,,,,,\
+    ,,,,,,,,,,,,,,,,,,,,,,,,,,,,,,,,";
+
+/// Whether `byte` may be in a simple identifier (`scip.proto`, the comment of `Symbol`). All bytes of all names are
+/// asked for, so this is a look at a table.
 pub(crate) fn is_identifier_character(byte: u8) -> bool
     ensures { result ≡ is_identifier_character byte }
 {
-    byte.is_ascii_alphanumeric() || b"_+-$".contains(&byte)
+    IDENTIFIER_CHARACTERS[byte as usize] != b','
 }
 
 /// Whether a name may have all these bytes without backticks.

@@ -6,6 +6,8 @@
 //! file and a declaration of it as `FILE/NUMBER`. Where it names no type, it is `?` and the use's place, and `??` where
 //! it names several.
 //!
+//! Behind them each uncertain use has a line: its place, and the number of the file behind it.
+//!
 //! Other files have a line with the fault.
 
 ghost use Rattle.std.specs.Prelude.{◌<◌, length};
@@ -14,6 +16,7 @@ ghost use Rattle.proto_visibility.specs.Files.{HaveOwnPaths};
 use proto_decl::{FileFacts, Use};
 use proto_link::{
     CheckedFiles, Duplicates, Entity, FilePlace, LinkFault, LinkFile, Linker, ListedNames, Target,
+    UncertainUse,
 };
 use std::alloc::{AllocError, Global};
 use test_kit::{Draft, Made};
@@ -171,6 +174,26 @@ fn add_file(draft: &mut Draft, linker: &Linker, file: usize)
     draft.add("\n");
 }
 
+/// Adds the line of an uncertain use.
+pub(crate) fn add_uncertain(draft: &mut Draft, uncertain: UncertainUse) {
+    draft.add("uncertain");
+    add_place(draft, uncertain.place);
+    draft.add(" behind ");
+    draft.add_size(uncertain.behind);
+    draft.add("\n");
+}
+
+/// Adds the lines of all uncertain uses.
+fn add_all_uncertain(draft: &mut Draft, linker: &Linker) {
+    let Ok(uses) = linker.uncertain_uses(draft.alloc()) else {
+        draft.cut();
+        return;
+    };
+    for uncertain in uses.as_slice() {
+        add_uncertain(draft, *uncertain);
+    }
+}
+
 /// What a linker answers.
 fn listing_of(alloc: Global, linker: &Linker) -> Made<String> {
     linker.linked();
@@ -178,6 +201,7 @@ fn listing_of(alloc: Global, linker: &Linker) -> Made<String> {
     for file in 0..linker.count() {
         add_file(&mut draft, linker, file);
     }
+    add_all_uncertain(&mut draft, linker);
     draft.finish()
 }
 

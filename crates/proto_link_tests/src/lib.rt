@@ -6,6 +6,8 @@ mod answers;
 #[cfg(test)]
 mod displays;
 #[cfg(test)]
+mod doubts;
+#[cfg(test)]
 mod facts;
 #[cfg(test)]
 mod generated;

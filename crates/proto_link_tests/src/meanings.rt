@@ -2,6 +2,7 @@
 //! that its file knows.
 
 use crate::answers::{add_fault, add_part, line_of, mark_of};
+use crate::doubts::add_all_uncertain;
 use crate::items::{Item, add_items_of};
 use crate::scans::{fault_of, is_source, seen_by};
 use proto_decl::{Component, DeclarationKind, Use};
@@ -86,7 +87,7 @@ fn innermost(
 }
 
 /// In which scope a use is looked for, by its number of words.
-fn start_of(alloc: Global, known: &[Item], type_use: &Use) -> Made<Option<usize>> {
+pub(crate) fn start_of(alloc: Global, known: &[Item], type_use: &Use) -> Made<Option<usize>> {
     let components = type_use.components.as_slice();
     let first = components.split_at(components.len().min(1)).0;
     if type_use.has_leading_dot {
@@ -140,6 +141,22 @@ fn owners_of(
         }
     }
     (last, count)
+}
+
+/// Whether a use names a type: one file alone has it, and isn't left out.
+pub(crate) fn has_target(
+    alloc: Global,
+    files: &[LinkFile],
+    known: &[Item],
+    type_use: &Use,
+) -> Made<bool> {
+    let Some(name) = name_of(alloc, known, type_use)? else {
+        return Ok(false);
+    };
+    let sought = sought_by(type_use);
+    let (_, owners) = owners_of(files, known, name.as_str(), sought, false);
+    let (_, others) = owners_of(files, known, name.as_str(), sought, true);
+    Ok(owners == 1 && others == 0)
 }
 
 /// Whether a file has an item with a name, which is sought.
@@ -283,6 +300,7 @@ fn add_files(draft: &mut Draft, files: &[LinkFile]) -> Made<()> {
 pub(crate) fn listing_of(alloc: Global, files: &[LinkFile]) -> Made<String> {
     let mut draft = Draft::new(alloc);
     add_files(&mut draft, files)?;
+    add_all_uncertain(&mut draft, files)?;
     draft.finish()
 }
 

@@ -171,6 +171,60 @@ fn worked_trees_of_kept_files(rt: HostRuntime) -> Result<(), Fail> {
     Ok(())
 }
 
+/// Trees of which a file can't be read, and what linking answers to the others. A use is uncertain if a file that is seen
+/// can't be read and may have its first word nearer than where it is found.
+///
+/// The first row reads: in `a.proto` the first `T` is found in the package `p`, around that of the file; `b.proto` may have
+/// one in `p.q`. No other use is uncertain: `N` and `K` are found in the package and in the message, `Gone` nowhere, and
+/// `.p.T` is looked up nowhere else.
+static UNCERTAIN_ROWS: [Row; 5] = [
+    Row {
+        tree: "a.proto\nsyntax = \"proto3\";\npackage p.q;\nimport \"b.proto\";\nimport \"c.proto\";\nmessage M { T t = 1; N n = 2; Gone g = 3; .p.T u = 4; message K {} K k = 5; }\nmessage N {}\n|\
+b.proto\nmessage T {\n|\
+c.proto\nsyntax = \"proto3\";\npackage p;\nmessage T {}\n|",
+        answer: "a.proto 111; p.T 1/0; p.q.N 0/7; ? 0 98..102; p.T 1 1/0; p.q.M.K 0/5\nc.proto 010\n-b.proto 001\nuncertain 0 80..81 behind 2\n",
+    },
+    Row {
+        tree: "a.proto\nsyntax = \"proto3\";\npackage p.q;\nimport \"c.proto\";\nimport \"d.proto\";\nmessage M { T t = 1; }\n|\
+b.proto\nsyntax = \"proto3\";\npackage p.q;\nimport \"c.proto\";\nimport \"e.proto\";\nmessage N { T t = 1; }\n|\
+c.proto\nsyntax = \"proto3\";\npackage p;\nmessage T {}\n|\
+d.proto\nsyntax = \"proto3\";\nimport public \"x.proto\";\n|\
+e.proto\nsyntax = \"proto3\";\nimport \"x.proto\";\n|\
+x.proto\nmessage T {\n|",
+        answer: "a.proto 101101; p.T 2/0\nb.proto 011010; p.T 2/0\nc.proto 001000\nd.proto 000101\ne.proto 000011\n-x.proto 000001\nuncertain 0 80..81 behind 5\n",
+    },
+    Row {
+        tree: "a.proto\nsyntax = \"proto3\";\npackage p.q;\nimport \"b.proto\";\nimport \"c.proto\";\nmessage M { T.U u = 1; T.V v = 2; p.T t = 3; q.N n = 4; N.L l = 5; }\nmessage N { message L {} }\n|\
+b.proto\nmessage T {\n|\
+c.proto\nsyntax = \"proto3\";\npackage p;\nmessage T { message U {} }\n|",
+        answer: "a.proto 111; p.T.U 1/0 1/1; ? 0 91..94; p.T 1 1/0; p.q.N 2 0/6; p.q.N.L 0/6 0/7\nc.proto 010\n-b.proto 001\nuncertain 0 80..83 behind 2\nuncertain 0 102..105 behind 2\nuncertain 0 113..116 behind 2\n",
+    },
+    Row {
+        tree: "a.proto\nsyntax = \"proto3\";\npackage p.q;\nimport \"b.proto\";\nimport \"c.proto\";\nimport \"z.proto\";\nmessage M { T t = 1; U u = 2; }\nmessage Z {}\n|\
+b.proto\nsyntax = \"proto3\";\npackage p.q;\nmessage T {}\nmessage Z {}\n|\
+c.proto\nsyntax = \"proto3\";\npackage p;\nmessage T {}\nmessage U {}\n|\
+y.proto\nmessage T {\n|\
+z.proto\nmessage T {\n|",
+        answer: "a.proto 11101; ? 0 98..99; p.U 1/1\nc.proto 01000\n-b.proto 00100\n-y.proto 00010\n-z.proto 00001\nuncertain 0 107..108 behind 4\n",
+    },
+    Row {
+        tree: "a.proto\nimport \"b.proto\";\nimport \"c.proto\";\nmessage M { optional T t = 1; }\n|\
+b.proto\nmessage T {\n|\
+c.proto\nmessage T {}\nmessage B {}\n|\
+d.proto\npackage p.q;\nimport \"b.proto\";\nimport \"c.proto\";\nimport \"e.proto\";\nenum B { Y = 0; }\nextend B {}\nextend E {}\nextend T {}\n|\
++e.proto\npackage p;\nimport \"b.proto\";\nimport \"c.proto\";\nmessage E { optional T t = 1; }\n|",
+        answer: "a.proto 11001; T 1/0\nc.proto 01000\nd.proto 01111; ? 2 92..93; p.E 3/0; T 1/0\n+e.proto 01011\n-b.proto 00001\nuncertain 2 104..105 behind 4\nuncertain 2 116..117 behind 4\n",
+    },
+];
+
+#[test]
+fn worked_trees_of_uncertain_uses(rt: HostRuntime) -> Result<(), Fail> {
+    for (number, row) in UNCERTAIN_ROWS.iter().enumerate() {
+        see_tree(&rt, rt.alloc(), number, row.tree, Due::Kept(row.answer))?;
+    }
+    Ok(())
+}
+
 /// Trees of which several files may give one name, and what linking answers to them.
 ///
 /// The first row reads: `p.M` of `a.proto` is what `c.proto` uses, and `d.proto`, which sees both files that give it, uses

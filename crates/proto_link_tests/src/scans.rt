@@ -91,8 +91,8 @@ fn counted_of(alloc: Global, files: &[LinkFile]) -> Made<Vec<usize>> {
     present_of(alloc, files, seen.as_slice())
 }
 
-/// The first file that counts and has no facts.
-fn first_unread(files: &[LinkFile], reachable: &[usize]) -> Option<usize> {
+/// The first of these files that has no facts.
+pub(crate) fn first_unread(files: &[LinkFile], reachable: &[usize]) -> Option<usize> {
     for (number, file) in files.iter().enumerate() {
         if file.facts.is_none() && reachable.contains(&number) {
             return Some(number);

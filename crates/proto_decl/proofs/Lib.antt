@@ -69,5 +69,7 @@ pub mod SpanLemmas
 pub mod SpanMarkLemmas
 -- The uses of a file have components, where the names of its tree do
 pub mod UseFilledLemmas
+-- The scope of a use is that of its file's package or of a declaration
+pub mod UseScopeLemmas
 -- What is found on a walk is what is found part by part
 pub mod WalkedLemmas

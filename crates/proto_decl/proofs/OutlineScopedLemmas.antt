@@ -234,7 +234,7 @@ names_of_components text (span ∷ spans) = ap (λ names. part_of text span ∷ 
 
 module _ (form : FactForm) (number : ℕ) (lexed : Lexed) (file : File) (facts : Facts)
     (is : AreFactsOf form number lexed file facts) where
-  outlines_known : (os : List Outline) (ds : List Declaration) → AllZip (IsDeclaration form.comments lexed) os ds
+  pub outlines_known : (os : List Outline) (ds : List Declaration) → AllZip (IsDeclaration form.comments lexed) os ds
       → All (Contains facts.declarations) ds → All (λ (o : Outline). IsScope facts o.full_name) os
   outlines_known [] [] all listed = All-nil (λ (o : Outline). IsScope facts o.full_name)
   outlines_known [] (d ∷ ds) all listed = absurd all
@@ -245,7 +245,7 @@ module _ (form : FactForm) (number : ℕ) (lexed : Lexed) (file : File) (facts :
       (of_declaration {declaration = d} (All-head (Contains facts.declarations) d ds listed)))
       (outlines_known os ds all.1 (All-tail (Contains facts.declarations) d ds listed))
 
-  package_known : IsScope facts (package_scope lexed.text file)
+  pub package_known : IsScope facts (package_scope lexed.text file)
   package_known =
       subst (λ (name : List ℕ). IsScope facts name)
       (ap (λ (components : List Component). dotted (map (λ (component : Component). component.name) components))

@@ -10,7 +10,7 @@ ghost use Rattle.proto_decl.specs.Names.{IsSimple};
 ghost use Rattle.proto_decl.specs.Laws.{StandApart};
 ghost use Rattle.proto_decl.specs.Laws.{OneLeadingText, OneTrailingText, OneFacts, NamesAreSpelled, StandsInScope};
 ghost use Rattle.proto_decl.specs.Laws.{PrefixesAreEntities, FactsStandInText, ScopesNest, OneAround};
-ghost use Rattle.proto_decl.specs.Laws.{AreNamed, AreHeld, OneDetails};
+ghost use Rattle.proto_decl.specs.Laws.{AreNamed, AreHeld, IsScope, OneDetails};
 
 use proto_parse::{names_have_components, spans_in_order, spans_of_tokens};
 
@@ -80,9 +80,10 @@ pub fn names_are_spelled()
 }
 
 /// Each declaration has a simple name in a scope of its file, which is its package's or that of another
-/// declaration; and the components of its package's name are simple.
+/// declaration; the scope of each use is such a one; and the components of its package's name are simple.
 pub fn scopes_are_known()
     ensures declarations { (facts : Facts) → AreOfSomeFile facts → All (StandsInScope facts) facts.declarations }
+    ensures uses { (facts : Facts) → AreOfSomeFile facts → All (λ used. IsScope facts used.scope) facts.uses }
     ensures package_name { (facts : Facts) → AreOfSomeFile facts
         → All (λ component. IsSimple component.name) facts.package_name }
 {

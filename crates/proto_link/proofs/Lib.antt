@@ -23,3 +23,10 @@ pub mod UseFaultLemmas
 pub mod DoubtLemmas
 -- Which scopes are farther out than another one, and which uses are found there
 pub mod UncertainLemmas
+-- The scopes of uses, from each out to the package
+pub mod UseScopeLemmas
+-- Who gives a name in a scope gives the scope's name
+pub mod ScopePrefixLemmas
+-- A use that isn't uncertain names what it named, and one that is may not
+pub mod CertainLemmas
+pub mod MayChangeLemmas

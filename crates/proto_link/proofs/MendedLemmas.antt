@@ -28,14 +28,14 @@ around_more (farther_scope step more) is = farther_scope step (around_more more 
 
 module _ (files mended : List File) (are : AreMended files mended) where
   -- what is the same of a file that is mended
-  record IsSame (number : ℕ) (file : File) : Type 0 where
-    other : File
-    numbered : slice_get mended number ≡ Some other
-    path : other.path ≡ file.path
-    is_left_out : other.is_left_out ≡ file.is_left_out
-    facts : (facts : Facts) → file.facts ≡ Some facts → other.facts ≡ Some facts
+  pub record IsSame (number : ℕ) (file : File) : Type 0 where
+    pub other : File
+    pub numbered : slice_get mended number ≡ Some other
+    pub path : other.path ≡ file.path
+    pub is_left_out : other.is_left_out ≡ file.is_left_out
+    pub facts : (facts : Facts) → file.facts ≡ Some facts → other.facts ≡ Some facts
 
-  same_file : (number : ℕ) (file : File) → slice_get files number ≡ Some file → IsSame number file
+  pub same_file : (number : ℕ) (file : File) → slice_get files number ≡ Some file → IsSame number file
   same_file number file at =
       let inside : number < length mended =
       (let within = slice_get_within files number file at in omega (arith, are.one_each, within)) in
@@ -64,7 +64,7 @@ module _ (files mended : List File) (are : AreMended files mended) where
         facts = λ facts some. absurd (no_facts facts none some);
       }
 
-  facts_stay : (number : ℕ) (facts : Facts) → HasFacts files number facts → HasFacts mended number facts
+  pub facts_stay : (number : ℕ) (facts : Facts) → HasFacts files number facts → HasFacts mended number facts
   facts_stay number facts has =
       let same = same_file number has.file has.numbered in
       record { file = same.other; numbered = same.numbered; known = same.facts facts has.known }
@@ -87,22 +87,22 @@ module _ (files mended : List File) (are : AreMended files mended) where
   leads_stay at_once = at_once
   leads_stay (through {file = file} {next = next} step rest) = through (import_stays file next step) (leads_stay rest)
 
-  sees_stay : {i j : ℕ} → Sees files i j → Sees mended i j
+  pub sees_stay : {i j : ℕ} → Sees files i j → Sees mended i j
   sees_stay itself = itself
   sees_stay (import {file = file} {next = next} step rest) = import (import_stays file next step) (leads_stay rest)
 
-  knows_stay : (file : ℕ) (name : List ℕ) (kind : NameKind) → Knows files file name kind → Knows mended file name kind
+  pub knows_stay : (file : ℕ) (name : List ℕ) (kind : NameKind) → Knows files file name kind → Knows mended file name kind
   knows_stay file _ _ (declared {seen = seen} {facts = facts} sees has listed) =
       declared (sees_stay sees) (facts_stay seen facts has) listed
   knows_stay file _ _ (packaged {seen = seen} {facts = facts} sees has some few) =
       packaged (sees_stay sees) (facts_stay seen facts has) some few
 
-  known_stays : {file : ℕ} {admits : NameKind → Bool} {name : List ℕ} → KnowsAs files file admits name
+  pub known_stays : {file : ℕ} {admits : NameKind → Bool} {name : List ℕ} → KnowsAs files file admits name
       → KnowsAs mended file admits name
   known_stays {file} {admits} {name} k =
       record { kind = k.kind; known = knows_stay file name k.kind k.known; admitted = k.admitted }
 
-  gives_stays : (file : ℕ) (admits : NameKind → Bool) (name : List ℕ) (seen : ℕ)
+  pub gives_stays : (file : ℕ) (admits : NameKind → Bool) (name : List ℕ) (seen : ℕ)
       → SeesGiving files file admits name seen → SeesGiving mended file admits name seen
   gives_stays file admits name seen is =
       let g = is.giving in
@@ -117,7 +117,7 @@ module _ (files mended : List File) (are : AreMended files mended) where
         };
       }
 
-  present_stays : (number : ℕ) → IsPresent files number → IsPresent mended number
+  pub present_stays : (number : ℕ) → IsPresent files number → IsPresent mended number
   present_stays number is =
       let same = same_file number is.file is.numbered in
       record { file = same.other; numbered = same.numbered; present = same.is_left_out ∙ is.present }

@@ -5,6 +5,8 @@ pub mod Targets
 pub mod Mended
 -- which uses may then name another type
 pub mod Uncertain
+-- and that no other ones may
+pub mod Certain
 -- the laws
 pub mod Laws
 -- what no public contract names

@@ -15,8 +15,9 @@ ghost use Rattle.proto_link.specs.Laws.{
   OneOmissionList,
 };
 ghost use Rattle.proto_link.specs.Mended.{MendedResolvesAlike};
+ghost use Rattle.proto_link.specs.Certain.{CertainResolvesAlike, UncertainMayChange};
 
-use proto_decl::facts_in_order;
+use proto_decl::{facts_are_filled, facts_in_order, prefixes_are_entities, scopes_are_known};
 
 /// A use names one type at most.
 pub fn one_name_a_use()
@@ -77,3 +78,20 @@ pub fn one_omission_list()
 pub fn mended_resolves_alike()
     ensures { MendedResolvesAlike }
 {}
+
+/// If files without facts are mended, a use of a source that isn't uncertain names what it named, unless a name clashes:
+/// another file that is seen gives one that the source declares, or the name of what it names.
+pub fn certain_resolves_alike()
+    ensures { CertainResolvesAlike }
+{
+    facts_are_filled();
+    prefixes_are_entities();
+    scopes_are_known();
+}
+
+/// For each use that is uncertain there are facts of the file behind with which it doesn't name what it named.
+pub fn uncertain_may_change()
+    ensures { UncertainMayChange }
+{
+    scopes_are_known();
+}

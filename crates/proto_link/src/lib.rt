@@ -19,8 +19,9 @@ mod use_faults;
 mod laws;
 
 pub use laws::{
-    each_name_has_an_owner, mended_resolves_alike, no_use_is_ambiguous, one_broken_file,
-    one_declaration_a_name, one_name_a_use, one_omission_list, one_refusal, one_target_a_use,
+    certain_resolves_alike, each_name_has_an_owner, mended_resolves_alike, no_use_is_ambiguous,
+    one_broken_file, one_declaration_a_name, one_name_a_use, one_omission_list, one_refusal,
+    one_target_a_use, uncertain_may_change,
 };
 pub use linker::Linker;
 pub use proto_visibility::{

@@ -99,10 +99,10 @@ module _ (files : List File) (omissions : Omissions) (size : length omissions �
   left = map as_left_out (left_of omissions files)
 
   -- a file of all, linked
-  record IsLinkedAs (n : ℕ) : Type 0 where
-    place_there : ℕ
-    within : place_there < length linked
-    same : to place_there ≡ n
+  pub record IsLinkedAs (n : ℕ) : Type 0 where
+    pub place_there : ℕ
+    pub within : place_there < length linked
+    pub same : to place_there ≡ n
 
   back : (n : ℕ) (file : File) → slice_get files n ≡ Some file → IsLinkedAs n
   back n file at =
@@ -137,7 +137,7 @@ module _ (files : List File) (omissions : Omissions) (size : length omissions �
           later j (inl front) = absurd (omega (arith, front))
           later j (inr behind) = ap (left_among_all omissions) (omega arith)
 
-  one_place : (i j : ℕ) → i < length linked → j < length linked → to i ≡ to j → i ≡ j
+  pub one_place : (i j : ℕ) → i < length linked → j < length linked → to i ≡ to j → i ≡ j
   one_place i j i_in j_in same =
       one_origin files omissions i j (cases_lt i (length kept)) (cases_lt j (length kept)) i_in j_in same
 
@@ -235,7 +235,7 @@ module _ (files : List File) (omissions : Omissions) (size : length omissions �
         ↔ KnowsAs linked number admits name
     turned_alike admits name = ((known_alike admits name).1, (known_alike admits name).0)
 
-    gives_to : (admits : NameKind → Bool) (name : List ℕ) (seen : ℕ) → SeesGiving linked number admits name seen
+    pub gives_to : (admits : NameKind → Bool) (name : List ℕ) (seen : ℕ) → SeesGiving linked number admits name seen
         → SeesGiving files (to number) admits name (to seen)
     gives_to admits name seen is =
         let g = is.giving in
@@ -250,11 +250,11 @@ module _ (files : List File) (omissions : Omissions) (size : length omissions �
           };
         }
 
-    record GivesBack (admits : NameKind → Bool) (name : List ℕ) (n : ℕ) : Type 0 where
-      there : IsLinkedAs n
-      gives : SeesGiving linked number admits name there.place_there
+    pub record GivesBack (admits : NameKind → Bool) (name : List ℕ) (n : ℕ) : Type 0 where
+      pub there : IsLinkedAs n
+      pub gives : SeesGiving linked number admits name there.place_there
 
-    gives_back : (admits : NameKind → Bool) (name : List ℕ) (n : ℕ) → SeesGiving files (to number) admits name n
+    pub gives_back : (admits : NameKind → Bool) (name : List ℕ) (n : ℕ) → SeesGiving files (to number) admits name n
         → GivesBack admits name n
     gives_back admits name n is =
         let way = sees_back number n within is.sees in
@@ -389,12 +389,12 @@ module _ (files : List File) (omissions : Omissions) (size : length omissions �
   own_place : (file : File) × (slice_get (kept_of omissions files) number ≡ Some file)
   own_place = item_at (kept_of omissions files) number front
 
-  inside : number < length own_files
+  pub inside : number < length own_files
   inside =
       let more = length-append (kept_of omissions files) (map as_left_out (left_of omissions files)) in
       omega (arith, front, more)
 
-  there : origin files omissions number ≡ among
+  pub there : origin files omissions number ≡ among
   there = origin_kept files omissions number own_place.0 own_place.1
 
   names_to : (name : List ℕ) (owner : ℕ) → Names own_files number type_use name owner
@@ -410,7 +410,7 @@ module _ (files : List File) (omissions : Omissions) (size : length omissions �
         owned.1,
       )
 
-  never_invented : (target : Target) → IsTarget own_files number type_use target
+  pub never_invented : (target : Target) → IsTarget own_files number type_use target
       → IsTargetOfKept files omissions among type_use (target_among_all omissions target)
   never_invented target is =
       let names = names_to target.name is.owner is.names in

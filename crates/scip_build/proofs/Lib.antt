@@ -25,6 +25,8 @@ pub mod KeptTreeLemmas
 mod KeptUncertainLemmas
 -- A use of a kept file names, as files are linked, what it names in the whole tree
 mod KeptUseLemmas
+-- A use that isn't told as uncertain names the same, however files are mended
+mod CertainUseLemmas
 -- Proofs of the laws
 mod LawLemmas
 -- Files as they are linked

@@ -20,6 +20,8 @@ pub mod Documents
 pub mod Kept
 -- what a use of a kept file names
 pub mod KeptUses
+-- and that of one that isn't told as uncertain, once files are mended
+pub mod CertainUses
 -- how files are kept, and how it is told
 pub mod Keeping
 pub mod Telling

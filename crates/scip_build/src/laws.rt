@@ -4,13 +4,17 @@ ghost use Rattle.scip_build.specs.BuildLaws.{BuiltHasNoFault, OneBuildFault, One
 ghost use Rattle.scip_build.specs.BuildLaws.{OneBuiltOfChoices, BuiltWhereNothingIsTold, BuiltAlikeIfKept};
 ghost use Rattle.scip_build.specs.Kept.{NothingIsToldOfAGoodTree};
 ghost use Rattle.scip_build.specs.KeptUses.{KeptResolvesAlike};
+ghost use Rattle.scip_build.specs.CertainUses.{CertainUsesResolveAlike};
 ghost use Rattle.scip_build.specs.Laws.{OneListOfFacts, NoFactsWhereUnreadable, LexedWhereUnparsed, OneFileFault};
 ghost use Rattle.scip_build.specs.Laws.{OneFirstFaulty, NoParsedFilesWhereFaulty, ParsedFilesHaveOwnPaths, OneLinking};
 
 use index_hooks::Chooses;
 use proto_decl::one_list_of_facts;
 use proto_lex::{one_first_fault, one_lexing};
-use proto_link::{nothing_is_left_out_of_good_files, one_omission_list, one_refusal};
+use proto_link::{
+    certain_resolves_alike, kept_files_are_clear, nothing_is_left_out_of_good_files,
+    one_omission_list, one_refusal,
+};
 use proto_parse::{no_fault_where_it_derives, one_syntax_fault, one_tree};
 use scip_model::one_index;
 
@@ -110,6 +114,16 @@ pub fn built_alike_if_kept<C: Chooses>(chooser: &C)
 pub fn kept_resolves_alike()
     ensures { KeptResolvesAlike }
 {}
+
+/// However files that can't be read are mended, a use of a kept source that isn't told as uncertain names in the whole
+/// tree what it names, unless a name clashes: another file that is seen gives one that the source declares, or the name
+/// of what the use names.
+pub fn certain_uses_resolve_alike()
+    ensures { CertainUsesResolveAlike }
+{
+    kept_files_are_clear();
+    certain_resolves_alike();
+}
 
 /// For the same recorded choices and settings, a tree has at most one index and one list of what is told, whatever
 /// else may be chosen and whatever the workers. If only one choice may come for what is seen of a declaration, the

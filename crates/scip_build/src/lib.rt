@@ -50,10 +50,10 @@ pub use document_form::{AsRecords, DocumentForm};
 pub use fault::{BuildFault, FileFault};
 pub use faulty::Faulty;
 pub use laws::{
-    built_alike_if_kept, built_has_no_fault, faults_exclude_facts, kept_resolves_alike,
-    nothing_is_left_out_of_a_good_tree, one_build_fault, one_built, one_fault_a_file,
-    one_first_faulty, one_linking, one_list_of_facts_a_file, parsed_files_exclude_faults,
-    parsed_files_have_own_paths,
+    built_alike_if_kept, built_has_no_fault, certain_uses_resolve_alike, faults_exclude_facts,
+    kept_resolves_alike, nothing_is_left_out_of_a_good_tree, one_build_fault, one_built,
+    one_fault_a_file, one_first_faulty, one_linking, one_list_of_facts_a_file,
+    parsed_files_exclude_faults, parsed_files_have_own_paths,
 };
 pub use linking::{link, linked_files};
 pub use omission::Omission;

@@ -6,6 +6,7 @@ use Rattle.proto_decl.proofs.SpanMarkLemmas.{OfNames}
 use Rattle.proto_decl.specs.Names.{IsSimple}
 use Rattle.proto_decl.specs.declared.uses.Component.{Component}
 use Rattle.proto_decl.proofs.OutlineScopedLemmas.{names_simple, package_simple, stand_in_scopes}
+use Rattle.proto_decl.proofs.UseScopeLemmas.{uses_in_scopes}
 use Rattle.proto_decl.proofs.laws.scopes_are_known.Goals as goal
 
 pub returns-clause-declarations : goal.returns-clause-declarations
@@ -24,3 +25,7 @@ returns-clause-package_name c = λ facts origin.
     (package_simple origin.lexed.text origin.file.package_name
     (subst (OfNames (λ span. IsSimple (part_of origin.lexed.text span))) (sym (package_is origin.file))
     (names_simple origin.lexed origin.is_lexed among)))
+
+pub returns-clause-uses : goal.returns-clause-uses
+returns-clause-uses c = λ facts origin.
+    uses_in_scopes origin.form facts.number origin.lexed origin.file facts origin.of_file

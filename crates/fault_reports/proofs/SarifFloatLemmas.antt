@@ -2,6 +2,7 @@
 use Rattle.std.proofs.Common.{◌≡◌, ◌||◌, ℕ, false, List, [], ◌∷◌, map, Option, Some, None, ap, ap₂, refl}
 use Rattle.serde_json.specs.View.{items_of}
 use Rattle.serde_json.specs.Written.{has_float, items_have_float, members_have_float}
+use Rattle.fault_reports.specs.declared.finding.FindingKind.{FindingKind}
 use Rattle.fault_reports.specs.declared.finding.Point.{Point}
 use Rattle.fault_reports.specs.Findings.{Found, FoundPlace, end_of, start_of}
 use Rattle.fault_reports.specs.Sarif.{locations_value, log_value, new_names, region_members, related_value, result_value}
@@ -16,12 +17,12 @@ of_locations : (place : Option FoundPlace) → has_float (locations_value place)
 of_locations None = refl
 of_locations (Some place) = ap (λ b. (b || false) || false) (of_region (start_of place) (end_of place))
 
-of_related : (place : Option FoundPlace) → has_float (related_value place) ≡ false
-of_related None = refl
-of_related (Some place) = ap (λ b. (b || false) || false) (of_region (start_of place) (end_of place))
+of_related : (kind : FindingKind) (place : Option FoundPlace) → has_float (related_value kind place) ≡ false
+of_related kind None = refl
+of_related kind (Some place) = ap (λ b. (b || false) || false) (of_region (start_of place) (end_of place))
 
 of_result : (found : Found) → has_float (result_value found) ≡ false
-of_result found = ap₂ (λ a b. a || (b || false)) (of_locations found.place) (of_related found.first)
+of_result found = ap₂ (λ a b. a || (b || false)) (of_locations found.place) (of_related found.kind found.first)
 
 of_results : (findings : List Found) → items_have_float (items_of (map result_value findings)) ≡ false
 of_results [] = refl

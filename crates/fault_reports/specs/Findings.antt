@@ -55,3 +55,10 @@ level_of Fault = codes "error"
 level_of Skipped = codes "error"
 level_of Unresolved = codes "warning"
 level_of Uncertain = codes "warning"
+
+-- and a sentence about its other place there (section 3.28.3)
+abbrev pub related_of : FindingKind → List ℕ
+related_of Fault = codes "it is given here"
+related_of Skipped = codes "it is given here"
+related_of Unresolved = codes "it is given here"
+related_of Uncertain = codes "it can't be read"

@@ -18,7 +18,7 @@ abbrev pub text_or_null : Option (List ℕ) → Data
 text_or_null None = null
 text_or_null (Some text) = string text
 
--- where a full name is first given
+-- where a full name is first given, or a file that can't be read
 abbrev pub first_value : Option FoundPlace → Data
 first_value None = null
 first_value (Some place) = object

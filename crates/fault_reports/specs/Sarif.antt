@@ -8,8 +8,9 @@ use Rattle.serde_json.specs.Data.{Data, number, unsigned, string, array, item, n
 use Rattle.serde_json.specs.Data.{object, Members, member, no_members}
 use Rattle.serde_json.specs.View.{items_of}
 use Rattle.fault_reports.specs.declared.sarif.TheConstants.{ESCAPED}
+use Rattle.fault_reports.specs.declared.finding.FindingKind.{FindingKind}
 use Rattle.fault_reports.specs.declared.finding.Point.{Point}
-use Rattle.fault_reports.specs.Findings.{Found, FoundPlace, end_of, level_of, start_of}
+use Rattle.fault_reports.specs.Findings.{Found, FoundPlace, end_of, level_of, related_of, start_of}
 
 -- a text in a message (3.11)
 abbrev pub message_value : List ℕ → Data
@@ -56,12 +57,12 @@ locations_value None = array no_items
 locations_value (Some place) =
     array (item (object (member (codes "physicalLocation") (physical_value place) no_members)) no_items)
 
--- where its full name is first given, with a sentence
-abbrev pub related_value : Option FoundPlace → Data
-related_value None = array no_items
-related_value (Some place) =
+-- where its full name is first given, or the file that can't be read, with a sentence
+abbrev pub related_value : FindingKind → Option FoundPlace → Data
+related_value kind None = array no_items
+related_value kind (Some place) =
     array (item (object
-    (member (codes "message") (message_value (codes "it is given here"))
+    (member (codes "message") (message_value (related_of kind))
     (member (codes "physicalLocation") (physical_value place) no_members))) no_items)
 
 -- a result (3.27)
@@ -70,7 +71,7 @@ result_value found = object
     (member (codes "level") (string (level_of found.kind))
     (member (codes "locations") (locations_value found.place)
     (member (codes "message") (message_value found.message)
-    (member (codes "relatedLocations") (related_value found.first)
+    (member (codes "relatedLocations") (related_value found.kind found.first)
     (member (codes "ruleId") (string found.name) no_members)))))
 
 -- ---- rules

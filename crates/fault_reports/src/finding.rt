@@ -8,6 +8,7 @@ ghost use Rattle.fault_reports.specs.Findings.{
   level_of,
   line_at,
   point_in,
+  related_of,
   start_of,
   word_of,
 };
@@ -78,7 +79,7 @@ pub struct Finding<'a> {
     pub message: &'a str,
     /// Where it is, if it is of a file.
     pub place: Option<Place<'a>>,
-    /// Where a full name is first given that is given again here.
+    /// Where a full name is first given that is given again here; of an uncertain use, the file that can't be read.
     pub first: Option<Place<'a>>,
     /// The string literals of an import that names no file, as the source has them: they spell its path together.
     pub import: Option<&'a [u8]>,
@@ -135,6 +136,18 @@ impl FindingKind {
         match self {
             FindingKind::Fault | FindingKind::Skipped => "error",
             FindingKind::Unresolved | FindingKind::Uncertain => "warning",
+        }
+    }
+
+    /// A sentence about the first place of such a finding.
+    pub(crate) fn related(self) -> &'static str
+        ensures { result.now ≡ related_of self }
+    {
+        match self {
+            FindingKind::Fault | FindingKind::Skipped | FindingKind::Unresolved => {
+                "it is given here"
+            }
+            FindingKind::Uncertain => "it can't be read",
         }
     }
 }

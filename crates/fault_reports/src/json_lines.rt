@@ -23,7 +23,7 @@ use diagnostics::push_joined;
 use serde_json::{Map, Value, json, put};
 use std::alloc::{AllocError, Global};
 
-/// The value of a place that a full name is first given at.
+/// The value of a place that a full name is first given at, or of a file that can't be read.
 fn first_value(alloc: Global, first: &Option<Place<'_>>) -> Result<Value, AllocError>
     ensures { IfOk result (λ value. view value ≡ first_value first.now) }
 {

@@ -24,7 +24,7 @@ ghost use Rattle.fault_reports.specs.Sarif.{
   with_name,
 };
 
-use crate::finding::{Finding, Place, Point};
+use crate::finding::{Finding, FindingKind, Place, Point};
 use basics::tool::{NAME, VERSION};
 use percent_encoding::{AsciiSet, NON_ALPHANUMERIC, ascii_set, percent_encode};
 use serde_json::{Value, json};
@@ -116,14 +116,18 @@ fn locations_value(alloc: Global, place: &Option<Place<'_>>) -> Result<Value, Al
     json!(in alloc; [{"physicalLocation": physical}])
 }
 
-/// The value of where a full name is first given.
-fn related_value(alloc: Global, first: &Option<Place<'_>>) -> Result<Value, AllocError>
-    ensures { IfOk result (λ value. view value ≡ related_value first.now) }
+/// The value of where a full name is first given, or of a file that can't be read.
+fn related_value(
+    alloc: Global,
+    kind: FindingKind,
+    first: &Option<Place<'_>>,
+) -> Result<Value, AllocError>
+    ensures { IfOk result (λ value. view value ≡ related_value kind first.now) }
 {
     let Some(place) = first else {
         return json!(in alloc; []);
     };
-    let message = message_value(alloc, "it is given here")?;
+    let message = message_value(alloc, kind.related())?;
     let physical = physical_value(alloc, place)?;
     json!(in alloc; [{"message": message, "physicalLocation": physical}])
 }
@@ -134,7 +138,7 @@ fn result_value(alloc: Global, finding: &Finding<'_>) -> Result<Value, AllocErro
 {
     let locations = locations_value(alloc, &finding.place)?;
     let message = message_value(alloc, finding.message)?;
-    let related = related_value(alloc, &finding.first)?;
+    let related = related_value(alloc, finding.kind, &finding.first)?;
     json!(in alloc; {
         "level": finding.kind.level(),
         "locations": locations,

@@ -1,4 +1,4 @@
-//! Reports of three findings, in both forms, and of none.
+//! Reports of findings, in both forms, and of none.
 
 use diagnostics::LineCounter;
 use fault_reports::{Counts, Finding, FindingKind, Place, ReportFormat, report_bytes};
@@ -25,11 +25,17 @@ const LARGE: &str =
     "{\"column\":null,\"end\":null,\"first\":null,\"import\":null,\"kind\":\"fault\",\"line\":null,\
      \"message\":\"too many\",\"name\":\"TooLarge\",\"offset\":null,\"path\":null}\n";
 
+/// A use that a file makes uncertain.
+const UNCERTAIN: &str =
+    "{\"column\":1,\"end\":5,\"first\":{\"column\":null,\"end\":null,\"line\":null,\"offset\":null,\
+     \"path\":\"c d.proto\"},\"import\":null,\"kind\":\"uncertain\",\"line\":2,\"message\":\"it may be another type\",\
+     \"name\":\"Uncertain\",\"offset\":2,\"path\":\"a b.proto\"}\n";
+
 /// The last line.
 const COUNTS: &str =
     "{\"imports\":4,\"kind\":\"counts\",\"skipped\":3,\"sources\":2,\"status\":1,\"uses\":5}\n";
 
-/// The log of the three, of which the second has no end and the third is told again.
+/// The log of the four, of which the second has no end and the third is told again.
 const LOG: &str = "{\"$schema\":\"https://json.schemastore.org/sarif-2.1.0.json\",\
      \"runs\":[{\"columnKind\":\"unicodeCodePoints\",\"results\":[{\"level\":\"error\",\
      \"locations\":[{\"physicalLocation\":{\"artifactLocation\":{\"uri\":\"a%20b.proto\"},\
@@ -44,9 +50,15 @@ const LOG: &str = "{\"$schema\":\"https://json.schemastore.org/sarif-2.1.0.json\
      \"message\":{\"text\":\"no source\"},\"relatedLocations\":[],\"ruleId\":\"MissingImport\"},\
      {\"level\":\"error\",\"locations\":[],\"message\":{\"text\":\"too many\"},\"relatedLocations\":[],\
      \"ruleId\":\"TooLarge\"},{\"level\":\"error\",\"locations\":[],\"message\":{\"text\":\"too many\"},\
-     \"relatedLocations\":[],\"ruleId\":\"TooLarge\"}],\
+     \"relatedLocations\":[],\"ruleId\":\"TooLarge\"},{\"level\":\"warning\",\
+     \"locations\":[{\"physicalLocation\":{\"artifactLocation\":{\"uri\":\"a%20b.proto\"},\
+     \"region\":{\"byteLength\":3,\"byteOffset\":2,\"endColumn\":3,\"endLine\":2,\"startColumn\":1,\"startLine\":2}}}],\
+     \"message\":{\"text\":\"it may be another type\"},\
+     \"relatedLocations\":[{\"message\":{\"text\":\"it can't be read\"},\
+     \"physicalLocation\":{\"artifactLocation\":{\"uri\":\"c%20d.proto\"}}}],\
+     \"ruleId\":\"Uncertain\"}],\
      \"tool\":{\"driver\":{\"name\":\"protoscip\",\
-     \"rules\":[{\"id\":\"Duplicate\"},{\"id\":\"MissingImport\"},{\"id\":\"TooLarge\"}],\
+     \"rules\":[{\"id\":\"Duplicate\"},{\"id\":\"MissingImport\"},{\"id\":\"TooLarge\"},{\"id\":\"Uncertain\"}],\
      \"version\":\"1\"}}}],\"version\":\"2.1.0\"}\n";
 
 /// Sees that what a case says holds. (A formatted assertion is proved once, here.)
@@ -100,6 +112,19 @@ fn large() -> Finding<'static> {
     }
 }
 
+/// A use that a file makes uncertain.
+fn uncertain() -> Finding<'static> {
+    let behind = Place::new("c d.proto", &mut LineCounter::new(b"@"), None, None);
+    Finding {
+        kind: FindingKind::Uncertain,
+        name: "Uncertain",
+        message: "it may be another type",
+        place: Some(at(2, Some(5))),
+        first: Some(behind),
+        import: None,
+    }
+}
+
 /// Whether a report is this text. After want of memory it is made again, and the second answer counts.
 fn is_report(
     alloc: Global,
@@ -127,12 +152,12 @@ fn lines_of_json(rt: HostRuntime) -> Result<(), Fail> {
     let alloc = rt.alloc();
     let format = ReportFormat::JsonLines;
     see(&rt, is_report(alloc, format, &[], COUNTS)?, "none");
-    let all = format!(in alloc; "{AGAIN}{ABSENT}{LARGE}{COUNTS}")?;
-    let findings = [again(), absent(), large()];
+    let all = format!(in alloc; "{AGAIN}{ABSENT}{LARGE}{UNCERTAIN}{COUNTS}")?;
+    let findings = [again(), absent(), large(), uncertain()];
     see(
         &rt,
         is_report(alloc, format, &findings, all.as_str())?,
-        "three",
+        "four",
     );
     Ok(())
 }
@@ -140,11 +165,11 @@ fn lines_of_json(rt: HostRuntime) -> Result<(), Fail> {
 /// A log, with each rule once.
 #[test]
 fn a_log_in_sarif(rt: HostRuntime) -> Result<(), Fail> {
-    let findings = [again(), absent(), large(), large()];
+    let findings = [again(), absent(), large(), large(), uncertain()];
     see(
         &rt,
         is_report(rt.alloc(), ReportFormat::Sarif, &findings, LOG)?,
-        "four, of which two are alike",
+        "five, of which two are alike",
     );
     Ok(())
 }

@@ -9,7 +9,7 @@ use streams::Std;
 type Entry = (&'static str, &'static str, Option<&'static str>);
 
 // The first row reads: below `api` is one source, `a.proto`, with a message `A`.
-static ENTRIES: [Entry; 15] = [
+static ENTRIES: [Entry; 16] = [
     (
         "api",
         "a.proto",
@@ -61,6 +61,13 @@ static ENTRIES: [Entry; 15] = [
         Some("syntax = \"proto3\";\nmessage A {}\n"),
     ),
     ("gaps", "b.proto", None),
+    (
+        "doubt",
+        "b.proto",
+        Some(
+            "syntax = \"proto3\";\npackage p;\nimport \"a.proto\";\nimport \"t.proto\";\nmessage M { T t = 1; }\n",
+        ),
+    ),
 ];
 
 /// An index of three documents: `a.txt` with a definition that is documented; one whose source can't be read; and

@@ -1,6 +1,7 @@
 //! Reports of runs over files in memory.
 
 use crate::runs::{Row, SILENT, see_row};
+use crate::tree_runs::DOUBT;
 use std::test::Fail;
 
 const API: &[u8] = b"\x0A\x1C\x12\x0E\x0A\x09protoscip\x12\x011\x1A\x08file:///\x20\x01\
@@ -16,7 +17,7 @@ const API_COUNTS: &str =
 
 // The first row reads: nothing is wrong, so the report has its counts alone. In the third and the fourth the report
 // isn't taken, so the index isn't put at its place either.
-static ROWS: [Row; 14] = [
+static ROWS: [Row; 15] = [
     Row {
         words: "index api out --report r.jsonl",
         written: API,
@@ -110,6 +111,20 @@ protoscip: 0 sources indexed, 2 skipped, 0 imports and 0 uses without a target\n
 {\"imports\":0,\"kind\":\"counts\",\"skipped\":1,\"sources\":1,\"status\":0,\"uses\":0}\n\0",
         said: "protoscip: skipped: b.proto: Unreadable
 protoscip: 1 sources indexed, 1 skipped, 0 imports and 0 uses without a target\n",
+        ..SILENT
+    },
+    // a use that a file makes uncertain has that file as its first place
+    Row {
+        words: "index doubt out --faulty skip --include base --report r.jsonl",
+        written: DOUBT,
+        reported: "{\"column\":8,\"end\":46,\"first\":null,\"import\":\"a.proto\",\"kind\":\"no target\",\"line\":3,\"message\":\"the file with this path is left out\",\"name\":\"MissingImport\",\"offset\":37,\"path\":\"b.proto\"}
+{\"column\":13,\"end\":79,\"first\":{\"column\":null,\"end\":null,\"line\":null,\"offset\":null,\"path\":\"a.proto\"},\"import\":null,\"kind\":\"uncertain\",\"line\":5,\"message\":\"a file that this source sees can't be read: it may declare a nearer type of this name\",\"name\":\"Uncertain\",\"offset\":78,\"path\":\"b.proto\"}
+{\"column\":1,\"end\":null,\"first\":null,\"import\":null,\"kind\":\"skipped\",\"line\":1,\"message\":\"this character can't be here\",\"name\":\"BadByte\",\"offset\":0,\"path\":\"a.proto\"}
+{\"imports\":1,\"kind\":\"counts\",\"skipped\":1,\"sources\":1,\"status\":0,\"uses\":0}\n\0",
+        said: "protoscip: no target: b.proto@37: MissingImport
+protoscip: uncertain: b.proto@78 behind a.proto
+protoscip: skipped: a.proto@0: BadByte
+protoscip: 1 sources indexed, 1 skipped, 1 imports and 0 uses without a target\n",
         ..SILENT
     },
     Row {

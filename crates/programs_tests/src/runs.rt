@@ -19,7 +19,7 @@ use std::time::Clock;
 use streams::Std;
 
 /// The most bytes that a run prints, writes to a file or says in these tests.
-pub(crate) const ROOM: usize = 512;
+pub(crate) const ROOM: usize = 1024;
 
 /// A command line and an input; how many bytes of an index are taken, and whether its place then is refused; the same
 /// of a report; and what the run ends with. The output and the files have room for what is printed and written alone: a

@@ -3,7 +3,23 @@
 use crate::runs::{Row, SILENT, see_row};
 use std::test::Fail;
 
-static ROWS: [Row; 35] = [
+/// The index of `doubt`, in which the `T` of `b.proto` is that of `t.proto`.
+pub(crate) const DOUBT: &[u8] = b"\n\x1C\x12\x0E\n\tprotoscip\x12\x011\x1A\x08file:/// \x01\
+\x12\xF7\x02\n\x07b.proto\
+\x12'\n\x03\x00\x00\x00\x12\x1Escip-protobuf . . . `b.proto`/\x18\x01\
+\x12\x1F\n\x03\x01\x08\t\x12\x16scip-protobuf . . . p/\x18\x01\
+\x12'\n\x03\x03\x07\x10\x12\x1Escip-protobuf . . . `t.proto`/\x18\x02\
+\x12!\n\x03\x04\x08\t\x12\x18scip-protobuf . . . p/M#\x18\x01\
+\x12\x1D\n\x03\x04\x0C\x0D\x12\x16scip-protobuf . . . T#\
+\x12#\n\x03\x04\x0E\x0F\x12\x1Ascip-protobuf . . . p/M#t.\x18\x01\
+\x1A)\n\x1Escip-protobuf . . . `b.proto`/2\x07b.proto\
+\x1A\x1B\n\x16scip-protobuf . . . p/2\x01p\
+\x1A\x1D\n\x18scip-protobuf . . . p/M#2\x01M\
+\x1A\x1F\n\x1Ascip-protobuf . . . p/M#t.2\x01t\
+\"\x08Protobuf0\x01\
+\x1A\x1B\n\x16scip-protobuf . . . T#2\x01T\0";
+
+static ROWS: [Row; 36] = [
     Row {
         words: "index api out",
         written: b"\x0A\x1C\x12\x0E\x0A\x09protoscip\x12\x011\x1A\x08file:///\x20\x01\
@@ -101,6 +117,16 @@ it is a source that was read, or a link to one; the index would replace it\n",
 \x22\x08Protobuf\x30\x01\0",
         said: "protoscip: no target: a.proto@26: MissingImport
 protoscip: skipped: b.proto@27: Duplicate of a.proto@46
+protoscip: 1 sources indexed, 1 skipped, 1 imports and 0 uses without a target\n",
+        ..SILENT
+    },
+    // `a.proto` of `base` can't be read, and may have a `T` that is nearer
+    Row {
+        words: "index doubt out --faulty skip --include base",
+        written: DOUBT,
+        said: "protoscip: no target: b.proto@37: MissingImport
+protoscip: uncertain: b.proto@78 behind a.proto
+protoscip: skipped: a.proto@0: BadByte
 protoscip: 1 sources indexed, 1 skipped, 1 imports and 0 uses without a target\n",
         ..SILENT
     },

@@ -43,9 +43,10 @@ place_of tree (Ambiguous place) = Some (place_of_span tree place)
 place_of tree (Uncertain place behind) = Some (place_of_span tree place)
 place_of tree fault = None
 
--- and this is the first
+-- and this is the first; of an uncertain use it is the whole file that can't be read
 abbrev pub first_of : List TreeFile → Fault → Option FoundPlace
 first_of tree (Duplicate first second) = Some (place_of_span tree first)
+first_of tree (Uncertain place behind) = Some (place_in tree behind None None)
 first_of tree fault = None
 
 -- of an import without a file, its string literals, which spell its path together

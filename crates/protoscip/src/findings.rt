@@ -45,7 +45,7 @@ use scip_build::Omission;
 use source_tree::Tree;
 use std::alloc::{AllocError, Global};
 
-/// What counts the places of findings, and those where a full name is first given.
+/// What counts the places of findings, and their first places.
 #[derive(Drop)]
 struct Counters<'a> {
     own: TreeCounter<'a>,
@@ -96,7 +96,7 @@ fn place_of<'a>(counter: &mut TreeCounter<'a>, fault: &Fault) -> Option<Place<'a
     }
 }
 
-/// Where a full name is first given that is given again.
+/// Where a full name is first given that is given again; of an uncertain use, the file that can't be read.
 fn first_of<'a>(counter: &mut TreeCounter<'a>, fault: &Fault) -> Option<Place<'a>>
     requires { HasFilesOf counter.old fault.now }
     ensures place { result ≡ first_of counter.old fault.now }
@@ -104,6 +104,7 @@ fn first_of<'a>(counter: &mut TreeCounter<'a>, fault: &Fault) -> Option<Place<'a
 {
     match fault {
         Fault::Duplicate(first, _) => Some(place_of_span(counter, first)),
+        Fault::Uncertain(_, behind) => Some(counter.place_in(*behind, None, None)),
         _ => None,
     }
 }

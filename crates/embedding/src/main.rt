@@ -65,6 +65,7 @@ fn own_settings(alloc: Global) -> Result<Settings> {
     let package = PackageId::new([manager, name, version])?;
     Ok(Settings {
         project_root: OwnedText::copy_of(alloc, "file:///")?,
+        at: OwnedText::new(alloc),
         package: FilePackages::of_run(alloc, package),
         encoding: Encoding::Utf8,
         dialect: Dialect::Proto3(CustomOptions::Refuse),

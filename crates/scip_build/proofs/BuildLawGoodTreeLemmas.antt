@@ -33,6 +33,7 @@ use Rattle.scip_build.specs.declared.fault.FileFault.{FileFault}
 use Rattle.scip_build.specs.declared.omission.Omission.{Omission}
 use Rattle.scip_build.specs.declared.omission.Omission.TheVariants as omitted
 use Rattle.scip_build.specs.Files.{FileContents, ReadFile}
+use Rattle.scip_build.specs.Placing.{index_at}
 use Rattle.scip_build.specs.Linking.{facts_in, linked_file, linked_files, HasFault}
 use Rattle.scip_build.specs.Parsed.{IsUnreadable}
 use Rattle.scip_build.specs.ParsedFiles.{AreContentsOf, may_be_unread, HasContents, AreParsedFiles}
@@ -297,6 +298,8 @@ module _ (good : NothingIsLeftOutOfGoodFiles) where
   pub built_where_nothing_is_told : (allows : Seen → Choice → Type 0) → BuiltWhereNothingIsTold allows
   built_where_nothing_is_told allows settings another tree built same is none = record {
     all = is.all;
+    plain = is.plain;
+    placed = is.placed ∙ ap (λ folder. index_at folder is.plain) same.at;
     read = read_by allows settings another tree same is.all is.read (record { read = can.read; clear = can.clear });
     of_files = record {
       parsed = is.of_files.parsed;
@@ -329,12 +332,12 @@ module _ (good : NothingIsLeftOutOfGoodFiles) where
           (record { read = can.read; clear = can.clear }))
 
       index : IsIndexOf (linked_files is.of_files.parsed) (texts_of is.of_files.parsed) built.choices
-          (naming another.package is.of_files.repeated) another.encoding another.project_root built.index
+          (naming another.package is.of_files.repeated) another.encoding another.project_root is.plain
       index =
           let fs = linked_files is.of_files.parsed in
           let ts = texts_of is.of_files.parsed in
           let Is : Packages → Encoding → List ℕ → Type 0 =
-          λ ids encoding root. IsIndexOf fs ts built.choices (naming ids is.of_files.repeated) encoding root built.index
+          λ ids encoding root. IsIndexOf fs ts built.choices (naming ids is.of_files.repeated) encoding root is.plain
           in
           subst (λ x. Is another.package another.encoding x) same.project_root
           (subst (λ x. Is another.package x settings.project_root) same.encoding

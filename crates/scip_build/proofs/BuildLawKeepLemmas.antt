@@ -64,6 +64,8 @@ pub built_alike_if_kept : (allows : Seen → Choice → Type 0) → BuiltAlikeIf
 built_alike_if_kept allows settings tree built none is = record {
   all = is.all;
   read = is.read;
+  plain = is.plain;
+  placed = is.placed;
   of_files = record {
     parsed = is.of_files.parsed;
     kept = record {

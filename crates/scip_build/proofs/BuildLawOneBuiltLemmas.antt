@@ -43,6 +43,7 @@ use Rattle.scip_build.specs.declared.omission.Omission.TheVariants as omitted
 use Rattle.scip_build.specs.Parsed.{IsUnreadable}
 use Rattle.scip_build.specs.Files.{FileContents, ReadFile}
 use Rattle.scip_build.specs.ParsedFiles.{seen_of, AreChosen, AreContentsOf, HasContents, AreParsedFiles}
+use Rattle.scip_build.specs.Placing.{index_at}
 use Rattle.scip_build.specs.Linking.{linked_file, linked_files, choices_in, choices_of, HasFault}
 use Rattle.scip_build.specs.Documents.{text_in, text_of, texts_of, IsToldUse}
 use Rattle.proto_link.specs.Uncertain.{IsUncertain}
@@ -226,11 +227,11 @@ module _ (one : OneListOfFacts) (apart : NoFactsWhereUnreadable) (one_fault : On
   names_are : AreRepeated (linked_files is.of_files.parsed) also.of_files.repeated
   names_are = subst (λ fs. AreRepeated fs also.of_files.repeated) (sym same_files) also.of_files.are_repeated
 
-  index_is : built.choices ≡ other.choices → built.index ≡ other.index
-  index_is choices =
+  plain_is : built.choices ≡ other.choices → is.plain ≡ also.plain
+  plain_is choices =
       let names = also.of_files.repeated in
       let Is : List File → List (List ℕ) → Chosen → Packages → Encoding → List ℕ → Type 0 =
-      λ fs ts chosen ids encoding root. IsIndexOf fs ts chosen (naming ids names) encoding root other.index in
+      λ fs ts chosen ids encoding root. IsIndexOf fs ts chosen (naming ids names) encoding root also.plain in
       let files = linked_files is.of_files.parsed in
       let texts = texts_of is.of_files.parsed in
       let lines = texts_of also.of_files.parsed in
@@ -246,10 +247,15 @@ module _ (one : OneListOfFacts) (apart : NoFactsWhereUnreadable) (one_fault : On
       in
       let n = same_index settings.package files texts built.choices settings.encoding names is.of_files.repeated
       (same_names files names is.of_files.repeated names_are is.of_files.are_repeated) settings.project_root
-      other.index r
+      also.plain r
       in
       one_index files texts built.choices (naming settings.package is.of_files.repeated) settings.encoding
-      settings.project_root built.index other.index is.of_files.index n
+      settings.project_root is.plain also.plain is.of_files.index n
+
+  index_is : built.choices ≡ other.choices → built.index ≡ other.index
+  index_is choices =
+      is.placed ∙ (ap (index_at settings.at) (plain_is choices)
+      ∙ (ap (λ folder. index_at folder also.plain) same.at ∙ sym also.placed))
 
   -- ---- what is told
 
@@ -328,6 +334,7 @@ module _ {X K : Type 0} (f : X → K) (cmp : K → K → Ordering) where
 set_the_same : (settings another : Settings) → SetTheSame settings another → SetTheSame another settings
 set_the_same settings another same = record {
   project_root = sym same.project_root;
+  at = sym same.at;
   id = sym same.id;
   encoding = sym same.encoding;
   dialect = sym same.dialect;

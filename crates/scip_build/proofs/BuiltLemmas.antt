@@ -1,7 +1,7 @@
 -- What is built of files that were read.
-use Rattle.std.proofs.Common.{◌≡◌, ◌∙◌, ◌↔◌, ℕ, List, [], length, sym, refl, subst}
+use Rattle.std.proofs.Common.{◌≡◌, ◌∙◌, ◌↔◌, ℕ, List, [], ◌∷◌, length, map, sym, refl, subst}
 use Rattle.std.specs.Prelude.{Result, Ok, Err, MatchResult, IfOk, IfErr}
-use Rattle.std.specs.List.{Contains}
+use Rattle.std.specs.List.{AllZip, Contains}
 use Rattle.std.specs.List.Sorted.{IsStrictlySortedBy}
 use Rattle.std.proofs.lemmas.List.{length-map}
 use Rattle.basics.proofs.ListLemmas.{in_nothing}
@@ -24,6 +24,7 @@ use Rattle.scip_build.specs.declared.faulty.Faulty.TheVariants.{Refuse, Skip}
 use Rattle.scip_build.specs.declared.omission.Omission.{Omission}
 use Rattle.scip_build.specs.Files.{ReadFile}
 use Rattle.scip_build.specs.Linking.{linked_file, linked_files}
+use Rattle.scip_build.specs.Placing.{document_at, index_at, kept_at}
 use Rattle.scip_build.specs.ParsedFiles.{AreParsedFiles}
 use Rattle.scip_build.specs.Keeping.{linked_of}
 use Rattle.scip_build.specs.Ready.{AreOfTree, ArePresent}
@@ -159,14 +160,27 @@ kept_built Is all parsed settings made numbers left once missing faults uncertai
 
 -- ---- of a tree
 
+-- what is kept of documents where they are placed is kept of those documents
+placed_zip : {Out : Type 0} (Is : Document → Out → Type 0) (folder : List ℕ) (documents : List Document)
+    (outs : List Out) → AllZip (kept_at folder Is) documents outs → AllZip Is (map (document_at folder) documents) outs
+placed_zip Is folder [] [] all = tt
+placed_zip Is folder [] (out ∷ outs) all = absurd all
+placed_zip Is folder (d ∷ ds) [] all = absurd all
+placed_zip Is folder (d ∷ ds) (out ∷ outs) all = (all.0, placed_zip Is folder ds outs all.1)
+
 pub tree_built : {Out : Type 0} (Is : Document → Out → Type 0) (allows : Seen → Choice → Type 0) (settings : Settings)
     (tree : List TreeFile) (all : List ReadFile) (choices : Chosen) (told : List Omission) (parts : Parts Out)
     → AreParsedFiles settings.faulty settings.dialect (form_of settings) allows tree all
-    → IsBuiltOfInForm Is all settings choices told parts → IsBuiltInForm Is allows settings tree choices told parts
+    → IsBuiltOfInForm (kept_at settings.at Is) all settings choices told parts
+    → IsBuiltInForm Is allows settings tree choices told parts
 tree_built Is allows settings tree all choices told parts read of = record {
-  index = of.index;
-  built = record { all = all; read = read; of_files = of.built };
-  are = of.are;
+  index = index_at settings.at of.index;
+  built = record { all = all; read = read; plain = of.index; of_files = of.built; placed = refl };
+  are = record {
+    metadata = of.are.metadata;
+    documents = placed_zip Is settings.at of.index.documents parts.documents of.are.documents;
+    external_symbols = of.are.external_symbols;
+  };
 }
 
 pub if_ok : {A F : Type 0} (P Q : A → Type 0) (R : F → Type 0) (result : Result A F) → MatchResult result P R

@@ -47,3 +47,5 @@ mod UnresolvedUseLemmas
 mod ToldUseLemmas
 -- The files of a tree as they are read are a tree
 pub mod AsReadLemmas
+-- Documents stay in order where they are placed
+mod PlacingLemmas

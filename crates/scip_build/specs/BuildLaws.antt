@@ -44,6 +44,7 @@ OneBuildFault allows others =
 -- they set the same, but for what is done with faults
 pub record SetTheSame (settings other : Settings) : Type 0 where
   pub project_root : settings.project_root ≡ other.project_root
+  pub at : settings.at ≡ other.at
   pub id : settings.package ≡ other.package
   pub encoding : settings.encoding ≡ other.encoding
   pub dialect : settings.dialect ≡ other.dialect

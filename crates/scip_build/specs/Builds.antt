@@ -7,6 +7,7 @@ use Rattle.index_hooks.specs.declared.choice.Choice.{Choice}
 use Rattle.proto_visibility.specs.Linked.{CanBeLinked, HaveClearNames}
 use Rattle.scip_build.specs.FactForms.{form_of}
 use Rattle.scip_model.specs.Indexes.{IsIndexOf}
+use Rattle.scip_records.specs.declared.records.Index.{Index}
 use Rattle.scip_model.specs.Packages.{RepeatedNames, naming}
 use Rattle.scip_model.specs.Repeated.{AreRepeated}
 use Rattle.source_tree.specs.Files.{TreeFile}
@@ -17,6 +18,7 @@ use Rattle.scip_build.specs.declared.fault.BuildFault.{BuildFault}
 use Rattle.scip_build.specs.declared.fault.BuildFault.TheVariants.{Spawn, Memory, File, Duplicate, MissingImport}
 use Rattle.scip_build.specs.declared.fault.BuildFault.TheVariants.{Unresolved, Ambiguous}
 use Rattle.scip_build.specs.Files.{ReadFile}
+use Rattle.scip_build.specs.Placing.{index_at}
 use Rattle.scip_build.specs.ParsedFiles.{AreParsedFiles, IsFirstFaulty}
 use Rattle.scip_build.specs.Linking.{linked_files, choices_of, MayRefuseParsed}
 use Rattle.scip_build.specs.Documents.{texts_of, IsAmbiguousAt, IsLeastUnresolved}
@@ -36,12 +38,20 @@ pub record IsBuiltOf (all : List ReadFile) (settings : Settings) (built : Built)
   pub index : IsIndexOf (linked_files parsed) (texts_of parsed) built.choices (naming settings.package repeated)
       settings.encoding settings.project_root built.index
 
--- The index of a tree, the choices that it is made by, and what is told of files that have no part in it.
+-- what is built, with this index
+abbrev pub with_index : Index → Built → Built
+with_index index built = record built { index = index }
+
+-- The index of a tree, the choices that it is made by, and what is told of files that have no part in it. The index is
+-- that of the files that were read, whose documents have the paths of their sources, with its documents where the
+-- settings place them.
 pub record IsBuilt (allows : Seen → Choice → Type 0) (settings : Settings) (tree : List TreeFile)
     (built : Built) : Type 0 where
   pub all : List ReadFile
   pub read : AreParsedFiles settings.faulty settings.dialect (form_of settings) allows tree all
-  pub of_files : IsBuiltOf all settings built
+  pub plain : Index
+  pub of_files : IsBuiltOf all settings (with_index plain built)
+  pub placed : built.index ≡ index_at settings.at plain
 
 -- this holds of some parsed files of the tree: so each source could be read
 abbrev pub OfParsed : (dialect : Dialect) → FactForm → (allows : Seen → Choice → Type 0) → List TreeFile

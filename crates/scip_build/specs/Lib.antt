@@ -12,6 +12,9 @@ pub mod FileFaults
 pub mod Linking
 -- what holds of files that were read from a tree
 pub mod Ready
+-- where documents are
+pub mod Placing
+pub mod PlacingLaws
 -- the settings with what is repeated
 pub mod Repeating
 -- the documents of sources that were read

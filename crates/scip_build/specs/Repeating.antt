@@ -6,6 +6,7 @@ use Rattle.scip_build.specs.declared.settings.Settings.{Settings}
 abbrev pub with_packages : Settings → Packages → Settings
 with_packages settings ids = record {
   project_root = settings.project_root;
+  at = settings.at;
   «package» = ids;
   encoding = settings.encoding;
   dialect = settings.dialect;

@@ -10,6 +10,7 @@ use Rattle.scip_model.specs.declared.source_document.SourceDocument.{SourceDocum
 use Rattle.proto_visibility.specs.declared.files.FilePlace.{FilePlace}
 use Rattle.scip_build.specs.Documents.{AreReady, GivesDocument, HasReadText, IsRead, MayRefuseDocuments, SourceWork}
 use Rattle.scip_build.specs.Forms.{AreMade, IsMadeInForm}
+use Rattle.scip_build.specs.Placing.{kept_at}
 use Rattle.scip_build.specs.Repeating.{with_packages}
 use Rattle.scip_build.specs.declared.fault.BuildFault.{BuildFault}
 use Rattle.scip_build.specs.declared.linked_sources.LinkedSources.{LinkedSources}
@@ -60,10 +61,11 @@ module _ (sources : LinkedSources) where
   module _ {Out : Type 0} (Is : Document → Out → Type 0) where
     abbrev pub AreMadeFrom : List (MadeDocument Out) → Type 0
     AreMadeFrom =
-        AreMade Is sources.parsed.now sources.package.now.files sources.choices.now
+        AreMade (kept_at sources.settings.now.at Is) sources.parsed.now sources.package.now.files sources.choices.now
         (with_packages sources.settings.now sources.package.now.ids)
 
     abbrev pub IsMadeFrom : Parts Out → List FilePlace → Type 0
     IsMadeFrom =
-        IsMadeInForm Is sources.parsed.now sources.package.now.files sources.choices.now
+        IsMadeInForm (kept_at sources.settings.now.at Is) sources.parsed.now sources.package.now.files
+        sources.choices.now
         (with_packages sources.settings.now sources.package.now.ids)

@@ -12,6 +12,7 @@ ghost use Rattle.scip_build.specs.Documents.{MayRefuseLinked};
 ghost use Rattle.scip_build.specs.Telling.{AreUncertainUses, AreUseFaults};
 ghost use Rattle.scip_build.specs.Ready.{AreOfTree, ArePresent};
 ghost use Rattle.scip_build.specs.Making.{MayRefuseMaking, MayRefuseSkipping};
+ghost use Rattle.scip_build.specs.Placing.{kept_at};
 ghost use Rattle.scip_build.specs.Forms.{index_of, IsMadeOf, IsLinkedAndMade, IsBuiltOfInForm};
 ghost use Rattle.scip_build.specs.Forms.{IsBuiltInForm};
 ghost use Rattle.scip_build.specs.Builds.{IsBuilt, IsBuildFault};
@@ -106,7 +107,7 @@ fn make_linked<R: Threads + Wait, G: Gate, F: DocumentForm + Sync>(
     requires tree { AreOfTree parsed.now }
     requires clear { HaveClearNames settings.now.duplicates (linked_files parsed.now) }
     ensures { MatchResult result
-        (IsMadeOf F.is_kept parsed.now settings.now)
+        (IsMadeOf (kept_at settings.now.at F.is_kept) parsed.now settings.now)
         (MayRefuseLinked settings.now.faulty (linked_files parsed.now) run.now.workers) }
 {
     let choices = Choices::new(chosen_lists(run.alloc, parsed)?);
@@ -140,7 +141,7 @@ fn make_whole<R: Threads + Wait, G: Gate, F: DocumentForm + Sync>(
     requires tree { AreOfTree parsed.now }
     requires refuse { settings.now.faulty ≡ Refuse }
     ensures { MatchResult result
-        (IsLinkedAndMade F.is_kept parsed.now settings.now)
+        (IsLinkedAndMade (kept_at settings.now.at F.is_kept) parsed.now settings.now)
         (MayRefuseMaking settings.now.duplicates parsed.now run.now.workers) }
 {
     let files = linked_files(run.alloc, parsed)?;
@@ -161,7 +162,7 @@ fn make_kept<R: Threads + Wait, G: Gate, F: DocumentForm + Sync>(
     requires clear { HaveClearNames settings.now.duplicates (linked_files parsed.now) }
     requires skip { settings.now.faulty ≡ Skip }
     ensures { MatchResult result
-        (λ kept. IsMadeOf F.is_kept parsed.now settings.now kept.made
+        (λ kept. IsMadeOf (kept_at settings.now.at F.is_kept) parsed.now settings.now kept.made
         × AreMissing (linked_files parsed.now) kept.missing.items
         × AreUseFaults (linked_files parsed.now) kept.made.unresolved_uses kept.faults.items
         × AreUncertainUses (linked_files parsed.now) kept.uncertain.items)
@@ -191,7 +192,8 @@ fn build_whole<'a, R: Threads + Wait, G: Gate, F: DocumentForm + Sync>(
     requires tree { AreOfTree all.items }
     requires refuse { settings.now.faulty ≡ Refuse }
     ensures { MatchResult result
-        (λ built. IsBuiltOfInForm F.is_kept all.entry.items settings.now built.choices built.told built.parts)
+        (λ built. IsBuiltOfInForm (kept_at settings.now.at F.is_kept) all.entry.items settings.now built.choices
+        built.told built.parts)
         (MayRefuseMaking settings.now.duplicates all.entry.items run.now.workers) }
 {
     let made = make_whole(run, all.as_slice(), settings, form)?;
@@ -215,7 +217,8 @@ fn build_kept<'a, R: Threads + Wait, G: Gate, F: DocumentForm + Sync>(
     requires present { ArePresent all.items }
     requires skip { settings.now.faulty ≡ Skip }
     ensures { MatchResult result
-        (λ built. IsBuiltOfInForm F.is_kept all.entry.items settings.now built.choices built.told built.parts)
+        (λ built. IsBuiltOfInForm (kept_at settings.now.at F.is_kept) all.entry.items settings.now built.choices
+        built.told built.parts)
         (MayRefuseSkipping run.now.workers) }
 {
     kept_files_are_clear();

@@ -3,7 +3,7 @@
 ghost use Rattle.std.specs.Prelude.{IfOk};
 ghost use Rattle.scip_records.specs.declared.records.Document.{Document};
 
-use scip_model::DocumentPlan;
+use crate::placed_document::PlacedDocument;
 use scip_records::{Document, records_of};
 use std::alloc::{AllocError, Global};
 
@@ -17,7 +17,11 @@ pub trait DocumentForm {
     ghost is_kept: { Document → Self.Kept → Type 0 };
 
     /// What is kept of a document, which isn't needed further.
-    fn keep(&self, alloc: Global, document: DocumentPlan<'_, '_>) -> Result<Self::Kept, AllocError>
+    fn keep(
+        &self,
+        alloc: Global,
+        document: PlacedDocument<'_, '_>,
+    ) -> Result<Self::Kept, AllocError>
         ensures { IfOk result (is_kept document.entry) };
 }
 
@@ -32,7 +36,11 @@ impl DocumentForm for AsRecords {
 
     ghost is_kept = { λ document kept. kept ≡ document };
 
-    fn keep(&self, alloc: Global, document: DocumentPlan<'_, '_>) -> Result<Document, AllocError> {
+    fn keep(
+        &self,
+        alloc: Global,
+        document: PlacedDocument<'_, '_>,
+    ) -> Result<Document, AllocError> {
         records_of(alloc, &document)
     }
 }

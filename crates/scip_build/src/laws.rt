@@ -4,6 +4,7 @@ ghost use Rattle.scip_build.specs.BuildLaws.{BuiltHasNoFault, OneBuildFault, One
 ghost use Rattle.scip_build.specs.BuildLaws.{OneBuiltOfChoices, BuiltWhereNothingIsTold, BuiltAlikeIfKept};
 ghost use Rattle.scip_build.specs.Kept.{NothingIsToldOfAGoodTree};
 ghost use Rattle.scip_build.specs.KeptUses.{KeptResolvesAlike};
+ghost use Rattle.scip_build.specs.PlacingLaws.{BuiltIsInOrder};
 ghost use Rattle.scip_build.specs.CertainUses.{CertainUsesResolveAlike};
 ghost use Rattle.scip_build.specs.Laws.{OneListOfFacts, NoFactsWhereUnreadable, LexedWhereUnparsed, OneFileFault};
 ghost use Rattle.scip_build.specs.Laws.{OneFirstFaulty, NoParsedFilesWhereFaulty, ParsedFilesHaveOwnPaths, OneLinking};
@@ -107,6 +108,11 @@ pub fn nothing_is_left_out_of_a_good_tree<C: Chooses>(chooser: &C)
 /// If no file is left out for a name that is given twice, the same is built where several files may give one name.
 pub fn built_alike_if_kept<C: Chooses>(chooser: &C)
     ensures { BuiltAlikeIfKept (C.allows chooser.now) }
+{}
+
+/// The documents of what is built are in order of path, wherever the settings place them, and no two have one path.
+pub fn documents_are_in_order<C: Chooses>(chooser: &C)
+    ensures { BuiltIsInOrder (C.allows chooser.now) }
 {}
 
 /// Though files are left out, a use of a kept file that names something names what it names in the whole tree; and what

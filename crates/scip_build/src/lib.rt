@@ -29,6 +29,7 @@ mod linking;
 mod document_form;
 mod linked_sources;
 mod phase_two;
+mod placed_document;
 mod source_document;
 
 // What was made, put together.
@@ -50,9 +51,9 @@ pub use document_form::{AsRecords, DocumentForm};
 pub use fault::{BuildFault, FileFault};
 pub use faulty::Faulty;
 pub use laws::{
-    built_alike_if_kept, built_has_no_fault, certain_uses_resolve_alike, faults_exclude_facts,
-    kept_resolves_alike, nothing_is_left_out_of_a_good_tree, one_build_fault, one_built,
-    one_fault_a_file, one_first_faulty, one_linking, one_list_of_facts_a_file,
+    built_alike_if_kept, built_has_no_fault, certain_uses_resolve_alike, documents_are_in_order,
+    faults_exclude_facts, kept_resolves_alike, nothing_is_left_out_of_a_good_tree, one_build_fault,
+    one_built, one_fault_a_file, one_first_faulty, one_linking, one_list_of_facts_a_file,
     parsed_files_exclude_faults, parsed_files_have_own_paths,
 };
 pub use linking::{link, linked_files};
@@ -60,6 +61,7 @@ pub use omission::Omission;
 pub use parsed_file::{Contents, ParsedFile};
 pub use parts::{BuiltParts, Parts};
 pub use phase_one::parse_files;
+pub use placed_document::PlacedDocument;
 pub use proto_link::Duplicates;
 pub use reading::as_read;
 pub use run::Run;

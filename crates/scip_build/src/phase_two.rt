@@ -9,6 +9,7 @@ use crate::document_form::DocumentForm;
 use crate::fault::BuildFault;
 use crate::linked_sources::LinkedSources;
 use crate::made::MadeDocument;
+use crate::placed_document::PlacedDocument;
 use crate::run::Run;
 use crate::source_document::{NoDocument, make_document};
 use index_pool::{Gate, Job, PoolFault, Ticket, run_phase};
@@ -38,6 +39,7 @@ impl<'a, 'b, 'l, 'f, 'r, F: DocumentForm + Sync> Model for PhaseTwo<'a, 'b, 'l, 
 
 impl<'a, 'b, 'l, 'f, 'r, F: DocumentForm + Sync> Job for PhaseTwo<'a, 'b, 'l, 'f, 'r, F> {
     ghost use Rattle.scip_build.specs.Forms.{GivesKept};
+    ghost use Rattle.scip_build.specs.Placing.{kept_at};
 
     type Out = MadeDocument<F::Kept>;
 
@@ -46,12 +48,15 @@ impl<'a, 'b, 'l, 'f, 'r, F: DocumentForm + Sync> Job for PhaseTwo<'a, 'b, 'l, 'f
     ghost inputs = { λ work. work.count };
 
     ghost gives = { λ work number result.
-        GivesKept F.is_kept work.parsed work.files work.chosen work.settings number result };
+        GivesKept (kept_at work.settings.at F.is_kept) work.parsed work.files work.chosen work.settings number
+        result };
 
     fn run(&self, ticket: Ticket) -> Result<MadeDocument<F::Kept>, NoDocument> {
         let made = make_document(self.sources, ticket.number())?;
-        let (document, unresolved) = made.into_parts();
-        let kept = self.form.keep(self.sources.alloc, document)?;
+        let (plan, unresolved) = made.into_parts();
+        let alloc = self.sources.alloc;
+        let placed = PlacedDocument::below(alloc, self.sources.settings.at.as_str(), plan)?;
+        let kept = self.form.keep(alloc, placed)?;
         Ok(MadeDocument { kept, unresolved })
     }
 }

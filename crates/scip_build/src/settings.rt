@@ -13,6 +13,8 @@ use scip_model::FilePackages;
 pub struct Settings {
     /// The URI of the folder below which the paths of the documents are.
     pub project_root: OwnedText,
+    /// The folder below which the documents have the paths of their sources; empty if they have them as they are.
+    pub at: OwnedText,
     /// The packages that the symbols belong to, by their files.
     pub package: FilePackages,
     /// In which code units the columns of the documents count.

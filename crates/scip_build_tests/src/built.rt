@@ -100,6 +100,7 @@ pub(crate) fn settings_of(
     let id = PackageId::new(parts).ok().expect(rt, "good parts");
     Ok(Settings {
         project_root: OwnedText::copy_of(alloc, "file:///")?,
+        at: OwnedText::new(alloc),
         package: FilePackages::of_run(alloc, id),
         encoding: Encoding::Utf8,
         dialect: Dialect::Proto3(CustomOptions::Refuse),

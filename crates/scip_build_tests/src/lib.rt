@@ -14,6 +14,8 @@ mod hooks;
 #[cfg(test)]
 mod names;
 #[cfg(test)]
+mod placing;
+#[cfg(test)]
 mod plans;
 #[cfg(test)]
 mod uncertain;

@@ -6,8 +6,7 @@ use basics::Sequence;
 use index_hooks::{AnyAnswer, Filter, FilterCallback, Registry};
 use index_pool::NoGate;
 use proto_decl::{DeclView, DeclarationKind};
-use scip_build::{BuildFault, DocumentForm, Faulty, build_in_form};
-use scip_model::DocumentPlan;
+use scip_build::{BuildFault, DocumentForm, Faulty, PlacedDocument, build_in_form};
 use scip_records::{Document, Index, records_of};
 use scip_wire::{DocumentRecord, spell_document, spell_index, write_pieces};
 use std::alloc::{AllocError, Global};
@@ -55,7 +54,7 @@ fn bytes_of(alloc: Global, document: Document) -> Result<Option<Vec<u8>>, AllocE
 /// Whether a document's plan is spelled as these bytes, which are those of its record.
 fn is_spelled_as(
     alloc: Global,
-    document: &mut DocumentPlan<'_, '_>,
+    document: &mut PlacedDocument<'_, '_>,
     due: &Option<Vec<u8>>,
 ) -> Result<bool, AllocError> {
     let record = spell_document(alloc, document)?;
@@ -72,7 +71,11 @@ impl DocumentForm for AreAlike {
 
     ghost is_kept = { λ document alike. ⊤ };
 
-    fn keep(&self, alloc: Global, mut document: DocumentPlan<'_, '_>) -> Result<bool, AllocError> {
+    fn keep(
+        &self,
+        alloc: Global,
+        mut document: PlacedDocument<'_, '_>,
+    ) -> Result<bool, AllocError> {
         let due = bytes_of(alloc, records_of(alloc, &document)?)?;
         is_spelled_as(alloc, &mut document, &due)
     }

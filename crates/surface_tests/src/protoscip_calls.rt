@@ -96,6 +96,7 @@ fn settings_of(alloc: Global) -> Result<Settings, Fail> {
     let package = package_of(alloc, ["", "", ""])?;
     Ok(Settings {
         project_root,
+        at: OwnedText::new(alloc),
         package: FilePackages::of_run(alloc, package),
         encoding: Encoding::Utf8,
         dialect: Dialect::Proto3(CustomOptions::Refuse),

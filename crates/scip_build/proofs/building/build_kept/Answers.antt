@@ -1,3 +1,4 @@
+use Rattle.scip_build.specs.Placing.{kept_at}
 use Rattle.scip_build.proofs.BuiltLemmas.{kept_ready, kept_built}
 use Rattle.scip_build.proofs.building.build_kept.Goals as goal
 
@@ -24,7 +25,8 @@ returns g c =
     let order = rw (c.as_slice-2.ensures.value, c.as_slice-3.ensures.value, c.as_slice-4.ensures.value, c.as_slice-5.ensures.value) at
     c.in_ok-told.ensures in
     rw c.from_vec.ensures
-    (kept_built g.F.DocumentForm.is_kept c.args.all.items c.in_ok-kept.kept.parsed.items c.args.settings.now
+    (kept_built (kept_at c.args.settings.now.at g.F.DocumentForm.is_kept) c.args.all.items
+    c.in_ok-kept.kept.parsed.items c.args.settings.now
     c.in_ok-of_kept.of_kept.made c.in_ok-kept.kept.numbers.items c.in_ok-kept.kept.told.items c.in_ok-told.told.items
     c.in_ok-of_kept.of_kept.missing.items c.in_ok-of_kept.of_kept.faults.items
     c.in_ok-of_kept.of_kept.uncertain.items c.requires.present c.requires.skip c.in_ok-kept.ensures made.0 made.1

@@ -2,6 +2,7 @@ use Rattle.std.proofs.Common.{subst}
 use Rattle.std.proofs.lemmas.Result.{err_from_is_err_and}
 use Rattle.scip_build.specs.Making.{MayRefuseMaking}
 use Rattle.scip_build.specs.Forms.{IsLinkedAndMade}
+use Rattle.scip_build.specs.Placing.{kept_at}
 use Rattle.scip_build.proofs.BuiltLemmas.{whole_built}
 use Rattle.scip_build.proofs.building.build_whole.Goals as goal
 
@@ -18,6 +19,7 @@ returns-in_err-made g c =
 pub returns : goal.returns
 returns g c =
     let made = c.in_ok-made.made in
-    whole_built g.F.DocumentForm.is_kept c.args.all.items c.args.settings.now made _ c.requires.refuse c.new.ensures
-    (subst (λ rs. IsLinkedAndMade g.F.DocumentForm.is_kept rs c.args.settings.now made) c.as_slice.ensures.value
+    let Is = kept_at c.args.settings.now.at g.F.DocumentForm.is_kept in
+    whole_built Is c.args.all.items c.args.settings.now made _ c.requires.refuse c.new.ensures
+    (subst (λ rs. IsLinkedAndMade Is rs c.args.settings.now made) c.as_slice.ensures.value
     c.in_ok-made.ensures)

@@ -3,6 +3,7 @@ use Rattle.scip_build.specs.Linking.{linked_files, choices_of}
 use Rattle.scip_build.specs.Keeping.{is_source}
 use Rattle.proto_visibility.specs.Files.{File}
 use Rattle.scip_build.specs.Documents.{IsToldFor, MayRefuseDocuments}
+use Rattle.scip_build.specs.Placing.{kept_at}
 use Rattle.scip_build.proofs.ToldUseLemmas.{place_within}
 use Rattle.scip_build.proofs.ReadyLemmas.{are_ready, front_most}
 use Rattle.scip_build.proofs.KeptLemmas.{in_form_of}
@@ -45,6 +46,6 @@ returns-in-Err g c =
 
 pub returns : goal.returns
 returns g c =
-    in_form_of g.F.DocumentForm.is_kept c.args.parsed.now c.in_ok-package.package c.args.settings.now _
+    in_form_of (kept_at c.args.settings.now.at g.F.DocumentForm.is_kept) c.args.parsed.now c.in_ok-package.package c.args.settings.now _
     (c.in_ok-package.ensures.files ∙ c.requires.files) c.in_ok-package.ensures.ids c.in_ok-package.ensures.repeated
     c.requires.clear (c.new-choices.ensures ∙ c.in_ok-chosen_lists.ensures) c.in-Ok.ensures

@@ -1,4 +1,5 @@
 use Rattle.std.proofs.lemmas.Result.{err_from_is_err_and}
+use Rattle.scip_build.specs.Placing.{kept_at}
 use Rattle.scip_build.proofs.BuildsRefusalLemmas.{of_linking, linked_of}
 use Rattle.scip_build.proofs.building.make_whole.Goals as goal
 
@@ -16,5 +17,5 @@ make_linked-requires-clause-clear g c = λ _ _.
 
 pub returns : goal.returns
 returns g c =
-    linked_of g.F.DocumentForm.is_kept c.args.parsed.now c.args.settings.now c.args.run.now.workers
+    linked_of (kept_at c.args.settings.now.at g.F.DocumentForm.is_kept) c.args.parsed.now c.args.settings.now c.args.run.now.workers
     c.in_ok-linker.ensures.1 c.make_linked.result c.make_linked.ensures

@@ -16,6 +16,7 @@ use Rattle.proto_visibility.proofs.KeptLemmas.{kept_are_clear}
 use Rattle.basics.proofs.FirstLemmas.{contained}
 use Rattle.index_hooks.specs.declared.choice.Choice.{Choice}
 use Rattle.source_tree.specs.Files.{TreeFile}
+use Rattle.source_tree.proofs.TreeLemmas.{mapped_from}
 use Rattle.scip_symbol.specs.Package.{Package}
 use Rattle.scip_build.specs.FactForms.{form_of}
 use Rattle.scip_symbol.specs.Path.{IsGoodPath}
@@ -29,6 +30,7 @@ use Rattle.scip_model.specs.Occurs.{Occurs}
 use Rattle.scip_model.specs.Occurs as rule
 use Rattle.scip_model.proofs.NamedApartLemmas.{AreApart}
 use Rattle.scip_records.specs.declared.records.Document.{Document}
+use Rattle.scip_records.specs.declared.records.Index.{Index}
 use Rattle.scip_records.specs.declared.records.Occurrence.{Occurrence}
 use Rattle.scip_query.specs.OccurrenceAt.{Subject, subject_at, subject_found, subject_of}
 use Rattle.scip_query.specs.References.{is_local, is_of, is_definition, references_of, definitions_of, references_at}
@@ -39,6 +41,7 @@ use Rattle.scip_build.specs.Documents.{texts_of}
 use Rattle.scip_build.specs.Files.{ReadFile}
 use Rattle.scip_build.specs.Keeping.{linked_of}
 use Rattle.scip_build.specs.Linking.{linked_files}
+use Rattle.scip_build.specs.Placing.{document_at}
 use Rattle.scip_build.specs.declared.built.Built.{Built}
 use Rattle.scip_build.specs.declared.faulty.Faulty.{Faulty}
 use Rattle.scip_build.specs.declared.faulty.Faulty.TheVariants.{Refuse, Skip}
@@ -135,7 +138,7 @@ module _ {allows : Seen → Choice → Type 0} {settings : Settings} {tree : Lis
   of_files entity document o is =
       subst (IsEntityOf (linked built) (ids built)) is.is
       (entity_is (linked built) (ids built) apart.origins laws result.choices settings.encoding is.of_source.source
-      is.of_source.text (source_of document is.of_source) o is.occurs)
+      is.of_source.text (source_of is.plain is.of_source) o is.occurs)
 
   -- the text of an entity's symbol
   symbol_in : (entity : Entity) → IsEntityOf (linked built) (ids built) entity → List ℕ
@@ -147,15 +150,24 @@ module _ {allows : Seen → Choice → Type 0} {settings : Settings} {tree : Lis
   symbol_of entity of document o is =
       let its = subst (IsEntityOf (linked built) (ids built)) (sym is.is) of in
       symbol_is (linked built) (ids built) apart good are_packages laws is.of_source.source
-      (source_of document is.of_source) result.choices settings.encoding is.of_source.text o is.occurs its
+      (source_of is.plain is.of_source) result.choices settings.encoding is.of_source.text o is.occurs its
       ∙ one_symbol (linked built) (ids built) apart good are_packages laws (entity_of is.occurs) entity its of is.is
+
+  -- a document of the index is one of a source, where the settings place it
+  plain_of : (document : Document) → Contains result.index.documents document
+      → (plain : Document) × Contains built.plain.documents plain × (document_at settings.at plain ≡ document)
+  plain_of document listed =
+      mapped_from (document_at settings.at) built.plain.documents document
+      (subst (λ (i : Index). Contains i.documents document) built.placed listed)
 
   entity_at : (document : Document) (o : Occurrence) → Contains result.index.documents document
       → Contains document.occurrences o → (entity : Entity) × IsOf built entity document o
   entity_at document o listed there =
-      let has = (built.of_files.index.documents.exact document).0 listed in
-      let occurs = (has.is.occurrences.exact o).0 there in
-      (entity_of occurs, record { of_source = has; occurs = occurs; is = refl })
+      let of = plain_of document listed in
+      let has = (built.of_files.index.documents.exact of.0).0 of.1 in
+      let occurs =
+      (has.is.occurrences.exact o).0 (subst (λ (d : Document). Contains d.occurrences o) (sym of.2) there) in
+      (entity_of occurs, record { plain = of.0; of_source = has; placed = sym of.2; occurs = occurs; is = refl })
 
   same_entity : (entity other : Entity) (is : IsEntityOf (linked built) (ids built) entity)
       (its : IsEntityOf (linked built) (ids built) other) → symbol_in entity is ≡ symbol_in other its

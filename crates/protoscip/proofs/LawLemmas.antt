@@ -73,6 +73,7 @@ split allows settings tree workers (fault.Answer count) is named = absurd is
 set_itself : (settings : Settings) → SetTheSame settings settings
 set_itself settings = record {
   project_root = refl;
+  at = refl;
   id = refl;
   encoding = refl;
   dialect = refl;

@@ -37,10 +37,12 @@ dump_tree bytes = record { path = source_path; bytes = bytes; text = bytes; is_i
 abbrev pub plain_dialect : Dialect
 plain_dialect = Proto3 custom.Refuse
 
--- its settings: the package without manager, name and version; columns in UTF-8; comments as they are written
+-- its settings: the package without manager, name and version; columns in UTF-8; comments as they are written; its
+-- document has the path of the source
 abbrev pub dump_settings : Dialect → Settings
 dump_settings dialect = record {
   project_root = codes "file:///";
+  at = [];
   «package» = all_in (record { manager = []; name = []; version = [] });
   encoding = Utf8;
   dialect = dialect;

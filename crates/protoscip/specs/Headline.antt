@@ -31,6 +31,7 @@ use Rattle.scip_records.specs.declared.records.Occurrence.{Occurrence}
 use Rattle.scip_build.specs.Builds.{IsBuilt}
 use Rattle.scip_build.specs.Documents.{texts_of}
 use Rattle.scip_build.specs.Linking.{linked_files}
+use Rattle.scip_build.specs.Placing.{document_at}
 use Rattle.scip_build.specs.declared.built.Built.{Built}
 use Rattle.scip_build.specs.declared.faulty.Faulty.TheVariants.{Skip}
 use Rattle.scip_build.specs.declared.settings.Settings.{Settings}
@@ -105,11 +106,13 @@ module _ {allows : Seen → Choice → Type 0} {settings : Settings} {tree : Lis
   abbrev pub ids : Packages
   ids = naming settings.package built.of_files.repeated
 
-  -- An occurrence of a document is one of an entity: the document is that of a source, and a rule by which it occurs
-  -- there names this entity.
+  -- An occurrence of a document is one of an entity: the document is that of a source, where the settings place it, and
+  -- a rule by which it occurs there names this entity.
   pub record IsOf (entity : Entity) (document : Document) (occurrence : Occurrence) : Type 0 where
+    pub plain : Document
     pub of_source : HasDocument linked
-        (texts_of built.of_files.parsed) result.choices ids settings.encoding document
+        (texts_of built.of_files.parsed) result.choices ids settings.encoding plain
+    pub placed : document ≡ document_at settings.at plain
     pub occurs : Occurs linked result.choices ids settings.encoding
         of_source.source
         of_source.text occurrence
@@ -179,8 +182,9 @@ module _ {allows : Seen → Choice → Type 0} {settings : Settings} {tree : Lis
 -- ---- the headline
 
 -- The bytes decode to one index only: the one that the grammar of the settings' dialect, the scoping rules, the
--- recorded choices, which are allowed, and the other settings give the tree. And each query about references or
--- definitions over it answers exactly the occurrences of the name asked.
+-- recorded choices, which are allowed, and the other settings give the tree, with its documents at the paths of their
+-- sources, or at those below the settings' folder. And each query about references or definitions over it answers
+-- exactly the occurrences of the name asked.
 pub record Navigates (allows : Seen → Choice → Type 0) (settings : Settings) (tree : List TreeFile)
     (recorded : Recorded)
     (bytes : List ℕ) (index : Index) : Type 0 where

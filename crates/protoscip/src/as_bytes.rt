@@ -1,7 +1,6 @@
 //! The documents of an index as its bytes have them.
 
-use scip_build::DocumentForm;
-use scip_model::DocumentPlan;
+use scip_build::{DocumentForm, PlacedDocument};
 use scip_wire::{DocumentRecord, spell_document};
 use std::alloc::{AllocError, Global};
 
@@ -19,7 +18,7 @@ impl DocumentForm for AsBytes {
     fn keep(
         &self,
         alloc: Global,
-        mut document: DocumentPlan<'_, '_>,
+        mut document: PlacedDocument<'_, '_>,
     ) -> Result<DocumentRecord, AllocError> {
         spell_document(alloc, &mut document)
     }

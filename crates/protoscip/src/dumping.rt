@@ -83,6 +83,7 @@ pub(crate) fn dump_settings(alloc: Global, dialect: Dialect) -> Result<Settings,
     let parts = [String::new(alloc), String::new(alloc), String::new(alloc)];
     Ok(Settings {
         project_root: OwnedText::copy_of(alloc, "file:///")?,
+        at: OwnedText::new(alloc),
         package: FilePackages::of_run(alloc, PackageId::new(parts).unwrap()),
         encoding: Encoding::Utf8,
         dialect,

@@ -75,8 +75,8 @@ pub fn laws_of_names()
 
 /// The headline, for every tree and all settings. The bytes of a tree's index, which `index_tree` writes and a
 /// session answers from, decode to one index only: the one that the grammar of the settings' dialect, the scoping
-/// rules and allowed choices give the tree. Each component of a use in a source names an entity, so it occurs unless
-/// what it names isn't kept.
+/// rules and allowed choices give the tree, with its documents where the settings place them. Each component of a use in
+/// a source names an entity, so it occurs unless what it names isn't kept.
 /// Each occurrence is one of exactly one entity of the tree's files, a declaration's entity is its own, and entities
 /// and symbols are one to one. So each query for references or definitions over these bytes answers exactly the
 /// occurrences of the entity asked about, or those that define it, each once and in the index's order, and nothing

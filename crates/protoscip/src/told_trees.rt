@@ -10,8 +10,7 @@ use basics::Sequence;
 use index_hooks::Chooses;
 use index_pool::Gate;
 use proto_parse::Dialect;
-use scip_build::{DocumentForm, Faulty, Omission, Run, Settings, build_in_form};
-use scip_model::DocumentPlan;
+use scip_build::{DocumentForm, Faulty, Omission, PlacedDocument, Run, Settings, build_in_form};
 use source_tree::Tree;
 use std::alloc::{AllocError, Global};
 use std::sync::Wait;
@@ -28,7 +27,7 @@ impl DocumentForm for AsNothing {
 
     ghost is_kept = { λ _ _. ⊤ };
 
-    fn keep(&self, _alloc: Global, _document: DocumentPlan<'_, '_>) -> Result<(), AllocError> {
+    fn keep(&self, _alloc: Global, _document: PlacedDocument<'_, '_>) -> Result<(), AllocError> {
         Ok(())
     }
 }

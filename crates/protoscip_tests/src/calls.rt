@@ -63,6 +63,7 @@ fn settings_of(
     let id = PackageId::new(parts).ok().expect(rt, "good parts");
     Ok(Settings {
         project_root: OwnedText::copy_of(alloc, "file:///")?,
+        at: OwnedText::new(alloc),
         package: FilePackages::of_run(alloc, id),
         encoding,
         dialect: Dialect::Proto3(CustomOptions::Refuse),

@@ -6,8 +6,7 @@ use Rattle.clap.specs.declared.error.kind.ErrorKind.TheVariants as kind
 use Rattle.clap.proofs.OnLiterals.{clap_on_literals}
 use Rattle.command_line.specs.Program.{command_line}
 use Rattle.command_line.specs.Requests.{IsRefused, Prints}
-use Rattle.command_line.specs.Asks.{AsksBy, AsksFor}
-use Rattle.command_line.specs.Options.Report.{lacks_report}
+use Rattle.command_line.specs.Asks.{AsksBy, AsksFor, is_unfit}
 use Rattle.command_line.specs.Values.{rows_in}
 use Rattle.command_line.specs.declared.options.WordLists.{WordLists}
 use Rattle.command_line.specs.declared.request.Request.{Request}
@@ -21,9 +20,9 @@ pub command_line_is_walked : (lists : WordLists) → is_simple (command_line lis
 unfolding clap_on_literals
 command_line_is_walked lists = refl
 
--- words without a fault ask for the program that they name, if nothing lacks
+-- words without a fault ask for the program that they name, if nothing is unfit
 pub asks_program : (kinds : Kinds) (program : Option (Text × List Row)) (r : Request) → kinds ≡ []
-    → AsksFor (lacks_report (rows_in program)) program r → AsksBy kinds program r
+    → AsksFor (is_unfit (rows_in program)) program r → AsksBy kinds program r
 asks_program [] program r e names = names
 asks_program (k ∷ ks) program r e names = absurd cc
 

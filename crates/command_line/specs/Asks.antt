@@ -1,11 +1,12 @@
 -- What a command line asks for. Which words name a program, and which ask for help or are refused,
 -- is as the rules of the crate `clap` say of this program's command line.
-use Rattle.std.specs.Prelude.{◌≡◌, ◌≢◌, Bool, true, false, List, [], ◌∷◌, Option, Some, codes}
+use Rattle.std.specs.Prelude.{◌≡◌, ◌≢◌, Bool, true, false, ◌||◌, List, [], ◌∷◌, Option, Some, codes}
 use Rattle.std.specs.Option.{option_map}
 use Rattle.clap.specs.Words.{Kinds, IsAmong, Row, Text, fault_of, subcommand_of}
 use Rattle.clap.specs.declared.error.kind.ErrorKind.{ErrorKind}
 use Rattle.command_line.specs.Options.{AreListed, CarriesDump, CarriesIndex, CarriesJoin, CarriesPages}
 use Rattle.command_line.specs.Options.{CarriesQuery, CarriesShell, CarriesSnapshot}
+use Rattle.command_line.specs.Options.At.{is_nowhere}
 use Rattle.command_line.specs.Options.Report.{lacks_report}
 use Rattle.command_line.specs.Program.{command_line}
 use Rattle.command_line.specs.Requests.{IsRefused, Prints}
@@ -43,14 +44,19 @@ Names program (request.Dump options) = (program_name program ≢ Some (codes "in
 Names program (request.Print text) = ⊥
 Names program (request.Refuse text) = ⊥
 
--- the program that the words name, unless they give a form for its report, and no file: this is refused
-abbrev pub AsksFor : (lacks_report : Bool) → Option (Text × List Row) → Request → Type 0
+-- what the rules of `clap` let pass, and is refused: a form for a report, and no file; a folder for the documents that
+-- is none
+abbrev pub is_unfit : List Row → Bool
+is_unfit rows = lacks_report rows || is_nowhere rows
+
+-- the program that the words name, unless what they give it is refused
+abbrev pub AsksFor : (is_unfit : Bool) → Option (Text × List Row) → Request → Type 0
 AsksFor true program r = IsRefused r
 AsksFor false program r = Names program r
 
 -- no fault in the words: the program that they name; else one of the answers that the rules allow
 abbrev pub AsksBy : Kinds → Option (Text × List Row) → Request → Type 0
-AsksBy [] program r = AsksFor (lacks_report (rows_in program)) program r
+AsksBy [] program r = AsksFor (is_unfit (rows_in program)) program r
 AsksBy (k ∷ ks) program r = (answer : ErrorKind) × IsAmong answer (k ∷ ks) × Prints answer r
 
 -- what the words ask for, of which the first is the program's name; the lists of the words that some options take are

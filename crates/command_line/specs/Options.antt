@@ -6,6 +6,7 @@ use Rattle.command_line.specs.Arguments.{texts_at}
 use Rattle.command_line.specs.Values.{text_of, texts_of}
 use Rattle.command_line.specs.Options.Accept.{accept_rule, accept_words, dialect_of}
 use Rattle.command_line.specs.Options.Also.{also_of}
+use Rattle.command_line.specs.Options.At.{at_of, at_rule}
 use Rattle.command_line.specs.Options.Comments.{comments_of, comments_rule, comments_words}
 use Rattle.command_line.specs.Options.CustomOptions.{custom_options_rule, custom_options_words}
 use Rattle.command_line.specs.Options.Details.{details_in, details_rule}
@@ -43,6 +44,7 @@ use Rattle.command_line.specs.declared.options.SnapshotOptions.{SnapshotOptions}
 use Rattle.command_line.specs.declared.options.WordLists.{WordLists}
 pub mod Accept
 pub mod Also
+pub mod At
 pub mod Comments
 pub mod CustomOptions
 pub mod Details
@@ -86,9 +88,9 @@ pub record AreListed (lists : WordLists) : Type 0 where
 abbrev pub own_rules : List Rule
 own_rules = quiet_rule ∷ max_skipped_rule ∷ min_sources_rule ∷ []
 
--- those of `index` and of `shell`: for trees as they lie, on the run and on the package
+-- those of `index` and of `shell`: for trees as they lie, on the run, on where the sources are, and on the package
 abbrev pub setting_rules : List Rule
-setting_rules = real_rule ∷ workers_rule ∷ project_root_rule ∷ manager_rule ∷ package_rule ∷ release_rule ∷ []
+setting_rules = real_rule ∷ workers_rule ∷ project_root_rule ∷ at_rule ∷ manager_rule ∷ package_rule ∷ release_rule ∷ []
 
 -- on what is indexed
 abbrev pub choice_rules : WordLists → List Rule
@@ -125,6 +127,7 @@ pub record Carries (rows : List Row) (options : IndexOptions) : Type 0 where
   pub is_real : options.is_real ≡ is_real rows
   pub workers : options.workers ≡ workers_of rows
   pub project_root : string_bytes options.project_root ≡ project_root_of rows
+  pub at : string_bytes options.at ≡ at_of rows
   pub manager : string_bytes options.manager ≡ manager_of rows
   pub «package» : string_bytes options.«package» ≡ package_of rows
   pub release : string_bytes options.release ≡ release_of rows

@@ -25,6 +25,7 @@ ghost use Rattle.command_line.specs.Options.{
 
 pub(crate) mod accept;
 pub(crate) mod also;
+pub(crate) mod at;
 mod comments;
 pub(crate) mod custom_options;
 mod details;
@@ -128,6 +129,8 @@ pub struct IndexOptions {
     pub workers: Workers,
     /// Where the sources' folder is, as a URI; `file:///` if it isn't given.
     pub project_root: String,
+    /// The folder that the documents' paths are below, empty if it isn't given.
+    pub at: String,
     /// The package's manager, empty if it isn't given.
     pub manager: String,
     /// The package's name, empty if it isn't given.
@@ -260,7 +263,7 @@ fn own_options<'a>(alloc: Global) -> Result<Vec<Arg<'a>>, AllocError>
     ]?)
 }
 
-/// The option for trees as they lie, and those on the run and on the package.
+/// The option for trees as they lie, and those on the run, on where the sources are, and on the package.
 fn settings<'a>(alloc: Global) -> Result<Vec<Arg<'a>>, AllocError>
     ensures { IfOk result (λ args. map rule_of args.items ≡ setting_rules) }
 {
@@ -268,6 +271,7 @@ fn settings<'a>(alloc: Global) -> Result<Vec<Arg<'a>>, AllocError>
         real::arg(alloc),
         workers::arg(alloc),
         project_root::arg(alloc),
+        at::arg(alloc),
         package::manager(alloc),
         package::package(alloc),
         package::release(alloc),
@@ -352,6 +356,7 @@ pub(crate) fn options_of(alloc: Global, given: &ArgMatches<'_>) -> Result<IndexO
         is_real: is_real(given),
         workers: workers_of(given),
         project_root: text_of(alloc, given, project_root::NAME)?,
+        at: text_of(alloc, given, at::NAME)?,
         manager: text_of(alloc, given, package::MANAGER)?,
         package: text_of(alloc, given, package::PACKAGE)?,
         release: text_of(alloc, given, package::RELEASE)?,

@@ -4,14 +4,14 @@ ghost use Rattle.std.specs.Prelude.{◌≢◌, ◌≡◌, IfOk, IfErr, IsErr, ma
 ghost use Rattle.std.specs.IoError.{error_kind};
 ghost use Rattle.std.specs.declared.io.ErrorKind.TheVariants.{OutOfMemory as Memory};
 ghost use Rattle.clap.specs.Words.{kind_of, subcommand_rows_of};
-ghost use Rattle.command_line.specs.Asks.{Asks, AsksFor, Names};
+ghost use Rattle.command_line.specs.Asks.{Asks, AsksFor, Names, is_unfit};
 ghost use Rattle.command_line.specs.Options.{CarriesDump};
-ghost use Rattle.command_line.specs.Options.Report.{lacks_report};
 ghost use Rattle.command_line.specs.Requests.{IsRefused, Prints};
 ghost use Rattle.command_line.specs.Values.{rows_in};
 
 use crate::names::{INDEX, JOIN, PAGES, QUERY, SHELL, SNAPSHOT};
 use crate::options::accept::add_what_all_is;
+use crate::options::at::{NO_FOLDER, is_nowhere};
 use crate::options::report::{FORM_ALONE, lacks_report};
 use crate::options::{
     DumpOptions, WordLists, dump_options_of, index_request_of, join_options_of, pages_options_of,
@@ -41,16 +41,19 @@ pub fn request_of(alloc: Global, words: &Vec<String>) -> Result<Request, AllocEr
     }
 }
 
-/// The program that a command line names, with what it is given; a form for a report without a file is refused.
+/// The program that a command line names, with what it is given; a form for a report without a file is refused, and so
+/// is a folder for the documents that is none.
 fn asked(alloc: Global, matches: &ArgMatches<'_>) -> Result<Request, AllocError>
-    ensures { IfOk result (AsksFor (lacks_report (rows_in (subcommand_rows_of matches.now)))
+    ensures { IfOk result (AsksFor (is_unfit (rows_in (subcommand_rows_of matches.now)))
         (subcommand_rows_of matches.now)) }
 {
     if lacks_report(matches) {
-        refuse(alloc, FORM_ALONE)
-    } else {
-        named(alloc, matches)
+        return refuse(alloc, FORM_ALONE);
     }
+    if is_nowhere(matches) {
+        return refuse(alloc, NO_FOLDER);
+    }
+    named(alloc, matches)
 }
 
 /// The program that a command line names, with what it is given.

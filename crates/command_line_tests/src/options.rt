@@ -21,6 +21,8 @@ pub(crate) const OPTIONS: &str = "      --real
           How many threads to use, 1 to 16; the index is the same for any number [default: 4]
       --project-root <URI>
           Where the sources' folder is, for the index's metadata [default: file:///]
+      --at <PREFIX>
+          The path of ROOT in its repository; the paths of documents are below it
       --manager <NAME>
           The manager of the package that the symbols name, empty if not given
       --package <NAME>
@@ -100,35 +102,35 @@ static ASKED: [Asked; 22] = [
     },
     Asked {
         words: "index api out",
-        request: "Index(IndexRequest { options: IndexOptions { root: \"api\", is_real: false, workers: Workers { count: 4 }, project_root: \"file:///\", manager: \"\", package: \"\", release: \"\", only: None, doc: None, comments: Raw, details: false, include: [], include_packages: [], well_known: false, encoding: Utf8, dialect: Proto3(Refuse), faulty: Refuse, duplicates: Refuse, explain: false, exclude: [], links: Ignore, report: ReportOptions { path: None, format: JsonLines } }, out: \"out\", quiet: false, limits: Limits { max_skipped: None, min_sources: None } })",
+        request: "Index(IndexRequest { options: IndexOptions { root: \"api\", is_real: false, workers: Workers { count: 4 }, project_root: \"file:///\", at: \"\", manager: \"\", package: \"\", release: \"\", only: None, doc: None, comments: Raw, details: false, include: [], include_packages: [], well_known: false, encoding: Utf8, dialect: Proto3(Refuse), faulty: Refuse, duplicates: Refuse, explain: false, exclude: [], links: Ignore, report: ReportOptions { path: None, format: JsonLines } }, out: \"out\", quiet: false, limits: Limits { max_skipped: None, min_sources: None } })",
     },
     Asked {
-        words: "index --workers 2 --quiet --max-skipped 3 --min-sources=812 --report f --report-format sarif --project-root u --manager m --package p --release r --only o --doc both --comments clean --details --include j --include i --positions utf16 --accept all --custom-options skip --faulty skip --duplicates keep --explain api out",
-        request: "Index(IndexRequest { options: IndexOptions { root: \"api\", is_real: false, workers: Workers { count: 2 }, project_root: \"u\", manager: \"m\", package: \"p\", release: \"r\", only: Some(\"o\"), doc: Some(Both), comments: Clean, details: true, include: [\"j\", \"i\"], include_packages: [], well_known: false, encoding: Utf16, dialect: All, faulty: Skip, duplicates: Keep, explain: true, exclude: [], links: Ignore, report: ReportOptions { path: Some(\"f\"), format: Sarif } }, out: \"out\", quiet: true, limits: Limits { max_skipped: Some(3), min_sources: Some(812) } })",
+        words: "index --workers 2 --quiet --max-skipped 3 --min-sources=812 --report f --report-format sarif --project-root u --at d/.e --manager m --package p --release r --only o --doc both --comments clean --details --include j --include i --positions utf16 --accept all --custom-options skip --faulty skip --duplicates keep --explain api out",
+        request: "Index(IndexRequest { options: IndexOptions { root: \"api\", is_real: false, workers: Workers { count: 2 }, project_root: \"u\", at: \"d/.e\", manager: \"m\", package: \"p\", release: \"r\", only: Some(\"o\"), doc: Some(Both), comments: Clean, details: true, include: [\"j\", \"i\"], include_packages: [], well_known: false, encoding: Utf16, dialect: All, faulty: Skip, duplicates: Keep, explain: true, exclude: [], links: Ignore, report: ReportOptions { path: Some(\"f\"), format: Sarif } }, out: \"out\", quiet: true, limits: Limits { max_skipped: Some(3), min_sources: Some(812) } })",
     },
     Asked {
-        words: "shell --more --workers 16 --project-root=u --manager=m --package=p --release=r --report=f --report-format=jsonl --only=o --doc=trailing --comments=raw --include=i --positions=utf8 --accept=proto3 --custom-options=refuse --faulty=refuse -- -api",
-        request: "Shell(ShellRequest { options: IndexOptions { root: \"-api\", is_real: false, workers: Workers { count: 16 }, project_root: \"u\", manager: \"m\", package: \"p\", release: \"r\", only: Some(\"o\"), doc: Some(Trailing), comments: Raw, details: false, include: [\"i\"], include_packages: [], well_known: false, encoding: Utf8, dialect: Proto3(Refuse), faulty: Refuse, duplicates: Refuse, explain: false, exclude: [], links: Ignore, report: ReportOptions { path: Some(\"f\"), format: JsonLines } }, more: true })",
+        words: "shell --more --workers 16 --project-root=u --at=.../-d --manager=m --package=p --release=r --report=f --report-format=jsonl --only=o --doc=trailing --comments=raw --include=i --positions=utf8 --accept=proto3 --custom-options=refuse --faulty=refuse -- -api",
+        request: "Shell(ShellRequest { options: IndexOptions { root: \"-api\", is_real: false, workers: Workers { count: 16 }, project_root: \"u\", at: \".../-d\", manager: \"m\", package: \"p\", release: \"r\", only: Some(\"o\"), doc: Some(Trailing), comments: Raw, details: false, include: [\"i\"], include_packages: [], well_known: false, encoding: Utf8, dialect: Proto3(Refuse), faulty: Refuse, duplicates: Refuse, explain: false, exclude: [], links: Ignore, report: ReportOptions { path: Some(\"f\"), format: JsonLines } }, more: true })",
     },
     Asked {
         words: "index api --include a --include-package m n r d --include b out --include-package '' '' '' e --include c",
-        request: "Index(IndexRequest { options: IndexOptions { root: \"api\", is_real: false, workers: Workers { count: 4 }, project_root: \"file:///\", manager: \"\", package: \"\", release: \"\", only: None, doc: None, comments: Raw, details: false, include: [\"a\", \"b\", \"c\"], include_packages: [PackageFolder { manager: \"m\", name: \"n\", release: \"r\", folder: \"d\" }, PackageFolder { manager: \"\", name: \"\", release: \"\", folder: \"e\" }], well_known: false, encoding: Utf8, dialect: Proto3(Refuse), faulty: Refuse, duplicates: Refuse, explain: false, exclude: [], links: Ignore, report: ReportOptions { path: None, format: JsonLines } }, out: \"out\", quiet: false, limits: Limits { max_skipped: None, min_sources: None } })",
+        request: "Index(IndexRequest { options: IndexOptions { root: \"api\", is_real: false, workers: Workers { count: 4 }, project_root: \"file:///\", at: \"\", manager: \"\", package: \"\", release: \"\", only: None, doc: None, comments: Raw, details: false, include: [\"a\", \"b\", \"c\"], include_packages: [PackageFolder { manager: \"m\", name: \"n\", release: \"r\", folder: \"d\" }, PackageFolder { manager: \"\", name: \"\", release: \"\", folder: \"e\" }], well_known: false, encoding: Utf8, dialect: Proto3(Refuse), faulty: Refuse, duplicates: Refuse, explain: false, exclude: [], links: Ignore, report: ReportOptions { path: None, format: JsonLines } }, out: \"out\", quiet: false, limits: Limits { max_skipped: None, min_sources: None } })",
     },
     Asked {
         words: "index api out --max-skipped +0 --min-sources 04294967295 --report f",
-        request: "Index(IndexRequest { options: IndexOptions { root: \"api\", is_real: false, workers: Workers { count: 4 }, project_root: \"file:///\", manager: \"\", package: \"\", release: \"\", only: None, doc: None, comments: Raw, details: false, include: [], include_packages: [], well_known: false, encoding: Utf8, dialect: Proto3(Refuse), faulty: Refuse, duplicates: Refuse, explain: false, exclude: [], links: Ignore, report: ReportOptions { path: Some(\"f\"), format: JsonLines } }, out: \"out\", quiet: false, limits: Limits { max_skipped: Some(0), min_sources: Some(4294967295) } })",
+        request: "Index(IndexRequest { options: IndexOptions { root: \"api\", is_real: false, workers: Workers { count: 4 }, project_root: \"file:///\", at: \"\", manager: \"\", package: \"\", release: \"\", only: None, doc: None, comments: Raw, details: false, include: [], include_packages: [], well_known: false, encoding: Utf8, dialect: Proto3(Refuse), faulty: Refuse, duplicates: Refuse, explain: false, exclude: [], links: Ignore, report: ReportOptions { path: Some(\"f\"), format: JsonLines } }, out: \"out\", quiet: false, limits: Limits { max_skipped: Some(0), min_sources: Some(4294967295) } })",
     },
     Asked {
         words: "index api --exclude .git --links follow --exclude=a/**/b out --well-known",
-        request: "Index(IndexRequest { options: IndexOptions { root: \"api\", is_real: false, workers: Workers { count: 4 }, project_root: \"file:///\", manager: \"\", package: \"\", release: \"\", only: None, doc: None, comments: Raw, details: false, include: [], include_packages: [], well_known: true, encoding: Utf8, dialect: Proto3(Refuse), faulty: Refuse, duplicates: Refuse, explain: false, exclude: [\".git\", \"a/**/b\"], links: Follow, report: ReportOptions { path: None, format: JsonLines } }, out: \"out\", quiet: false, limits: Limits { max_skipped: None, min_sources: None } })",
+        request: "Index(IndexRequest { options: IndexOptions { root: \"api\", is_real: false, workers: Workers { count: 4 }, project_root: \"file:///\", at: \"\", manager: \"\", package: \"\", release: \"\", only: None, doc: None, comments: Raw, details: false, include: [], include_packages: [], well_known: true, encoding: Utf8, dialect: Proto3(Refuse), faulty: Refuse, duplicates: Refuse, explain: false, exclude: [\".git\", \"a/**/b\"], links: Follow, report: ReportOptions { path: None, format: JsonLines } }, out: \"out\", quiet: false, limits: Limits { max_skipped: None, min_sources: None } })",
     },
     Asked {
         words: "index api --real --include i out",
-        request: "Index(IndexRequest { options: IndexOptions { root: \"api\", is_real: true, workers: Workers { count: 4 }, project_root: \"file:///\", manager: \"\", package: \"\", release: \"\", only: None, doc: Some(Both), comments: Clean, details: true, include: [\"i\"], include_packages: [], well_known: true, encoding: Utf8, dialect: All, faulty: Skip, duplicates: Keep, explain: false, exclude: [], links: Ignore, report: ReportOptions { path: None, format: JsonLines } }, out: \"out\", quiet: false, limits: Limits { max_skipped: None, min_sources: None } })",
+        request: "Index(IndexRequest { options: IndexOptions { root: \"api\", is_real: true, workers: Workers { count: 4 }, project_root: \"file:///\", at: \"\", manager: \"\", package: \"\", release: \"\", only: None, doc: Some(Both), comments: Clean, details: true, include: [\"i\"], include_packages: [], well_known: true, encoding: Utf8, dialect: All, faulty: Skip, duplicates: Keep, explain: false, exclude: [], links: Ignore, report: ReportOptions { path: None, format: JsonLines } }, out: \"out\", quiet: false, limits: Limits { max_skipped: None, min_sources: None } })",
     },
     Asked {
         words: "shell --accept proto3 --custom-options skip --faulty refuse --duplicates refuse --doc nothing --comments raw --real api",
-        request: "Shell(ShellRequest { options: IndexOptions { root: \"api\", is_real: true, workers: Workers { count: 4 }, project_root: \"file:///\", manager: \"\", package: \"\", release: \"\", only: None, doc: Some(Nothing), comments: Raw, details: true, include: [], include_packages: [], well_known: true, encoding: Utf8, dialect: Proto3(Skip), faulty: Refuse, duplicates: Refuse, explain: false, exclude: [], links: Ignore, report: ReportOptions { path: None, format: JsonLines } }, more: false })",
+        request: "Shell(ShellRequest { options: IndexOptions { root: \"api\", is_real: true, workers: Workers { count: 4 }, project_root: \"file:///\", at: \"\", manager: \"\", package: \"\", release: \"\", only: None, doc: Some(Nothing), comments: Raw, details: true, include: [], include_packages: [], well_known: true, encoding: Utf8, dialect: Proto3(Skip), faulty: Refuse, duplicates: Refuse, explain: false, exclude: [], links: Ignore, report: ReportOptions { path: None, format: JsonLines } }, more: false })",
     },
     Asked {
         words: "snapshot a.scip api",
@@ -207,6 +209,33 @@ error: unexpected argument '--report' found
 
 index api out --workers 0
 error: invalid value '0' for '--workers <N>': 0 is not in 1..=16
+
+index api out --at ''
+error: '--at <PREFIX>' takes names with one '/' between them, none of them '.' or '..'
+
+index api out --at /a
+error: '--at <PREFIX>' takes names with one '/' between them, none of them '.' or '..'
+
+index api out --at a/
+error: '--at <PREFIX>' takes names with one '/' between them, none of them '.' or '..'
+
+shell api --at a//b
+error: '--at <PREFIX>' takes names with one '/' between them, none of them '.' or '..'
+
+shell api --at a/../b
+error: '--at <PREFIX>' takes names with one '/' between them, none of them '.' or '..'
+
+index api out --at .
+error: '--at <PREFIX>' takes names with one '/' between them, none of them '.' or '..'
+
+index api out --at a\u{1}b
+error: '--at <PREFIX>' takes names with one '/' between them, none of them '.' or '..'
+
+index api out --at a --at a
+error: the argument '--at <PREFIX>' cannot be used multiple times
+
+query a --at b
+error: unexpected argument '--at' found
 
 index api out --doc none
 error: invalid value 'none' for '--doc <WORD>'

@@ -28,6 +28,7 @@ package_in options = record {
 abbrev pub settings_in : IndexOptions → Packages → Settings
 settings_in options ids = record {
   project_root = string_bytes options.project_root;
+  at = string_bytes options.at;
   «package» = ids;
   encoding = options.encoding;
   dialect = options.dialect;

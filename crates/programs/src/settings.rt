@@ -31,6 +31,7 @@ pub(crate) fn settings_of(
 {
     Ok(Settings {
         project_root: OwnedText::copy_of(alloc, options.project_root.as_str())?,
+        at: OwnedText::copy_of(alloc, options.at.as_str())?,
         package: packages,
         encoding: options.encoding,
         dialect: options.dialect,

@@ -19,11 +19,23 @@ pub(crate) const DOUBT: &[u8] = b"\n\x1C\x12\x0E\n\tprotoscip\x12\x011\x1A\x08fi
 \"\x08Protobuf0\x01\
 \x1A\x1B\n\x16scip-protobuf . . . T#2\x01T\0";
 
-static ROWS: [Row; 36] = [
+static ROWS: [Row; 39] = [
     Row {
         words: "index api out",
         written: b"\x0A\x1C\x12\x0E\x0A\x09protoscip\x12\x011\x1A\x08file:///\x20\x01\
 \x12\xA7\x01\x0A\x07a.proto\
+\x12\x27\x0A\x03\x00\x00\x00\x12\x1Escip-protobuf . . . `a.proto`/\x18\x01\
+\x12\x1F\x0A\x03\x01\x08\x09\x12\x16scip-protobuf . . . A#\x18\x01\
+\x1A\x1B\x0A\x16scip-protobuf . . . A#\x32\x01A\
+\x1A\x29\x0A\x1Escip-protobuf . . . `a.proto`/\x32\x07a.proto\
+\x22\x08Protobuf\x30\x01\0",
+        ..SILENT
+    },
+    // the document's path alone is below the folder
+    Row {
+        words: "index --at d api out",
+        written: b"\x0A\x1C\x12\x0E\x0A\x09protoscip\x12\x011\x1A\x08file:///\x20\x01\
+\x12\xA9\x01\x0A\x09d/a.proto\
 \x12\x27\x0A\x03\x00\x00\x00\x12\x1Escip-protobuf . . . `a.proto`/\x18\x01\
 \x12\x1F\x0A\x03\x01\x08\x09\x12\x16scip-protobuf . . . A#\x18\x01\
 \x1A\x1B\x0A\x16scip-protobuf . . . A#\x32\x01A\
@@ -237,6 +249,22 @@ protoscip: TooFewSources\n",
         words: "shell said --accept all",
         input: "sym a.proto",
         printed: "scip-protobuf . . . A#\nscip-protobuf . . . B#\nscip-protobuf . . . `a.proto`/\n= 3\n\0",
+        ..SILENT
+    },
+    Row {
+        words: "shell said --at d/e --only A --accept all",
+        input: "sym a.proto\nsym d/e/a.proto",
+        printed: "? no document\nscip-protobuf . . . A#\nscip-protobuf . . . `a.proto`/\n= 2\n\0",
+        ..SILENT
+    },
+    Row {
+        words: "shell nowhere --at d/../e",
+        status: 2,
+        said: "error: '--at <PREFIX>' takes names with one '/' between them, none of them '.' or '..'
+
+Usage: protoscip <COMMAND>
+
+For more information, try '--help'.\n",
         ..SILENT
     },
     Row {

@@ -1,0 +1,12 @@
+use Rattle.std.proofs.Common.{rules, arith}
+use Rattle.std.proofs.lemmas.Iterator.Search.{all_from_yields_List}
+use Rattle.std.proofs.lemmas.Iterator.Splits.{YieldsList-from_str_split}
+use borrow.Author.Tests.{tests}
+use Rattle.command_line.specs.Options.At.{is_component}
+use Rattle.command_line.proofs.options.at.has_components.Goals as goal
+
+pub returns : goal.returns
+returns c = all_from_yields_List is_component _ _ c.all.result c.all.ensures.ran
+    (YieldsList-from_str_split 47 c.args.text.now (omega arith) c.split.ensures.text c.split.ensures.has_more
+    c.split.ensures.pattern)
+    (λ x b q k. search (rules, tests))

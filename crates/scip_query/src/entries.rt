@@ -3,7 +3,7 @@
 ghost use Rattle.std.specs.Prelude.{◌≡◌, Some, option_copied};
 ghost use Rattle.std.specs.List.{slice_get};
 ghost use Rattle.scip_query.specs.Entries.{entry_of, shown_name, kind_in, signature_in, signature_at};
-ghost use Rattle.scip_query.specs.Outcomes.{Gives};
+ghost use Rattle.scip_query.specs.Outcomes.{GivesAtOnce};
 ghost use Rattle.scip_query.specs.Views.{subject_view};
 
 use crate::position::Position;
@@ -21,8 +21,8 @@ fn name_in(entry: Option<&SymbolInformation>) -> &str
     }
 }
 
-/// The kind of an entry; 0 if there is none.
-fn kind_in(entry: Option<&SymbolInformation>) -> i32
+/// The kind of an entry (`scip.proto`, `SymbolInformation.Kind`); 0 if there is none.
+pub fn kind_in(entry: Option<&SymbolInformation>) -> i32
     ensures { result ≡ kind_in (option_copied entry.entry) }
 {
     match entry {
@@ -31,8 +31,8 @@ fn kind_in(entry: Option<&SymbolInformation>) -> i32
     }
 }
 
-/// The signature's text of an entry; no text if there is none.
-fn signature_in(entry: Option<&SymbolInformation>) -> &str
+/// The signature's text of an entry; no text if there is no entry, or it doesn't say.
+pub fn signature_in(entry: Option<&SymbolInformation>) -> &str
     ensures { result.now ≡ signature_in (option_copied entry.entry) }
 {
     match entry {
@@ -69,7 +69,7 @@ impl Queries {
     /// How the symbol at a position is declared: the text of the signature in its first entry; no text if it has none.
     /// Entries are looked for as by `documentation`, and the refusals are those of `references`, without `Memory`.
     pub fn signature(&self, path: &str, line: u32, column: u32) -> Result<&str, QueryFault>
-        ensures { Gives (λ text. text.now) result (signature_at self.now path.now
+        ensures { GivesAtOnce (λ text. text.now) result (signature_at self.now path.now
             (record { line = line; column = column })) }
     {
         match self.subject_at(path, Position { line, column }) {

@@ -1,9 +1,13 @@
 //! The names of kinds.
 
-ghost use Rattle.std.specs.Prelude.{◌≡◌};
+ghost use Rattle.std.specs.Prelude.{◌≡◌, IfOk};
+ghost use Rattle.std.specs.Fmt.{signed_decimal};
 ghost use Rattle.std.specs.Option.{option_map};
+ghost use Rattle.std.specs.String.{string_bytes};
 ghost use Rattle.scip_query.specs.CommandViews.{text_of};
-ghost use Rattle.scip_query.specs.Kinds.{kind_name};
+ghost use Rattle.scip_query.specs.Kinds.{kind_name, kind_text};
+
+use std::alloc::{AllocError, Global};
 
 /// The names of the kinds, in the order of their numbers (`scip.proto`, `SymbolInformation.Kind`).
 const KIND_NAMES: &str =
@@ -23,5 +27,25 @@ pub(crate) fn kind_name(kind: i32) -> Option<&'static str>
     match usize::try_from(kind) {
         Ok(number) => KIND_NAMES.split(' ').nth(number),
         Err(_) => None,
+    }
+}
+
+/// The number of a kind, as a text.
+fn kind_number(alloc: Global, kind: i32) -> Result<String, AllocError>
+    ensures { IfOk result (λ text. string_bytes text ≡ signed_decimal kind) }
+{
+    let mut text = String::new(alloc);
+    write!(text, "{kind}")?;
+    Ok(text)
+}
+
+/// The name that `scip.proto` has for a kind (`SymbolInformation.Kind`), the number of one without a name, and `-` for
+/// 0.
+pub fn kind_text(alloc: Global, kind: i32) -> Result<String, AllocError>
+    ensures { IfOk result (λ text. string_bytes text ≡ kind_text kind) }
+{
+    match kind_name(kind) {
+        Some(name) => String::from_str(alloc, name),
+        None => kind_number(alloc, kind),
     }
 }

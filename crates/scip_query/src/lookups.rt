@@ -9,7 +9,7 @@ ghost use Rattle.scip_records.specs.declared.records.SymbolInformation.{SymbolIn
 ghost use Rattle.scip_query.specs.Sites.{Site};
 ghost use Rattle.scip_query.specs.References.{references_at, definitions_of, definitions_at, site_places};
 ghost use Rattle.scip_query.specs.Documentation.{entries_for, texts_of, documentation_at, symbols_of};
-ghost use Rattle.scip_query.specs.BySymbol.{subject_in, references_in, documentation_in};
+ghost use Rattle.scip_query.specs.BySymbol.{subject_in, references_in, entry_in, documentation_in};
 ghost use Rattle.scip_query.specs.Outcomes.{Gives};
 ghost use Rattle.std.specs.Ordering.{nat_cmp, is_eq};
 ghost use Rattle.std.specs.Cmp.Lexicographic.{slice_cmp};
@@ -58,8 +58,8 @@ fn defining(
     Ok(found)
 }
 
-/// The texts of an entry, or none.
-fn texts_of(entry: Option<&SymbolInformation>) -> &[OwnedText]
+/// The texts of an entry's documentation; none if there is no entry.
+pub fn texts_of(entry: Option<&SymbolInformation>) -> &[OwnedText]
     ensures { result.now ≡ texts_of (option_copied entry.entry) }
 {
     match entry {
@@ -257,34 +257,39 @@ impl Queries {
         }
     }
 
+    /// The first entry of a symbol, asked for in the document with this number. Entries are looked for as by
+    /// `documentation`. None if there is no entry, or the index has no such document.
+    pub fn entry_in(&self, document: usize, symbol: &str) -> Option<&SymbolInformation>
+        ensures { option_copied result ≡ entry_in self.now document symbol.now }
+    {
+        match self.subject_in(document, symbol) {
+            Some(subject) => self.entry_of(&subject),
+            None => None,
+        }
+    }
+
+    /// The same entry. It is looked for first behind so many symbol entries, in the order of their symbols' bytes; with
+    /// it comes behind how many to look for that of the next symbol.
+    pub fn entry_in_near(
+        &self,
+        near: usize,
+        document: usize,
+        symbol: &str,
+    ) -> (usize, Option<&SymbolInformation>)
+        ensures { option_copied result.1 ≡ entry_in self.now document symbol.now }
+    {
+        match self.subject_in(document, symbol) {
+            Some(subject) => self.entry_near(near, &subject),
+            None => (near, None),
+        }
+    }
+
     /// The texts of a symbol's documentation, asked for in the document with this number: those of its first entry;
     /// none if it has no entry, or the index has no such document.
     pub fn documentation_texts(&self, document: usize, symbol: &str) -> &[OwnedText]
         ensures { result.now ≡ documentation_in self.now document symbol.now }
     {
-        match self.subject_in(document, symbol) {
-            Some(subject) => texts_of(self.entry_of(&subject)),
-            None => &[],
-        }
-    }
-
-    /// The same texts. They are looked for first behind so many symbol entries, in the order of their symbols' bytes;
-    /// with them comes behind how many to look for those of the next symbol.
-    pub fn documentation_near(
-        &self,
-        near: usize,
-        document: usize,
-        symbol: &str,
-    ) -> (usize, &[OwnedText])
-        ensures { result.1.now ≡ documentation_in self.now document symbol.now }
-    {
-        match self.subject_in(document, symbol) {
-            Some(subject) => {
-                let (from, entry) = self.entry_near(near, &subject);
-                (from, texts_of(entry))
-            }
-            None => (near, &[]),
-        }
+        texts_of(self.entry_in(document, symbol))
     }
 
     /// The same, in a list of its own.

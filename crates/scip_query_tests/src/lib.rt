@@ -6,6 +6,8 @@ mod asked;
 #[cfg(test)]
 mod checks;
 #[cfg(test)]
+mod entries;
+#[cfg(test)]
 mod indexes;
 #[cfg(test)]
 mod lookups;

@@ -1,6 +1,6 @@
 -- Lists of numbers, tables of them, and lines that they mark.
 use Rattle.std.proofs.Common.{◌≡◌, ◌∙◌, sym, refl, ap, ℕ, zero, suc, ◌+◌, ◌-◌, ◌<◌, ◌≤◌, ◌==◌, Bool, true, false, cond}
-use Rattle.std.proofs.Common.{List, [], ◌∷◌, ◌++◌, map, append-nil, subst, get_or, slice_set, arith, All, map-id}
+use Rattle.std.proofs.Common.{List, [], ◌∷◌, ◌++◌, append-nil, subst, get_or, slice_set, arith, All, map-id}
 use Rattle.std.proofs.Common.{length}
 use Rattle.std.specs.Prelude.{Vec}
 use Rattle.std.specs.List.{flat_map, range_with_len}

@@ -1,8 +1,8 @@
 -- Offsets of columns.
 use Rattle.std.proofs.Common.{◌≡◌, ◌∙◌, sym, refl, ap, ℕ, suc, zero, ◌+◌, ◌-◌, ◌<◌, ◌≤◌, ◌==◌, ◌&&◌, Bool, true, false}
-use Rattle.std.proofs.Common.{cond, List, [], ◌∷◌, length, take, drop, get_or, inl, inr, ◌⊎◌, arith, drop-cons}
+use Rattle.std.proofs.Common.{cond, List, length, take, drop, get_or, inl, inr, ◌⊎◌, arith, drop-cons}
 use Rattle.std.specs.Prelude.{Option, None, Some}
-use Rattle.std.specs.List.{find, range_with_len, sum_by}
+use Rattle.std.specs.List.{find, range_with_len}
 use Rattle.std.proofs.lemmas.List.Sums.{sum_by_more}
 use Rattle.std.proofs.lemmas.List.{take_all}
 use Rattle.std.proofs.Math.ListN.{drop_of_length-le}

@@ -1,7 +1,6 @@
 -- The units of a text, counted by its bytes in UTF-8, and in the form that they are units of.
 use Rattle.std.proofs.Common.{◌≡◌, ◌∙◌, sym, refl, subst, ℕ, ◌+◌, ◌/◌, ◌<◌, ◌≤◌, List, [], ◌∷◌, length, ◌⊎◌, inl, inr}
 use Rattle.std.proofs.Common.{arith, length-append}
-use Rattle.std.specs.Prelude.{IsUtf8}
 use Rattle.std.specs.List.{sum_by, flat_map}
 use Rattle.std.specs.Str.{chars}
 use Rattle.std.specs.Char.Escape.{encode_utf16}
@@ -11,9 +10,8 @@ use Rattle.std.proofs.lemmas.List.Sums.{sum_by-append, sum_by-cons}
 use Rattle.std.proofs.lemmas.Str.{chars-encodes}
 use Rattle.std.proofs.lemmas.Bool.{lt-ltb, le-ltb, cases_lt}
 use Rattle.std.proofs.lemmas.Bool.Decides.{nat_tests}
-use Rattle.scip_pages.specs.declared.columns.ColumnUnit.{ColumnUnit}
 use Rattle.scip_pages.specs.declared.columns.ColumnUnit.TheVariants.{Utf8, Utf16, Utf32}
-use Rattle.scip_pages.specs.Columns.{units_of, units_in}
+use Rattle.scip_pages.specs.Columns.{units_of}
 use Rattle.scip_pages.specs.ColumnLaws.{CountsUtf8, CountsUtf16, CountsUtf32}
 
 pub counts_utf8 : CountsUtf8

@@ -1,14 +1,13 @@
 -- Decimal digits in a page.
-use Rattle.std.proofs.Common.{◌≡◌, ◌∙◌, sym, refl, ap, ℕ, ◌+◌, ◌%◌, ◌/◌, ◌^◌, ◌<◌, ◌≤◌, ◌==◌, List, [], ◌∷◌, ◌++◌}
+use Rattle.std.proofs.Common.{◌≡◌, ◌∙◌, sym, refl, ap, ℕ, ◌+◌, ◌%◌, ◌^◌, ◌<◌, List, [], ◌∷◌, ◌++◌}
 use Rattle.std.proofs.Common.{arith, append_assoc}
 use Rattle.std.specs.Prelude.{codes}
-use Rattle.std.specs.List.{flat_map}
 use Rattle.std.specs.Fmt.{decimal}
 use Rattle.std.proofs.lemmas.Bool.{ne_eqb}
 use Rattle.std.proofs.lemmas.Fmt.{decimal_by_steps}
 use Rattle.std.proofs.lemmas.Grind.{flat_map-append}
 use Rattle.scip_pages.specs.Escapes.{escape, escape_byte}
-use Rattle.scip_pages.specs.Code.{mark, attribute, line_mark}
+use Rattle.scip_pages.specs.Code.{mark, line_mark}
 use Rattle.scip_pages.proofs.EscapeLemmas.{plain_byte}
 
 -- a digit is written as it is

@@ -3,7 +3,7 @@ use Rattle.std.proofs.Common.{◌≡◌, ◌∙◌, sym, refl, ap, ℕ, ◌==◌
 use Rattle.std.proofs.Common.{cond, List, [], ◌++◌, map, length}
 use Rattle.std.specs.Prelude.{Option, Some, nat_lt}
 use Rattle.std.specs.List.{find, flat_map, slice_get, filter}
-use Rattle.std.specs.Option.{option_map, unwrap_or}
+use Rattle.std.specs.Option.{option_map, option_and_then, unwrap_or}
 use Rattle.std.specs.Str.{bytes_eq}
 use Rattle.std.proofs.lemmas.Slice.Eq.{bytes_eq-Decides}
 use Rattle.std.proofs.lemmas.Bool.{and_parts, ltb-true, eqb-true}
@@ -14,8 +14,8 @@ use Rattle.scip_records.specs.declared.records.SymbolInformation.{SymbolInformat
 use Rattle.scip_query.specs.Sites.{Site, sites_of}
 use Rattle.scip_query.specs.OccurrenceAt.{Subject}
 use Rattle.scip_query.specs.References.{is_local, references_of}
-use Rattle.scip_query.specs.Documentation.{documentation_of, texts_of}
-use Rattle.scip_query.specs.BySymbol.{references_in, documentation_in}
+use Rattle.scip_query.specs.Entries.{entry_of}
+use Rattle.scip_query.specs.BySymbol.{references_in, entry_in}
 use Rattle.scip_query.specs.declared.place.Place.{Place}
 use Rattle.scip_pages.specs.declared.facts.Fact.{Fact}
 use Rattle.scip_pages.specs.Site.{Sources}
@@ -44,20 +44,18 @@ in_all index symbol number document global listed =
     (filter (λ (site : Site). bytes_eq site.occurrence.symbol symbol && (not b || (site.place.document == number)))
     (sites_of index))) global
 
--- the texts of its documentation
-abbrev pub described : Index → List ℕ → List (List ℕ)
+-- its entry
+abbrev pub described : Index → List ℕ → Option SymbolInformation
 described index symbol =
-    texts_of (find (λ (entry : SymbolInformation). bytes_eq entry.symbol symbol)
-    (flat_map (λ (d : Document). d.symbols) index.documents ++ index.external_symbols))
+    find (λ (entry : SymbolInformation). bytes_eq entry.symbol symbol)
+    (flat_map (λ (d : Document). d.symbols) index.documents ++ index.external_symbols)
 
-texts_in_all : (index : Index) (symbol : List ℕ) (number : ℕ) (document : Document) → is_local symbol ≡ false
-    → slice_get index.documents number ≡ Some document → documentation_in index number symbol ≡ described index symbol
-texts_in_all index symbol number document global listed =
-    ap (λ (o : Option Document). unwrap_or
-    (option_map (documentation_of index) (option_map (asked_in number symbol) o)) [])
-    listed
-    ∙ ap (λ (b : Bool). texts_of (find (λ (entry : SymbolInformation). bytes_eq entry.symbol symbol)
-    (cond b document.symbols (flat_map (λ (d : Document). d.symbols) index.documents ++ index.external_symbols))))
+entry_in_all : (index : Index) (symbol : List ℕ) (number : ℕ) (document : Document) → is_local symbol ≡ false
+    → slice_get index.documents number ≡ Some document → entry_in index number symbol ≡ described index symbol
+entry_in_all index symbol number document global listed =
+    ap (λ (o : Option Document). option_and_then (entry_of index) (option_map (asked_in number symbol) o)) listed
+    ∙ ap (λ (b : Bool). find (λ (entry : SymbolInformation). bytes_eq entry.symbol symbol)
+    (cond b document.symbols (flat_map (λ (d : Document). d.symbols) index.documents ++ index.external_symbols)))
     global
 
 -- so what is asked of it is the same in all documents
@@ -81,7 +79,7 @@ alike {Y = Y} index symbol asked answer anywhere a b e = by (a == b) (is_local s
 
 -- ---- facts
 
--- a fact that serves tells where the symbol is, and its documentation
+-- a fact that serves tells where the symbol is, and its entry
 pub served_tells : (index : Index) (sources : Sources) (fact : Fact) (document : ℕ) (symbol : List ℕ)
     → IsFact index sources fact → serves fact (length index.documents) document symbol ≡ true
     → Tells index sources document symbol fact
@@ -93,12 +91,12 @@ served_tells index sources fact document symbol fine e =
     ap (λ (s : List ℕ). references_in index fact.document s) is
     ∙ alike index symbol (λ (n : ℕ). references_in index n symbol) (everywhere index symbol) (in_all index symbol)
     fact.document document two.1 in
-    let texts : documentation_in index fact.document fact.symbol.now ≡ documentation_in index document symbol =
-    ap (λ (s : List ℕ). documentation_in index fact.document s) is
-    ∙ alike index symbol (λ (n : ℕ). documentation_in index n symbol) (described index symbol)
-    (texts_in_all index symbol) fact.document document two.1 in
+    let entries : entry_in index fact.document fact.symbol.now ≡ entry_in index document symbol =
+    ap (λ (s : List ℕ). entry_in index fact.document s) is
+    ∙ alike index symbol (λ (n : ℕ). entry_in index n symbol) (described index symbol)
+    (entry_in_all index symbol) fact.document document two.1 in
     record {
       places_are = fine.places_are ∙ places;
       definition_is = fine.definition_is ∙ ap (find (is_shown_definition index sources)) places;
-      documentation_is = fine.documentation_is ∙ texts;
+      entry_is = fine.entry_is ∙ entries;
     }

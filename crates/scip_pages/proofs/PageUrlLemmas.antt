@@ -1,5 +1,5 @@
 -- The URLs that stand in a page.
-use Rattle.std.proofs.Common.{◌≡◌, ◌∙◌, sym, ap, subst, ℕ, ◌+◌, ◌<◌, true, false, List, [], ◌++◌, length, arith}
+use Rattle.std.proofs.Common.{◌≡◌, ◌∙◌, sym, ap, subst, ℕ, ◌<◌, true, false, List, [], ◌++◌, length, arith}
 use Rattle.std.specs.Prelude.{codes, Option, Some}
 use Rattle.std.specs.List.{AllByRecursion, slice_get}
 use Rattle.std.specs.Option.{is_some, option_and_then, option_map_or}

@@ -1,12 +1,12 @@
 -- Spans laid over bytes, and runs of marks.
-use Rattle.std.proofs.Common.{◌≡◌, ◌≢◌, ◌∙◌, sym, refl, ap, subst, ℕ, suc, zero, ◌+◌, ◌-◌, ◌<◌, ◌≤◌, ◌==◌, ◌&&◌, Bool}
-use Rattle.std.proofs.Common.{true, false, cond, nat_lt, nat_le, List, [], ◌∷◌, length, take, drop, set, get_or, inl}
-use Rattle.std.proofs.Common.{inr, ◌⊎◌, arith, get_or-set_other, get_or-set_same, map, ◌++◌}
+use Rattle.std.proofs.Common.{◌≡◌, ◌∙◌, sym, refl, ap, subst, ℕ, suc, zero, ◌+◌, ◌-◌, ◌<◌, ◌≤◌, ◌&&◌, Bool}
+use Rattle.std.proofs.Common.{true, false, cond, nat_lt, nat_le, List, [], ◌∷◌, length, take, drop, get_or, inl}
+use Rattle.std.proofs.Common.{inr, ◌⊎◌, arith, map, ◌++◌}
 use Rattle.std.specs.Prelude.{Option, None, Some}
 use Rattle.std.specs.List.{prefix_len, range_with_len}
 use Rattle.std.proofs.lemmas.List.Sums.{fold_more}
 use Rattle.std.proofs.lemmas.List.{take_all}
-use Rattle.std.proofs.lemmas.Bool.{cases_lt, eqb-true, eq-eqb, lt-ltb, le-ltb, le-leb, lt-leb}
+use Rattle.std.proofs.lemmas.Bool.{cases_lt, eq-eqb, lt-ltb, le-ltb, le-leb, lt-leb}
 use Rattle.std.proofs.Math.Bool.{and-true, and-false}
 use Rattle.scip_pages.proofs.CodeLemmas.{marks_same as same_is}
 use Rattle.scip_pages.specs.declared.runs.Span.{Span}

@@ -1,11 +1,11 @@
 -- The narrowest of the spans of a byte.
-use Rattle.std.proofs.Common.{◌≡◌, ◌∙◌, sym, refl, subst, ℕ, ◌<◌, ◌≤◌, Bool, true, false, cond, nat_lt, List, [], ◌∷◌}
+use Rattle.std.proofs.Common.{◌≡◌, ◌∙◌, refl, subst, ℕ, ◌<◌, ◌≤◌, Bool, true, false, cond, nat_lt, List, [], ◌∷◌}
 use Rattle.std.proofs.Common.{◌⊎◌, inl, inr, arith}
 use Rattle.std.specs.Prelude.{Option, None, Some, fold}
 use Rattle.std.specs.List.{AllByRecursion}
 use Rattle.std.proofs.lemmas.Bool.{ltb-true, ltb-false, both_ways}
 use Rattle.scip_pages.specs.declared.runs.Span.{Span}
-use Rattle.scip_pages.specs.Runs.{covers, width, narrower, span_at}
+use Rattle.scip_pages.specs.Runs.{covers, width, narrower}
 use Rattle.scip_pages.specs.RunLaws.{NoneCovers, NoneIsNarrower}
 
 abbrev chosen : ℕ → Option Span → Span → Option Span

@@ -1,13 +1,15 @@
 -- Snapshots and what is in them.
-use Rattle.std.proofs.Common.{◌≡◌, ◌∙◌, sym, refl, ap, ℕ, zero, suc, ◌+◌, ◌<◌, ◌≤◌, ◌==◌, Bool, true, false, not, cond}
-use Rattle.std.proofs.Common.{List, [], ◌∷◌, ◌++◌, length, take, drop, map, append_assoc, append-nil, subst, get_or}
+use Rattle.std.proofs.Common.{◌≡◌, ◌∙◌, sym, refl, ap, ℕ, zero, suc, ◌+◌, ◌<◌, ◌≤◌, ◌==◌, Bool, true, false, cond}
+use Rattle.std.proofs.Common.{List, [], ◌∷◌, ◌++◌, length, drop, map, append_assoc, append-nil, subst, get_or}
 use Rattle.std.proofs.Common.{slice_set, arith, All}
-use Rattle.std.specs.Prelude.{Option, None, Some, Vec, Result}
+use Rattle.std.specs.Prelude.{Option, Vec, Result}
 use Rattle.std.specs.Borrow.{Bor}
 use Rattle.std.specs.List.{flat_map, position, position_from, enumerate_from}
 use Rattle.std.proofs.lemmas.Iterator.Adapters.{position_from-zero}
 use Rattle.std.proofs.lemmas.Bool.{eqb-true, eqb-false}
+use Rattle.scip_records.specs.Texts.{unless_empty}
 use Rattle.scip_records.specs.declared.records.Occurrence.{Occurrence}
+use Rattle.scip_records.specs.declared.records.SymbolInformation.{SymbolInformation}
 use Rattle.scip_pages.specs.declared.columns.ColumnUnit.{ColumnUnit}
 use Rattle.scip_pages.specs.Listed.{listed_on}
 use Rattle.scip_pages.specs.declared.snapshot_fault.SnapshotFault.{SnapshotFault}
@@ -26,24 +28,24 @@ none_listed (listed ∷ table) all (suc number) =
     none_listed table (λ k d inside. all (suc k) d (omega (arith, inside))) number
 
 -- texts of lines below which the same is listed
-same_from : (unit : ColumnUnit) (documentation : List ℕ → List (List ℕ)) (on other : ℕ → List Occurrence)
+same_from : (unit : ColumnUnit) (entries : List ℕ → Option SymbolInformation) (on other : ℕ → List Occurrence)
     (lines : List (List ℕ)) (from : ℕ)
     → ((number : ℕ) → from ≤ number → number < from + length lines → on number ≡ other number)
-    → flat_map (λ (x : ℕ × List ℕ). line_text unit documentation (on x.0) x.1) (enumerate_from from lines)
-    ≡ flat_map (λ (x : ℕ × List ℕ). line_text unit documentation (other x.0) x.1) (enumerate_from from lines)
-same_from unit documentation on other [] from same = refl
-same_from unit documentation on other (line ∷ lines) from same =
+    → flat_map (λ (x : ℕ × List ℕ). line_text unit entries (on x.0) x.1) (enumerate_from from lines)
+    ≡ flat_map (λ (x : ℕ × List ℕ). line_text unit entries (other x.0) x.1) (enumerate_from from lines)
+same_from unit entries on other [] from same = refl
+same_from unit entries on other (line ∷ lines) from same =
     rw (same from (omega arith) (omega arith))
-    (ap (λ l. line_text unit documentation (other from) line ++ l)
-    (same_from unit documentation on other lines (from + 1)
+    (ap (λ l. line_text unit entries (other from) line ++ l)
+    (same_from unit entries on other lines (from + 1)
     (λ number least most. same number (omega (arith, least)) (omega (arith, most)))))
 
-pub same_text : (unit : ColumnUnit) (documentation : List ℕ → List (List ℕ)) (on other : ℕ → List Occurrence)
+pub same_text : (unit : ColumnUnit) (entries : List ℕ → Option SymbolInformation) (on other : ℕ → List Occurrence)
     (lines : List (List ℕ))
     → ((number : ℕ) → number < length lines → on number ≡ other number)
-    → text_of unit documentation on lines ≡ text_of unit documentation other lines
-same_text unit documentation on other lines same =
-    same_from unit documentation on other lines 0 (λ number least most. same number (omega (arith, most)))
+    → text_of unit entries on lines ≡ text_of unit entries other lines
+same_text unit entries on other lines same =
+    same_from unit entries on other lines 0 (λ number least most. same number (omega (arith, most)))
 
 -- an occurrence more on a line
 one_more : (xs : List (Bor Occurrence)) (o : Bor Occurrence)
@@ -85,18 +87,18 @@ pub up : (n : ℕ) → suc n + 1 ≡ suc (n + 1)
 up n = omega arith
 
 -- the text of a line, and of those behind it
-pub lines_next : (unit : ColumnUnit) (documentation : List ℕ → List (List ℕ)) (on : ℕ → List Occurrence)
+pub lines_next : (unit : ColumnUnit) (entries : List ℕ → Option SymbolInformation) (on : ℕ → List Occurrence)
     (lines : List (Bor (List ℕ))) (from number : ℕ) (d : Bor (List ℕ))
     → number < length lines
-    → flat_map (λ (x : ℕ × List ℕ). line_text unit documentation (on x.0) x.1)
+    → flat_map (λ (x : ℕ × List ℕ). line_text unit entries (on x.0) x.1)
     (enumerate_from from (map (λ (t : Bor (List ℕ)). t.now) (drop number lines)))
-    ≡ line_text unit documentation (on from) (get_or lines number d).now
-    ++ flat_map (λ (x : ℕ × List ℕ). line_text unit documentation (on x.0) x.1)
+    ≡ line_text unit entries (on from) (get_or lines number d).now
+    ++ flat_map (λ (x : ℕ × List ℕ). line_text unit entries (on x.0) x.1)
     (enumerate_from (from + 1) (map (λ (t : Bor (List ℕ)). t.now) (drop (number + 1) lines)))
-lines_next unit documentation on [] from number d inside = absurd (omega (arith, inside))
-lines_next unit documentation on (line ∷ lines) from zero d inside = refl
-lines_next unit documentation on (line ∷ lines) from (suc number) d inside =
-    rw (up number) (lines_next unit documentation on lines from number d (omega (arith, inside)))
+lines_next unit entries on [] from number d inside = absurd (omega (arith, inside))
+lines_next unit entries on (line ∷ lines) from zero d inside = refl
+lines_next unit entries on (line ∷ lines) from (suc number) d inside =
+    rw (up number) (lines_next unit entries on lines from number d (omega (arith, inside)))
 
 pub gives_same : {X Y : Type 0} (view : X → Y) (r : Result X SnapshotFault) (due other : Result Y SnapshotFault)
     → due ≡ other → Gives view r due → Gives view r other
@@ -108,3 +110,9 @@ in_four text a b c d =
     ap (λ (l : List ℕ). l ++ c ++ d) (append_assoc text a b)
     ∙ ap (λ (l : List ℕ). l ++ d) (append_assoc text (a ++ b) c ∙ ap (λ (l : List ℕ). text ++ l) (append_assoc a b c))
     ∙ append_assoc text (a ++ (b ++ c)) d
+
+-- a text that isn't empty comes once
+pub once : (f : List ℕ → List ℕ) (text : List ℕ) → (length text == 0) ≡ false
+    → f text ≡ flat_map f (unless_empty text)
+once f [] e = absurd cc
+once f (b ∷ text) e = sym (append-nil (f (b ∷ text)))

@@ -1,15 +1,15 @@
 -- What URLs of pages are read as, and where they lead.
 use Rattle.std.proofs.Common.{◌≡◌, ◌∙◌, sym, refl, ap, subst, ℕ, suc, ◌+◌, ◌-◌, ◌*◌, ◌/◌, ◌%◌, ◌<◌, ◌≤◌, ◌==◌, Bool}
-use Rattle.std.proofs.Common.{true, false, cond, List, [], ◌∷◌, ◌++◌, length, take, nat_eq, append_assoc, append-nil}
+use Rattle.std.proofs.Common.{true, false, cond, List, [], ◌∷◌, ◌++◌, length, take, nat_eq, append-nil}
 use Rattle.std.proofs.Common.{arith}
 use Rattle.std.specs.Prelude.{codes, nat_lt, not, ◌&&◌}
-use Rattle.std.specs.List.{flat_map, slice_split, onto_first, starts_with, count_by, AllByRecursion}
+use Rattle.std.specs.List.{flat_map, starts_with, count_by, AllByRecursion}
 use Rattle.std.proofs.lemmas.Bool.{eqb-true, ltb-true, ltb-false, lt-ltb, le-ltb}
 use Rattle.std.proofs.lemmas.List.{length-append, length-take-le}
 use Rattle.std.proofs.lemmas.List.Recursion.{is_count_by}
 use Rattle.std.proofs.lemmas.List.Splits.{length-slice_split}
 use Rattle.scip_pages.specs.Paths.{components, has_name, is_path_below, entered, entered_all, place_of}
-use Rattle.scip_pages.specs.Urls.{is_kept, hex_digit, encoded_byte, encoded, up, ups, digit_value, decoded, folder_of}
+use Rattle.scip_pages.specs.Urls.{is_kept, hex_digit, encoded_byte, encoded, ups, digit_value, decoded, folder_of}
 use Rattle.scip_pages.specs.UrlLaws.{IsDecoded, LeadsToThePage}
 use Rattle.scip_pages.proofs.PathLemmas.{stays_below}
 

@@ -1,5 +1,5 @@
 -- Laws of columns.
-use Rattle.std.specs.Prelude.{ℕ, ◌≡◌, ◌≤◌, true, List, length, take, Some, IsUtf8, chars}
+use Rattle.std.specs.Prelude.{ℕ, ◌≡◌, ◌≤◌, true, List, length, Some, IsUtf8, chars}
 use Rattle.std.specs.List.{flat_map}
 use Rattle.std.specs.Char.Escape.{encode_utf16}
 use Rattle.scip_pages.specs.declared.columns.ColumnUnit.{ColumnUnit}

@@ -1,19 +1,19 @@
 -- What is known of symbols, and of which of them a fact is.
-use Rattle.std.specs.Prelude.{◌≡◌, ◌==◌, ℕ, Bool, true, false, cond, nat_lt, ◌&&◌, List}
+use Rattle.std.specs.Prelude.{◌≡◌, ◌==◌, ℕ, Bool, true, false, cond, nat_lt, ◌&&◌, List, option_copied}
 use Rattle.std.specs.List.{All}
 use Rattle.std.specs.Str.{bytes_eq}
 use Rattle.scip_records.specs.declared.records.Index.{Index}
 use Rattle.scip_query.specs.References.{is_local}
-use Rattle.scip_query.specs.BySymbol.{references_in, documentation_in}
+use Rattle.scip_query.specs.BySymbol.{references_in, entry_in}
 use Rattle.scip_pages.specs.declared.facts.Fact.{Fact}
 use Rattle.scip_pages.specs.Site.{Sources}
 use Rattle.scip_pages.specs.Targets.{definition_of}
 
--- a fact tells where a symbol is that is asked for in a document, and its documentation
+-- a fact tells where a symbol is that is asked for in a document, and which is its entry
 pub record Tells (index : Index) (sources : Sources) (document : ℕ) (symbol : List ℕ) (fact : Fact) : Type 0 where
   pub places_are : fact.places.now ≡ references_in index document symbol
   pub definition_is : fact.definition ≡ definition_of index sources document symbol
-  pub documentation_is : fact.documentation.now ≡ documentation_in index document symbol
+  pub entry_is : option_copied fact.information ≡ entry_in index document symbol
 
 -- a fact is right
 abbrev pub IsFact : Index → Sources → Fact → Type 0

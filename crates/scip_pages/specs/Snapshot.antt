@@ -1,6 +1,6 @@
 -- The snapshot of a document: its source, and below each line the occurrences that begin on it, in the form of SCIP's
 -- own snapshots (`scip snapshot` of the repository of SCIP).
-use Rattle.std.specs.Prelude.{ℕ, ◌+◌, ◌==◌, Bool, true, false, nat_lt, nat_le, not, ◌&&◌, ◌||◌, cond, List, [], ◌∷◌}
+use Rattle.std.specs.Prelude.{ℕ, ℤ, ◌==◌, Bool, false, nat_lt, nat_le, not, ◌&&◌, ◌||◌, cond, List, [], ◌∷◌}
 use Rattle.std.specs.Prelude.{◌++◌, length, map, filter, take, drop, codes, pos, Option, None, Some, Result, Ok, Err}
 use Rattle.std.specs.List.{flat_map, slice_get, slice_split, position, enumerate_from}
 use Rattle.std.specs.Option.{option_and_then, unwrap_or}
@@ -11,8 +11,13 @@ use Rattle.scip_records.specs.Range.{RangeNumbers}
 use Rattle.scip_records.specs.declared.records.Index.{Index}
 use Rattle.scip_records.specs.declared.records.Document.{Document}
 use Rattle.scip_records.specs.declared.records.Occurrence.{Occurrence}
+use Rattle.scip_records.specs.declared.records.SymbolInformation.{SymbolInformation}
+use Rattle.scip_records.specs.Texts.{unless_empty}
 use Rattle.scip_query.specs.References.{is_definition}
-use Rattle.scip_query.specs.BySymbol.{documentation_in}
+use Rattle.scip_query.specs.Documentation.{texts_of}
+use Rattle.scip_query.specs.Entries.{kind_in, signature_in}
+use Rattle.scip_query.specs.Kinds.{kind_text}
+use Rattle.scip_query.specs.BySymbol.{entry_in}
 use Rattle.scip_pages.specs.declared.columns.ColumnUnit.{ColumnUnit}
 use Rattle.scip_pages.specs.declared.snapshot_fault.SnapshotFault.{SnapshotFault}
 use Rattle.scip_pages.specs.declared.snapshot_fault.SnapshotFault.TheVariants.{NoDocument, NoUnit, Misfit}
@@ -91,23 +96,40 @@ abbrev pub caret_line : List ℕ → List ℕ → Occurrence → List ℕ
 caret_line before inside o =
     comment (below 32 before ++ below 94 inside ++ codes " " ++ role_of o ++ codes " " ++ map flat_byte o.symbol)
 
--- a text of documentation, each of its lines after `> `
+-- a line that says what the definition is, if that is known
+abbrev pub kind_line : List ℕ → ℤ → List ℕ
+kind_line before kind =
+    cond (int_eq kind (pos 0)) [] (comment (below 32 before ++ codes "kind " ++ kind_text kind))
+
+-- a text below what it is, each of its lines after `> `
 abbrev pub note_line : List ℕ → List ℕ → List ℕ
 note_line before line = comment (below 32 before ++ codes "> " ++ line)
 
-abbrev pub note_head : List ℕ → List ℕ
-note_head before = comment (below 32 before ++ codes "documentation")
+abbrev pub note_head : List ℕ → List ℕ → List ℕ
+note_head head before = comment (below 32 before ++ head)
 
-abbrev pub note : List ℕ → List ℕ → List ℕ
-note before text = note_head before ++ flat_map (note_line before) (lines_of text)
+abbrev pub note : List ℕ → List ℕ → List ℕ → List ℕ
+note head before text = note_head head before ++ flat_map (note_line before) (lines_of text)
 
--- an occurrence, and the documentation after it if it is a definition
-abbrev pub mark : List ℕ → List ℕ → List (List ℕ) → Occurrence → List ℕ
-mark before inside texts o = caret_line before inside o ++ cond (is_definition o) (flat_map (note before) texts) []
+abbrev pub signature_note : List ℕ → List ℕ → List ℕ
+signature_note before text = note (codes "signature_documentation") before text
 
-abbrev pub mark_in : ColumnUnit → List ℕ → (List ℕ → List (List ℕ)) → Occurrence → List ℕ
-mark_in unit line documentation o =
-    mark (before_in unit line o.range) (inside_in unit line o.range) (documentation o.symbol) o
+abbrev pub documentation_note : List ℕ → List ℕ → List ℕ
+documentation_note before text = note (codes "documentation") before text
+
+-- what the entry of a symbol says: its kind, its signature and its documentation
+abbrev pub about : List ℕ → Option SymbolInformation → List ℕ
+about before entry =
+    kind_line before (kind_in entry) ++ flat_map (signature_note before) (unless_empty (signature_in entry))
+    ++ flat_map (documentation_note before) (texts_of entry)
+
+-- an occurrence, and after it what its symbol's entry says, if it is a definition
+abbrev pub mark : List ℕ → List ℕ → Option SymbolInformation → Occurrence → List ℕ
+mark before inside entry o = caret_line before inside o ++ cond (is_definition o) (about before entry) []
+
+abbrev pub mark_in : ColumnUnit → List ℕ → (List ℕ → Option SymbolInformation) → Occurrence → List ℕ
+mark_in unit line entries o =
+    mark (before_in unit line o.range) (inside_in unit line o.range) (entries o.symbol) o
 
 -- ---- the text of a snapshot
 
@@ -119,13 +141,13 @@ abbrev pub source_line : List ℕ → List ℕ
 source_line line = codes "  " ++ line ++ codes "\n"
 
 -- Below each line are the occurrences that begin on it.
-abbrev pub line_text : ColumnUnit → (List ℕ → List (List ℕ)) → List Occurrence → List ℕ → List ℕ
-line_text unit documentation occurrences line =
-    source_line line ++ flat_map (mark_in unit line documentation) occurrences
+abbrev pub line_text : ColumnUnit → (List ℕ → Option SymbolInformation) → List Occurrence → List ℕ → List ℕ
+line_text unit entries occurrences line =
+    source_line line ++ flat_map (mark_in unit line entries) occurrences
 
-abbrev pub text_of : ColumnUnit → (List ℕ → List (List ℕ)) → (ℕ → List Occurrence) → List (List ℕ) → List ℕ
-text_of unit documentation on lines =
-    flat_map (λ (l : ℕ × List ℕ). line_text unit documentation (on l.0) l.1) (enumerate_from 0 lines)
+abbrev pub text_of : ColumnUnit → (List ℕ → Option SymbolInformation) → (ℕ → List Occurrence) → List (List ℕ) → List ℕ
+text_of unit entries on lines =
+    flat_map (λ (l : ℕ × List ℕ). line_text unit entries (on l.0) l.1) (enumerate_from 0 lines)
 
 -- the occurrences that begin on the line with a number, in the index's order
 abbrev pub beginning : List Occurrence → ℕ → List Occurrence
@@ -136,17 +158,17 @@ abbrev pub text_or_misfit : List ℕ → Option ℕ → Result (List ℕ) Snapsh
 text_or_misfit text None = Ok text
 text_or_misfit text (Some number) = Err (Misfit number)
 
-abbrev pub in_unit : Option ColumnUnit → (List ℕ → List (List ℕ)) → List Occurrence → List (List ℕ)
+abbrev pub in_unit : Option ColumnUnit → (List ℕ → Option SymbolInformation) → List Occurrence → List (List ℕ)
     → Result (List ℕ) SnapshotFault
-in_unit None documentation occurrences lines = Err NoUnit
-in_unit (Some unit) documentation occurrences lines =
-    text_or_misfit (text_of unit documentation (beginning occurrences) lines) (misfit unit lines occurrences)
+in_unit None entries occurrences lines = Err NoUnit
+in_unit (Some unit) entries occurrences lines =
+    text_or_misfit (text_of unit entries (beginning occurrences) lines) (misfit unit lines occurrences)
 
-abbrev pub in_document : Option Document → (List ℕ → List (List ℕ)) → List (List ℕ) → Result (List ℕ) SnapshotFault
-in_document None documentation lines = Err NoDocument
-in_document (Some d) documentation lines = in_unit (unit_of d.position_encoding) documentation d.occurrences lines
+abbrev pub in_document : Option Document → (List ℕ → Option SymbolInformation) → List (List ℕ) → Result (List ℕ) SnapshotFault
+in_document None entries lines = Err NoDocument
+in_document (Some d) entries lines = in_unit (unit_of d.position_encoding) entries d.occurrences lines
 
 -- The snapshot of the document with a number, with its source; or why it has none.
 abbrev pub snapshot_of : Index → ℕ → List ℕ → Result (List ℕ) SnapshotFault
 snapshot_of index number source =
-    in_document (slice_get index.documents number) (documentation_in index number) (lines_of source)
+    in_document (slice_get index.documents number) (entry_in index number) (lines_of source)

@@ -1,10 +1,14 @@
 -- Where the occurrences of pages lead.
-use Rattle.std.specs.Prelude.{ℕ, ◌==◌, Bool, false, ◌&&◌, cond, List, ◌++◌, codes, Option, None, Some}
+use Rattle.std.specs.Prelude.{ℕ, Bool, false, ◌&&◌, cond, List, ◌++◌, codes, Option, None, Some}
 use Rattle.std.specs.List.{find, flat_map}
 use Rattle.std.specs.Option.{option_map}
 use Rattle.std.specs.Fmt.{decimal}
+use Rattle.scip_records.specs.Texts.{unless_empty}
 use Rattle.scip_records.specs.declared.records.Index.{Index}
-use Rattle.scip_query.specs.BySymbol.{references_in, documentation_in}
+use Rattle.scip_records.specs.declared.records.SymbolInformation.{SymbolInformation}
+use Rattle.scip_query.specs.BySymbol.{references_in, entry_in}
+use Rattle.scip_query.specs.Documentation.{texts_of}
+use Rattle.scip_query.specs.Entries.{signature_in}
 use Rattle.scip_query.specs.Tables.{path_listed, symbol_listed, defines_listed}
 use Rattle.scip_query.specs.declared.place.Place.{Place}
 use Rattle.scip_pages.specs.declared.code.Link.{Link}
@@ -22,18 +26,20 @@ abbrev pub definition_of : Index → Sources → ℕ → List ℕ → Option Pla
 definition_of index sources document symbol =
     find (is_shown_definition index sources) (references_in index document symbol)
 
--- what is shown where a pointer hovers: the symbol, as it is shown, and its documentation below
+-- what is shown where a pointer hovers: the symbol, as it is shown, and below it what its entry says, its signature and
+-- then its documentation
 abbrev pub below : List ℕ → List ℕ
 below text = codes "\n" ++ text
 
-abbrev pub label_of : List ℕ → List (List ℕ) → List ℕ
-label_of symbol documentation = shown_symbol symbol ++ flat_map below documentation
+abbrev pub label_of : List ℕ → Option SymbolInformation → List ℕ
+label_of symbol entry =
+    shown_symbol symbol ++ flat_map below (unless_empty (signature_in entry)) ++ flat_map below (texts_of entry)
 
 -- what is known of a symbol that is asked for in a document
 abbrev pub known_of : Index → Sources → ℕ → List ℕ → Known
 known_of index sources document symbol = record {
   definition = definition_of index sources document symbol;
-  label = label_of symbol (documentation_in index document symbol);
+  label = label_of symbol (entry_in index document symbol);
 }
 
 abbrev pub known_at : Index → Sources → Place → Known

@@ -1,7 +1,8 @@
 //! What is known of symbols, found once for each.
 
-ghost use Rattle.std.specs.Prelude.{◌≡◌, ◌++◌, [], IfOk, IfSome, OnOk};
+ghost use Rattle.std.specs.Prelude.{◌≡◌, ◌++◌, [], IfOk, IfSome, OnOk, option_copied};
 ghost use Rattle.std.specs.List.{flat_map};
+ghost use Rattle.scip_records.specs.Texts.{unless_empty};
 ghost use Rattle.scip_query.specs.References.{is_local};
 ghost use Rattle.scip_query.specs.BySymbol.{references_in};
 ghost use Rattle.scip_pages.specs.Targets as spec;
@@ -13,7 +14,8 @@ use crate::places::symbol_listed;
 use crate::shown::shown_symbol;
 use crate::site::Site;
 use basics::{OwnedText, Sequence};
-use scip_query::{Place, Queries};
+use scip_query::{Place, Queries, signature_in, texts_of};
+use scip_records::SymbolInformation;
 use std::alloc::{AllocError, Global};
 
 /// Besides the symbol, the room for a label: most fit.
@@ -24,11 +26,11 @@ const LABEL_ROOM: usize = 192;
 pub struct Known {
     /// The place of its first definition that has a page.
     pub definition: Option<Place>,
-    /// The symbol as it is shown, and its documentation below.
+    /// The symbol as it is shown, and below it its signature and its documentation.
     pub label: Sequence<u8>,
 }
 
-/// Where the occurrences are of a symbol that is asked for in a document, and its documentation.
+/// Where the occurrences are of a symbol that is asked for in a document, and its entry.
 #[derive(Clone, Copy)]
 pub struct Fact<'a> {
     /// The document's number.
@@ -38,8 +40,8 @@ pub struct Fact<'a> {
     pub places: &'a [Place],
     /// The first of them where it is defined and that has a page.
     pub definition: Option<Place>,
-    /// The texts of its documentation.
-    pub documentation: &'a [OwnedText],
+    /// Its entry, if it has one.
+    pub information: Option<&'a SymbolInformation>,
 }
 
 /// How far a walk through all places is, in the order of symbols.
@@ -127,7 +129,7 @@ fn new_fact<'a>(site: &Site<'a>, document: usize, symbol: &'a str) -> Fact<'a>
         symbol,
         places,
         definition: definition_among(site, places),
-        documentation: site.queries.documentation_texts(document, symbol),
+        information: site.queries.entry_in(document, symbol),
     }
 }
 
@@ -143,13 +145,13 @@ fn fact_near<'a>(
     ensures { IsFact site.now.queries.now site.now.sources.now result.1 }
 {
     let places = site.queries.references_near(place, document, symbol);
-    let (next, documentation) = site.queries.documentation_near(entry, document, symbol);
+    let (next, information) = site.queries.entry_in_near(entry, document, symbol);
     let fact = Fact {
         document,
         symbol,
         places,
         definition: definition_among(site, places),
-        documentation,
+        information,
     };
     (next, fact)
 }
@@ -200,14 +202,30 @@ fn hint_all(hints: &mut Vec<Vec<usize>>, places: &[Place], number: usize) {
     }
 }
 
-/// A symbol as it is shown, and its documentation below.
-fn label_of(alloc: Global, symbol: &str, documentation: &[OwnedText]) -> Result<Vec<u8>, AllocError>
-    ensures { IfOk result (λ label. label.items ≡ spec.label_of symbol.now documentation.now) }
+/// A symbol as it is shown, and below it what its entry says.
+fn label_of(
+    alloc: Global,
+    symbol: &str,
+    entry: Option<&SymbolInformation>,
+) -> Result<Vec<u8>, AllocError>
+    ensures { IfOk result (λ label. label.items ≡ spec.label_of symbol.now (option_copied entry.entry)) }
 {
     let mut label = Vec::with_capacity(alloc, symbol.len().saturating_add(LABEL_ROOM))?;
     label.extend_from_slice(shown_symbol(symbol.as_bytes()))?;
-    push_documentation(&mut label, documentation)?;
+    push_signature(&mut label, signature_in(entry))?;
+    push_documentation(&mut label, texts_of(entry))?;
     Ok(label)
+}
+
+/// Appends a signature on a line of its own, if it isn't empty.
+fn push_signature(label: &mut Vec<u8>, signature: &str) -> Result<(), AllocError>
+    ensures { OnOk result (label.new.items ≡ label.old.items ++ flat_map spec.below (unless_empty signature.now)) }
+{
+    if signature.is_empty() {
+        Ok(())
+    } else {
+        push_below(label, signature)
+    }
 }
 
 /// Appends texts, each on a line of its own.
@@ -240,7 +258,7 @@ fn known_by(
     ensures { IfOk result (λ known. known ≡ spec.known_of site.now.queries.now site.now.sources.now document
         symbol.now) }
 {
-    let label = label_of(alloc, symbol, fact.documentation)?;
+    let label = label_of(alloc, symbol, fact.information)?;
     Ok(Known {
         definition: fact.definition,
         label: Sequence::from_vec(label),

@@ -22,6 +22,7 @@ mod page_urls;
 mod places;
 
 // Snapshots.
+mod about;
 mod snapshot_fault;
 mod snapshots;
 

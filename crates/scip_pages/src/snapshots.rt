@@ -6,12 +6,13 @@ ghost use Rattle.std.specs.List.{flat_map, slice_get};
 ghost use Rattle.std.specs.Io.BufRead.{strip_last};
 ghost use Rattle.scip_records.specs.declared.records.Occurrence.{Occurrence};
 ghost use Rattle.scip_query.specs.References.{is_definition};
-ghost use Rattle.scip_query.specs.BySymbol.{documentation_in};
+ghost use Rattle.scip_query.specs.BySymbol.{entry_in};
 ghost use Rattle.scip_pages.specs.Columns.{unit_of};
 ghost use Rattle.scip_pages.specs.Snapshot as spec;
 ghost use Rattle.scip_pages.specs.Listed.{listed_on, listed_or_none};
 ghost use Rattle.scip_pages.specs.SnapshotOutcomes.{Gives, RunsOutForText};
 
+use crate::about::push_about;
 use crate::code::cut;
 use crate::columns::{ColumnUnit, is_first_byte, offset_of, unit_of};
 use crate::lines::{by_line, lines_of, misfit};
@@ -40,7 +41,7 @@ fn push_below_byte(text: &mut Vec<u8>, sign: u8, byte: u8) -> Result<(), AllocEr
 }
 
 /// Appends a sign below each character, and a tab below a tab.
-fn push_below(text: &mut Vec<u8>, sign: u8, bytes: &[u8]) -> Result<(), AllocError>
+pub(crate) fn push_below(text: &mut Vec<u8>, sign: u8, bytes: &[u8]) -> Result<(), AllocError>
     ensures { OnOk result (text.new.items ≡ text.old.items ++ spec.below sign bytes.now) }
 {
     for byte in bytes {
@@ -99,69 +100,6 @@ fn push_carets(
     text.extend_from_slice(b"\n")
 }
 
-/// Appends a line of documentation.
-fn push_note_line(text: &mut Vec<u8>, before: &[u8], line: &str) -> Result<(), AllocError>
-    ensures { OnOk result (text.new.items ≡ text.old.items ++ spec.note_line before.now line.now) }
-{
-    text.extend_from_slice(b"//")?;
-    push_below(text, b' ', before)?;
-    text.extend_from_slice(b"> ")?;
-    text.extend_from_slice(line.as_bytes())?;
-    text.extend_from_slice(b"\n")
-}
-
-/// Appends lines of documentation.
-fn push_note_lines(text: &mut Vec<u8>, before: &[u8], lines: &[&str]) -> Result<(), AllocError>
-    ensures { OnOk result (text.new.items ≡ text.old.items ++ flat_map (spec.note_line before.now)
-        (map (λ (line : Bor (List ℕ)). line.now) lines.now)) }
-{
-    for line in lines {
-        push_note_line(text, before, *line)?;
-    }
-    Ok(())
-}
-
-/// Appends what is before a text of documentation.
-fn push_note_head(text: &mut Vec<u8>, before: &[u8]) -> Result<(), AllocError>
-    ensures { OnOk result (text.new.items ≡ text.old.items ++ spec.note_head before.now) }
-{
-    text.extend_from_slice(b"//")?;
-    push_below(text, b' ', before)?;
-    text.extend_from_slice(b"documentation")?;
-    text.extend_from_slice(b"\n")?;
-    Ok(())
-}
-
-/// Appends a text of documentation.
-fn push_note(
-    alloc: Global,
-    text: &mut Vec<u8>,
-    before: &[u8],
-    documentation: &str,
-) -> Result<(), AllocError>
-    ensures { OnOk result (text.new.items ≡ text.old.items ++ spec.note before.now documentation.now) }
-{
-    push_note_head(text, before)?;
-    let lines = lines_of(alloc, documentation)?;
-    push_note_lines(text, before, lines.as_slice())
-}
-
-/// Appends texts of documentation.
-fn push_notes(
-    alloc: Global,
-    text: &mut Vec<u8>,
-    before: &[u8],
-    texts: &[&str],
-) -> Result<(), AllocError>
-    ensures { OnOk result (text.new.items ≡ text.old.items ++ flat_map (spec.note before.now)
-        (map (λ (t : Bor (List ℕ)). t.now) texts.now)) }
-{
-    for documentation in texts {
-        push_note(alloc, text, before, *documentation)?;
-    }
-    Ok(())
-}
-
 /// A line without the `\r` of a line end `\r\n`.
 fn without_return(line: &[u8]) -> &[u8]
     ensures { result.now ≡ strip_last 13 line.now }
@@ -205,7 +143,7 @@ fn push_mark(
     occurrence: &Occurrence,
 ) -> Result<(), AllocError>
     ensures { OnOk result (text.new.items ≡ text.old.items ++ spec.mark_in shown.now.unit line.now
-        (documentation_in shown.now.queries.now shown.now.number) occurrence.now) }
+        (entry_in shown.now.queries.now shown.now.number) occurrence.now) }
 {
     let (before, inside) = parts_of(shown.unit, line, occurrence.range);
     push_carets(text, before, inside, occurrence)?;
@@ -213,8 +151,8 @@ fn push_mark(
         return Ok(());
     }
     let symbol = occurrence.symbol.as_str();
-    let texts = shown.queries.documentation_in(alloc, shown.number, symbol)?;
-    push_notes(alloc, text, before, texts.as_slice())
+    let entry = shown.queries.entry_in(shown.number, symbol);
+    push_about(alloc, text, before, entry)
 }
 
 /// Appends occurrences below a line.
@@ -226,7 +164,7 @@ fn push_marks(
     occurrences: &[&Occurrence],
 ) -> Result<(), AllocError>
     ensures { OnOk result (text.new.items ≡ text.old.items ++ flat_map (spec.mark_in shown.now.unit line.now
-        (documentation_in shown.now.queries.now shown.now.number)) (map (λ (o : Bor Occurrence). o.now)
+        (entry_in shown.now.queries.now shown.now.number)) (map (λ (o : Bor Occurrence). o.now)
         occurrences.now)) }
 {
     for occurrence in occurrences {
@@ -244,7 +182,7 @@ fn push_line(
     listed: Option<&Vec<&Occurrence>>,
 ) -> Result<(), AllocError>
     ensures { OnOk result (text.new.items ≡ text.old.items ++ spec.line_text shown.now.unit
-        (documentation_in shown.now.queries.now shown.now.number) (listed_or_none (option_copied listed.entry))
+        (entry_in shown.now.queries.now shown.now.number) (listed_or_none (option_copied listed.entry))
         line.now) }
 {
     text.extend_from_slice(b"  ")?;
@@ -275,7 +213,7 @@ fn push_lines(
     table: &[Vec<&Occurrence>],
 ) -> Result<(), AllocError>
     ensures { OnOk result (text.new.items ≡ text.old.items ++ spec.text_of shown.now.unit
-        (documentation_in shown.now.queries.now shown.now.number) (listed_on table.now)
+        (entry_in shown.now.queries.now shown.now.number) (listed_on table.now)
         (map (λ (l : Bor (List ℕ)). l.now) lines.now)) }
 {
     for (number, line) in lines.iter().enumerate() {
@@ -292,7 +230,7 @@ fn text_of(
     lines: &[&str],
 ) -> Result<Vec<u8>, AllocError>
     ensures { IfOk result (λ text. text.items ≡ spec.text_of shown.now.unit
-        (documentation_in shown.now.queries.now shown.now.number) (spec.beginning occurrences.now)
+        (entry_in shown.now.queries.now shown.now.number) (spec.beginning occurrences.now)
         (map (λ (l : Bor (List ℕ)). l.now) lines.now)) }
 {
     let table = by_line(alloc, lines.len(), occurrences)?;
@@ -309,10 +247,10 @@ fn snapshot_of_lines(
     lines: &[&str],
 ) -> Result<Vec<u8>, SnapshotFault>
     ensures gives { Gives (λ text. text.items) result (spec.in_unit (Some shown.now.unit)
-        (documentation_in shown.now.queries.now shown.now.number) occurrences.now
+        (entry_in shown.now.queries.now shown.now.number) occurrences.now
         (map (λ (l : Bor (List ℕ)). l.now) lines.now)) }
     ensures memory { RunsOutForText result (spec.in_unit (Some shown.now.unit)
-        (documentation_in shown.now.queries.now shown.now.number) occurrences.now
+        (entry_in shown.now.queries.now shown.now.number) occurrences.now
         (map (λ (l : Bor (List ℕ)). l.now) lines.now)) }
 {
     match misfit(shown.unit, lines, occurrences) {
@@ -329,7 +267,7 @@ fn snapshot_in(
     source: &str,
 ) -> Result<Vec<u8>, SnapshotFault>
     ensures { Gives (λ text. text.items) result (spec.in_unit (Some shown.now.unit)
-        (documentation_in shown.now.queries.now shown.now.number) occurrences.now (spec.lines_of source.now)) }
+        (entry_in shown.now.queries.now shown.now.number) occurrences.now (spec.lines_of source.now)) }
 {
     let lines = lines_of(alloc, source)?;
     snapshot_of_lines(alloc, shown, occurrences, lines.as_slice())
@@ -351,7 +289,7 @@ fn snapshot_for(
     source: &str,
 ) -> Result<Vec<u8>, SnapshotFault>
     ensures { Gives (λ text. text.items) result (spec.in_document (Some document.now)
-        (documentation_in queries.now number) (spec.lines_of source.now)) }
+        (entry_in queries.now number) (spec.lines_of source.now)) }
 {
     match unit_in(document) {
         Some(unit) => {
@@ -369,8 +307,8 @@ fn snapshot_for(
 /// The snapshot of the document with a number, whose source this is. Each line of the source comes after two blanks.
 /// Below it is a line for each occurrence that begins there: the sign of a comment `//`, carets below what it covers
 /// (of a range over several lines, to the end of the first), its role (`definition`, `import` or `reference`), and
-/// its symbol. After a definition comes its documentation. There is a sign below each character, and a tab below each
-/// tab.
+/// its symbol. After a definition come its kind, its signature and its documentation, as far as the index has them.
+/// There is a sign below each character, and a tab below each tab.
 pub fn snapshot(
     alloc: Global,
     queries: &Queries,

@@ -11,3 +11,5 @@ mod names;
 mod pages;
 #[cfg(test)]
 mod see;
+#[cfg(test)]
+mod snapshots;

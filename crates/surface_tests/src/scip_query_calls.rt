@@ -3,7 +3,9 @@
 use crate::broken::Broken;
 use crate::shared::see;
 use scip_model::Std;
-use scip_query::{AnswerFault, Place, Queries, QueryFault};
+use scip_query::{
+    AnswerFault, Place, Queries, QueryFault, kind_in, kind_text, signature_in, texts_of,
+};
 use scip_wire::read_index;
 use std::alloc::Global;
 use std::test::Fail;
@@ -86,6 +88,21 @@ fn are_entries(alloc: Global, queries: &Queries) -> bool {
     }
 }
 
+/// Whether this is the entry of a symbol by itself.
+fn is_entry(queries: &Queries) -> bool {
+    let texts = texts_of(queries.entry_in(0, "x"));
+    let (_, near) = queries.entry_in_near(0, 0, "x");
+    texts.len() == 2 && kind_in(near) == 0 && signature_in(near).is_empty()
+}
+
+/// Whether this is the name of a kind.
+fn is_kind(alloc: Global) -> bool {
+    match kind_text(alloc, 28) {
+        Ok(text) => text.as_str() == "Message",
+        Err(_) => false,
+    }
+}
+
 /// Commands, and their answers.
 const ANSWERS: [(&str, &str); 7] = [
     ("ref 0 2 a", "0 0 0 1 1 a\n0 2 0 3 0 a\n= 2\n"),
@@ -139,6 +156,8 @@ enum Call {
     Refused,
     Documentation,
     Symbols,
+    Entry,
+    Kind,
     Answer,
     AnswerAll,
     Broken,
@@ -153,6 +172,8 @@ fn is_due(alloc: Global, queries: &Queries, call: Call) -> bool {
         Call::Refused => are_refused(alloc, queries),
         Call::Documentation => are_texts(alloc, queries),
         Call::Symbols => are_entries(alloc, queries),
+        Call::Entry => is_entry(queries),
+        Call::Kind => is_kind(alloc),
         Call::Answer => are_answered(alloc, queries),
         Call::AnswerAll => are_all_answered(alloc, queries),
         Call::Broken => is_broken_refused(alloc, queries),
@@ -169,13 +190,15 @@ fn is_due_of(alloc: Global, bytes: &[u8], call: Call) -> Result<bool, Fail> {
 }
 
 /// Each call, the index that it asks, and what the test says of it.
-const CALLS: [(Call, &[u8], &str); 9] = [
+const CALLS: [(Call, &[u8], &str); 11] = [
     (Call::At, LOCALS, "at"),
     (Call::Definitions, LOCALS, "definitions"),
     (Call::References, LOCALS, "references"),
     (Call::Refused, LOCALS, "references that are refused"),
     (Call::Documentation, TEXTS, "documentation"),
     (Call::Symbols, TEXTS, "symbols"),
+    (Call::Entry, TEXTS, "entry_in"),
+    (Call::Kind, TEXTS, "kind_text"),
     (Call::Answer, LOCALS, "answer"),
     (Call::AnswerAll, TEXTS, "answer_all"),
     (Call::Broken, TEXTS, "answer_all of a broken reader"),

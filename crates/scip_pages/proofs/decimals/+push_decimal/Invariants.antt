@@ -1,4 +1,3 @@
-use Rattle.std.proofs.Common.{ℕ}
 use Rattle.scip_pages.proofs.decimals.+push_decimal.Given as goal
 
 -- the number itself

@@ -1,4 +1,4 @@
-use Rattle.std.proofs.Common.{◌≡◌, ◌∙◌, sym, ap, List, [], ◌∷◌, ◌++◌, ◌-◌, append_assoc}
+use Rattle.std.proofs.Common.{◌∙◌, sym, ap, List, [], ◌∷◌, ◌++◌, ◌-◌, append_assoc}
 use Rattle.std.specs.Prelude.{Some}
 use Rattle.scip_pages.specs.declared.runs.Run.{Run}
 use Rattle.scip_pages.specs.Runs.{marks_of, runs_of}

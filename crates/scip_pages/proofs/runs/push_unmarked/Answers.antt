@@ -1,4 +1,4 @@
-use Rattle.std.proofs.Common.{◌≡◌, ◌∙◌, sym, ap, ℕ, List, [], ◌++◌, append-nil}
+use Rattle.std.proofs.Common.{◌∙◌, sym, ap, ℕ, List, [], ◌++◌, append-nil}
 use Rattle.scip_pages.specs.declared.runs.Run.{Run}
 use Rattle.scip_pages.specs.Runs.{marks_of, runs_of}
 use Rattle.scip_pages.proofs.RunLemmas.{unmarked_runs}

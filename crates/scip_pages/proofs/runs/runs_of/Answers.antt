@@ -1,7 +1,5 @@
-use Rattle.std.proofs.Common.{◌∙◌, sym, ap, arith, List, [], ◌∷◌, ◌++◌, ◌+◌, append_assoc, length-drop}
-use Rattle.std.specs.Prelude.{None}
+use Rattle.std.proofs.Common.{◌∙◌, sym, ap, arith, List, ◌++◌, append_assoc, length-drop}
 use Rattle.scip_pages.specs.declared.runs.Run.{Run}
-use Rattle.scip_pages.specs.Runs.{runs_of}
 use Rattle.scip_pages.proofs.RunLemmas.{behind, length-behind, runs_next}
 use Rattle.scip_pages.proofs.runs.runs_of.Goals as goal
 

@@ -1,7 +1,7 @@
 use Rattle.std.proofs.Common.{◌∙◌, ap, ℕ, List, map}
 use Rattle.std.specs.Prelude.{Some}
 use Rattle.std.specs.Borrow.{Bor}
-use Rattle.scip_query.specs.BySymbol.{documentation_in}
+use Rattle.scip_query.specs.BySymbol.{entry_in}
 use Rattle.scip_pages.specs.Snapshot.{in_unit}
 use Rattle.scip_pages.proofs.SnapshotLemmas.{gives_same}
 use Rattle.scip_pages.proofs.snapshots.snapshot_in.Goals as goal
@@ -10,6 +10,6 @@ pub returns : goal.returns
 returns c =
     gives_same _ c.snapshot_of_lines.result _ _
     (ap (in_unit (Some c.args.shown.now.unit)
-    (documentation_in c.args.shown.now.queries.now c.args.shown.now.number) c.args.occurrences.now)
+    (entry_in c.args.shown.now.queries.now c.args.shown.now.number) c.args.occurrences.now)
     (ap (map (λ (line : Bor (List ℕ)). line.now)) c.as_slice.ensures.value ∙ c.in_ok-lines.ensures))
     c.snapshot_of_lines.ensures.gives

@@ -4,6 +4,7 @@ ghost use Rattle.std.specs.Prelude.{◌≡◌, IfOk, OnOk};
 ghost use Rattle.scip_records.specs.Details.{
   no_signature,
   no_details,
+  details_if_any,
   with_kind,
   with_signature,
   with_enclosing_symbol,
@@ -149,6 +150,16 @@ impl BoxedDetails {
             }
         }
         Ok(())
+    }
+
+    /// The details, lent, if there are any.
+    pub fn lent_if_any(&self) -> Option<DetailsRef<'_>>
+        ensures { details_if_any result ≡ self.now }
+    {
+        match &self.place {
+            DetailPlace::Boxed(details) => Some(DetailsRef::of(details)),
+            DetailPlace::Nowhere => None,
+        }
     }
 
     /// The details, lent.

@@ -2,7 +2,7 @@
 
 ghost use Rattle.std.specs.Prelude.{◌≡◌, ◌<◌, ◌++◌, [], true, false, IfOk, OnOk};
 ghost use Rattle.scip_records.specs.Texts.{unless_empty};
-ghost use Rattle.scip_records.specs.Details.{no_details};
+ghost use Rattle.scip_records.specs.Details.{no_details, details_if_any};
 
 use crate::details::{BoxedDetails, Details, Signature};
 use crate::document_parts::DocumentParts;
@@ -136,6 +136,16 @@ impl<'a> DetailsRef<'a> {
     }
 }
 
+/// A copy of details, in a box if there are any.
+fn boxed_if_any(alloc: Global, details: &Option<DetailsRef<'_>>) -> Result<BoxedDetails, AllocError>
+    ensures { IfOk result (λ made. made ≡ details_if_any details.now) }
+{
+    match details {
+        Some(details) => details.to_boxed(alloc),
+        None => Ok(BoxedDetails::none()),
+    }
+}
+
 impl<'a> InformationRef<'a> {
     /// An entry with copies of the texts. An error means that memory was refused.
     pub fn to_record(&self, alloc: Global) -> Result<SymbolInformation, AllocError>
@@ -144,7 +154,7 @@ impl<'a> InformationRef<'a> {
         let symbol = self.symbol.to_text(alloc)?;
         let documentation = texts_of(alloc, &self.documentation)?;
         let display_name = OwnedText::copy_of(alloc, self.display_name)?;
-        let details = self.details.to_boxed(alloc)?;
+        let details = boxed_if_any(alloc, &self.details)?;
         Ok(SymbolInformation {
             symbol,
             documentation,

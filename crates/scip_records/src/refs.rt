@@ -214,12 +214,13 @@ pub struct InformationRef<'a> {
     pub documentation: TextsRef<'a>,
     /// How it is shown.
     pub display_name: &'a str,
-    /// What else is known of it.
-    pub details: DetailsRef<'a>,
+    /// What else is known of it, if anything is.
+    pub details: Option<DetailsRef<'a>>,
 }
 
 impl<'a> Model for InformationRef<'a> {
     ghost use Rattle.scip_records.specs.declared.records.SymbolInformation.{SymbolInformation};
+    ghost use Rattle.scip_records.specs.Details.{details_if_any};
 
     ghost Value = { SymbolInformation };
 
@@ -227,7 +228,7 @@ impl<'a> Model for InformationRef<'a> {
       symbol = i.symbol;
       documentation = i.documentation;
       display_name = i.display_name.now;
-      details = i.details;
+      details = details_if_any i.details;
     } };
 }
 
@@ -240,7 +241,7 @@ impl<'a> InformationRef<'a> {
             symbol: SymbolRef::whole(entry.symbol.as_str()),
             documentation: TextsRef::of_list(entry.documentation.as_slice()),
             display_name: entry.display_name.as_str(),
-            details: entry.details.lent(),
+            details: entry.details.lent_if_any(),
         }
     }
 }

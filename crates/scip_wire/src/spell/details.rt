@@ -2,6 +2,7 @@
 
 ghost use Rattle.std.specs.Prelude.{◌≡◌, ◌<◌, ◌≤◌, ◌^◌, length, FitsSigned, IsUtf8};
 ghost use Rattle.std.specs.Int.{w32};
+ghost use Rattle.scip_records.specs.Details.{details_if_any};
 ghost use Rattle.scip_wire.specs.Fields.{max_field_number};
 ghost use Rattle.scip_wire.specs.Spelling.{bytes_of, int_fields, signature_fields, text_fields};
 ghost use Rattle.scip_wire.specs.Saturated.{saturated, fields_len};
@@ -35,12 +36,15 @@ impl<'a> Encode for SignatureRef<'a> {
 }
 
 /// The length of a kind's record, which 0 doesn't have.
-pub(super) fn kind_len(number: u64, details: &DetailsRef<'_>) -> u64
+pub(super) fn kind_len(number: u64, details: &Option<DetailsRef<'_>>) -> u64
     requires { number ≤ max_field_number }
-    ensures value { result ≡ saturated (fields_len (int_fields number details.now.kind)) }
-    ensures fit { FitsSigned w32 details.now.kind }
+    ensures value { result ≡ saturated (fields_len (int_fields number (details_if_any details.now).kind)) }
+    ensures fit { FitsSigned w32 (details_if_any details.now).kind }
 {
-    int_len(number, details.kind)
+    match details {
+        Some(details) => int_len(number, details.kind),
+        None => 0,
+    }
 }
 
 /// Puts a kind's record, which 0 doesn't have.
@@ -48,23 +52,56 @@ pub(super) fn encode_kind<W, O: Output<W>>(
     out: &mut O,
     sink: &mut W,
     number: u64,
-    details: &DetailsRef<'_>,
+    details: &Option<DetailsRef<'_>>,
 )
     requires { number ≤ max_field_number }
-    ensures { IsPut O.holds sink.old out.old sink.new out.new (bytes_of (int_fields number details.now.kind)) }
+    ensures { IsPut O.holds sink.old out.old sink.new out.new
+        (bytes_of (int_fields number (details_if_any details.now).kind)) }
 {
-    encode_int(out, sink, number, details.kind);
+    if let Some(details) = details {
+        encode_int(out, sink, number, details.kind);
+    }
+}
+
+/// The length of the record of a signature that is there, which one without a language and a text doesn't have.
+fn present_signature_len(number: u64, signature: &SignatureRef<'_>) -> u64
+    requires { number ≤ max_field_number }
+    ensures value { result ≡ saturated (fields_len (text_fields number
+        (bytes_of (signature_fields signature.now)))) }
+    ensures fit { IsFitSignature signature.now }
+{
+    let len = signature.encoded_len();
+    if len == 0 { 0 } else { record_len(number, len) }
 }
 
 /// The length of a signature's record, which one without a language and a text doesn't have.
-pub(super) fn signature_len(number: u64, details: &DetailsRef<'_>) -> u64
+pub(super) fn signature_len(number: u64, details: &Option<DetailsRef<'_>>) -> u64
     requires { number ≤ max_field_number }
     ensures value { result ≡ saturated (fields_len (text_fields number
-        (bytes_of (signature_fields details.now.signature)))) }
-    ensures fit { IsFitSignature details.now.signature }
+        (bytes_of (signature_fields (details_if_any details.now).signature)))) }
+    ensures fit { IsFitSignature (details_if_any details.now).signature }
 {
-    let len = details.signature.encoded_len();
-    if len == 0 { 0 } else { record_len(number, len) }
+    match details {
+        Some(details) => present_signature_len(number, &details.signature),
+        None => 0,
+    }
+}
+
+/// Puts the record of a signature that is there, which one without a language and a text doesn't have.
+fn encode_present_signature<W, O: Output<W>>(
+    out: &mut O,
+    sink: &mut W,
+    number: u64,
+    signature: &SignatureRef<'_>,
+)
+    requires number { number ≤ max_field_number }
+    requires short { fields_len (signature_fields signature.now) < 2 ^ 64 }
+    ensures { IsPut O.holds sink.old out.old sink.new out.new (bytes_of (text_fields number
+        (bytes_of (signature_fields signature.now)))) }
+{
+    if signature.encoded_len() != 0 {
+        encode_message(out, sink, number, signature);
+    }
 }
 
 /// Puts a signature's record, which one without a language and a text doesn't have.
@@ -72,25 +109,29 @@ pub(super) fn encode_signature<W, O: Output<W>>(
     out: &mut O,
     sink: &mut W,
     number: u64,
-    details: &DetailsRef<'_>,
+    details: &Option<DetailsRef<'_>>,
 )
     requires number { number ≤ max_field_number }
-    requires short { fields_len (signature_fields details.now.signature) < 2 ^ 64 }
+    requires short { fields_len (signature_fields (details_if_any details.now).signature) < 2 ^ 64 }
     ensures { IsPut O.holds sink.old out.old sink.new out.new (bytes_of (text_fields number
-        (bytes_of (signature_fields details.now.signature)))) }
+        (bytes_of (signature_fields (details_if_any details.now).signature)))) }
 {
-    if details.signature.encoded_len() != 0 {
-        encode_message(out, sink, number, &details.signature);
+    if let Some(details) = details {
+        encode_present_signature(out, sink, number, &details.signature);
     }
 }
 
 /// The length of an enclosing symbol's record, which an empty one doesn't have.
-pub(super) fn enclosing_symbol_len(number: u64, details: &DetailsRef<'_>) -> u64
+pub(super) fn enclosing_symbol_len(number: u64, details: &Option<DetailsRef<'_>>) -> u64
     requires { number ≤ max_field_number }
-    ensures value { result ≡ saturated (fields_len (text_fields number details.now.enclosing_symbol)) }
-    ensures fit { IsUtf8 details.now.enclosing_symbol }
+    ensures value { result ≡ saturated (fields_len (text_fields number
+        (details_if_any details.now).enclosing_symbol)) }
+    ensures fit { IsUtf8 (details_if_any details.now).enclosing_symbol }
 {
-    symbol_len(number, &details.enclosing_symbol)
+    match details {
+        Some(details) => symbol_len(number, &details.enclosing_symbol),
+        None => 0,
+    }
 }
 
 /// Puts an enclosing symbol's record, which an empty one doesn't have.
@@ -98,12 +139,14 @@ pub(super) fn encode_enclosing_symbol<W, O: Output<W>>(
     out: &mut O,
     sink: &mut W,
     number: u64,
-    details: &DetailsRef<'_>,
+    details: &Option<DetailsRef<'_>>,
 )
     requires number { number ≤ max_field_number }
-    requires short { length details.now.enclosing_symbol < 2 ^ 64 }
+    requires short { length (details_if_any details.now).enclosing_symbol < 2 ^ 64 }
     ensures { IsPut O.holds sink.old out.old sink.new out.new (bytes_of (text_fields number
-        details.now.enclosing_symbol)) }
+        (details_if_any details.now).enclosing_symbol)) }
 {
-    encode_symbol(out, sink, number, &details.enclosing_symbol);
+    if let Some(details) = details {
+        encode_symbol(out, sink, number, &details.enclosing_symbol);
+    }
 }

@@ -1,14 +1,10 @@
-use Rattle.std.proofs.Common.{◌∙◌, ap, arith}
+use Rattle.std.proofs.Common.{sym, ap, Option}
+use Rattle.scip_records.specs.Details.{details_if_any}
 use Rattle.scip_records.specs.declared.details.Details.{Details}
-use Rattle.scip_wire.specs.Saturated.{saturated, fields_len}
-use Rattle.scip_wire.specs.Spelling.{bytes_of, signature_fields}
-use Rattle.scip_wire.proofs.SpellingRefLemmas.{empty_symbol}
+use Rattle.scip_wire.specs.Spelling.{bytes_of, signature_fields, text_fields}
 use Rattle.scip_wire.proofs.OutputLemmas.{alike, nothing}
 use Rattle.scip_wire.proofs.spell.details.encode_signature.Goals as goal
 
-pub returns-else-encoded_len-ne0 : goal.returns-else-encoded_len-ne0
-returns-else-encoded_len-ne0 g c =
-    let bytes = bytes_of (signature_fields c.args.details.now.signature) in
-    let len = c.encoded_len.ensures.value
-    ∙ ap (λ (d : Details). saturated (fields_len (signature_fields d.signature))) c.details.view_is in
-    alike (empty_symbol c.args.number c.encoded_len.result bytes (omega (arith, c.if-encoded_len-ne0.false)) len) nothing
+pub returns-in_default : goal.returns-in_default
+returns-in_default g c =
+    alike (ap (λ (details : Option Details). bytes_of (text_fields c.args.number (bytes_of (signature_fields (details_if_any details).signature)))) (sym c.in_default.is)) nothing

@@ -1,4 +1,5 @@
 use Rattle.std.proofs.Common.{◌<◌, ◌^◌, ◌++◌, length, subst, sym}
+use Rattle.scip_records.specs.Details.{details_if_any}
 use Rattle.scip_records.specs.declared.records.SymbolInformation.{SymbolInformation}
 use Rattle.scip_wire.specs.Outputs.{IsPut}
 use Rattle.scip_wire.specs.Saturated.{fields_len}
@@ -11,12 +12,13 @@ use Rattle.scip_wire.proofs.spell.records.InformationRefEncode.encode.Goals as g
 pub returns : goal.returns
 returns g c =
     let i = c.self.inside in
+    let details = details_if_any i.details in
     let symbol = text_fields 1 i.symbol in
     let texts = repeated_text_fields 3 i.documentation in
-    let kind = int_fields 5 i.details.kind in
+    let kind = int_fields 5 details.kind in
     let name = text_fields 6 i.display_name.now in
-    let signature = text_fields 7 (bytes_of (signature_fields i.details.signature)) in
-    let enclosing = text_fields 8 i.details.enclosing_symbol in
+    let signature = text_fields 7 (bytes_of (signature_fields details.signature)) in
+    let enclosing = text_fields 8 details.enclosing_symbol in
     let two = joined symbol texts c.encode_symbol.ensures c.encode_texts_ref.ensures in
     let three = joined (symbol ++ texts) kind two c.encode_kind.ensures in
     let four = joined ((symbol ++ texts) ++ kind) name three c.encode_ref.ensures in

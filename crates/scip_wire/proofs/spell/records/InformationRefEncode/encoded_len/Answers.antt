@@ -1,4 +1,5 @@
 use Rattle.std.proofs.Common.{◌≡◌, ◌++◌, subst}
+use Rattle.scip_records.specs.Details.{details_if_any}
 use Rattle.scip_records.specs.declared.records.SymbolInformation.{SymbolInformation}
 use Rattle.scip_wire.specs.Saturated.{saturated, fields_len}
 use Rattle.scip_wire.specs.Spelling.{bytes_of, text_fields, int_fields, repeated_text_fields, signature_fields}
@@ -10,12 +11,13 @@ use Rattle.scip_wire.proofs.spell.records.InformationRefEncode.encoded_len.Goals
 pub returns-clause-value : goal.returns-clause-value
 returns-clause-value c =
     let i = c.self.inside in
+    let details = details_if_any i.details in
     let symbol = text_fields 1 i.symbol in
     let texts = repeated_text_fields 3 i.documentation in
-    let kind = int_fields 5 i.details.kind in
+    let kind = int_fields 5 details.kind in
     let name = text_fields 6 i.display_name.now in
-    let signature = text_fields 7 (bytes_of (signature_fields i.details.signature)) in
-    let enclosing = text_fields 8 i.details.enclosing_symbol in
+    let signature = text_fields 7 (bytes_of (signature_fields details.signature)) in
+    let enclosing = text_fields 8 details.enclosing_symbol in
     let two = added symbol texts _ _ _ c.symbol_len-symbol.ensures.value c.texts_ref_len-documentation.ensures.value
     c.saturating_add.ensures in
     let three = added (symbol ++ texts) kind _ _ _ two c.kind_len-kind.ensures.value c.saturating_add-2.ensures in

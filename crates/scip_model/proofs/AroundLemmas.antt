@@ -1,13 +1,16 @@
 -- What declarations are in, and the ranges over all of them.
 use Rattle.std.proofs.Common.{◌≡◌, ◌∙◌, sym, ap, refl, ℕ, ◌-◌, ◌<◌, Bool, cond}
-use Rattle.std.proofs.Common.{Option, Some, None, List, [], ◌∷◌, ◌++◌, map, arith}
-use Rattle.std.specs.List.{slice_get}
+use Rattle.std.proofs.Common.{Option, Some, None, List, [], ◌∷◌, ◌++◌, map, take, arith}
+use Rattle.std.specs.List.{slice_get, list_any}
+use Rattle.std.specs.Str.{bytes_eq}
 use Rattle.std.specs.Option.{option_map, option_and_then}
 use Rattle.std.proofs.lemmas.Bool.{le-leb, lt-leb}
 use Rattle.std.proofs.lemmas.Option.{get_or_from_slice_get, slice_get-map}
 use Rattle.proto_lex.specs.declared.position.Encoding.{Encoding}
 use Rattle.proto_lex.specs.declared.span.Span.{Span}
 use Rattle.proto_decl.specs.Facts.{Facts}
+use Rattle.proto_decl.specs.Laws.{component_names}
+use Rattle.proto_decl.specs.Names.{dotted}
 use Rattle.proto_decl.specs.declared.detail.Detail.{Detail}
 use Rattle.proto_decl.specs.declared.declaration.Declaration.{Declaration}
 use Rattle.proto_decl.specs.declared.declaration.DeclarationStep.{DeclarationStep}
@@ -16,6 +19,7 @@ use Rattle.scip_symbol.specs.Entities.{OfDeclaration}
 use Rattle.scip_symbol.specs.Package.{Package}
 use Rattle.scip_model.specs.Detailed.{detail_at, details_shown, details_with, path_around, symbol_around, text_around}
 use Rattle.scip_model.specs.Named.{Home, text_of}
+use Rattle.scip_model.specs.Repeated.{file_namespace}
 use Rattle.scip_model.specs.Occurs.{definition_role, enclosing_with, range_over}
 use Rattle.scip_model.specs.Tables.Plans.{Around, around_in, arounds_if, arounds_in, declaration_number, range_around}
 use Rattle.scip_model.specs.Tables.Plans.{ranges_over, text_at}
@@ -40,6 +44,31 @@ pub text_of_outer : (id : Package) (components : List (List ℕ)) (declared : De
     → symbol_around id components outer ≡ symbol_around id components (path_around declared.path)
 text_of_outer id components declared outer last is =
     ap (symbol_around id components) (sym (path_front outer last) ∙ ap path_around (sym is))
+
+-- What is around depends on the steps to it alone: the namespaces before a declaration depend on its first step.
+module _ (id : Package) (namespaces : List (List ℕ) → List (List ℕ)) where
+  abbrev around_steps : List DeclarationStep → List ℕ
+  around_steps steps = symbol_around id (namespaces (take 1 (map (λ (s : DeclarationStep). s.name) steps))) steps
+
+  abbrev around_path : List DeclarationStep → List ℕ
+  around_path path =
+      symbol_around id (namespaces (take 1 (map (λ (s : DeclarationStep). s.name) path))) (path_around path)
+
+  around_is : (path : List DeclarationStep) → around_path path ≡ around_steps (path_around path)
+  around_is [] = refl
+  around_is (step ∷ []) = refl
+  around_is (step ∷ (next ∷ others)) = refl
+
+  beside_steps : (p q : List DeclarationStep) → path_around p ≡ path_around q → around_path p ≡ around_path q
+  beside_steps p q same = around_is p ∙ (ap around_steps same ∙ sym (around_is q))
+
+-- declarations to which the same steps lead but the last are in the same
+pub beside_same : (home : Home) (facts : Facts) (a b : Declaration) → path_around a.path ≡ path_around b.path
+    → text_around home facts a ≡ text_around home facts b
+beside_same home facts a b same =
+    let names = component_names facts.package_name in
+    beside_steps home.id (λ first. cond (list_any (bytes_eq (dotted (names ++ first))) home.repeated)
+    (file_namespace home.path ∷ names) names) a.path b.path same
 
 -- details that aren't asked for have no symbol
 pub shown_unasked : (facts : Facts) (declared : Declaration) (index : ℕ) (text other : List ℕ) → facts.details ≡ None

@@ -19,6 +19,7 @@ pub mod ExternalSymbolEntryLemmas
 pub mod ExternalSymbolLemmas
 -- Pairs of numbers in order, each once
 pub mod ExternalSymbolPairLemmas
+pub mod ExternalSymbolSeenLemmas
 -- The ascending list of a set: what a sort leaves of elements that differ
 pub mod IndexSortLemmas
 -- Of a source's facts: its lists of occurrences ascend, and merged they are the list of what occurs

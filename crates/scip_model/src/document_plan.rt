@@ -3,16 +3,17 @@
 ghost use Rattle.std.specs.Prelude.{◌≡◌, ◌∷◌, []};
 ghost use Rattle.std.specs.List.{slice_get};
 ghost use Rattle.scip_model.specs.Indexes.{encoding_number};
-ghost use Rattle.scip_model.specs.Detailed.{detail_at, kind_if_asked};
+ghost use Rattle.scip_model.specs.Detailed.{detail_at, details_shown, kind_if_asked};
+ghost use Rattle.scip_records.specs.Details.{details_if_any};
 ghost use Rattle.scip_model.specs.Tables.Plans.{text_at, bare_entry, first_kind, shown_as, entry_of};
 
-use crate::entries::{details_at, ref_entry};
+use crate::entries::{detail_at, details_shown, ref_entry};
 use crate::occurrences::range_around;
 use crate::own_symbols::JoinedTexts;
 use crate::symbol_table::SymbolTable;
 use basics::{OwnedText, Sequence};
 use index_hooks::Choice;
-use proto_decl::FileFacts;
+use proto_decl::{Declaration, FileFacts};
 use proto_lex::{Encoding, Span};
 use scip_records::{
     DetailsRef, DocumentParts, InformationRef, OccurrenceRef, Range, SignatureRef, SymbolRef,
@@ -122,13 +123,13 @@ fn name_at<'a>(path: &'a str, names: &'a [OwnedText], number: usize) -> &'a str
 fn undocumented<'a>(
     symbol: SymbolRef<'a>,
     display_name: &'a str,
-    details: DetailsRef<'a>,
+    details: Option<DetailsRef<'a>>,
 ) -> InformationRef<'a>
     ensures { result ≡ record {
       symbol = symbol.entry;
       documentation = [];
       display_name = display_name.now;
-      details = details.entry;
+      details = details_if_any details.entry;
     } }
 {
     InformationRef {
@@ -143,7 +144,7 @@ fn undocumented<'a>(
 fn bare_entry(symbol: SymbolRef<'_>) -> InformationRef<'_>
     ensures { result ≡ bare_entry symbol.entry }
 {
-    undocumented(symbol, "", DetailsRef::none())
+    undocumented(symbol, "", None)
 }
 
 /// What an entry is of that is no declaration's, by its number (`scip.proto`, `SymbolInformation.Kind`).
@@ -154,19 +155,19 @@ fn first_kind(number: usize) -> i32
 }
 
 /// The kind alone, if details are asked for.
-fn kind_if_asked<'a>(facts: &FileFacts<'_>, kind: i32) -> DetailsRef<'a>
-    ensures { result ≡ kind_if_asked facts.now.details kind }
+fn kind_if_asked<'a>(facts: &FileFacts<'_>, kind: i32) -> Option<DetailsRef<'a>>
+    ensures { details_if_any result ≡ kind_if_asked facts.now.details kind }
 {
     match facts.details() {
-        Some(_) => DetailsRef {
+        Some(_) => Some(DetailsRef {
             kind,
             signature: SignatureRef {
                 language: "",
                 text: "",
             },
             enclosing_symbol: SymbolRef::whole(""),
-        },
-        None => DetailsRef::none(),
+        }),
+        None => None,
     }
 }
 
@@ -190,6 +191,24 @@ fn around_at<'a>(arounds: &'a JoinedTexts, index: usize) -> &'a str
     }
 }
 
+/// The details of the declaration with an index, if they are asked for.
+fn shown_details<'a>(
+    shown: &Shown<'a, '_>,
+    declaration: &Declaration,
+    index: usize,
+) -> Option<DetailsRef<'a>>
+    ensures { details_if_any result ≡ details_shown declaration.now (detail_at shown.now.facts.now index)
+        (text_at shown.now.arounds.now index) }
+{
+    match detail_at(shown.facts, index) {
+        Some(detail) => {
+            let around = around_at(shown.arounds, index);
+            Some(details_shown(declaration, detail, around))
+        }
+        None => None,
+    }
+}
+
 /// The entry of the declaration with an index, whose symbol has this text. Where there is none, an entry without
 /// documentation.
 fn documented<'a>(symbol: SymbolRef<'a>, shown: &Shown<'a, '_>, index: usize) -> InformationRef<'a>
@@ -203,8 +222,7 @@ fn documented<'a>(symbol: SymbolRef<'a>, shown: &Shown<'a, '_>, index: usize) ->
     let Some(choice) = shown.choices.get(index) else {
         return bare_entry(symbol);
     };
-    let around = around_at(shown.arounds, index);
-    let details = details_at(shown.facts, declaration, index, around);
+    let details = shown_details(shown, declaration, index);
     ref_entry(symbol, declaration, details, *choice)
 }
 

@@ -6,6 +6,7 @@ ghost use Rattle.std.specs.List.{range_with_len};
 ghost use Rattle.proto_decl.specs.Names.{dotted, package_of};
 ghost use Rattle.proto_decl.specs.Laws.{component_names};
 ghost use Rattle.scip_model.specs.Named.{Home};
+ghost use Rattle.scip_records.specs.Details.{details_if_any};
 ghost use Rattle.scip_records.specs.declared.records.SymbolInformation.{SymbolInformation};
 ghost use Rattle.scip_model.specs.Detailed.{detail_at, details_shown, kind_number};
 ghost use Rattle.scip_model.specs.Entries.{declaration_entry, documentation_of};
@@ -102,7 +103,7 @@ fn kind_number(kind: DeclarationKind) -> i32
 }
 
 /// The detail of the declaration with an index, if details are asked for.
-fn detail_at<'a>(facts: &'a FileFacts<'_>, index: usize) -> Option<&'a Detail>
+pub(crate) fn detail_at<'a>(facts: &'a FileFacts<'_>, index: usize) -> Option<&'a Detail>
     ensures { MatchOption result (detail_at facts.now index ≡ None)
         (λ detail. detail_at facts.now index ≡ Some detail.now) }
 {
@@ -112,25 +113,36 @@ fn detail_at<'a>(facts: &'a FileFacts<'_>, index: usize) -> Option<&'a Detail>
     }
 }
 
-/// The details of the declaration with an index, which is in what has this symbol, if they are asked for.
-pub(crate) fn details_at<'a>(
+/// The details of a declaration, which is in what has this symbol.
+pub(crate) fn details_shown<'a>(
+    declaration: &Declaration,
+    detail: &'a Detail,
+    around: &'a str,
+) -> DetailsRef<'a>
+    ensures { result ≡ details_shown declaration.now (Some detail.now) around.now }
+{
+    DetailsRef {
+        kind: kind_number(declaration.kind()),
+        signature: SignatureRef {
+            language: "Protobuf",
+            text: detail.signature.as_str(),
+        },
+        enclosing_symbol: SymbolRef::whole(around),
+    }
+}
+
+/// Those of the declaration with an index, if they are asked for.
+fn details_at<'a>(
     facts: &'a FileFacts<'_>,
     declaration: &Declaration,
     index: usize,
     around: &'a str,
-) -> DetailsRef<'a>
-    ensures { result ≡ details_shown declaration.now (detail_at facts.now index) around.now }
+) -> Option<DetailsRef<'a>>
+    ensures { details_if_any result ≡ details_shown declaration.now (detail_at facts.now index) around.now }
 {
     match detail_at(facts, index) {
-        Some(detail) => DetailsRef {
-            kind: kind_number(declaration.kind()),
-            signature: SignatureRef {
-                language: "Protobuf",
-                text: detail.signature.as_str(),
-            },
-            enclosing_symbol: SymbolRef::whole(around),
-        },
-        None => DetailsRef::none(),
+        Some(detail) => Some(details_shown(declaration, detail, around)),
+        None => None,
     }
 }
 
@@ -138,10 +150,10 @@ pub(crate) fn details_at<'a>(
 pub(crate) fn ref_entry<'a>(
     symbol: SymbolRef<'a>,
     declaration: &'a Declaration,
-    details: DetailsRef<'a>,
+    details: Option<DetailsRef<'a>>,
     choice: Choice,
 ) -> InformationRef<'a>
-    ensures { result ≡ entry_with symbol.entry declaration.now details.entry choice }
+    ensures { result ≡ entry_with symbol.entry declaration.now (details_if_any details.entry) choice }
 {
     InformationRef {
         symbol,

@@ -1,6 +1,6 @@
 //! The symbol entries of declarations of included files that sources name.
 
-ghost use Rattle.std.specs.Prelude.{◌<◌, ◌↔◌, [], OnOk, IfOk, MatchBool, All, Contains, length};
+ghost use Rattle.std.specs.Prelude.{◌≡◌, ◌<◌, ◌↔◌, [], false, OnOk, IfOk, All, Contains, length};
 ghost use Rattle.std.specs.List.{AllZip};
 ghost use Rattle.std.specs.List.Sorted.{IsStrictlySortedBy};
 ghost use Rattle.proto_visibility.specs.Files.{IsSource};
@@ -9,7 +9,7 @@ ghost use Rattle.scip_model.specs.Chosen.{HasChoice, HaveChoices};
 ghost use Rattle.scip_model.specs.Entries.{IsKeptEntry};
 ghost use Rattle.scip_model.specs.Tables.ExternalLists.{Pair, pair_cmp, IsEntryAt, IsEntryOf, Adds, FromFront};
 ghost use Rattle.scip_model.specs.Tables.ExternalLists.{IsKnownPart, IsOfPart, IsOfUse, IsOfSource, IsExternal};
-ghost use Rattle.scip_model.specs.Tables.ExternalLists.{HasIncluded, NoneIncluded};
+ghost use Rattle.scip_model.specs.Tables.ExternalLists.{NoneIncluded, NoneSeen};
 ghost use Rattle.scip_model.specs.Indexes.{AreExternals};
 
 use crate::document_maker::Choices;
@@ -121,15 +121,39 @@ fn push_uses(
     Ok(())
 }
 
+/// How many included files it is asked of at most whether a source sees them, before its uses are looked at.
+const FEW: usize = 64;
+
+/// Whether a source may see an included file. No file before `first` is included.
+fn may_see_included(linker: &Linker<'_, '_>, first: usize, source: usize) -> bool
+    requires within { source < length linker.now }
+    requires first { NoneIncluded linker.now first }
+    ensures { result ≡ false → NoneSeen linker.now source (length linker.now) }
+{
+    let count = linker.count();
+    if count.saturating_sub(first) > FEW {
+        return true;
+    }
+    for number in first..count {
+        if linker.visible(source, number) {
+            return true;
+        }
+    }
+    false
+}
+
 /// Adds those that the uses of a source name.
+/// No file before `first` is included.
 fn push_source(
     alloc: Global,
     named: &mut Vec<(usize, usize)>,
     linker: &Linker<'_, '_>,
     choices: &Choices,
+    first: usize,
     source: usize,
 ) -> Result<(), AllocError>
     requires within { source < length linker.now }
+    requires first { NoneIncluded linker.now first }
     requires choices { HaveChoices linker.now choices.now }
     ensures { OnOk result (Adds (IsOfSource linker.now choices.now source) named.old.items named.new.items) }
 {
@@ -138,22 +162,27 @@ fn push_source(
     if !linker.is_source(source) {
         return Ok(());
     }
+    if !may_see_included(linker, first, source) {
+        return Ok(());
+    }
     let facts = linker.facts_of(source).unwrap();
     push_uses(alloc, named, linker, choices, source, facts.uses())
 }
 
-/// Those that the uses of all sources name.
+/// Those that the uses of all sources name. No file before `first` is included.
 fn named_externals(
     alloc: Global,
     linker: &Linker<'_, '_>,
     choices: &Choices,
+    first: usize,
 ) -> Result<Vec<(usize, usize)>, AllocError>
+    requires first { NoneIncluded linker.now first }
     requires choices { HaveChoices linker.now choices.now }
     ensures { IfOk result (λ named. Adds (IsExternal linker.now choices.now (length linker.now)) [] named.items) }
 {
     let mut named = Vec::new(alloc);
     for source in 0..linker.count() {
-        push_source(alloc, &mut named, linker, choices, source)?;
+        push_source(alloc, &mut named, linker, choices, first, source)?;
     }
     Ok(named)
 }
@@ -224,22 +253,24 @@ fn external_entries(
     Ok(entries)
 }
 
-/// Whether a file is included.
-fn has_included(linker: &Linker<'_, '_>) -> bool
-    ensures { MatchBool result (HasIncluded linker.now) (NoneIncluded linker.now (length linker.now)) }
+/// The number of the first file that is included, or else how many files there are.
+fn first_included(linker: &Linker<'_, '_>) -> usize
+    ensures { NoneIncluded linker.now result }
 {
-    for number in 0..linker.count() {
+    let count = linker.count();
+    for number in 0..count {
         if linker.is_included(number) {
-            return true;
+            return number;
         }
     }
-    false
+    count
 }
 
 /// The external symbol entries of linked files, by symbol: one for each declaration of an included
 /// file that is kept by these choices and that a component of a use in a source names.
 ///
-/// A use that names no type names none of them. If no file is included, no use is looked at, and no memory is taken.
+/// A use that names no type names none of them. If no file is included, no use is looked at, and no memory is taken; nor
+/// is a use of a source that sees none of a few included files.
 ///
 /// `choices` has to have a choice for each declaration of each file that has facts. An error means that memory was
 /// refused.
@@ -252,11 +283,12 @@ pub fn externals_in_packages(
     ensures { IfOk result (AreExternals named.now.files choices.now named.now.ids) }
 {
     let linker = named.linker();
-    if !has_included(linker) {
+    let first = first_included(linker);
+    if first == linker.count() {
         return Ok(Sequence::new(alloc));
     }
     symbols_stand_apart(named);
-    let pairs = named_externals(alloc, linker, choices)?;
+    let pairs = named_externals(alloc, linker, choices, first)?;
     let once = without_doubles(pairs)?;
     let mut entries = external_entries(alloc, named, choices, once.as_slice())?;
     entries.sort_by(|a, b| compare_symbols(a, b))?;

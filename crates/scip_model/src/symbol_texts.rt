@@ -1,13 +1,14 @@
 //! The texts of the symbols of files, packages and declarations.
 
-ghost use Rattle.std.specs.Prelude.{ℕ, ◌≡◌, ◌<◌, ◌≤◌, ◌++◌, ◌∷◌, [], IfOk, OnOk, Contains, length, map};
+ghost use Rattle.std.specs.Prelude.{ℕ, ◌≡◌, ◌<◌, ◌≤◌, ◌++◌, ◌∷◌, [], IfOk, OnOk, IsTrue, Contains, length, map};
 ghost use Rattle.proto_decl.specs.Laws.{component_names};
 ghost use Rattle.scip_symbol.specs.Entities.{OfFile, OfPackage, OfDeclaration};
 ghost use Rattle.scip_model.specs.Repeated.{file_namespace};
 ghost use Rattle.scip_symbol.specs.Path.{IsGoodPath};
 ghost use Rattle.scip_model.specs.Named.{text_of, package_at, declaration_in};
 ghost use Rattle.scip_model.specs.Tables.OwnTexts.{IsFront, behind, declaration_texts};
-ghost use Rattle.scip_model.specs.Detailed.{detail_at, details_shown, details_with, symbol_around, text_around};
+ghost use Rattle.scip_model.specs.Detailed.{detail_at, details_shown, details_with, path_around, symbol_around};
+ghost use Rattle.scip_model.specs.Detailed.{text_around};
 ghost use Rattle.scip_model.specs.Tables.Plans.{arounds_in, package_texts_up_to, own_texts};
 
 use crate::naming::{Home, file_namespace};
@@ -170,6 +171,53 @@ pub(crate) fn text_if_asked(
     }
 }
 
+/// Whether two steps are the same.
+fn is_same_step(a: &DeclarationStep, b: &DeclarationStep) -> bool
+    ensures { IsTrue result → a.now ≡ b.now }
+{
+    a.kind == b.kind && a.name.as_str() == b.name.as_str()
+}
+
+/// Whether steps are the same.
+fn are_same_steps(a: &[DeclarationStep], b: &[DeclarationStep]) -> bool
+    ensures { IsTrue result → a.now ≡ b.now }
+{
+    match (a, b) {
+        ([], []) => true,
+        ([first_a, others_a @ ..], [first_b, others_b @ ..]) => {
+            is_same_step(first_a, first_b) && are_same_steps(others_a, others_b)
+        }
+        _ => false,
+    }
+}
+
+/// Whether the steps to what two declarations are in are the same.
+fn are_beside(a: &Declaration, b: &Declaration) -> bool
+    ensures { IsTrue result → path_around a.now.path ≡ path_around b.now.path }
+{
+    let (outer_a, _) = a.path().parts();
+    let (outer_b, _) = b.path().parts();
+    are_same_steps(outer_a, outer_b)
+}
+
+/// Of what a declaration is in. That of another one is given, since most are in what the one before them is in.
+fn text_around_next(
+    alloc: Global,
+    home: &Home<'_>,
+    facts: &FileFacts,
+    before: &Declaration,
+    text: OwnedText,
+    declaration: &Declaration,
+) -> Result<OwnedText, AllocError>
+    requires { text ≡ text_around home.now facts.now before.now }
+    ensures { IfOk result (λ text. text ≡ text_around home.now facts.now declaration.now) }
+{
+    if are_beside(before, declaration) {
+        return Ok(text);
+    }
+    text_around(alloc, home, facts, declaration)
+}
+
 /// Adds those of what each declaration of a file is in, in order.
 fn push_arounds(
     alloc: Global,
@@ -180,8 +228,15 @@ fn push_arounds(
     ensures { OnOk result (arounds.new ≡ arounds.old
         ++ map (text_around home.now facts.now) facts.now.declarations) }
 {
-    for declaration in facts.declarations() {
-        let text = text_around(alloc, home, facts, declaration)?;
+    let declarations = facts.declarations();
+    let [first, ..] = declarations else {
+        return Ok(());
+    };
+    let mut before = first;
+    let mut text = text_around(alloc, home, facts, first)?;
+    for declaration in declarations {
+        text = text_around_next(alloc, home, facts, before, text, declaration)?;
+        before = declaration;
         arounds.push(text.as_str())?;
     }
     Ok(())

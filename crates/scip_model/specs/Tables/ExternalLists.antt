@@ -11,6 +11,7 @@ use Rattle.index_hooks.specs.declared.choice.Choice.{Choice}
 use Rattle.scip_records.specs.declared.records.SymbolInformation.{SymbolInformation}
 use Rattle.scip_model.specs.Named.{Home}
 use Rattle.proto_visibility.specs.Files.{File, HasFacts, IsSource, IsIncludedAt}
+use Rattle.proto_visibility.specs.Sees.{Sees}
 use Rattle.proto_link.specs.Targets.{IsTarget}
 use Rattle.proto_visibility.specs.declared.lookup.Entity.{Entity}
 use Rattle.proto_visibility.specs.declared.lookup.Entity.TheVariants as link
@@ -83,10 +84,11 @@ pub record IsEntryAt (chosen : Chosen) (home : Home) (facts : Facts) (file index
 abbrev pub IsEntryOf : List File → Chosen → Packages → Pair → SymbolInformation → Type 0
 IsEntryOf files chosen ids x = IsKeptEntry files chosen ids x.0 x.1
 
--- some file is included
-abbrev pub HasIncluded : List File → Type 0
-HasIncluded files = (number : ℕ) × IsIncludedAt files number true
-
 -- none of the first so many is
 abbrev pub NoneIncluded : List File → (count : ℕ) → Type 0
 NoneIncluded files count = (number : ℕ) → number < count → IsIncludedAt files number false
+
+-- the source sees none of the first so many that is included
+abbrev pub NoneSeen : List File → (source count : ℕ) → Type 0
+NoneSeen files source count =
+    (number : ℕ) → number < count → IsIncludedAt files number true → Sees files source number → ⊥

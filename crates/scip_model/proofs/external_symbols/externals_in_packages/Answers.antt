@@ -1,4 +1,4 @@
-use Rattle.std.proofs.Common.{◌≡◌, List, [], length, get_or, sym, subst, rules}
+use Rattle.std.proofs.Common.{◌≡◌, List, [], length, get_or, sym, subst, arith, rules}
 use Rattle.std.specs.Ordering.{is_lt}
 use Rattle.std.specs.List.{All, AllZip}
 use Rattle.std.proofs.lemmas.List.Elements.{Contains-get_or}
@@ -14,6 +14,7 @@ use Rattle.scip_model.proofs.external_symbols.externals_in_packages.Goals as goa
 pub named_externals-requires : goal.named_externals-requires
 named_externals-requires c =
     record {
+      first = c.first_included-first.ensures;
       choices = subst (λ (files : List File). HaveChoices files c.args.choices.now) (sym c.linker-linker.ensures.files)
           c.requires.choices;
     }
@@ -30,12 +31,14 @@ external_entries-requires-clause-external c =
     (sym c.as_slice.ensures.value)
     (λ k d within. (exact (get_or c.in_ok-once.once.items k d)).0 (Contains-get_or c.in_ok-once.once.items k d within))
 
-pub returns-then-not-has_included : goal.returns-then-not-has_included
-returns-then-not-has_included c =
+pub returns-then-first-count : goal.returns-then-first-count
+returns-then-first-count c =
+    let linked = c.linker-linker.result.now in
+    let same : c.first_included-first.result ≡ length linked = omega (arith, c.if-first-count.true, c.count.ensures) in
     rw c.new.ensures
     (none-external c.args.named.now.files c.args.choices.now c.args.named.now.ids
     (subst (λ (files : List File). NoneIncluded files (length files)) c.linker-linker.ensures.files
-    c.if-not-has_included.ensures))
+    (subst (NoneIncluded linked) same c.first_included-first.ensures)))
 
 pub returns : goal.returns
 returns c =

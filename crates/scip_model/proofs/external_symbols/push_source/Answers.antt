@@ -8,6 +8,7 @@ use Rattle.proto_link.proofs.TargetLemmas.{some_facts}
 use Rattle.scip_model.specs.Tables.ExternalLists.{Adds, FromFront, IsOfUse}
 use Rattle.scip_model.proofs.ConditionLinkedLemmas.{source-facts, source-at}
 use Rattle.scip_model.proofs.ExternalSymbolLemmas.{of-source}
+use Rattle.scip_model.proofs.ExternalSymbolSeenLemmas.{adds-none}
 use Rattle.scip_model.proofs.external_symbols.push_source.Goals as goal
 
 pub unwrap-facts-requires : goal.unwrap-facts-requires
@@ -18,6 +19,11 @@ unwrap-facts-requires c =
     let facts = source-facts files source c.linked.ensures.clear.read is in
     some_facts (λ facts. HasFacts files source facts.now) files source facts.0 c.facts_of.result facts.1
     c.facts_of.ensures
+
+pub returns-then-not-may_see_included : goal.returns-then-not-may_see_included
+returns-then-not-may_see_included c =
+    adds-none c.args.linker.now c.args.choices.now c.args.source
+    (c.may_see_included.ensures c.if-not-may_see_included.true) c.args.named.now.items
 
 pub returns : goal.returns
 returns c =

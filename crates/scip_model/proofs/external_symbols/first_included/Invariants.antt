@@ -1,5 +1,5 @@
 use Rattle.scip_model.specs.Tables.ExternalLists.{NoneIncluded}
-use Rattle.scip_model.proofs.external_symbols.has_included.Given as goal
+use Rattle.scip_model.proofs.external_symbols.first_included.Given as goal
 
 -- none so far
 abbrev pub invariant-loop-number : goal.invariant-loop-number

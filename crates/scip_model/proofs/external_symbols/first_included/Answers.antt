@@ -1,5 +1,5 @@
 use Rattle.scip_model.proofs.ExternalSymbolEntryLemmas.{none-more}
-use Rattle.scip_model.proofs.external_symbols.has_included.Goals as goal
+use Rattle.scip_model.proofs.external_symbols.first_included.Goals as goal
 
 pub loop-number-preserved : goal.loop-number-preserved
 loop-number-preserved c =

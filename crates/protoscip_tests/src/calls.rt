@@ -50,6 +50,21 @@ impl<'a> Given<'a> {
             registry,
         }
     }
+
+    /// The same, with the documents below this folder.
+    pub(crate) fn below(self, folder: OwnedText) -> Given<'a> {
+        let Given {
+            tree,
+            mut settings,
+            registry,
+        } = self;
+        settings.at = folder;
+        Given {
+            tree,
+            settings,
+            registry,
+        }
+    }
 }
 
 /// The plain settings, with this unit of columns, and with this done with faults.

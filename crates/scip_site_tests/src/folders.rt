@@ -1,7 +1,8 @@
 //! Folders of pages.
 
+use crate::asked::queries;
+use crate::calls::see;
 use crate::files::{Files, Made};
-use crate::see::{queries, see};
 use scip_query::Queries;
 use scip_site::{Folders, ShowFault, SiteFault, make_pages};
 use std::alloc::Global;

@@ -1,6 +1,6 @@
 //! The texts of faults.
 
-use crate::see::see;
+use crate::calls::see;
 use scip_site::{ShowFault, SiteFault};
 use std::test::Fail;
 

@@ -1,6 +1,7 @@
 //! Pages of an index's documents.
 
-use crate::see::{queries, see};
+use crate::asked::queries;
+use crate::calls::see;
 use basics::OwnedText;
 use scip_pages::{Asked, ColumnUnit, Facts, Site, page};
 use scip_query::Queries;

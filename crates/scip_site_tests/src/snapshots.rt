@@ -1,6 +1,7 @@
 //! Snapshots of an index's documents.
 
-use crate::see::{queries, see};
+use crate::asked::queries;
+use crate::calls::see;
 use scip_pages::snapshot;
 use scip_query::Queries;
 use std::alloc::{AllocError, Global};

@@ -1,2 +1,2 @@
--- the source that a test links
+-- the source that the tests link
 pub mod OneSource

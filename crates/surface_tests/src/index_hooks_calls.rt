@@ -5,9 +5,9 @@ ghost use Rattle.index_hooks.specs.declared.choice.DocChoice.TheVariants.{Traili
 
 use crate::shared::see;
 use index_hooks::{
-    AnyAnswer, BoxedFilter, BoxedRule, Choice, Chooses, DocAlways, DocCallback, DocChoice, DocHook,
-    DocOneOf, DocPromise, DocRule, Filter, FilterCallback, FilterHook, FilterPromise, HookFault,
-    KindIn, Kinds, NamePrefix, Registry, Turns,
+    AnyAnswer, BoxedFilter, Choice, Chooses, DocAlways, DocCallback, DocChoice, DocHook, DocOneOf,
+    DocPromise, DocRule, Filter, FilterCallback, FilterHook, FilterPromise, KindIn, Kinds,
+    NamePrefix, Registry, Turns,
 };
 use proto_decl::{DeclView, DeclarationKind};
 use std::alloc::{AllocError, Global};
@@ -235,39 +235,5 @@ fn registry_chooses_by_kind(rt: HostRuntime) -> Result<(), Fail> {
     see_kept(&rt, rt.alloc(), &asked)?;
     let count = asked.load(Ordering::SeqCst);
     see(&rt, count == 4, "each declaration is asked about once");
-    Ok(())
-}
-
-/// Keeps everything.
-#[derive(Drop)]
-struct Everything;
-
-impl FilterCallback for Everything {
-    fn call(&self, _view: &DeclView<'_>) -> bool {
-        true
-    }
-}
-
-#[test]
-fn registry_is_full_at_sixteen(rt: HostRuntime) -> Result<(), Fail> {
-    let alloc = rt.alloc();
-    let mut registry = Registry::new(alloc);
-    for _ in 0..16 {
-        let filter: BoxedFilter = Box::new(alloc, Filter::new(AnyAnswer, Everything))?;
-        see(
-            &rt,
-            registry.add_filter(filter).is_ok(),
-            "one of the first sixteen",
-        );
-    }
-    let last: BoxedFilter = Box::new(alloc, Filter::new(AnyAnswer, Everything))?;
-    let answer = registry.add_filter(last);
-    see(
-        &rt,
-        matches!(answer, Err((_, HookFault::Full))),
-        "the seventeenth",
-    );
-    let rule: BoxedRule = Box::new(alloc, DocAlways(DocChoice::Both).rule())?;
-    see(&rt, registry.add_doc(rule).is_ok(), "a rule is still taken");
     Ok(())
 }

@@ -15,13 +15,20 @@ use std::test::Fail;
 use std::thread::Threads;
 
 /// Numbers of workers, and whether there can be so many.
-const NUMBERS: [(usize, bool); 4] = [(0, false), (1, true), (16, true), (17, false)];
+const NUMBERS: [(usize, bool); 5] = [
+    (0, false),
+    (1, true),
+    (16, true),
+    (17, false),
+    (usize::MAX, false),
+];
 
 #[test]
 fn workers_are_one_to_sixteen(rt: HostRuntime) {
     for (number, taken) in &NUMBERS {
-        let is_taken = Workers::new(*number).is_some();
-        see(&rt, is_taken == *taken, "the number of workers");
+        let count = Workers::new(*number).map(Workers::count);
+        let due = taken.then_some(*number);
+        see(&rt, count == due, "the number of workers");
     }
 }
 
@@ -164,8 +171,10 @@ fn lane_gives_its_inputs_in_order(rt: HostRuntime) -> Result<(), Fail> {
     Ok(())
 }
 
-/// Events of three inputs on two workers, and what each answers. The last is a steal from an empty queue.
-const STEPS: [(Event, Result<Option<usize>, NotPossible>); 11] = [
+/// Events of three inputs on two workers, and what each answers. The first is a pop before each input is in a queue, the
+/// last a steal from an empty queue.
+const STEPS: [(Event, Result<Option<usize>, NotPossible>); 12] = [
+    (Event::Pop(0), Err(NotPossible)),
     (Event::Seed(0), Ok(None)),
     (Event::Seed(1), Ok(None)),
     (Event::Seed(2), Ok(None)),

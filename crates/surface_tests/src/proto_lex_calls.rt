@@ -6,14 +6,6 @@ use std::alloc::Global;
 use std::process::Abort;
 use std::test::Fail;
 
-#[test]
-fn text_new_refuses_what_is_no_text(rt: HostRuntime) {
-    match Text::new(rt.alloc(), b"\xFF") {
-        Ok(_) => see(&rt, false, "one byte FF is taken"),
-        Err(fault) => see(&rt, fault == LexFault::NotUtf8(0), "one byte FF"),
-    }
-}
-
 /// Sees where the message `A` is, in both units.
 fn see_position(rt: &impl Abort, text: &Text) {
     if !text.as_str().is_char_boundary(36) {
@@ -39,30 +31,6 @@ fn see_position(rt: &impl Abort, text: &Text) {
 fn text_position_counts_in_both_units(rt: HostRuntime) -> Result<(), Fail> {
     let source = "syntax = \"proto3\";\n/* \u{e9} */ message A {}\n";
     see_position(&rt, &Text::new(rt.alloc(), source.as_bytes())?);
-    Ok(())
-}
-
-/// Sources that have no lexing, and why.
-const FAULTS: [(&str, LexFault); 5] = [
-    ("@", LexFault::BadByte(0)),
-    ("\"abc", LexFault::OpenString(0)),
-    ("/* x", LexFault::OpenComment(0)),
-    ("08", LexFault::BadNumber(0)),
-    ("\"\\q\"", LexFault::BadEscape(1)),
-];
-
-/// Why a source has no lexing, if it has none.
-fn fault_of(alloc: Global, source: &str) -> Result<Option<LexFault>, LexFault> {
-    let text = Text::new(alloc, source.as_bytes())?;
-    Ok(lex(alloc, &text).err())
-}
-
-#[test]
-fn lex_refuses_by_name(rt: HostRuntime) -> Result<(), Fail> {
-    for (source, due) in &FAULTS {
-        let fault = fault_of(rt.alloc(), source)?;
-        see(&rt, fault == Some(*due), source);
-    }
     Ok(())
 }
 

@@ -2,10 +2,7 @@
 
 use crate::shared::{facts_of, see};
 use proto_decl::FileFacts;
-use proto_lex::Span;
-use proto_link::{
-    Duplicates, Entity, FilePlace, LinkFault, LinkFile, Linker, Target, have_own_paths,
-};
+use proto_link::{Duplicates, Entity, LinkFault, LinkFile, Linker, Target, have_own_paths};
 use std::alloc::{AllocError, Global};
 use std::test::Fail;
 
@@ -26,43 +23,7 @@ static CHAIN: [(&str, &str); 4] = [
     ("d.proto", "syntax = \"proto3\";\nmessage D {}\n"),
 ];
 
-/// The third file imports one that isn't there.
-static CUT: [(&str, &str); 3] = [
-    (
-        "a.proto",
-        "syntax = \"proto3\";\nimport \"b.proto\";\nmessage M { D d = 1; }\n",
-    ),
-    (
-        "b.proto",
-        "syntax = \"proto3\";\nimport public \"c.proto\";\n",
-    ),
-    (
-        "c.proto",
-        "syntax = \"proto3\";\nimport public \"d.proto\";\n",
-    ),
-];
-
-/// Two values have the full name `M.ZERO`.
-static TWICE: [(&str, &str); 1] = [(
-    "a.proto",
-    "syntax = \"proto3\";\nmessage M {\n  enum A { ZERO = 0; }\n  enum B { ZERO = 0; }\n}\n",
-)];
-
-/// The package `acme.google` hides the package `google` of the use.
-static SHADOWED: [(&str, &str); 3] = [
-    (
-        "a.proto",
-        "syntax = \"proto3\";\npackage acme;\nimport \"b.proto\";\nimport \"t.proto\";\n\
-message M { google.protobuf.Timestamp t = 1; }\n",
-    ),
-    ("b.proto", "syntax = \"proto3\";\npackage acme.google;\n"),
-    (
-        "t.proto",
-        "syntax = \"proto3\";\npackage google.protobuf;\nmessage Timestamp {}\n",
-    ),
-];
-
-/// The same, but the use has a leading dot.
+/// The package `acme.google` would hide the package `google` of the use, but for its leading dot.
 static DOTTED: [(&str, &str); 3] = [
     (
         "a.proto",
@@ -87,14 +48,6 @@ enum Asked {
 
 /// The answer, or why the files aren't linked, or the use names nothing.
 type Answer = Result<bool, LinkFault>;
-
-/// A place in a file.
-const fn place(file: usize, start: u32, end: u32) -> FilePlace {
-    FilePlace {
-        file,
-        span: Span { start, end },
-    }
-}
 
 /// Adds the facts of a source.
 fn add_facts<'t>(
@@ -234,30 +187,6 @@ fn visible_follows_public_imports(rt: HostRuntime) -> Result<(), Fail> {
         answered == Ok(false),
         "the first isn't visible to the last",
     );
-    Ok(())
-}
-
-#[test]
-fn linker_new_misses_an_import(rt: HostRuntime) -> Result<(), Fail> {
-    let due = Err(LinkFault::MissingImport(place(2, 33, 42)));
-    let answered = answer(rt.alloc(), &CUT, Asked::Visible(0, 2))?;
-    see(&rt, answered == due, "the missing import");
-    Ok(())
-}
-
-#[test]
-fn linker_new_refuses_a_double(rt: HostRuntime) -> Result<(), Fail> {
-    let due = Err(LinkFault::Duplicate(place(0, 42, 46), place(0, 65, 69)));
-    let answered = answer(rt.alloc(), &TWICE, Asked::Visible(0, 0))?;
-    see(&rt, answered == due, "the first and the second");
-    Ok(())
-}
-
-#[test]
-fn resolve_commits_to_the_innermost_scope(rt: HostRuntime) -> Result<(), Fail> {
-    let due = Err(LinkFault::Unresolved(place(0, 81, 106)));
-    let answered = answer(rt.alloc(), &SHADOWED, Asked::Resolved)?;
-    see(&rt, answered == due, "the shadowed name");
     Ok(())
 }
 

@@ -3,7 +3,7 @@
 use crate::shared::see;
 use proto_lex::{LexFault, Text, lex};
 use proto_parse::{SyntaxFault, parse};
-use std::alloc::{AllocError, Global};
+use std::alloc::Global;
 use std::test::Fail;
 
 /// Sources that have no tree, and why.
@@ -55,35 +55,4 @@ fn fault_of_text(alloc: Global, text: &Text) -> Result<Option<SyntaxFault>, LexF
 fn fault_of(alloc: Global, source: &str) -> Result<Option<SyntaxFault>, LexFault> {
     let text = Text::new(alloc, source.as_bytes())?;
     fault_of_text(alloc, &text)
-}
-
-/// A message inside a message, to this depth.
-fn nested(alloc: Global, depth: usize) -> Result<String, AllocError> {
-    let opened = "message A{".repeat(alloc, depth)?;
-    let closed = "}".repeat(alloc, depth)?;
-    ["syntax = \"proto3\";\n", opened.as_str(), closed.as_str()].join(alloc, "")
-}
-
-/// Why messages in one another have no tree, if they have none.
-fn fault_of_nested(alloc: Global, depth: usize) -> Result<Option<SyntaxFault>, Fail> {
-    let source = nested(alloc, depth)?;
-    Ok(fault_of(alloc, source.as_str())?)
-}
-
-#[test]
-fn parse_takes_64_messages_in_one_another(rt: HostRuntime) -> Result<(), Fail> {
-    let fault = fault_of_nested(rt.alloc(), 64)?;
-    see(&rt, fault == None, "a depth of 64");
-    Ok(())
-}
-
-#[test]
-fn parse_refuses_a_65th_message(rt: HostRuntime) -> Result<(), Fail> {
-    let fault = fault_of_nested(rt.alloc(), 65)?;
-    see(
-        &rt,
-        fault == Some(SyntaxFault::TooDeep(659)),
-        "a depth of 65",
-    );
-    Ok(())
 }

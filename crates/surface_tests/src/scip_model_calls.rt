@@ -1,17 +1,15 @@
 //! The records of an index, the documents of sources, and writers and readers.
 
-ghost use Rattle.std.specs.Prelude.{◌≡◌, ◌∷◌, [], map, IfOk};
-ghost use Rattle.std.specs.String.{string_bytes};
+ghost use Rattle.std.specs.Prelude.{◌≡◌, ◌∷◌, [], IfOk};
 ghost use Rattle.scip_model.specs.Chosen.{HasChoice};
-ghost use Rattle.scip_model.specs.Pieces.{IsRising};
 
 use crate::broken::Broken;
 use crate::shared::see;
 use basics::{OwnedText, Sequence};
 use index_hooks::{Choice, DocChoice};
 use scip_model::{
-    BoxedDetails, Choices, Document, Failed, Feed, Index, Info, MergeFault, Metadata, Occurrence,
-    Range, Sink, Std, ToolInfo, Unmerged, merge,
+    BoxedDetails, Choices, Document, Failed, Feed, Index, Info, Metadata, Occurrence, Range, Sink,
+    Std, ToolInfo,
 };
 use scip_wire::write_index;
 use std::alloc::{AllocError, Global};
@@ -201,91 +199,6 @@ fn see_choices(rt: &impl Abort, choices: &Choices)
 #[test]
 fn choices_keep_their_lists(rt: HostRuntime) -> Result<(), Fail> {
     see_choices(&rt, &two_choices(rt.alloc())?);
-    Ok(())
-}
-
-/// Adds a document with this path and nothing in it.
-fn add_piece(alloc: Global, pieces: &mut Vec<Document>, path: &str) -> Result<(), AllocError> {
-    let piece = piece(alloc, path)?;
-    pieces.push(piece)?;
-    Ok(())
-}
-
-/// Adds a document with each of these paths.
-fn add_pieces(alloc: Global, pieces: &mut Vec<Document>, paths: &str) -> Result<(), AllocError> {
-    for path in paths.split_terminator(' ') {
-        add_piece(alloc, pieces, path)?;
-    }
-    Ok(())
-}
-
-/// Documents with these paths, in order.
-fn pieces_of(alloc: Global, paths: &str) -> Result<Vec<Document>, AllocError> {
-    let mut pieces = Vec::new(alloc);
-    add_pieces(alloc, &mut pieces, paths)?;
-    Ok(pieces)
-}
-
-/// The paths `a.proto` and `b.proto`.
-fn two_paths(alloc: Global) -> Result<[String; 2], AllocError>
-    ensures { IfOk result (λ paths. IsRising (map string_bytes paths)) }
-{
-    let first = String::from_str(alloc, "a.proto")?;
-    let second = String::from_str(alloc, "b.proto")?;
-    Ok([first, second])
-}
-
-/// What `merge` answers of pieces with these paths.
-fn merged(alloc: Global, paths: &str) -> Result<Result<Index, Unmerged>, AllocError> {
-    let due = two_paths(alloc)?;
-    let metadata = metadata_of(alloc)?;
-    let pieces = pieces_of(alloc, paths)?;
-    Ok(merge(alloc, &due, pieces, metadata, Vec::new(alloc)))
-}
-
-/// Whether an index has the documents of `a.proto` and `b.proto`, in order.
-fn is_in_order(index: &Index) -> bool {
-    match index.documents.as_slice() {
-        [a, b] => a.relative_path.as_str() == "a.proto" && b.relative_path.as_str() == "b.proto",
-        _ => false,
-    }
-}
-
-/// Whether pieces with these paths are merged, in order.
-fn is_merged(alloc: Global, paths: &str) -> Result<bool, AllocError> {
-    match merged(alloc, paths)? {
-        Ok(index) => Ok(is_in_order(&index)),
-        Err(_) => Ok(false),
-    }
-}
-
-#[test]
-fn merge_orders_by_path(rt: HostRuntime) -> Result<(), Fail> {
-    let is_so = is_merged(rt.alloc(), "b.proto a.proto")?;
-    see(&rt, is_so, "the first and the second document");
-    Ok(())
-}
-
-/// Pieces by path, and why they are refused.
-const REFUSED: [(&str, MergeFault); 3] = [
-    ("a.proto a.proto", MergeFault::Twice(1)),
-    ("a.proto", MergeFault::Missing(1)),
-    ("a.proto c.proto", MergeFault::Stranger(1)),
-];
-
-/// Whether pieces with these paths are refused so.
-fn is_refused(alloc: Global, paths: &str, due: MergeFault) -> Result<bool, AllocError> {
-    match merged(alloc, paths)? {
-        Ok(_) => Ok(false),
-        Err(unmerged) => Ok(unmerged.fault == due),
-    }
-}
-
-#[test]
-fn merge_refuses_by_name(rt: HostRuntime) -> Result<(), Fail> {
-    for (paths, due) in &REFUSED {
-        see(&rt, is_refused(rt.alloc(), paths, *due)?, paths);
-    }
     Ok(())
 }
 

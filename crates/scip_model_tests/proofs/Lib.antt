@@ -1,4 +1,0 @@
--- What is known of a source that is linked alone
-pub mod OneSourceLemmas
--- The paths of the tests of merging rise
-pub mod RisingLemmas

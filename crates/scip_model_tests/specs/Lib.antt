@@ -1,2 +1,0 @@
--- the source that the tests link
-pub mod OneSource

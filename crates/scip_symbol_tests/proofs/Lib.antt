@@ -1,2 +1,0 @@
--- What the tests name are entities
-pub mod EntityConditions

@@ -1,8 +1,0 @@
-use Rattle.std.proofs.Common.{ap}
-use Rattle.proto_decl.specs.declared.declaration.DeclarationStep.{DeclarationStep}
-use Rattle.scip_symbol_tests.proofs.EntityConditions.{message}
-use Rattle.scip_symbol_tests.proofs.entities.message_text.Goals as goal
-
-pub symbol_of-requires : goal.symbol_of-requires
-symbol_of-requires c =
-    message c.new.result c.new.ensures (ap (λ (step : DeclarationStep). step.name) c.step_to-a.ensures)

@@ -1,0 +1,2 @@
+-- texts in the making
+pub mod Drafts

@@ -1,0 +1,2 @@
+-- the marks in front of paths: `file_text`
+pub mod TreeLemmas

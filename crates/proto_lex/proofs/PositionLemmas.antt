@@ -8,7 +8,6 @@ use Rattle.std.proofs.Math.ListN.{drop_of_length-le}
 use Rattle.std.proofs.lemmas.Bool.Decides.{nat_tests}
 use Rattle.proto_lex.specs.Position.{is_line_end, code_units, position_after}
 use Rattle.proto_lex.specs.declared.position.Encoding.{Encoding}
-use Rattle.proto_lex.specs.declared.position.Position.{Position}
 use Rattle.proto_lex.specs.declared.position.Encoding.TheVariants.{Utf8, Utf16}
 
 pushed_kept : {X : Type 0} (xs : List X) (s : ℕ) (y : X) → s ≤ length xs

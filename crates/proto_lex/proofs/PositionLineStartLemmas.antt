@@ -1,7 +1,7 @@
 -- The line starts of a text, and what the last one that isn't after an offset says of the offset.
-use Rattle.std.proofs.Common.{◌≡◌, ◌∙◌, sym, ap, refl, subst, ℕ, zero, suc, ◌+◌, ◌-◌, ◌<◌, ◌≤◌, List, [], ◌∷◌, ◌++◌}
-use Rattle.std.proofs.Common.{length, get_or, take, drop, Bool, true, false, not, cond, leb, leb-true, arith}
-use Rattle.std.specs.List.{after_last, suffix_len, count_by, sum_by}
+use Rattle.std.proofs.Common.{◌≡◌, ◌∙◌, sym, ap, refl, subst, ℕ, zero, suc, ◌+◌, ◌-◌, ◌<◌, ◌≤◌, List, [], ◌∷◌}
+use Rattle.std.proofs.Common.{length, get_or, take, drop, true, false, not, cond, leb, leb-true, arith}
+use Rattle.std.specs.List.{suffix_len, count_by, sum_by}
 use Rattle.std.specs.List.Sorted.{IsPartitionPoint, IsNonDecreasingBy}
 use Rattle.std.proofs.lemmas.Bool.{leb-false}
 use Rattle.std.proofs.lemmas.Bool.Decides.{nat_tests}
@@ -163,6 +163,22 @@ at_its_start text offset line h = record {
     λ k d low high. let same = get_or_default (line_starts text) line d 0 h.within in
         omega (arith, line_starts_rise text k line d (omega arith) h.within),
     λ k d low high. omega (arith, start-le text offset line h, h.parted.1 k d low high),
+  );
+}
+
+-- the line whose start isn't behind an offset, if the next one's is
+pub line_by_next : (text : List ℕ) (offset line : ℕ) → line < length (line_starts text)
+    → get_or (line_starts text) line 0 ≤ offset
+    → (line + 1 < length (line_starts text) → offset < get_or (line_starts text) (line + 1) 0)
+    → IsLineAt text offset line
+line_by_next text offset line within low next = record {
+  within = within;
+  parted = (
+    λ k d from upto. let same = get_or_default (line_starts text) line d 0 within in
+        omega (arith, line_starts_rise text k line d (omega arith) within, same, low),
+    λ k d from upto. let there : line + 1 < length (line_starts text) = omega arith in
+        let same = get_or_default (line_starts text) (line + 1) d 0 there in
+        omega (arith, line_starts_rise text (line + 1) k d (omega arith) (omega arith), same, next there),
   );
 }
 

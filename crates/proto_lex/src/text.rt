@@ -1,6 +1,6 @@
 //! Texts of sources.
 
-ghost use Rattle.std.specs.Prelude.{◌≡◌, ◌+◌, ◌<◌, ◌≤◌, ◌⊎◌, length, IfOk, IfErr, IsOkUnless, IsCharBoundary};
+ghost use Rattle.std.specs.Prelude.{◌≡◌, ◌+◌, ◌<◌, ◌≤◌, ◌⊎◌, length, IfOk, IfErr, IsOkUnless, IsCharBoundary, IsTrue};
 ghost use Rattle.std.specs.List.Sorted.{IsPartitionPoint};
 ghost use Rattle.proto_lex.specs.Position.{line_of, line_starts, position_of};
 ghost use Rattle.proto_lex.specs.Text.{IsText, IsNoText};
@@ -83,7 +83,32 @@ impl<'a> Text<'a> {
         requires { IsCharBoundary self.now offset }
         ensures { result ≡ position_of encoding self.now offset }
     {
-        let line = self.line_at(offset);
+        self.position_on(self.line_at(offset), offset, encoding)
+    }
+
+    /// The positions of two offsets, as `position` gives them. If both are on one line, it is searched for once.
+    pub fn positions(&self, start: usize, end: usize, encoding: Encoding) -> (Position, Position)
+        requires start { IsCharBoundary self.now start }
+        requires end { IsCharBoundary self.now end }
+        ensures start { result.0 ≡ position_of encoding self.now start }
+        ensures end { result.1 ≡ position_of encoding self.now end }
+    {
+        let first = self.line_at(start);
+        let last = self.line_near(first, end);
+        (
+            self.position_on(first, start, encoding),
+            self.position_on(last, end, encoding),
+        )
+    }
+
+    /// The position of `offset`, which is on this line.
+    fn position_on(&self, line: usize, offset: usize, encoding: Encoding) -> Position
+        requires boundary { IsCharBoundary self.now offset }
+        requires within { line < length (line_starts self.now) }
+        requires parted { IsPartitionPoint (λ start. start ≤ offset) (λ start. offset < start) (line_starts self.now)
+            (line + 1) }
+        ensures { result ≡ position_of encoding self.now offset }
+    {
         let start = self.line_starts[line] as usize;
         Position {
             line: line as u32,
@@ -108,5 +133,30 @@ impl<'a> Text<'a> {
         self.line_starts
             .partition_point(|start| *start as usize <= offset)
             - 1
+    }
+
+    /// Whether `offset` is on this line, which may be none of the text's: from its start on, and before the next one's.
+    fn is_on_line(&self, line: usize, offset: usize) -> bool
+        ensures within { IsTrue result → line < length (line_starts self.now) }
+        ensures parted { IsTrue result → IsPartitionPoint (λ start. start ≤ offset) (λ start. offset < start)
+            (line_starts self.now) (line + 1) }
+    {
+        let starts = self.line_starts.as_slice();
+        if line >= starts.len() || offset < starts[line] as usize {
+            return false;
+        }
+        line + 1 == starts.len() || offset < starts[line + 1] as usize
+    }
+
+    /// The line of `offset`. If it is `near`, there is no search.
+    fn line_near(&self, near: usize, offset: usize) -> usize
+        ensures within { result < length (line_starts self.now) }
+        ensures parted { IsPartitionPoint (λ start. start ≤ offset) (λ start. offset < start) (line_starts self.now)
+            (result + 1) }
+    {
+        if !self.is_on_line(near, offset) {
+            return self.line_at(offset);
+        }
+        near
     }
 }

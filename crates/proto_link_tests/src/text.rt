@@ -56,6 +56,16 @@ fn position_of(text: &Text<'_>, offset: usize, encoding: Encoding) -> Option<(u3
     Some((position.line, position.column))
 }
 
+/// Whether two offsets of a text have the positions together that each has alone, if they stand between two characters.
+fn are_as_alone(text: &Text<'_>, start: usize, end: usize) -> bool {
+    let bytes = text.as_str();
+    if !bytes.is_char_boundary(start) || !bytes.is_char_boundary(end) {
+        return false;
+    }
+    let (first, second) = text.positions(start, end, Encoding::Utf16);
+    first == text.position(start, Encoding::Utf16) && second == text.position(end, Encoding::Utf16)
+}
+
 /// Whether a place is where it is said to be.
 fn is_right(alloc: Global, place: &Place) -> bool {
     match text_of(alloc, place.source.as_bytes()) {
@@ -63,6 +73,8 @@ fn is_right(alloc: Global, place: &Place) -> bool {
             position_of(&text, place.offset, Encoding::Utf8) == Some((place.line, place.utf8))
                 && position_of(&text, place.offset, Encoding::Utf16)
                     == Some((place.line, place.utf16))
+                && are_as_alone(&text, 0, place.offset)
+                && are_as_alone(&text, place.offset, 0)
         }
         Err(_) => false,
     }

@@ -1,13 +1,12 @@
 -- The tree of one source.
 use Rattle.std.proofs.Common.{◌≡◌, ℕ, zero, suc, arith, List, [], ◌∷◌, Some, ap, sym, subst, refl}
-use Rattle.std.specs.Prelude.{◌++◌, ◌≢◌, ◌≤◌, length, false, codes, All}
+use Rattle.std.specs.Prelude.{◌++◌, ◌≢◌, false, codes}
 use Rattle.std.specs.List.{slice_get}
 use Rattle.std.specs.List.Sorted.{IsStrictlySortedBy}
 use Rattle.std.specs.declared.cmp.Ordering.TheVariants.{Less}
 use Rattle.std.proofs.lemmas.Option.{same_Some, none-some, slice_get_within}
-use Rattle.std.proofs.lemmas.List.Elements.{All-nil, All-cons}
 use Rattle.std.proofs.lemmas.List.Sorted.{length_permutation}
-use Rattle.scip_symbol.specs.Path.{IsComponent, IsGoodPath}
+use Rattle.scip_symbol.specs.Path.{IsGoodPath}
 use Rattle.source_tree.specs.Refusals.{MayRefuse}
 use Rattle.source_tree.specs.declared.fault.TreeFault.{TreeFault}
 use Rattle.source_tree.specs.declared.fault.TreeFault.TheVariants as refusal
@@ -58,37 +57,8 @@ module _ (bytes : List ℕ) where
 
 -- ---- it is a tree: its path is good, and there is no other
 
-printable : (byte : ℕ) (others : List ℕ) → 32 ≤ byte → All (λ b. 32 ≤ b) others → All (λ b. 32 ≤ b) (byte ∷ others)
-printable byte others is all = All-cons (λ (b : ℕ). 32 ≤ b) byte others is all
-
-is_printable : All (λ b. 32 ≤ b) source_path
-is_printable =
-    printable 105 (codes "nput.proto") (omega arith)
-    (printable 110 (codes "put.proto") (omega arith)
-    (printable 112 (codes "ut.proto") (omega arith)
-    (printable 117 (codes "t.proto") (omega arith)
-    (printable 116 (codes ".proto") (omega arith)
-    (printable 46 (codes "proto") (omega arith)
-    (printable 112 (codes "roto") (omega arith)
-    (printable 114 (codes "oto") (omega arith)
-    (printable 111 (codes "to") (omega arith)
-    (printable 116 (codes "o") (omega arith) (printable 111 [] (omega arith) (All-nil (λ (b : ℕ). 32 ≤ b))))))))))))
-
-is_component : IsComponent source_path
-is_component = record {
-  some = λ same. let few = ap length same in omega (arith, few);
-  no_dot = λ same. let few = ap length same in omega (arith, few);
-  no_dots = λ same. let few = ap length same in omega (arith, few);
-}
-
 good_path : IsGoodPath source_path
-good_path = record {
-  short = omega arith;
-  printable = is_printable;
-  components = All-cons IsComponent source_path [] is_component (All-nil IsComponent);
-  name = codes "input";
-  ending = refl;
-}
+good_path = record { as_folder = refl; name = codes "input"; ending = refl }
 
 module _ (bytes : List ℕ) where
   abbrev alone : SourceFile

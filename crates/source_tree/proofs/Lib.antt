@@ -13,8 +13,6 @@ pub mod MendingLemmas
 pub mod MendingLawLemmas
 -- Of bytes one text is read, which is as long
 pub mod MendingOneLemmas
--- What `all` says of each element
-pub mod PathComponentLemmas
 -- Lists of files sorted by path: a file with the path of an earlier one stands next to it
 pub mod PathLemmas
 -- Lemmas on what is kept of a source

@@ -22,7 +22,7 @@ pub use laws::{
     one_reading, one_sorting_by_path, one_tree, other_bytes_are_in_comments,
     refusals_exclude_each_other, trees_are_not_refused,
 };
-pub use path::{MAX_PATH_LENGTH, is_good_path};
+pub use path::{MAX_PATH_LENGTH, is_good_folder, is_good_path};
 pub use reading::read_source;
 pub use source::Source;
 pub use tree::{MAX_FILES, Tree};

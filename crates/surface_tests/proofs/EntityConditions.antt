@@ -1,21 +1,12 @@
 -- What the tests name are entities.
-use Rattle.std.proofs.Common.{◌≡◌, ℕ, ◌≤◌, List, [], ◌∷◌, codes, refl, sym, subst, arith}
+use Rattle.std.proofs.Common.{◌≡◌, ℕ, List, [], ◌∷◌, codes, refl, sym, subst}
 use Rattle.std.proofs.lemmas.List.Elements.{All-cons, All-nil}
 use Rattle.proto_lex.specs.Lexes.{identifier}
-use Rattle.scip_symbol.specs.Path.{IsComponent}
 use Rattle.scip_symbol.specs.Entities.{IsIdentifier, OfFile, OfPackage, OfDeclaration, IsEntity, of_package}
 use Rattle.proto_decl.specs.declared.declaration.DeclarationStep.{DeclarationStep}
-use Rattle.surface_tests.proofs.ShortListLemmas.{printable}
 
 pub spaced_file : IsEntity (OfFile (codes "a b.proto"))
-spaced_file = record {
-  short = omega arith;
-  printable = printable (codes "a b.proto") refl;
-  components = All-cons IsComponent (codes "a b.proto") []
-      (record { some = λ e. cc; no_dot = λ e. cc; no_dots = λ e. cc }) (All-nil IsComponent);
-  name = codes "a b";
-  ending = refl;
-}
+spaced_file = record { as_folder = refl; name = codes "a b"; ending = refl }
 
 word : (name : List ℕ) (text : List ℕ) → IsIdentifier text → name ≡ text → IsIdentifier name
 word name text h e = subst IsIdentifier (sym e) h

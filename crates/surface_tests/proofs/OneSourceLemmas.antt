@@ -1,18 +1,17 @@
 -- What is known of a source that is linked alone.
-use Rattle.std.proofs.Common.{◌≡◌, ◌∙◌, ◌<◌, ◌≤◌, ℕ, List, [], ◌∷◌, length, Some, codes}
-use Rattle.std.proofs.Common.{ap, sym, refl, subst, arith}
+use Rattle.std.proofs.Common.{◌≡◌, ◌∙◌, ◌<◌, ℕ, List, [], ◌∷◌, length, Some, codes}
+use Rattle.std.proofs.Common.{ap, sym, refl, subst}
 use Rattle.std.specs.List.{slice_get}
 use Rattle.std.proofs.lemmas.Option.{slice_get_within, same_Some}
-use Rattle.std.proofs.lemmas.List.Elements.{All-cons, All-nil}
 use Rattle.basics.proofs.ListLemmas.{item_at}
 use Rattle.index_hooks.specs.declared.choice.Choice.{Choice}
 use Rattle.proto_decl.specs.Facts.{Facts}
-use Rattle.scip_symbol.specs.Path.{IsGoodPath, IsComponent}
+use Rattle.scip_symbol.specs.Path.{IsGoodPath}
 use Rattle.proto_visibility.specs.Files.{File, IsSource}
 use Rattle.scip_model.specs.Chosen.{HaveChoices}
 use Rattle.scip_model.specs.Conditions.{HaveGoodPaths, AreOfText, HasText}
 use Rattle.surface_tests.specs.OneSource.{source_with}
-use Rattle.surface_tests.proofs.ShortListLemmas.{at_one, printable}
+use Rattle.surface_tests.proofs.ShortListLemmas.{at_one}
 
 pub is_source : (facts : Facts) → IsSource (source_with facts ∷ []) 0
 is_source facts = record { file = source_with facts; numbered = refl; source = refl; present = refl }
@@ -24,14 +23,7 @@ has_text text facts of_text other has =
     subst (AreOfText text) (same_Some facts other known) of_text
 
 good_path : IsGoodPath (codes "a.proto")
-good_path = record {
-  short = omega arith;
-  printable = printable (codes "a.proto") refl;
-  components = All-cons IsComponent (codes "a.proto") []
-      (record { some = λ e. cc; no_dot = λ e. cc; no_dots = λ e. cc }) (All-nil IsComponent);
-  name = codes "a";
-  ending = refl;
-}
+good_path = record { as_folder = refl; name = codes "a"; ending = refl }
 
 pub good_paths : (facts : Facts) → HaveGoodPaths (source_with facts ∷ [])
 good_paths facts number file at =

@@ -20,6 +20,7 @@ use Rattle.proto_visibility.specs.Knows.NameKind.{OfDeclaration}
 use Rattle.proto_visibility.specs.Knows.Knows.{declared}
 use Rattle.proto_visibility.proofs.FileFactLemmas.{one_list_of_facts}
 use Rattle.proto_visibility.proofs.PassLemmas.{length_set, set_there, set_elsewhere}
+use Rattle.proto_link.specs.Certain.{OnlyDiffers}
 use Rattle.proto_link.specs.declared.target.Target.{Target}
 use Rattle.proto_link.specs.declared.uncertain_use.UncertainUse.{UncertainUse}
 use Rattle.proto_link.specs.Resolves.{Innermost, ResolvesIn}
@@ -116,13 +117,16 @@ module _ (files : List File) (number : ℕ) (unread : HasNoFacts files number) (
   there : slice_get with_facts number ≡ Some new_file
   there = set_there files number new_file (slice_get_within files number unread.file unread.numbered)
 
+  only_differs : OnlyDiffers files with_facts number
+  only_differs other apart = set_elsewhere files number other new_file apart
+
   are_mended : AreMended files with_facts
   are_mended = record {
     one_each = length_set files number new_file;
     each = λ other file its at now. elim (cases_order other number) [
       | inl same ↦ by other file its same at now
       | inr apart ↦ subst (IsMended file)
-          (same_Some file its (sym at ∙ (sym (set_elsewhere files number other new_file (differ other apart)) ∙ now)))
+          (same_Some file its (sym at ∙ (sym (only_differs other (differ other apart)) ∙ now)))
           unchanged
     ];
   }
@@ -233,6 +237,11 @@ module _ (files : List File) (origins : HaveOrigins files)
       other_name new.start old.start target.name inside (farther_shorter (package_name is.facts) old.start out)
       new.named old.named
 
-  pub may_change : (mended : List File) × AreMended files mended
+  pub may_change : (mended : List File) × AreMended files mended × OnlyDiffers files mended uncertain.behind
       × (IsTarget mended uncertain.place.file is.type_use target → ⊥)
-  may_change = (mended, are, names_other)
+  may_change = (
+    mended,
+    are,
+    only_differs files uncertain.behind is.behind.unread (facts_with nearer),
+    names_other,
+  )

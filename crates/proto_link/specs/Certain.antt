@@ -1,5 +1,6 @@
 -- A use that isn't uncertain names what it named, however files without facts are mended; one that is may not.
-use Rattle.std.specs.Prelude.{◌≡◌, ℕ, Bool, true, List, Contains}
+use Rattle.std.specs.Prelude.{◌≡◌, ◌≢◌, ℕ, Bool, true, List, Contains}
+use Rattle.std.specs.List.{slice_get}
 use Rattle.proto_decl.specs.Facts.{Facts}
 use Rattle.proto_decl.specs.declared.declaration.Declaration.{Declaration}
 use Rattle.proto_decl.specs.declared.uses.Use.{Use}
@@ -38,10 +39,15 @@ CertainResolvesAlike = (files mended : List File) → AreMended files mended →
     → IsCertain files file type_use → NothingClashes files mended file type_use target.name
     → IsTarget mended file type_use target
 
--- For each that is there are facts with which it doesn't name what it named.
+-- the two lists have the same file by each other number
+abbrev pub OnlyDiffers : (files others : List File) → (number : ℕ) → Type 0
+OnlyDiffers files others number = (other : ℕ) → other ≢ number → slice_get others other ≡ slice_get files other
+
+-- For each that is there are facts of the file behind, be they of a text or not, with which it doesn't name what it
+-- named. No other file changes.
 abbrev pub UncertainMayChange : Type 0
 UncertainMayChange = (files : List File) → HaveOrigins files → (uncertain : UncertainUse)
     → (is : IsUncertain files uncertain) → (target : Target)
     → IsTarget files uncertain.place.file is.type_use target
-    → (mended : List File) × AreMended files mended
+    → (mended : List File) × AreMended files mended × OnlyDiffers files mended uncertain.behind
     × (IsTarget mended uncertain.place.file is.type_use target → ⊥)

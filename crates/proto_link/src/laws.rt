@@ -89,7 +89,8 @@ pub fn certain_resolves_alike()
     scopes_are_known();
 }
 
-/// For each use that is uncertain there are facts of the file behind with which it doesn't name what it named.
+/// For each use that is uncertain there are facts of the file behind with which it doesn't name what it named. Whether
+/// some text has these facts isn't said.
 pub fn uncertain_may_change()
     ensures { UncertainMayChange }
 {

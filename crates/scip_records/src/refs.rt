@@ -175,7 +175,7 @@ impl<'a> Model for DetailsRef<'a> {
 
 impl<'a> DetailsRef<'a> {
     /// No details.
-    pub fn none() -> DetailsRef<'a>
+    pub(crate) fn none() -> DetailsRef<'a>
         ensures { result ≡ no_details }
     {
         DetailsRef {
@@ -189,7 +189,7 @@ impl<'a> DetailsRef<'a> {
     }
 
     /// Details, lent.
-    pub fn of(details: &'a Details) -> DetailsRef<'a>
+    pub(crate) fn of(details: &'a Details) -> DetailsRef<'a>
         ensures { result ≡ details.now }
     {
         DetailsRef {

@@ -9,7 +9,6 @@ use Rattle.scip_records.specs.declared.records.SymbolInformation.{SymbolInformat
 use Rattle.scip_query.specs.Sites.{Site}
 use Rattle.scip_query.specs.OccurrenceAt.{Subject}
 use Rattle.scip_query.specs.References.{references_of}
-use Rattle.scip_query.specs.Documentation.{texts_of}
 use Rattle.scip_query.specs.Entries.{entry_of}
 use Rattle.scip_query.specs.declared.place.Place.{Place}
 
@@ -28,7 +27,3 @@ references_in index number symbol =
 -- its entry
 abbrev pub entry_in : Index → ℕ → List ℕ → Option SymbolInformation
 entry_in index number symbol = option_and_then (entry_of index) (subject_in index number symbol)
-
--- its documentation
-abbrev pub documentation_in : Index → ℕ → List ℕ → List (List ℕ)
-documentation_in index number symbol = texts_of (entry_in index number symbol)

@@ -9,7 +9,7 @@ ghost use Rattle.scip_records.specs.declared.records.SymbolInformation.{SymbolIn
 ghost use Rattle.scip_query.specs.Sites.{Site};
 ghost use Rattle.scip_query.specs.References.{references_at, definitions_of, definitions_at, site_places};
 ghost use Rattle.scip_query.specs.Documentation.{entries_for, texts_of, documentation_at, symbols_of};
-ghost use Rattle.scip_query.specs.BySymbol.{subject_in, references_in, entry_in, documentation_in};
+ghost use Rattle.scip_query.specs.BySymbol.{subject_in, references_in, entry_in};
 ghost use Rattle.scip_query.specs.Outcomes.{Gives};
 ghost use Rattle.std.specs.Ordering.{nat_cmp, is_eq};
 ghost use Rattle.std.specs.Cmp.Lexicographic.{slice_cmp};
@@ -282,26 +282,5 @@ impl Queries {
             Some(subject) => self.entry_near(near, &subject),
             None => (near, None),
         }
-    }
-
-    /// The texts of a symbol's documentation, asked for in the document with this number: those of its first entry;
-    /// none if it has no entry, or the index has no such document.
-    pub fn documentation_texts(&self, document: usize, symbol: &str) -> &[OwnedText]
-        ensures { result.now ≡ documentation_in self.now document symbol.now }
-    {
-        texts_of(self.entry_in(document, symbol))
-    }
-
-    /// The same, in a list of its own.
-    pub fn documentation_in(
-        &self,
-        alloc: Global,
-        document: usize,
-        symbol: &str,
-    ) -> Result<Vec<&str>, AllocError>
-        ensures { IfOk result (λ texts. map (λ (text : Bor (List ℕ)). text.now) texts.items ≡ documentation_in self.now
-            document symbol.now) }
-    {
-        texts_in(alloc, self.documentation_texts(document, symbol))
     }
 }

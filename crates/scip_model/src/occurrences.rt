@@ -49,8 +49,7 @@ fn range_over(text: &Text<'_>, encoding: Encoding, span: Span) -> Range
     // From here on it is known that the bytes are those of a text.
     text.as_str();
     positions_fit();
-    let start = text.position(span.start as usize, encoding);
-    let end = text.position(span.end as usize, encoding);
+    let (start, end) = text.positions(span.start as usize, span.end as usize, encoding);
     Range::new(start.line, start.column, end.line, end.column).unwrap()
 }
 

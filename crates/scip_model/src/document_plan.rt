@@ -7,7 +7,7 @@ ghost use Rattle.scip_model.specs.Detailed.{detail_at, details_shown, kind_if_as
 ghost use Rattle.scip_records.specs.Details.{details_if_any};
 ghost use Rattle.scip_model.specs.Tables.Plans.{text_at, bare_entry, first_kind, shown_as, entry_of};
 
-use crate::entries::{detail_at, details_shown, ref_entry};
+use crate::entries::{detail_at, details_shown, documentation_of};
 use crate::occurrences::range_around;
 use crate::own_symbols::JoinedTexts;
 use crate::symbol_table::SymbolTable;
@@ -222,8 +222,13 @@ fn documented<'a>(symbol: SymbolRef<'a>, shown: &Shown<'a, '_>, index: usize) ->
     let Some(choice) = shown.choices.get(index) else {
         return bare_entry(symbol);
     };
-    let details = shown_details(shown, declaration, index);
-    ref_entry(symbol, declaration, details, *choice)
+    // The details come last: by default there are none, and nothing else has to wait for them.
+    InformationRef {
+        symbol,
+        documentation: documentation_of(choice.doc, declaration),
+        display_name: declaration.simple_name(),
+        details: shown_details(shown, declaration, index),
+    }
 }
 
 /// The entry with a number.

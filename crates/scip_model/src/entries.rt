@@ -147,7 +147,7 @@ fn details_at<'a>(
 }
 
 /// The entry of a declaration whose symbol has this text, with these details.
-pub(crate) fn ref_entry<'a>(
+fn ref_entry<'a>(
     symbol: SymbolRef<'a>,
     declaration: &'a Declaration,
     details: Option<DetailsRef<'a>>,
@@ -267,7 +267,7 @@ pub(crate) fn entry_numbers(
 }
 
 /// Those chosen of a declaration's texts, without empty ones.
-fn documentation_of<'a>(choice: DocChoice, declaration: &'a Declaration) -> TextsRef<'a>
+pub(crate) fn documentation_of<'a>(choice: DocChoice, declaration: &'a Declaration) -> TextsRef<'a>
     ensures { result ≡ documentation_of choice declaration.now }
 {
     let leading = declaration.leading();

@@ -140,8 +140,24 @@ fn cleaned<'t>(
     clean_text(alloc, lexed.text().as_str(), comments)
 }
 
-/// The texts of comments, in a form.
+/// The texts of comments, in a form. It is looked at only if there are any.
 fn texts_in<'t>(
+    alloc: Global,
+    form: CommentForm,
+    lexed: &Tokens<'_, 't>,
+    comments: &[Comment],
+) -> Result<KeptText<'t>, AllocError>
+    requires { All (IsCommentIn lexed.now.text) comments.now }
+    ensures { IfOk result (λ text. text ≡ spec.texts_in form lexed.now comments.now) }
+{
+    match comments {
+        [] => Ok(KeptText::borrowed("")),
+        _ => texts_by_form(alloc, form, lexed, comments),
+    }
+}
+
+/// The texts of comments, by the form.
+fn texts_by_form<'t>(
     alloc: Global,
     form: CommentForm,
     lexed: &Tokens<'_, 't>,

@@ -18,8 +18,8 @@ pub enum CommentForm {
 
 impl CommentForm {
     /// The same form, with U+FFFD in place of each NUL.
-    pub fn without_nul(self) -> CommentForm
-        ensures { result ≡ spec.without_nul self }
+    pub fn nul_replaced(self) -> CommentForm
+        ensures { result ≡ spec.nul_replaced self }
     {
         match self {
             CommentForm::Raw | CommentForm::RawWithoutNul => CommentForm::RawWithoutNul,

@@ -57,7 +57,7 @@ const FORMS: [(CommentForm, CommentForm); 4] = [
 /// The first row of which the second form isn't the first one without NUL.
 fn first_other_form(rows: &[(CommentForm, CommentForm)]) -> Option<usize> {
     for (index, (form, want)) in rows.iter().enumerate() {
-        if form.without_nul() != *want {
+        if form.nul_replaced() != *want {
             return Some(index);
         }
     }

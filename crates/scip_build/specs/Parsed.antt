@@ -4,7 +4,7 @@ use Rattle.proto_lex.specs.Text.{IsText, IsNoText}
 use Rattle.proto_lex.specs.Lexed.{Lexed, IsLexed}
 use Rattle.proto_lex.specs.Faults.{IsFirstFault}
 use Rattle.proto_lex.specs.declared.fault.LexFault.{LexFault}
-use Rattle.comment_texts.specs.Forms.{without_nul}
+use Rattle.comment_texts.specs.Forms.{nul_replaced}
 use Rattle.proto_decl.specs.declared.form.FactForm.{FactForm}
 use Rattle.proto_parse.specs.dialect.Dialect.{Dialect}
 use Rattle.proto_parse.specs.dialect.Dialect.TheVariants.{Proto3, All}
@@ -26,7 +26,7 @@ pub record HasLexing (bytes : List ℕ) (lexed : Lexed) : Type 0 where
 -- NUL is read for each byte in a comment that isn't UTF-8.
 abbrev pub form_by : Dialect → FactForm → FactForm
 form_by (Proto3 custom) form = form
-form_by All form = record { comments = without_nul form.comments; details = form.details }
+form_by All form = record { comments = nul_replaced form.comments; details = form.details }
 
 -- the facts of the file with this number and these bytes: those of a tree that the tokens of its text derive,
 -- in a form

@@ -75,7 +75,7 @@ fn form_by(dialect: Dialect, form: FactForm) -> FactForm
     match dialect {
         Dialect::Proto3(_) => form,
         Dialect::All => FactForm {
-            comments: form.comments.without_nul(),
+            comments: form.comments.nul_replaced(),
             details: form.details,
         },
     }

@@ -8,7 +8,7 @@ use basics::{KeptText, OwnedText, TextRef};
 use std::alloc::{AllocError, Global};
 
 /// Appends a line behind others.
-fn push_line(joined: &mut String, line: &str) -> Result<(), AllocError>
+pub fn push_next_line(joined: &mut String, line: &str) -> Result<(), AllocError>
     ensures { OnOk result (string_bytes joined.new ≡ string_bytes joined.old ++ ascii.line_feed ∷ line.now) }
 {
     joined.push_str("\n")?;
@@ -28,7 +28,7 @@ fn joined_lines(
     let mut joined = String::with_capacity(alloc, room)?;
     joined.push_str(first.as_str())?;
     for line in others {
-        push_line(&mut joined, line.as_str())?;
+        push_next_line(&mut joined, line.as_str())?;
     }
     Ok(OwnedText::from_string(joined))
 }

@@ -20,4 +20,5 @@ mod form;
 pub use cleaned::clean_text;
 pub use comment::between_marks;
 pub use form::CommentForm;
+pub use joined::push_next_line;
 pub use nul::without_nul;

@@ -1,6 +1,6 @@
 //! Which comments document a declaration, and their texts.
 
-ghost use Rattle.std.specs.Prelude.{ℕ, ◌≡◌, ◌+◌, ◌<◌, ◌≤◌, ◌↔◌, ◌∷◌, ◌++◌, map, string_bytes, All, IsTrue, IfOk, OnOk};
+ghost use Rattle.std.specs.Prelude.{ℕ, ◌≡◌, ◌+◌, ◌<◌, ◌≤◌, ◌↔◌, ◌∷◌, map, All, IsTrue, IfOk};
 ghost use Rattle.std.specs.Prelude.{IfSome, MatchOption};
 ghost use Rattle.std.specs.List.{join_with_byte};
 ghost use Rattle.std.specs.Io.BufRead.{strip_last};
@@ -22,7 +22,7 @@ use crate::layout::{
     is_on_later_line,
 };
 use basics::{KeptText, OwnedText};
-use comment_texts::{CommentForm, between_marks, clean_text, without_nul};
+use comment_texts::{CommentForm, between_marks, clean_text, push_next_line, without_nul};
 use proto_lex::{Comment, CommentKind, Span, Tokens};
 use std::alloc::{AllocError, Global};
 
@@ -72,15 +72,6 @@ fn leading_comments<'a>(
     &comments[..end]
 }
 
-/// Appends a text on a line of its own.
-fn push_line(joined: &mut String, text: &str) -> Result<(), AllocError>
-    ensures { OnOk result (string_bytes joined.new ≡ string_bytes joined.old ++ ascii.line_feed ∷ text.now) }
-{
-    joined.push_str("\n")?;
-    joined.push_str(text)?;
-    Ok(())
-}
-
 /// No fewer bytes than the joined texts of a comment and others have: those from its start to the end of the last.
 fn room_for(first: Comment, others: &[Comment]) -> usize {
     match others.last() {
@@ -104,7 +95,7 @@ fn joined_texts(
     let mut joined = String::with_capacity(alloc, room_for(first, others))?;
     joined.push_str(text_of(lexed, first))?;
     for comment in others {
-        push_line(&mut joined, text_of(lexed, *comment))?;
+        push_next_line(&mut joined, text_of(lexed, *comment))?;
     }
     Ok(OwnedText::from_string(joined))
 }

@@ -4,17 +4,7 @@ use Rattle.scip_model.specs.Packages.{Packages, RepeatedNames, naming}
 use Rattle.scip_build.specs.declared.settings.Settings.{Settings}
 
 abbrev pub with_packages : Settings → Packages → Settings
-with_packages settings ids = record {
-  project_root = settings.project_root;
-  at = settings.at;
-  «package» = ids;
-  encoding = settings.encoding;
-  dialect = settings.dialect;
-  comments = settings.comments;
-  details = settings.details;
-  faulty = settings.faulty;
-  duplicates = settings.duplicates;
-}
+with_packages settings ids = record settings { «package» = ids }
 
 -- with what is repeated among the files
 abbrev pub repeating : Settings → RepeatedNames → Settings

@@ -24,6 +24,8 @@ use Rattle.scip_build.specs.ParsedFiles.MayRefuseFiles.{files_lack_thread, files
 use Rattle.scip_build.specs.Linking.MayRefuseParsed.{linking_lacks_memory, is_unread, is_duplicate, is_missing}
 use Rattle.scip_build.specs.Documents.MayRefuseDocuments.{documents_lack_thread, documents_lack_memory}
 use Rattle.scip_build.specs.Documents.MayRefuseDocuments.{first_is_unresolved}
+use Rattle.scip_build.specs.Documents.MayRefuseLinked.{linked_lack_thread, linked_lack_memory}
+use Rattle.scip_build.specs.Documents.MayRefuseLinked.{least_is_unresolved, least_is_ambiguous}
 use Rattle.scip_build.specs.Making.MayRefuseSkipping.{skipping_lacks_thread, skipping_lacks_memory}
 use Rattle.scip_build.specs.Forms.{IsMadeOf, IsLinkedAndMade}
 use Rattle.scip_build.specs.Builds.{IsBuildFault}
@@ -36,25 +38,29 @@ of_linking duplicates parsed workers _ (is_unread broken has) = is_unread broken
 of_linking duplicates parsed workers _ (is_duplicate is) = is_duplicate is
 of_linking duplicates parsed workers _ (is_missing is) = is_missing is
 
--- why nothing is made of linked files
+-- why nothing is made of linked files, by why their documents aren't made and what is told for that
+pub told_of : (faulty : Faulty) (files : List File) (workers : ℕ) (fault told : BuildFault)
+    → MayRefuseDocuments faulty files workers fault → IsToldFor files fault told
+    → MayRefuseLinked faulty files workers told
+told_of faulty files workers _ told (documents_lack_thread more) same =
+    subst (MayRefuseLinked faulty files workers) (sym same) (linked_lack_thread more)
+told_of faulty files workers _ told documents_lack_memory same =
+    subst (MayRefuseLinked faulty files workers) (sym same) linked_lack_memory
+told_of faulty files workers _ told (first_is_unresolved refuse least) (inl plain) =
+    subst (MayRefuseLinked faulty files workers) (sym plain.0) (least_is_unresolved refuse least plain.1)
+told_of faulty files workers _ told (first_is_unresolved refuse least) (inr (inl ambiguous)) =
+    subst (MayRefuseLinked faulty files workers) (sym ambiguous.0) (least_is_ambiguous refuse least ambiguous.1)
+told_of faulty files workers _ told (first_is_unresolved refuse least) (inr (inr memory)) =
+    subst (MayRefuseLinked faulty files workers) (sym memory) linked_lack_memory
+
+-- that is why nothing is made of files that were read
 of_linked : (duplicates : Duplicates) (faulty : Faulty) (parsed : List ReadFile) (workers : ℕ) (told : BuildFault)
     → CanBeLinked duplicates (linked_files parsed) → MayRefuseLinked faulty (linked_files parsed) workers told
     → MayRefuseMaking duplicates parsed workers told
-of_linked duplicates faulty parsed workers told linked is = by is.fault is.refused is.told_for
-  where
-    files : List File
-    files = linked_files parsed
-
-    by : (fault : BuildFault) → MayRefuseDocuments faulty files workers fault → IsToldFor files fault told
-        → MayRefuseMaking duplicates parsed workers told
-    by _ (documents_lack_thread more) same = subst (MayRefuseMaking duplicates parsed workers) (sym same) more
-    by _ documents_lack_memory same = subst (MayRefuseMaking duplicates parsed workers) (sym same) tt
-    by _ (first_is_unresolved refuse least) (inl plain) =
-        subst (MayRefuseMaking duplicates parsed workers) (sym plain.0) (linked, least, plain.1)
-    by _ (first_is_unresolved refuse least) (inr (inl ambiguous)) =
-        subst (MayRefuseMaking duplicates parsed workers) (sym ambiguous.0) (linked, least, ambiguous.1)
-    by _ (first_is_unresolved refuse least) (inr (inr memory)) =
-        subst (MayRefuseMaking duplicates parsed workers) (sym memory) tt
+of_linked duplicates faulty parsed workers _ linked (linked_lack_thread more) = more
+of_linked duplicates faulty parsed workers _ linked linked_lack_memory = tt
+of_linked duplicates faulty parsed workers _ linked (least_is_unresolved refuse least plain) = (linked, least, plain)
+of_linked duplicates faulty parsed workers _ linked (least_is_ambiguous refuse least is) = (linked, least, is)
 
 pub not_both : (faulty : Faulty) → faulty ≡ Skip → faulty ≡ Refuse → ⊥
 not_both faulty skip refuse = apart (sym skip ∙ refuse)
@@ -65,13 +71,10 @@ not_both faulty skip refuse = apart (sym skip ∙ refuse)
 -- the same, where faults are skipped
 pub of_skipping : (faulty : Faulty) (files : List File) (workers : ℕ) (told : BuildFault) → faulty ≡ Skip
     → MayRefuseLinked faulty files workers told → MayRefuseSkipping workers told
-of_skipping faulty files workers told skip is = by is.fault is.refused is.told_for
-  where
-    by : (fault : BuildFault) → MayRefuseDocuments faulty files workers fault → IsToldFor files fault told
-        → MayRefuseSkipping workers told
-    by _ (documents_lack_thread more) same = subst (MayRefuseSkipping workers) (sym same) (skipping_lacks_thread more)
-    by _ documents_lack_memory same = subst (MayRefuseSkipping workers) (sym same) skipping_lacks_memory
-    by _ (first_is_unresolved refuse least) told_for = absurd (not_both faulty skip refuse)
+of_skipping faulty files workers _ skip (linked_lack_thread more) = skipping_lacks_thread more
+of_skipping faulty files workers _ skip linked_lack_memory = skipping_lacks_memory
+of_skipping faulty files workers _ skip (least_is_unresolved refuse least plain) = absurd (not_both faulty skip refuse)
+of_skipping faulty files workers _ skip (least_is_ambiguous refuse least is) = absurd (not_both faulty skip refuse)
 
 -- files that were linked
 pub linked_of : {Out : Type 0} (Is : Document → Out → Type 0) (parsed : List ReadFile) (settings : Settings)

@@ -1,18 +1,10 @@
 -- What a stage may refuse, for functions that refuse.
-use Rattle.std.proofs.Common.{ℕ, List, refl}
-use Rattle.proto_visibility.specs.Files.{File}
 use Rattle.proto_visibility.specs.Linked.MayRefuse.{broken_file, lacks_memory}
 use Rattle.scip_build.specs.ParsedFiles.MayRefuseFiles.{files_lack_thread, files_lack_memory}
 use Rattle.scip_build.specs.Linking.MayRefuseParsed.{linking_lacks_memory, is_unread, is_duplicate, is_missing}
 use Rattle.scip_build.specs.Documents.MayRefuseDocuments.{documents_lack_thread, documents_lack_memory}
-use Rattle.scip_build.specs.Documents.{MayRefuseLinked}
+use Rattle.scip_build.specs.Documents.MayRefuseLinked.{linked_lack_memory}
 use Rattle.scip_build.specs.Making.MayRefuseSkipping.{skipping_lacks_thread, skipping_lacks_memory}
-use Rattle.scip_build.specs.declared.fault.BuildFault.TheVariants as build
-use Rattle.scip_build.specs.declared.faulty.Faulty.{Faulty}
-
-pub linked_lacks_memory : {faulty : Faulty} {files : List File} {workers : ℕ}
-    → MayRefuseLinked faulty files workers build.Memory
-linked_lacks_memory = record { fault = build.Memory; refused = documents_lack_memory; told_for = refl }
 
 pub ruleset of_files = (files_lack_thread, files_lack_memory)
 
@@ -22,6 +14,6 @@ pub ruleset of_linking = (linking_lacks_memory, is_unread, is_duplicate, is_miss
 
 pub ruleset of_documents = (documents_lack_thread, documents_lack_memory)
 
-pub ruleset of_linked = (linked_lacks_memory)
+pub ruleset of_linked = (linked_lack_memory)
 
 pub ruleset of_skipping = (skipping_lacks_thread, skipping_lacks_memory)

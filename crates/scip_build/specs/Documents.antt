@@ -153,8 +153,12 @@ IsToldFor files (build.Unresolved place) told =
     ⊎ (((told ≡ build.Ambiguous place) × IsAmbiguousAt files place) ⊎ (told ≡ build.Memory))
 IsToldFor files fault told = told ≡ fault
 
--- why linked files make nothing
-pub record MayRefuseLinked (faulty : Faulty) (files : List File) (workers : ℕ) (told : BuildFault) : Type 0 where
-  pub fault : BuildFault
-  pub refused : MayRefuseDocuments faulty files workers fault
-  pub told_for : IsToldFor files fault told
+-- why linked files make nothing: of the first use that names nothing, if such are refused, it is told whether it is
+-- ambiguous
+pub data MayRefuseLinked (faulty : Faulty) (files : List File) (workers : ℕ) : BuildFault → Type 0 where
+  linked_lack_thread : 1 < workers → MayRefuseLinked faulty files workers build.Spawn
+  linked_lack_memory : MayRefuseLinked faulty files workers build.Memory
+  least_is_unresolved : {place : FilePlace} → faulty ≡ Refuse → IsLeastUnresolved files place
+      → (IsAmbiguousAt files place → ⊥) → MayRefuseLinked faulty files workers (build.Unresolved place)
+  least_is_ambiguous : {place : FilePlace} → faulty ≡ Refuse → IsLeastUnresolved files place
+      → IsAmbiguousAt files place → MayRefuseLinked faulty files workers (build.Ambiguous place)

@@ -4,6 +4,7 @@ use Rattle.scip_build.specs.Keeping.{is_source}
 use Rattle.proto_visibility.specs.Files.{File}
 use Rattle.scip_build.specs.Documents.{IsToldFor, MayRefuseDocuments}
 use Rattle.scip_build.specs.Placing.{kept_at}
+use Rattle.scip_build.proofs.BuildsRefusalLemmas.{told_of}
 use Rattle.scip_build.proofs.ToldUseLemmas.{place_within}
 use Rattle.scip_build.proofs.ReadyLemmas.{are_ready, front_most}
 use Rattle.scip_build.proofs.KeptLemmas.{in_form_of}
@@ -36,13 +37,11 @@ pub returns-in-Err : goal.returns-in-Err
 returns-in-Err g c =
     let workers = c.args.run.now.workers in
     let faulty = c.args.settings.now.faulty in
-    record {
-      fault = c.in-Err.fault;
-      refused = subst (λ files. MayRefuseDocuments faulty files workers c.in-Err.fault)
-          (c.in_ok-package.ensures.files ∙ c.requires.files) c.in-Err.ensures;
-      told_for = subst (λ (files : List File). IsToldFor files c.in-Err.fault c.refusal_by.result) c.requires.files
-          c.refusal_by.ensures;
-    }
+    told_of faulty (linked_files c.args.parsed.now) workers c.in-Err.fault c.refusal_by.result
+    (subst (λ files. MayRefuseDocuments faulty files workers c.in-Err.fault)
+    (c.in_ok-package.ensures.files ∙ c.requires.files) c.in-Err.ensures)
+    (subst (λ (files : List File). IsToldFor files c.in-Err.fault c.refusal_by.result) c.requires.files
+    c.refusal_by.ensures)
 
 pub returns : goal.returns
 returns g c =

@@ -212,13 +212,13 @@ fn label_of(
 {
     let mut label = Vec::with_capacity(alloc, symbol.len().saturating_add(LABEL_ROOM))?;
     label.extend_from_slice(shown_symbol(symbol.as_bytes()))?;
-    push_signature(&mut label, signature_in(entry))?;
-    push_documentation(&mut label, texts_of(entry))?;
+    push_signature_below(&mut label, signature_in(entry))?;
+    push_documentation_below(&mut label, texts_of(entry))?;
     Ok(label)
 }
 
 /// Appends a signature on a line of its own, if it isn't empty.
-fn push_signature(label: &mut Vec<u8>, signature: &str) -> Result<(), AllocError>
+fn push_signature_below(label: &mut Vec<u8>, signature: &str) -> Result<(), AllocError>
     ensures { OnOk result (label.new.items ≡ label.old.items ++ flat_map spec.below (unless_empty signature.now)) }
 {
     if signature.is_empty() {
@@ -229,7 +229,10 @@ fn push_signature(label: &mut Vec<u8>, signature: &str) -> Result<(), AllocError
 }
 
 /// Appends texts, each on a line of its own.
-fn push_documentation(label: &mut Vec<u8>, documentation: &[OwnedText]) -> Result<(), AllocError>
+fn push_documentation_below(
+    label: &mut Vec<u8>,
+    documentation: &[OwnedText],
+) -> Result<(), AllocError>
     ensures { OnOk result (label.new.items ≡ label.old.items ++ flat_map spec.below documentation.now) }
 {
     for text in documentation {

@@ -174,7 +174,7 @@ fn push_marks(
 }
 
 /// Appends a line, and below it the occurrences that are listed.
-fn push_line(
+fn push_line_with_marks(
     alloc: Global,
     text: &mut Vec<u8>,
     shown: &Shown<'_>,
@@ -217,7 +217,7 @@ fn push_lines(
         (map (λ (l : Bor (List ℕ)). l.now) lines.now)) }
 {
     for (number, line) in lines.iter().enumerate() {
-        push_line(alloc, text, shown, line.as_bytes(), listed(table, number))?;
+        push_line_with_marks(alloc, text, shown, line.as_bytes(), listed(table, number))?;
     }
     Ok(())
 }

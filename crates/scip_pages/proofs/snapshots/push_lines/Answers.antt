@@ -23,8 +23,8 @@ loop-number-preserved c =
     let rest : List ℕ =
     flat_map (λ (x : ℕ × List ℕ). line_text unit entries (on x.0) x.1)
     (enumerate_from (n + 1) (map (λ (t : Bor (List ℕ)). t.now) (drop (n + 1) c.args.lines.now))) in
-    let pushed : c.push_line.new.text.items ≡ text ++ line_text unit entries (on n) line =
-    c.in_ok-push_line.ensures
+    let pushed : c.push_line_with_marks.new.text.items ≡ text ++ line_text unit entries (on n) line =
+    c.in_ok-push_line_with_marks.ensures
     ∙ ap (λ (l : List Occurrence). text ++ line_text unit entries l c.as_bytes.result.now)
     (ap listed_or_none c.listed.ensures)
     ∙ ap (λ (l : List ℕ). text ++ line_text unit entries (on n) l) c.as_bytes.ensures.value in

@@ -1,7 +1,7 @@
 use Rattle.std.proofs.Common.{◌≡◌, ◌++◌, take}
 use Rattle.std.specs.List.{flat_map}
 use Rattle.scip_pages.specs.Targets.{below}
-use Rattle.scip_pages.proofs.facts.push_documentation.Given as goal
+use Rattle.scip_pages.proofs.facts.push_documentation_below.Given as goal
 
 -- the texts so far
 abbrev pub invariant-loop-text : goal.invariant-loop-text

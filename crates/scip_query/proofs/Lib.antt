@@ -9,6 +9,8 @@ mod CommandLemmas
 mod CommandLineLemmas
 -- Conversations: what stands a byte later, what a refusal leaves, and what is due at the end (`ConversingSteps`)
 mod ConversationLemmas
+-- Groups of places by symbol, one after another in the order of their symbols, are a table
+mod GroupLemmas
 -- The first in a table that passes a test is, of those that pass, the first listed than which none is less
 mod InnermostLemmas
 -- Outlines: the order, the symbols that a document defines, and symbols around one

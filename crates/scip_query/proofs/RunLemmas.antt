@@ -272,7 +272,8 @@ module _ {N K : Type 0} {R : K → K → Ordering} (o : IsTotalOrder R) (key : N
   abbrev pub has : K → N → Bool
   has s m = is_eq (R (key m) s)
 
-  tie : (s : K) (x : N) → has s x ≡ true → (m : N) → ties below x m ≡ has s m
+  -- who ties with one that has a key has it, too
+  pub tie : (s : K) (x : N) → has s x ≡ true → (m : N) → ties below x m ≡ has s m
   tie s x passes m =
       let one : R (key x) (key m) ≡ R s (key m) = o.congr (key x) s (key m) (equal_is (R (key x) s) passes) in
       let other : R (key m) (key x) ≡ ordering_reverse (R (key x) (key m)) = o.antisymm (key m) (key x) in

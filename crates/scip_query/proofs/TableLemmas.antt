@@ -10,7 +10,6 @@ use Rattle.std.proofs.lemmas.List.{drop_more}
 use Rattle.std.proofs.lemmas.List.FromFn.{map-range_with_len_more}
 use Rattle.std.proofs.lemmas.List.Sorted.{ranks_by}
 use Rattle.scip_records.specs.declared.records.Occurrence.{Occurrence}
-use Rattle.scip_records.specs.declared.records.Index.{Index}
 use Rattle.scip_records.specs.declared.records.Document.{Document}
 use Rattle.scip_records.specs.declared.records.SymbolInformation.{SymbolInformation}
 use Rattle.scip_query.specs.Positions.{position_cmp, start_of, end_of}
@@ -18,9 +17,8 @@ use Rattle.scip_query.specs.declared.position.Position.{Position}
 use Rattle.scip_query.specs.declared.place.Place.{Place}
 use Rattle.scip_query.specs.declared.place.EntryPlace.{EntryPlace}
 use Rattle.scip_query.specs.OccurrenceAt.{innermost_cmp}
-use Rattle.scip_query.specs.Tables.{numbers, places_in, places_from, path_listed, symbol_listed, path_cmp, symbol_cmp}
-use Rattle.scip_query.specs.Tables.Searches.{entry_symbol_listed, entry_places_in, entry_places_from}
-use Rattle.scip_query.specs.Tables.Searches.{entry_symbol_cmp, inner_cmp, IsInnermostFirst}
+use Rattle.scip_query.specs.Tables.{numbers, places_in, places_from, path_listed, path_cmp}
+use Rattle.scip_query.specs.Tables.Searches.{entry_places_in, entry_places_from, inner_cmp, IsInnermostFirst}
 use Rattle.std.specs.List.{slice_get}
 use Rattle.std.specs.Prelude.{Some}
 use Rattle.std.specs.Option.{unwrap_or}
@@ -37,12 +35,6 @@ innermost_total =
 
 pub paths_rank : (documents : List Document) → IsStrictWeakOrder (λ a b. is_lt (path_cmp documents a b))
 paths_rank documents = ranks_by nat_list_cmp_total (path_listed documents)
-
-pub symbols_rank : (documents : List Document) → IsStrictWeakOrder (λ (a b : Place). is_lt (symbol_cmp documents a b))
-symbols_rank documents = ranks_by nat_list_cmp_total (symbol_listed documents)
-
-pub entry_symbols_rank : (index : Index) → IsStrictWeakOrder (λ (a b : EntryPlace). is_lt (entry_symbol_cmp index a b))
-entry_symbols_rank index = ranks_by nat_list_cmp_total (entry_symbol_listed index)
 
 pub inner_ranks : (occurrences : List Occurrence) → IsStrictWeakOrder (λ a b. is_lt (inner_cmp occurrences a b))
 inner_ranks occurrences = ranks_by (options_total innermost_total) (slice_get occurrences)

@@ -1,6 +1,7 @@
 -- What the numbers of documents and the places of occurrences stand for, and the tables of them, each in an order.
 -- What is in Tables/ is for the code; no clause of a public function names it.
 pub mod Searches
+pub mod Groups
 pub mod Runs
 pub mod ConversingSteps
 pub mod Outlines

@@ -7,6 +7,7 @@ mod queries;
 mod query_fault;
 
 // The tables.
+mod groups;
 mod innermost;
 mod listed;
 mod place;

@@ -1,12 +1,11 @@
 //! What the numbers and places of an index stand for.
 
 ghost use Rattle.std.specs.Prelude.{◌≡◌, option_copied};
-ghost use Rattle.scip_query.specs.Tables.{path_listed, occurrence_listed, symbol_listed, path_cmp, symbol_cmp};
+ghost use Rattle.scip_query.specs.Tables.{path_listed, occurrence_listed, symbol_listed, path_cmp};
 ghost use Rattle.scip_query.specs.Tables.Searches.{
   entries_listed,
   entry_listed,
   entry_symbol_listed,
-  entry_symbol_cmp,
   inner_cmp,
 };
 
@@ -77,20 +76,6 @@ pub(crate) fn compare_paths(documents: &[Document], a: usize, b: usize) -> Order
     ensures { result ≡ path_cmp documents.now a b }
 {
     path_listed(documents, a).cmp(path_listed(documents, b))
-}
-
-/// By symbol.
-pub(crate) fn compare_symbols(documents: &[Document], a: Place, b: Place) -> Ordering
-    ensures { result ≡ symbol_cmp documents.now a b }
-{
-    symbol_listed(documents, a).cmp(symbol_listed(documents, b))
-}
-
-/// By symbol.
-pub(crate) fn compare_entry_symbols(index: &Index, a: EntryPlace, b: EntryPlace) -> Ordering
-    ensures { result ≡ entry_symbol_cmp index.now a b }
-{
-    entry_symbol_listed(index, a).cmp(entry_symbol_listed(index, b))
 }
 
 /// The innermost first.

@@ -1,19 +1,23 @@
 //! The tables by which an index is searched.
 
 ghost use Rattle.std.specs.Prelude.{◌≡◌, ◌++◌, ◌^◌, ◌<◌, ◌≤◌, ◌+◌, IfOk, OnOk, length};
-ghost use Rattle.scip_query.specs.Tables.{numbers, places_in, places_from, IsByPath, IsBySymbol};
+ghost use Rattle.scip_query.specs.Tables.{numbers, places_in, places_from, symbol_listed, IsByPath, IsBySymbol};
 ghost use Rattle.scip_query.specs.Tables.Searches.{
   entry_places_in,
   entry_places_from,
+  entry_symbol_listed,
   IsInnermostFirst,
   AreEntriesBySymbol,
   AreTables,
 };
+ghost use Rattle.scip_query.specs.Tables.Groups.{gathered_at, AreGathered};
 ghost use Rattle.std.specs.List.{AllZip};
 
-use crate::listed::{compare_entry_symbols, compare_inner, compare_paths, compare_symbols};
+use crate::groups::{add_place, by_group};
+use crate::listed::{compare_inner, compare_paths, entry_symbol_listed, symbol_listed};
 use crate::place::{EntryPlace, Place};
 use basics::Sequence;
+use indexmap::IndexMap;
 use scip_records::{Document, Index, Occurrence, SymbolInformation};
 use std::alloc::{AllocError, Global};
 
@@ -100,13 +104,28 @@ fn occurrence_places(alloc: Global, documents: &[Document]) -> Result<Vec<Place>
     Ok(places)
 }
 
+/// Places of occurrences, gathered by symbol.
+fn gathered<'a>(
+    alloc: Global,
+    documents: &'a [Document],
+    places: &[Place],
+) -> Result<IndexMap<&'a str, Vec<Place>>, AllocError>
+    ensures { IfOk result (λ groups. AreGathered (symbol_listed documents.now) places.now (gathered_at groups)) }
+{
+    let mut groups = IndexMap::new(alloc);
+    for place in places {
+        add_place(&mut groups, symbol_listed(documents, *place), *place)?;
+    }
+    Ok(groups)
+}
+
 /// The places of all occurrences, by symbol.
 fn by_symbol(alloc: Global, documents: &[Document]) -> Result<Sequence<Place>, AllocError>
     ensures { IfOk result (λ table. IsBySymbol documents.now table) }
 {
-    let mut places = occurrence_places(alloc, documents)?;
-    places.sort_by(|a, b| compare_symbols(documents, *a, *b))?;
-    Ok(Sequence::from_vec(places))
+    let places = occurrence_places(alloc, documents)?;
+    let groups = gathered(alloc, documents, places.as_slice())?;
+    by_group(places, groups)
 }
 
 /// Appends the places in a list of symbol entries.
@@ -142,13 +161,28 @@ fn entry_places(alloc: Global, index: &Index) -> Result<Vec<EntryPlace>, AllocEr
     Ok(places)
 }
 
+/// Places of symbol entries, gathered by symbol.
+fn gathered_entries<'a>(
+    alloc: Global,
+    index: &'a Index,
+    places: &[EntryPlace],
+) -> Result<IndexMap<&'a str, Vec<EntryPlace>>, AllocError>
+    ensures { IfOk result (λ groups. AreGathered (entry_symbol_listed index.now) places.now (gathered_at groups)) }
+{
+    let mut groups = IndexMap::new(alloc);
+    for place in places {
+        add_place(&mut groups, entry_symbol_listed(index, *place), *place)?;
+    }
+    Ok(groups)
+}
+
 /// The places of all symbol entries, by symbol.
 fn entries_by_symbol(alloc: Global, index: &Index) -> Result<Sequence<EntryPlace>, AllocError>
     ensures { IfOk result (λ table. AreEntriesBySymbol index.now table) }
 {
-    let mut places = entry_places(alloc, index)?;
-    places.sort_by(|a, b| compare_entry_symbols(index, *a, *b))?;
-    Ok(Sequence::from_vec(places))
+    let places = entry_places(alloc, index)?;
+    let groups = gathered_entries(alloc, index, places.as_slice())?;
+    by_group(places, groups)
 }
 
 /// The tables of an index.

@@ -1,20 +1,15 @@
-use Rattle.std.proofs.Common.{rules, ◌≡◌, subst}
-use Rattle.std.specs.Ordering.{is_lt}
-use Rattle.std.proofs.lemmas.Fn.{always_returns_same}
-use Rattle.scip_query.specs.Tables.{symbol_cmp, IsTable}
-use Rattle.scip_query.specs.declared.place.Place.{Place}
-use Rattle.scip_query.proofs.TableLemmas.{symbols_rank}
+use Rattle.std.proofs.Common.{subst}
+use Rattle.std.proofs.lemmas.Result.{IfOk-weaker}
+use Rattle.std.specs.Ordering.{nat_cmp, on}
+use Rattle.std.specs.Cmp.Lexicographic.{slice_cmp}
+use Rattle.scip_query.specs.Tables.{IsTable}
+use Rattle.scip_query.specs.Tables.{symbol_listed}
+use Rattle.scip_query.proofs.GroupLemmas.{gathered_same}
 use Rattle.scip_query.proofs.tables.by_symbol.Goals as goal
 
 pub returns : goal.returns
 returns c =
-    let documents = c.args.documents.now in
-    let lt = λ (a b : Place). is_lt (symbol_cmp documents a b) in
-    rw c.from_vec.ensures (subst
-    (λ places. IsTable (symbol_cmp documents) places c.sort_by.new.self.items) c.in_ok-places.ensures record {
-      permutation = c.in_ok-sort_by.ensures.permutation;
-      sorted = c.in_ok-sort_by.ensures.sorted lt (symbols_rank documents)
-          (always_returns_same _ (λ a r. is_lt r ≡ lt a.0.now a.1.0.now) _ (λ a r f' k. search rules));
-      stable = c.in_ok-sort_by.ensures.stable lt (symbols_rank documents)
-          (always_returns_same _ (λ a r. is_lt r ≡ lt a.0.now a.1.0.now) _ (λ a r f' k. search rules));
-    })
+    let symbol_of = symbol_listed c.args.documents.now in
+    IfOk-weaker c.by_group.result _ _
+    (λ table its. subst (λ all. IsTable (on symbol_of (slice_cmp nat_cmp)) all table) c.in_ok-places.ensures
+    (its symbol_of (gathered_same symbol_of c.as_slice.ensures.value c.in_ok-groups.ensures))) c.by_group.ensures

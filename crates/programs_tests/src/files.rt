@@ -100,6 +100,11 @@ fn text_at(path: &str) -> Option<&'static str> {
     None
 }
 
+/// Whether a file is below a root, at a path.
+fn is_at(entry: &Entry, root: &str, path: &str) -> bool {
+    entry.0 == root && entry.1 == path
+}
+
 /// The files that are listed in a root.
 fn listed(alloc: Global, root: &str) -> Result<Vec<FolderEntry>, AllocError> {
     let mut entries = Vec::new(alloc);
@@ -143,6 +148,8 @@ impl ReadFiles for Files {
 
     ghost gives = { λ _ _ _. ⊤ };
 
+    ghost finds = { λ _ _ _ _. ⊤ };
+
     fn list_folder(
         &self,
         alloc: Global,
@@ -163,6 +170,15 @@ impl ReadFiles for Files {
             identity: None,
             unnamed: unnamed(alloc, root)?,
         }))
+    }
+
+    fn is_below(&self, _alloc: Global, root: &str, path: &str) -> Result<bool, AllocError> {
+        for entry in &ENTRIES {
+            if is_at(entry, root, path) {
+                return Ok(true);
+            }
+        }
+        Ok(false)
     }
 
     fn read_file(&self, alloc: Global, path: &str) -> Result<Option<Vec<u8>>, AllocError> {

@@ -27,6 +27,8 @@ impl ReadFiles for Files {
 
     ghost gives = { λ _ _ _. ⊤ };
 
+    ghost finds = { λ _ _ _ _. ⊤ };
+
     fn list_folder(
         &self,
         _alloc: Global,
@@ -34,6 +36,10 @@ impl ReadFiles for Files {
         _folder: &str,
     ) -> Result<Option<FolderListing>, AllocError> {
         Ok(None)
+    }
+
+    fn is_below(&self, _alloc: Global, _root: &str, _path: &str) -> Result<bool, AllocError> {
+        Ok(false)
     }
 
     fn read_file(&self, alloc: Global, path: &str) -> Result<Option<Vec<u8>>, AllocError> {

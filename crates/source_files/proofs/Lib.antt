@@ -1,12 +1,22 @@
 -- Each file is named after the spec or source that it serves.
+-- Which paths are fresh, and what files are seen by them
+pub mod ClosureLemmas
+-- The files that sources see, level by level
+pub mod SeenLemmas
 -- What the entries of a folder give, entry by entry
 pub mod EntryLemmas
 -- What isn't excluded, one after the other
 pub mod ExclusionLemmas
 -- What is found in a folder, by what listing it gave
 pub mod FoundLemmas
+-- Sources by what looking for them gave, and the paths of files by their roots
+pub mod ListedLemmas
+-- The tree of a list, and why there is none, step by step
+pub mod ListedTreeLemmas
 -- The files below several roots, root by root, and the paths that are named
 pub mod LoadLemmas
+-- Looking for files: below roots, root by root; and for several, path by path and in parts
+pub mod LookLemmas
 -- Files that are asked about: whether each is the one at a place
 pub mod PlaceLemmas
 -- If no folder says which it is, what is found level by level is found folder by folder
@@ -17,6 +27,8 @@ pub mod ReadingLemmas
 pub mod RootLawLemmas
 -- The files below a root, of what is listed and read there
 pub mod RootLemmas
+-- The lines of a list, one after the other
+pub mod SourceListLemmas
 -- What is read, or none; and what is kept of a source where nothing is known of the files
 pub mod SystemFileKeptLemmas
 -- Paths that are listed below a root stay below it
@@ -31,3 +43,5 @@ pub mod WalkOneListingLemmas
 pub mod WalkStepPartLemmas
 -- What is beside each `protoc`, folder by folder, and the first folder that has the well-known files
 pub mod WellKnownLemmas
+-- what sources see, where something of it can't be read (specs/Seen)
+pub mod UnreadLemmas

@@ -2,7 +2,10 @@
 use Rattle.std.proofs.Common.{◌≡◌, ◌∙◌, ℕ, Bool, true, false, List, [], ◌∷◌, ◌++◌, map, ap, refl, sym, subst}
 use Rattle.std.proofs.Common.{append_assoc, ap₂, arith, length, take, drop, get_or, ◌<◌, ◌≤◌, ◌-◌, codes, Option, Some, None, Result, Ok, Err, IfOk}
 use Rattle.std.specs.Option.{option_map}
-use Rattle.std.proofs.lemmas.List.{append-nil, map-append, take_all}
+use Rattle.std.proofs.Common.{◌≢◌, ◌↔◌, All}
+use Rattle.std.proofs.lemmas.Bool.{false≢true}
+use Rattle.std.proofs.lemmas.List.{append-nil, append_cancel_left, map-append, take_all}
+use Rattle.source_files.specs.WellKnown.{IsKnownPath}
 use Rattle.source_files.specs.WellKnown.{AddsBeside, AreBeside, IsBeside, IsFirstKnown, IsWellKnown, folder_named, folders_on}
 use Rattle.source_files.specs.Listings.{Listing}
 use Rattle.source_files.specs.WellKnown.{ListsKnown}
@@ -12,13 +15,13 @@ use Rattle.source_files.specs.WellKnown.IsBeside.{has_protoc, lacks_protoc}
 use Rattle.source_files.specs.WellKnown.IsFirstKnown.{found_here, found_behind, nowhere}
 
 -- the first and the others of a list
-first_of_rest : {A B : Type 0} (f : A → B) (rest : List A) (blank : A) → 1 ≤ length rest
+pub first_of_rest : {A B : Type 0} (f : A → B) (rest : List A) (blank : A) → 1 ≤ length rest
     → map f rest ≡ f (get_or rest 0 blank) ∷ map f (take (length rest - 1) (drop 1 rest))
 first_of_rest f [] blank some = absurd (omega (arith, some))
 first_of_rest {A = A} f (x ∷ xs) blank some =
     ap (λ (l : List A). f x ∷ map f l) (sym (take_all (length (x ∷ xs) - 1) xs (omega arith)))
 
-none_left : {A B : Type 0} (f : A → B) (rest : List A) → length rest < 1 → map f rest ≡ []
+pub none_left : {A B : Type 0} (f : A → B) (rest : List A) → length rest < 1 → map f rest ≡ []
 none_left f [] end = refl
 none_left f (x ∷ xs) end = absurd (omega (arith, end))
 
@@ -158,3 +161,17 @@ two_more {A = A} f old middle new first second x y is more first_is second_is =
     ap (map f) (more ∙ ap (λ (l : List A). l ++ second ∷ []) is ∙ append_assoc old (first ∷ []) (second ∷ []))
     ∙ map-append f old (first ∷ (second ∷ []))
     ∙ ap₂ (λ (u v : List ℕ). map f old ++ u ∷ (v ∷ [])) first_is second_is
+
+-- ---- the paths of well-known files
+
+pub known_name : (path name : List ℕ) (is_so : Bool) → path ≡ codes "google/protobuf/" ++ name
+    → (is_so ≡ true ↔ All (λ byte. byte ≢ 47) name) → is_so ≡ true ↔ IsKnownPath path
+known_name path name is_so is tells = (
+  (λ t. record { name = name; whole = tells.0 t; path_is = is }),
+  (λ known. tells.1 (subst (All (λ (byte : ℕ). byte ≢ 47))
+      (append_cancel_left (codes "google/protobuf/") known.name name (sym known.path_is ∙ is)) known.whole)),
+)
+
+pub no_known_name : (path : List ℕ) → ((rest : List ℕ) → path ≢ codes "google/protobuf/" ++ rest)
+    → false ≡ true ↔ IsKnownPath path
+no_known_name path none = ((λ t. absurd (false≢true t)), (λ known. absurd (none known.name known.path_is)))

@@ -18,6 +18,12 @@ pub mod Reading
 -- the tree below a root and included roots, and why there is none
 pub mod Loads
 pub mod LoadFaults
+-- which sources a list names, and the files that they see
+pub mod SourceLists
+pub mod Seen
+pub mod Looks
+pub mod Closures
+pub mod ListedTrees
 -- files that are made
 pub mod Made
 pub mod Makers

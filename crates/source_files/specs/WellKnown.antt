@@ -1,7 +1,7 @@
 -- The well-known files, `google/protobuf/*.proto`: the folder of a `protoc` that has them, and that folder as a root.
 -- (`protoc` comes with them in `include` beside its own folder: https://protobuf.dev/installation/.)
 use Rattle.std.specs.Prelude.{◌≡◌, ◌≢◌, ◌==◌, ℕ, Bool, true, false, List, [], ◌∷◌, ◌++◌, Option, Some, None, codes}
-use Rattle.std.specs.Prelude.{map}
+use Rattle.std.specs.Prelude.{All, map}
 use Rattle.std.specs.List.{slice_split}
 use Rattle.source_files.specs.Listings.{Listing}
 
@@ -81,3 +81,21 @@ pub data ListsBeside (lists linked : List ℕ → List ℕ → Option Listing �
   of_known : known ≡ Some root → ListsKnown (linked root) folder listed
       → ListsBeside lists linked known root folder listed
   of_another : known ≢ Some root → lists root folder listed → ListsBeside lists linked known root folder listed
+
+-- the path of a well-known file: `google/protobuf/` and a name
+pub record IsKnownPath (path : List ℕ) : Type 0 where
+  pub name : List ℕ
+  pub whole : All (λ byte. byte ≢ 47) name
+  pub path_is : path ≡ codes "google/protobuf/" ++ name
+
+-- What asking whether a file with a path is below the root with the well-known files may answer: there are no others.
+-- `finds` is what the system of files answers of it.
+pub data FindsKnown (finds : List ℕ → Bool → Type 0) (path : List ℕ) : (there : Bool) → Type 0 where
+  is_known : {there : Bool} → IsKnownPath path → finds path there → FindsKnown finds path there
+  is_another : ¬ (IsKnownPath path) → FindsKnown finds path false
+
+-- what asking that of roots may answer, if a root has the well-known files, which `linked` finds
+pub data FindsBeside (finds linked : List ℕ → List ℕ → Bool → Type 0) (known : Option (List ℕ))
+    (root path : List ℕ) (there : Bool) : Type 0 where
+  in_known : known ≡ Some root → FindsKnown (linked root) path there → FindsBeside finds linked known root path there
+  in_another : known ≢ Some root → finds root path there → FindsBeside finds linked known root path there

@@ -1,7 +1,8 @@
 //! Files without what patterns exclude.
 
-ghost use Rattle.std.specs.Prelude.{◌≡◌, ℕ, List, [], ◌∷◌, IfOk, OnOk, Some, map, string_bytes};
-ghost use Rattle.source_files.specs.Exclusions.{AddsLeft, IsLeftOf, Stay};
+ghost use Rattle.std.specs.Prelude.{◌≡◌, ◌↔◌, ℕ, List, [], ◌∷◌, ◌++◌, IfOk, IsTrue, OnOk, Some, map, string_bytes};
+ghost use Rattle.std.specs.Borrow.{Bor};
+ghost use Rattle.source_files.specs.Exclusions.{AddsLeft, HasExcluded, IsLeftOf, IsPathExcluded, Stay, names_of};
 ghost use Rattle.source_files.specs.Listings.{listing_of};
 
 use crate::empty_folders::EmptyFolders;
@@ -103,13 +104,56 @@ fn listing_left(
     })
 }
 
+/// Adds a name with a `/` behind it to the path of a folder.
+fn push_folder(folder: &mut String, name: &str) -> Result<(), AllocError>
+    ensures { OnOk result (string_bytes folder.new ≡ string_bytes folder.old ++ (name.now ++ 47 ∷ [])) }
+{
+    folder.push_str(name)?;
+    folder.push('/')?;
+    Ok(())
+}
+
+/// The names in a path.
+fn names_in(alloc: Global, path: &str) -> Result<Vec<&str>, AllocError>
+    ensures { IfOk result (λ names. map (λ (name : Bor (List ℕ)). name.now) names.items ≡ names_of path.now) }
+{
+    path.split('/').collect(alloc)
+}
+
+/// Whether one of these names is excluded, each in the folder that those before it make.
+fn has_excluded(alloc: Global, patterns: &[String], names: &[&str]) -> Result<bool, AllocError>
+    ensures { IfOk result (λ yes. IsTrue yes ↔ HasExcluded (map string_bytes patterns.now) []
+        (map (λ (name : Bor (List ℕ)). name.now) names.now)) }
+{
+    let mut folder = String::new(alloc);
+    let mut rest = names;
+    while let [name, others @ ..] = rest {
+        if is_excluded(alloc, patterns, folder.as_str(), *name)? {
+            return Ok(true);
+        }
+        push_folder(&mut folder, *name)?;
+        rest = others;
+    }
+    Ok(false)
+}
+
+/// Whether the file with a path, or a folder on the way to it, is excluded.
+pub fn is_path_excluded(alloc: Global, patterns: &[String], path: &str) -> Result<bool, AllocError>
+    ensures { IfOk result (λ yes. IsTrue yes ↔ IsPathExcluded (map string_bytes patterns.now) path.now) }
+{
+    let names = names_in(alloc, path)?;
+    has_excluded(alloc, patterns, &names)
+}
+
 impl<'a, F: ReadFiles> ReadFiles for Excluding<'a, F> {
     ghost use Rattle.std.specs.Prelude.{map, string_bytes};
-    ghost use Rattle.source_files.specs.Exclusions.{ListsWithout};
+    ghost use Rattle.source_files.specs.Exclusions.{FindsWithout, ListsWithout};
 
     ghost lists = { λ s. ListsWithout (F.lists s.files.now) (map string_bytes s.patterns.now) };
 
     ghost gives = { λ s. F.gives s.files.now };
+
+    ghost finds = { λ s. FindsWithout (F.finds s.files.now) (map string_bytes s.patterns.now) };
 
     fn list_folder(
         &self,
@@ -120,6 +164,14 @@ impl<'a, F: ReadFiles> ReadFiles for Excluding<'a, F> {
         match self.files.list_folder(alloc, root, folder)? {
             Some(listing) => Ok(Some(listing_left(alloc, self.patterns, folder, listing)?)),
             None => Ok(None),
+        }
+    }
+
+    fn is_below(&self, alloc: Global, root: &str, path: &str) -> Result<bool, AllocError> {
+        if is_path_excluded(alloc, self.patterns, path)? {
+            Ok(false)
+        } else {
+            self.files.is_below(alloc, root, path)
         }
     }
 

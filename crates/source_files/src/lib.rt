@@ -4,10 +4,15 @@
 #![tactic(auto)]
 
 // From folders to a tree.
+mod closure;
+mod listed;
 mod load;
 mod load_fault;
 mod root;
 mod root_files;
+
+// Which sources a list names.
+mod source_list;
 
 // Which files are there.
 mod entry;
@@ -23,7 +28,9 @@ mod find_files;
 mod well_known;
 mod with_well_known;
 
-// What they hold.
+// What they hold, and import.
+mod find_imports;
+mod looking;
 mod phases;
 mod read_files;
 mod readers;
@@ -55,13 +62,15 @@ mod laws;
 pub use cause::{Blamed, Cause, Caused};
 pub use empty_folders::EmptyFolders;
 pub use entry::FolderEntry;
-pub use excluding::Excluding;
+pub use excluding::{Excluding, is_path_excluded};
 pub use find_files::FindFiles;
+pub use find_imports::{FindImports, FoundImport};
 pub use folder_place::FolderPlace;
 pub use laws::{
     listed_paths_stay_below, roots_have_one_listing, unknown_folders_are_listed_plainly,
     whole_roots_are_alike,
 };
+pub use listed::load_listed;
 pub use listing::{FolderIdentity, FolderListing};
 pub use load::{Loaded, LoadedTree, load_tree, load_tree_with_paths, once};
 pub use load_fault::LoadFault;
@@ -76,6 +85,7 @@ pub use read_files::ReadFiles;
 pub use readers::Readers;
 pub use root::read_root;
 pub use root_files::RootFiles;
+pub use source_list::{ListFault, ListedPath, MAX_LIST_LENGTH, listed_paths};
 pub use system_files::SystemFiles;
 pub use system_stream::SystemStream;
 pub use well_known::well_known_folder;

@@ -87,7 +87,11 @@ fn path_among(sources: Vec<Source>, included: Vec<Source>, number: usize) -> Str
 }
 
 /// The tree of files that were read.
-fn make_tree(alloc: Global, sources: Vec<Source>, included: Vec<Source>) -> Result<Tree, LoadFault>
+pub(crate) fn make_tree(
+    alloc: Global,
+    sources: Vec<Source>,
+    included: Vec<Source>,
+) -> Result<Tree, LoadFault>
     ensures { MatchResult result (IsTreeOf sources.items included.items) (MayRefuseFiles sources.items included.items) }
 {
     one_sorting_by_path();
@@ -188,9 +192,9 @@ pub fn load_tree<R: Threads + Wait, G: Gate, F: ReadFiles + Sync>(
 pub struct LoadedTree {
     /// The tree.
     pub tree: Tree,
-    /// The paths of the sources.
+    /// The paths of the files that were read below the root: of the sources, and with a list of those that they see.
     pub own: Vec<String>,
-    /// For each included root the paths of the files below it.
+    /// For each included root the paths of the files that were read below it.
     pub others: Vec<Vec<String>>,
     /// The paths of what can't be read, each below its root, by their bytes, and each once.
     pub unread: Vec<String>,

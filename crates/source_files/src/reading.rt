@@ -38,7 +38,7 @@ pub(crate) enum ReadSource {
 }
 
 /// The bytes of a source below a root. None if it can't be read.
-fn read_below<F: ReadFiles>(
+pub(crate) fn read_below<F: ReadFiles>(
     alloc: Global,
     files: &F,
     root: &str,

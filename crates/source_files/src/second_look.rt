@@ -268,12 +268,26 @@ fn read_byte<S: Files>(system: &S, path: &str) -> io::Result<()> {
     Ok(())
 }
 
-/// Why the file with a path can't be read, if it can't.
+/// Whether a path leads to a pipe or the like, which is neither a file nor a folder: to open it may take forever.
+fn may_wait<S: Files>(system: &S, path: &str) -> bool {
+    match system.metadata(path) {
+        Ok(there) => {
+            let kind = there.file_type();
+            !kind.is_file() && !kind.is_dir()
+        }
+        Err(_) => false,
+    }
+}
+
+/// Why the file with a path can't be read, if it can't; none is known of a pipe or the like.
 fn why_no_file<S: Files>(
     system: &S,
     alloc: Global,
     path: &str,
 ) -> Result<Option<String>, AllocError> {
+    if may_wait(system, path) {
+        return Ok(None);
+    }
     match read_byte(system, path) {
         Ok(()) => Ok(None),
         Err(error) => Ok(Some(said_of(alloc, path, Cause::of(&error).words())?)),

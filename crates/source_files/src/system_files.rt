@@ -7,6 +7,7 @@ use crate::find_files::FindFiles;
 use crate::listing::FolderListing;
 use crate::look_again::{LookAgain, PassedOver};
 use crate::read_files::ReadFiles;
+use crate::reading::path_below;
 use crate::second_look::{SecondLook, why_unread};
 use crate::system_folders::entries_of;
 use source_tree::read_source;
@@ -59,6 +60,8 @@ impl<'a, S: Files + AllocGlobal + Clone + Drop> ReadFiles for SystemFiles<'a, S>
 
     ghost gives = { λ _ _ _. ⊤ };
 
+    ghost finds = { λ _ _ _ _. ⊤ };
+
     fn list_folder(
         &self,
         _alloc: Global,
@@ -66,6 +69,17 @@ impl<'a, S: Files + AllocGlobal + Clone + Drop> ReadFiles for SystemFiles<'a, S>
         folder: &str,
     ) -> Result<Option<FolderListing>, AllocError> {
         given(entries_of(self.system, self.follows, root, folder))
+    }
+
+    fn is_below(&self, alloc: Global, root: &str, path: &str) -> Result<bool, AllocError> {
+        let below = path_below(alloc, root, path)?;
+        match fs::metadata(self.system, below.as_str()) {
+            Err(error) if error.kind() == ErrorKind::PermissionDenied => Ok(true),
+            answer => match given(answer)? {
+                Some(there) => Ok(there.is_file()),
+                None => Ok(false),
+            },
+        }
     }
 
     fn read_file(&self, _alloc: Global, path: &str) -> Result<Option<Vec<u8>>, AllocError> {

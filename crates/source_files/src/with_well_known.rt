@@ -1,9 +1,9 @@
 //! Files with a root that has the well-known files alone.
 
-ghost use Rattle.std.specs.Prelude.{◌≡◌, ◌∷◌, [], ◌↔◌, IfOk, IsTrue, None, Some, map, string_bytes};
+ghost use Rattle.std.specs.Prelude.{◌≡◌, ◌≢◌, ◌∷◌, [], ◌↔◌, All, IfOk, IsTrue, None, Some, map, string_bytes};
 ghost use Rattle.std.specs.Option.{option_map};
 ghost use Rattle.source_files.specs.Listings.{listing_of};
-ghost use Rattle.source_files.specs.WellKnown.{ListsKnown, with_folder, without_entries};
+ghost use Rattle.source_files.specs.WellKnown.{FindsKnown, IsKnownPath, ListsKnown, with_folder, without_entries};
 
 use crate::empty_folders::EmptyFolders;
 use crate::entry::FolderEntry;
@@ -11,6 +11,9 @@ use crate::listing::FolderListing;
 use crate::look_again::{LookAgain, PassedOver};
 use crate::read_files::ReadFiles;
 use std::alloc::{AllocError, Global};
+
+/// The folder of the well-known files.
+const KNOWN_FOLDER: &str = "google/protobuf/";
 
 /// The files of a system. Of one root it shows the well-known files alone, `google/protobuf/*.proto`.
 #[derive(Drop)]
@@ -65,6 +68,39 @@ fn list_known<F: ReadFiles>(
     }
 }
 
+/// Whether this is the path of a well-known file: `google/protobuf/` and a name.
+fn is_well_known(path: &str) -> bool
+    ensures { IsTrue result ↔ IsKnownPath path.now }
+{
+    match path.strip_prefix(KNOWN_FOLDER) {
+        Some(name) => has_no_slash(name),
+        None => false,
+    }
+}
+
+/// Whether a name has no `/`.
+fn has_no_slash(name: &str) -> bool
+    ensures { IsTrue result ↔ All (λ byte. byte ≢ 47) name.now }
+{
+    name.as_bytes().iter().all(|byte| *byte != b'/')
+}
+
+/// Whether a file with a path is below the root with the well-known files.
+fn find_known<F: ReadFiles>(
+    alloc: Global,
+    files: &F,
+    root: &str,
+    path: &str,
+) -> Result<bool, AllocError>
+    ensures { IfOk result (FindsKnown (F.finds files.now root.now) path.now) }
+{
+    if is_well_known(path) {
+        files.is_below(alloc, root, path)
+    } else {
+        Ok(false)
+    }
+}
+
 impl<'a, F> WithWellKnown<'a, F> {
     /// Whether this is the root with the well-known files.
     fn is_known(&self, root: &str) -> bool
@@ -79,12 +115,15 @@ impl<'a, F> WithWellKnown<'a, F> {
 
 impl<'a, F: ReadFiles> ReadFiles for WithWellKnown<'a, F> {
     ghost use Rattle.std.specs.Prelude.{option_map};
-    ghost use Rattle.source_files.specs.WellKnown.{ListsBeside};
+    ghost use Rattle.source_files.specs.WellKnown.{FindsBeside, ListsBeside};
 
     ghost lists = { λ s. ListsBeside (F.lists s.files.now) (F.lists s.linked.now)
         (option_map (λ known. known.now) s.known) };
 
     ghost gives = { λ s. F.gives s.files.now };
+
+    ghost finds = { λ s. FindsBeside (F.finds s.files.now) (F.finds s.linked.now)
+        (option_map (λ known. known.now) s.known) };
 
     fn list_folder(
         &self,
@@ -97,6 +136,13 @@ impl<'a, F: ReadFiles> ReadFiles for WithWellKnown<'a, F> {
         } else {
             self.files.list_folder(alloc, root, folder)
         }
+    }
+
+    fn is_below(&self, alloc: Global, root: &str, path: &str) -> Result<bool, AllocError> {
+        if !self.is_known(root) {
+            return self.files.is_below(alloc, root, path);
+        }
+        find_known(alloc, self.linked, root, path)
     }
 
     fn read_file(&self, alloc: Global, path: &str) -> Result<Option<Vec<u8>>, AllocError> {

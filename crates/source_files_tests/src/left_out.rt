@@ -108,6 +108,8 @@ impl<'a, F: ReadFiles> ReadFiles for Said<'a, F> {
 
     ghost gives = { λ s. F.gives s.files.now };
 
+    ghost finds = { λ s. F.finds s.files.now };
+
     fn list_folder(
         &self,
         alloc: Global,
@@ -118,6 +120,10 @@ impl<'a, F: ReadFiles> ReadFiles for Said<'a, F> {
             return Ok(None);
         }
         Ok(Some(said_in(alloc, root, folder)?))
+    }
+
+    fn is_below(&self, alloc: Global, root: &str, path: &str) -> Result<bool, AllocError> {
+        self.files.is_below(alloc, root, path)
     }
 
     fn read_file(&self, alloc: Global, path: &str) -> Result<Option<Vec<u8>>, AllocError> {

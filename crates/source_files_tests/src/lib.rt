@@ -21,6 +21,8 @@ mod left_out;
 #[cfg(test)]
 mod limits;
 #[cfg(test)]
+mod lists;
+#[cfg(test)]
 mod mended;
 #[cfg(test)]
 mod numbered;

@@ -1,0 +1,14 @@
+use Rattle.std.proofs.Common.{length, map, string_bytes}
+use Rattle.source_files.specs.Closures.{paths_in, wanted_by}
+use Rattle.source_files.proofs.ClosureLemmas.{Goes}
+use Rattle.source_files.proofs.closure.add_imports.Given as goal
+
+-- what the rest wants comes behind what is added so far
+abbrev pub invariant-loop-rest : goal.invariant-loop-rest
+invariant-loop-rest l =
+    Goes (wanted_by l.publicly) l.imports l.rest (paths_in l.fn.known) (map string_bytes l.fn.fresh.items)
+    (paths_in l.known)
+    (map string_bytes l.fresh.items)
+
+abbrev pub decreases-loop-rest : goal.decreases-loop-rest
+decreases-loop-rest l = length l.rest

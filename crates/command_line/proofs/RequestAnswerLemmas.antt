@@ -7,7 +7,6 @@ use Rattle.clap.proofs.OnLiterals.{clap_on_literals}
 use Rattle.command_line.specs.Program.{command_line}
 use Rattle.command_line.specs.Requests.{IsRefused, Prints}
 use Rattle.command_line.specs.Asks.{AsksBy, AsksFor, is_unfit}
-use Rattle.command_line.specs.Values.{rows_in}
 use Rattle.command_line.specs.declared.options.WordLists.{WordLists}
 use Rattle.command_line.specs.declared.request.Request.{Request}
 use Rattle.command_line.specs.declared.request.Request.TheVariants as request
@@ -22,7 +21,7 @@ command_line_is_walked lists = refl
 
 -- words without a fault ask for the program that they name, if nothing is unfit
 pub asks_program : (kinds : Kinds) (program : Option (Text × List Row)) (r : Request) → kinds ≡ []
-    → AsksFor (is_unfit (rows_in program)) program r → AsksBy kinds program r
+    → AsksFor (is_unfit program) program r → AsksBy kinds program r
 asks_program [] program r e names = names
 asks_program (k ∷ ks) program r e names = absurd cc
 

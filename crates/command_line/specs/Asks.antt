@@ -8,6 +8,7 @@ use Rattle.command_line.specs.Options.{AreListed, CarriesDump, CarriesIndex, Car
 use Rattle.command_line.specs.Options.{CarriesQuery, CarriesShell, CarriesSnapshot}
 use Rattle.command_line.specs.Options.At.{is_nowhere}
 use Rattle.command_line.specs.Options.Report.{lacks_report}
+use Rattle.command_line.specs.Options.Sources.{lists_commands}
 use Rattle.command_line.specs.Program.{command_line}
 use Rattle.command_line.specs.Requests.{IsRefused, Prints}
 use Rattle.command_line.specs.Values.{rows_in}
@@ -45,9 +46,9 @@ Names program (request.Print text) = ⊥
 Names program (request.Refuse text) = ⊥
 
 -- what the rules of `clap` let pass, and is refused: a form for a report, and no file; a folder for the documents that
--- is none
-abbrev pub is_unfit : List Row → Bool
-is_unfit rows = lacks_report rows || is_nowhere rows
+-- is none; a list that `shell` would read where its commands are
+abbrev pub is_unfit : Option (Text × List Row) → Bool
+is_unfit program = lacks_report (rows_in program) || (is_nowhere (rows_in program) || lists_commands program)
 
 -- the program that the words name, unless what they give it is refused
 abbrev pub AsksFor : (is_unfit : Bool) → Option (Text × List Row) → Request → Type 0
@@ -56,7 +57,7 @@ AsksFor false program r = Names program r
 
 -- no fault in the words: the program that they name; else one of the answers that the rules allow
 abbrev pub AsksBy : Kinds → Option (Text × List Row) → Request → Type 0
-AsksBy [] program r = AsksFor (is_unfit (rows_in program)) program r
+AsksBy [] program r = AsksFor (is_unfit program) program r
 AsksBy (k ∷ ks) program r = (answer : ErrorKind) × IsAmong answer (k ∷ ks) × Prints answer r
 
 -- what the words ask for, of which the first is the program's name; the lists of the words that some options take are

@@ -30,6 +30,7 @@ use Rattle.command_line.specs.Options.Quiet.{quiet_in, quiet_rule}
 use Rattle.command_line.specs.Options.Real.{is_real, real_rule}
 use Rattle.command_line.specs.Options.Replace.{replaces_in}
 use Rattle.command_line.specs.Options.Report.{CarriesReport, format_rule, format_words, report_rule}
+use Rattle.command_line.specs.Options.Sources.{file_of, nothing_listed, sources_of, sources_rule}
 use Rattle.command_line.specs.Options.To.{to_of}
 use Rattle.command_line.specs.Options.WellKnown.{well_known_in, well_known_rule}
 use Rattle.command_line.specs.Options.Workers.{workers_of, workers_rule}
@@ -66,6 +67,7 @@ pub mod Quiet
 pub mod Real
 pub mod Replace
 pub mod Report
+pub mod Sources
 pub mod To
 pub mod WellKnown
 pub mod Workers
@@ -107,9 +109,14 @@ reading_rules lists = positions_rule lists.positions
     ∷ explain_rule
     ∷ []
 
--- on how folders are searched, and on the report
+-- on which sources there are, how folders are searched, and on the report
 abbrev pub search_rules : WordLists → List Rule
-search_rules lists = exclude_rule ∷ links_rule lists.links ∷ report_rule ∷ format_rule lists.report_format ∷ []
+search_rules lists = exclude_rule
+    ∷ links_rule lists.links
+    ∷ sources_rule
+    ∷ report_rule
+    ∷ format_rule lists.report_format
+    ∷ []
 
 -- all of these
 abbrev pub tree_rules : WordLists → List Rule
@@ -145,6 +152,8 @@ pub record Carries (rows : List Row) (options : IndexOptions) : Type 0 where
   pub explain : options.explain ≡ explains_in rows
   pub exclude : map string_bytes options.exclude.items ≡ exclude_of rows
   pub links : options.links ≡ links_of rows
+  pub sources : option_map file_of options.sources ≡ sources_of rows
+  pub unread : nothing_listed options.sources
   pub report : CarriesReport rows options.report
 
 -- and so all that `index` is given

@@ -18,7 +18,8 @@ mod arguments;
 
 pub use options::{
     DumpOptions, IndexOptions, IndexRequest, JoinOptions, Limits, Links, PackageFolder,
-    PagesOptions, QueryOptions, ReportOptions, ShellRequest, SnapshotOptions,
+    PagesOptions, QueryOptions, ReportOptions, STANDARD_INPUT, ShellRequest, SnapshotOptions,
+    SourceList,
 };
 pub use reading::{request_of, request_of_process};
 pub use request::Request;

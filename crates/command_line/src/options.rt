@@ -47,6 +47,7 @@ mod quiet;
 mod real;
 pub(crate) mod replace;
 pub(crate) mod report;
+pub(crate) mod sources;
 pub(crate) mod to;
 mod well_known;
 mod workers;
@@ -68,6 +69,7 @@ use crate::options::quiet::quiet_in;
 use crate::options::real::is_real;
 use crate::options::replace::replaces_in;
 use crate::options::report::report_options_of;
+use crate::options::sources::sources_of;
 use crate::options::well_known::well_known_in;
 use crate::options::workers::workers_of;
 use crate::values::{optional_text_of, text_of, texts_of};
@@ -82,6 +84,7 @@ use proto_lex::Encoding;
 use proto_parse::Dialect;
 pub use report::ReportOptions;
 use scip_build::{Duplicates, Faulty};
+pub use sources::{STANDARD_INPUT, SourceList};
 use std::alloc::{AllocError, Global};
 
 /// The lists of words of the options that take only listed words.
@@ -165,6 +168,8 @@ pub struct IndexOptions {
     pub exclude: Vec<String>,
     /// What is done about links below the folders; they are passed over if it isn't given.
     pub links: Links,
+    /// The list of the sources; they are those below the root if it isn't given.
+    pub sources: Option<SourceList>,
     /// The report that is made.
     pub report: ReportOptions,
 }
@@ -314,6 +319,7 @@ fn searching<'a>(alloc: Global, lists: WordLists<'a>) -> Result<Vec<Arg<'a>>, Al
     Ok(vec![in alloc;
         exclude::arg(alloc),
         links::arg(alloc, lists.links),
+        sources::arg(alloc),
         report::report(alloc),
         report::report_format(alloc, lists.report_format),
     ]?)
@@ -374,6 +380,7 @@ pub(crate) fn options_of(alloc: Global, given: &ArgMatches<'_>) -> Result<IndexO
         explain: explains_in(given),
         exclude: texts_of(alloc, given, exclude::NAME)?,
         links: links_of(given),
+        sources: sources_of(alloc, given)?,
         report: report_options_of(alloc, given)?,
     })
 }

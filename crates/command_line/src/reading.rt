@@ -13,6 +13,7 @@ use crate::names::{INDEX, JOIN, PAGES, QUERY, SHELL, SNAPSHOT};
 use crate::options::accept::add_what_all_is;
 use crate::options::at::{NO_FOLDER, is_nowhere};
 use crate::options::report::{FORM_ALONE, lacks_report};
+use crate::options::sources::{COMMANDS_THERE, lists_commands};
 use crate::options::{
     DumpOptions, WordLists, dump_options_of, index_request_of, join_options_of, pages_options_of,
     query_options_of, shell_request_of, snapshot_options_of,
@@ -42,16 +43,18 @@ pub fn request_of(alloc: Global, words: &Vec<String>) -> Result<Request, AllocEr
 }
 
 /// The program that a command line names, with what it is given; a form for a report without a file is refused, and so
-/// is a folder for the documents that is none.
+/// is a folder for the documents that is none, and a list for `shell` where its commands are.
 fn asked(alloc: Global, matches: &ArgMatches<'_>) -> Result<Request, AllocError>
-    ensures { IfOk result (AsksFor (is_unfit (rows_in (subcommand_rows_of matches.now)))
-        (subcommand_rows_of matches.now)) }
+    ensures { IfOk result (AsksFor (is_unfit (subcommand_rows_of matches.now)) (subcommand_rows_of matches.now)) }
 {
     if lacks_report(matches) {
         return refuse(alloc, FORM_ALONE);
     }
     if is_nowhere(matches) {
         return refuse(alloc, NO_FOLDER);
+    }
+    if lists_commands(matches) {
+        return refuse(alloc, COMMANDS_THERE);
     }
     named(alloc, matches)
 }

@@ -59,6 +59,8 @@ pub(crate) const OPTIONS: &str = "      --real
           Leaves out files and folders by name or path, as .git, which is searched otherwise; may be given again
       --links <WORD>
           What to do with symbolic links below a folder: pass them over, or follow them [default: ignore] [possible values: ignore, follow]
+      --sources <FILE>
+          The sources are those that FILE lists, a path below ROOT on each line; `-` is standard input
       --report <FILE>
           Writes a report to this file: each fault, and what the index leaves out or lacks
       --report-format <WORD>
@@ -75,7 +77,7 @@ struct Asked {
 
 // The fourth row reads: `dump --explain --custom-options skip` asks for a dump that reads past custom options, and
 // explains a fault.
-static ASKED: [Asked; 22] = [
+static ASKED: [Asked; 23] = [
     Asked {
         words: "query a.scip",
         request: "Query(QueryOptions { indexes: [\"a.scip\"], explain: false, more: false })",
@@ -102,35 +104,35 @@ static ASKED: [Asked; 22] = [
     },
     Asked {
         words: "index api out",
-        request: "Index(IndexRequest { options: IndexOptions { root: \"api\", is_real: false, workers: Workers { count: 4 }, project_root: \"file:///\", at: \"\", manager: \"\", package: \"\", release: \"\", only: None, doc: None, comments: Raw, details: false, include: [], include_packages: [], well_known: false, encoding: Utf8, dialect: Proto3(Refuse), faulty: Refuse, duplicates: Refuse, explain: false, exclude: [], links: Ignore, report: ReportOptions { path: None, format: JsonLines } }, out: \"out\", quiet: false, limits: Limits { max_skipped: None, min_sources: None } })",
+        request: "Index(IndexRequest { options: IndexOptions { root: \"api\", is_real: false, workers: Workers { count: 4 }, project_root: \"file:///\", at: \"\", manager: \"\", package: \"\", release: \"\", only: None, doc: None, comments: Raw, details: false, include: [], include_packages: [], well_known: false, encoding: Utf8, dialect: Proto3(Refuse), faulty: Refuse, duplicates: Refuse, explain: false, exclude: [], links: Ignore, sources: None, report: ReportOptions { path: None, format: JsonLines } }, out: \"out\", quiet: false, limits: Limits { max_skipped: None, min_sources: None } })",
     },
     Asked {
         words: "index --workers 2 --quiet --max-skipped 3 --min-sources=812 --report f --report-format sarif --project-root u --at d/.e --manager m --package p --release r --only o --doc both --comments clean --details --include j --include i --positions utf16 --accept all --custom-options skip --faulty skip --duplicates keep --explain api out",
-        request: "Index(IndexRequest { options: IndexOptions { root: \"api\", is_real: false, workers: Workers { count: 2 }, project_root: \"u\", at: \"d/.e\", manager: \"m\", package: \"p\", release: \"r\", only: Some(\"o\"), doc: Some(Both), comments: Clean, details: true, include: [\"j\", \"i\"], include_packages: [], well_known: false, encoding: Utf16, dialect: All, faulty: Skip, duplicates: Keep, explain: true, exclude: [], links: Ignore, report: ReportOptions { path: Some(\"f\"), format: Sarif } }, out: \"out\", quiet: true, limits: Limits { max_skipped: Some(3), min_sources: Some(812) } })",
+        request: "Index(IndexRequest { options: IndexOptions { root: \"api\", is_real: false, workers: Workers { count: 2 }, project_root: \"u\", at: \"d/.e\", manager: \"m\", package: \"p\", release: \"r\", only: Some(\"o\"), doc: Some(Both), comments: Clean, details: true, include: [\"j\", \"i\"], include_packages: [], well_known: false, encoding: Utf16, dialect: All, faulty: Skip, duplicates: Keep, explain: true, exclude: [], links: Ignore, sources: None, report: ReportOptions { path: Some(\"f\"), format: Sarif } }, out: \"out\", quiet: true, limits: Limits { max_skipped: Some(3), min_sources: Some(812) } })",
     },
     Asked {
         words: "shell --more --workers 16 --project-root=u --at=.../-d --manager=m --package=p --release=r --report=f --report-format=jsonl --only=o --doc=trailing --comments=raw --include=i --positions=utf8 --accept=proto3 --custom-options=refuse --faulty=refuse -- -api",
-        request: "Shell(ShellRequest { options: IndexOptions { root: \"-api\", is_real: false, workers: Workers { count: 16 }, project_root: \"u\", at: \".../-d\", manager: \"m\", package: \"p\", release: \"r\", only: Some(\"o\"), doc: Some(Trailing), comments: Raw, details: false, include: [\"i\"], include_packages: [], well_known: false, encoding: Utf8, dialect: Proto3(Refuse), faulty: Refuse, duplicates: Refuse, explain: false, exclude: [], links: Ignore, report: ReportOptions { path: Some(\"f\"), format: JsonLines } }, more: true })",
+        request: "Shell(ShellRequest { options: IndexOptions { root: \"-api\", is_real: false, workers: Workers { count: 16 }, project_root: \"u\", at: \".../-d\", manager: \"m\", package: \"p\", release: \"r\", only: Some(\"o\"), doc: Some(Trailing), comments: Raw, details: false, include: [\"i\"], include_packages: [], well_known: false, encoding: Utf8, dialect: Proto3(Refuse), faulty: Refuse, duplicates: Refuse, explain: false, exclude: [], links: Ignore, sources: None, report: ReportOptions { path: Some(\"f\"), format: JsonLines } }, more: true })",
     },
     Asked {
         words: "index api --include a --include-package m n r d --include b out --include-package '' '' '' e --include c",
-        request: "Index(IndexRequest { options: IndexOptions { root: \"api\", is_real: false, workers: Workers { count: 4 }, project_root: \"file:///\", at: \"\", manager: \"\", package: \"\", release: \"\", only: None, doc: None, comments: Raw, details: false, include: [\"a\", \"b\", \"c\"], include_packages: [PackageFolder { manager: \"m\", name: \"n\", release: \"r\", folder: \"d\" }, PackageFolder { manager: \"\", name: \"\", release: \"\", folder: \"e\" }], well_known: false, encoding: Utf8, dialect: Proto3(Refuse), faulty: Refuse, duplicates: Refuse, explain: false, exclude: [], links: Ignore, report: ReportOptions { path: None, format: JsonLines } }, out: \"out\", quiet: false, limits: Limits { max_skipped: None, min_sources: None } })",
+        request: "Index(IndexRequest { options: IndexOptions { root: \"api\", is_real: false, workers: Workers { count: 4 }, project_root: \"file:///\", at: \"\", manager: \"\", package: \"\", release: \"\", only: None, doc: None, comments: Raw, details: false, include: [\"a\", \"b\", \"c\"], include_packages: [PackageFolder { manager: \"m\", name: \"n\", release: \"r\", folder: \"d\" }, PackageFolder { manager: \"\", name: \"\", release: \"\", folder: \"e\" }], well_known: false, encoding: Utf8, dialect: Proto3(Refuse), faulty: Refuse, duplicates: Refuse, explain: false, exclude: [], links: Ignore, sources: None, report: ReportOptions { path: None, format: JsonLines } }, out: \"out\", quiet: false, limits: Limits { max_skipped: None, min_sources: None } })",
     },
     Asked {
         words: "index api out --max-skipped +0 --min-sources 04294967295 --report f",
-        request: "Index(IndexRequest { options: IndexOptions { root: \"api\", is_real: false, workers: Workers { count: 4 }, project_root: \"file:///\", at: \"\", manager: \"\", package: \"\", release: \"\", only: None, doc: None, comments: Raw, details: false, include: [], include_packages: [], well_known: false, encoding: Utf8, dialect: Proto3(Refuse), faulty: Refuse, duplicates: Refuse, explain: false, exclude: [], links: Ignore, report: ReportOptions { path: Some(\"f\"), format: JsonLines } }, out: \"out\", quiet: false, limits: Limits { max_skipped: Some(0), min_sources: Some(4294967295) } })",
+        request: "Index(IndexRequest { options: IndexOptions { root: \"api\", is_real: false, workers: Workers { count: 4 }, project_root: \"file:///\", at: \"\", manager: \"\", package: \"\", release: \"\", only: None, doc: None, comments: Raw, details: false, include: [], include_packages: [], well_known: false, encoding: Utf8, dialect: Proto3(Refuse), faulty: Refuse, duplicates: Refuse, explain: false, exclude: [], links: Ignore, sources: None, report: ReportOptions { path: Some(\"f\"), format: JsonLines } }, out: \"out\", quiet: false, limits: Limits { max_skipped: Some(0), min_sources: Some(4294967295) } })",
     },
     Asked {
         words: "index api --exclude .git --links follow --exclude=a/**/b out --well-known",
-        request: "Index(IndexRequest { options: IndexOptions { root: \"api\", is_real: false, workers: Workers { count: 4 }, project_root: \"file:///\", at: \"\", manager: \"\", package: \"\", release: \"\", only: None, doc: None, comments: Raw, details: false, include: [], include_packages: [], well_known: true, encoding: Utf8, dialect: Proto3(Refuse), faulty: Refuse, duplicates: Refuse, explain: false, exclude: [\".git\", \"a/**/b\"], links: Follow, report: ReportOptions { path: None, format: JsonLines } }, out: \"out\", quiet: false, limits: Limits { max_skipped: None, min_sources: None } })",
+        request: "Index(IndexRequest { options: IndexOptions { root: \"api\", is_real: false, workers: Workers { count: 4 }, project_root: \"file:///\", at: \"\", manager: \"\", package: \"\", release: \"\", only: None, doc: None, comments: Raw, details: false, include: [], include_packages: [], well_known: true, encoding: Utf8, dialect: Proto3(Refuse), faulty: Refuse, duplicates: Refuse, explain: false, exclude: [\".git\", \"a/**/b\"], links: Follow, sources: None, report: ReportOptions { path: None, format: JsonLines } }, out: \"out\", quiet: false, limits: Limits { max_skipped: None, min_sources: None } })",
     },
     Asked {
         words: "index api --real --include i out",
-        request: "Index(IndexRequest { options: IndexOptions { root: \"api\", is_real: true, workers: Workers { count: 4 }, project_root: \"file:///\", at: \"\", manager: \"\", package: \"\", release: \"\", only: None, doc: Some(Both), comments: Clean, details: true, include: [\"i\"], include_packages: [], well_known: true, encoding: Utf8, dialect: All, faulty: Skip, duplicates: Keep, explain: false, exclude: [], links: Ignore, report: ReportOptions { path: None, format: JsonLines } }, out: \"out\", quiet: false, limits: Limits { max_skipped: None, min_sources: None } })",
+        request: "Index(IndexRequest { options: IndexOptions { root: \"api\", is_real: true, workers: Workers { count: 4 }, project_root: \"file:///\", at: \"\", manager: \"\", package: \"\", release: \"\", only: None, doc: Some(Both), comments: Clean, details: true, include: [\"i\"], include_packages: [], well_known: true, encoding: Utf8, dialect: All, faulty: Skip, duplicates: Keep, explain: false, exclude: [], links: Ignore, sources: None, report: ReportOptions { path: None, format: JsonLines } }, out: \"out\", quiet: false, limits: Limits { max_skipped: None, min_sources: None } })",
     },
     Asked {
         words: "shell --accept proto3 --custom-options skip --faulty refuse --duplicates refuse --doc nothing --comments raw --real api",
-        request: "Shell(ShellRequest { options: IndexOptions { root: \"api\", is_real: true, workers: Workers { count: 4 }, project_root: \"file:///\", at: \"\", manager: \"\", package: \"\", release: \"\", only: None, doc: Some(Nothing), comments: Raw, details: true, include: [], include_packages: [], well_known: true, encoding: Utf8, dialect: Proto3(Skip), faulty: Refuse, duplicates: Refuse, explain: false, exclude: [], links: Ignore, report: ReportOptions { path: None, format: JsonLines } }, more: false })",
+        request: "Shell(ShellRequest { options: IndexOptions { root: \"api\", is_real: true, workers: Workers { count: 4 }, project_root: \"file:///\", at: \"\", manager: \"\", package: \"\", release: \"\", only: None, doc: Some(Nothing), comments: Raw, details: true, include: [], include_packages: [], well_known: true, encoding: Utf8, dialect: Proto3(Skip), faulty: Refuse, duplicates: Refuse, explain: false, exclude: [], links: Ignore, sources: None, report: ReportOptions { path: None, format: JsonLines } }, more: false })",
     },
     Asked {
         words: "snapshot a.scip api",
@@ -155,6 +157,10 @@ static ASKED: [Asked; 22] = [
     Asked {
         words: "pages a api out --also b",
         request: "Pages(PagesOptions { indexes: [\"a\", \"b\"], root: \"api\", out: \"out\", explain: false })",
+    },
+    Asked {
+        words: "index api out --sources -",
+        request: "Index(IndexRequest { options: IndexOptions { root: \"api\", is_real: false, workers: Workers { count: 4 }, project_root: \"file:///\", at: \"\", manager: \"\", package: \"\", release: \"\", only: None, doc: None, comments: Raw, details: false, include: [], include_packages: [], well_known: false, encoding: Utf8, dialect: Proto3(Refuse), faulty: Refuse, duplicates: Refuse, explain: false, exclude: [], links: Ignore, sources: Some(SourceList { file: \"-\", listed: [] }), report: ReportOptions { path: None, format: JsonLines } }, out: \"out\", quiet: false, limits: Limits { max_skipped: None, min_sources: None } })",
     },
     Asked {
         words: "join all a",
@@ -193,6 +199,15 @@ error: the argument '--min-sources <N>' cannot be used multiple times
 
 index api out --report-format sarif
 error: '--report-format <WORD>' can't be used without '--report <FILE>'
+
+shell api --sources -
+error: '--sources -' can't be used with 'shell', which reads commands from standard input
+
+index api out --sources a --sources b
+error: the argument '--sources <FILE>' cannot be used multiple times
+
+query a --sources b
+error: unexpected argument '--sources' found
 
 shell api --report-format jsonl
 error: '--report-format <WORD>' can't be used without '--report <FILE>'

@@ -1,6 +1,6 @@
 -- The packages of files, by the folders that they are read from.
 use Rattle.std.proofs.Common.{◌≡◌, ◌∙◌, ◌⊎◌, inl, inr, refl, sym, ap, subst, ℕ, Bool, true, false, List, [], ◌∷◌, ◌++◌}
-use Rattle.std.proofs.Common.{Option, map, length, ◌||◌, ◌<◌, ◌+◌, take, drop, ap₂, get_or, add-one}
+use Rattle.std.proofs.Common.{Option, None, Some, map, length, ◌||◌, ◌<◌, ◌+◌, take, drop, ap₂, get_or, add-one}
 use Rattle.std.proofs.Common.{drop-cons}
 use Rattle.std.specs.Prelude.{All, if◌then◌else◌, string_bytes}
 use Rattle.std.specs.List.{AllZip, list_any}
@@ -16,14 +16,15 @@ use Rattle.scip_build.specs.AsRead.{AreReadIn}
 use Rattle.scip_model.specs.Packages.{Root, Packages, ArePackages, all_in, with_path, package_among, package_of_path}
 use Rattle.command_line.specs.declared.options.IndexOptions.{IndexOptions}
 use Rattle.command_line.specs.declared.options.include.PackageFolder.{PackageFolder}
+use Rattle.command_line.specs.declared.options.sources.SourceList.{SourceList}
 use Rattle.source_tree.specs.Files.{TreeFile, paths_of}
 use Rattle.source_files.specs.Listings.{Listing}
 use Rattle.source_files.specs.Roots.{AreFilesBelow, FilesBelow}
-use Rattle.source_files.specs.Loads.{IsTreeBelow, MayNotLoad}
+use Rattle.source_files.specs.Loads.{IsLoadedBelow, IsTreeBelow, MayNotLoad}
 use Rattle.source_files.specs.declared.load_fault.LoadFault.{LoadFault}
 use Rattle.programs.specs.Settings.{leaves_out, package_in}
 use Rattle.programs.specs.Folders.{AddsRoots, AreByFolder, AreFolders, IsRootOf, folder_package, included_packages}
-use Rattle.programs.specs.Folders.{HasBadFolder, NamePackages, included_in, packages_in, roots_of}
+use Rattle.programs.specs.Folders.{HasBadFolder, IsLoadedFrom, NamePackages, included_in, packages_in, roots_of}
 use Rattle.programs.specs.Starting.{HasNoPackage, IsBadFolder, MayNotStart}
 use Rattle.programs.specs.Starting.MayNotStart.{no_tree}
 use Rattle.programs.specs.Starting.HasNoPackage.{first_is_unnamed, folders_lack_memory}
@@ -242,7 +243,7 @@ bad_folder before folder behind folders path split good bad is = record {
 }
 
 -- a list, parted at an item
-parted : {A : Type 0} (xs : List A) (number : ℕ) (x : A) → number < length xs → x ≡ get_or xs number x
+pub parted : {A : Type 0} (xs : List A) (number : ℕ) (x : A) → number < length xs → x ≡ get_or xs number x
     → xs ≡ take number xs ++ x ∷ drop (number + 1) xs
 parted xs number x below is =
     sym (take-append-drop number xs)
@@ -267,48 +268,82 @@ bad_at folders number folder fault below is good bad =
 
 -- ---- the tree of the files below folders
 
--- where no folder has a package of its own, and there is no tree
-pub unloaded_of_run : (lists : List ℕ → List ℕ → Option Listing → Type 0)
-    (gives : List ℕ → Option (List ℕ) → Type 0) (options : IndexOptions) (fault : LoadFault)
-    → options.include_packages.items ≡ [] → NamePackages options
-    → MayNotLoad lists gives (leaves_out options.faulty) (string_bytes options.root)
-    (map string_bytes options.include.items) fault
-    → MayNotStart lists gives options (Load fault)
-unloaded_of_run lists gives options fault none named may =
-    let roots : included_in options ≡ map string_bytes options.include.items =
-    ap (λ (folders : List PackageFolder). map string_bytes options.include.items
-    ++ map (λ folder. string_bytes folder.folder) folders) none ∙ append-nil (map string_bytes options.include.items) in
-    let May : List (List ℕ) → Type 0 = λ roots. MayNotLoad lists gives (leaves_out options.faulty)
-    (string_bytes options.root) roots fault in
-    no_tree named (subst May (sym roots) may)
+module _ (lists : List ℕ → List ℕ → Option Listing → Type 0) (gives : List ℕ → Option (List ℕ) → Type 0)
+    (finds : List ℕ → List ℕ → Bool → Type 0)
+    (options : IndexOptions) where
+  -- where no folder has a package of its own, and there is no tree
+  pub unloaded_of_run : (fault : LoadFault) → options.sources ≡ None → options.include_packages.items ≡ []
+      → NamePackages options
+      → MayNotLoad lists gives (leaves_out options.faulty) (string_bytes options.root)
+      (map string_bytes options.include.items) fault
+      → MayNotStart lists gives finds options (Load fault)
+  unloaded_of_run fault unlisted none named may =
+      let roots : included_in options ≡ map string_bytes options.include.items =
+      ap (λ (folders : List PackageFolder). map string_bytes options.include.items
+      ++ map (λ folder. string_bytes folder.folder) folders) none ∙ append-nil (map string_bytes options.include.items)
+      in
+      let May : List (List ℕ) → Type 0 = λ roots. MayNotLoad lists gives (leaves_out options.faulty)
+      (string_bytes options.root) roots fault in
+      no_tree named unlisted (subst May (sym roots) may)
 
--- where no folder has a package of its own
-pub folders_of_run : (lists : List ℕ → List ℕ → Option Listing → Type 0)
-    (gives : List ℕ → Option (List ℕ) → Type 0)
-    (options : IndexOptions) (files tree : List TreeFile) (unread : List (List ℕ))
-    → options.include_packages.items ≡ []
-    → IsPackage (package_in options)
-    → IsTreeBelow lists gives (leaves_out options.faulty) (string_bytes options.root)
-    (map string_bytes options.include.items) files unread
-    → AreReadIn options.dialect files tree
-    → AreFolders lists gives options tree unread (all_in (package_in options))
-folders_of_run lists gives options files tree unread none good of read =
-    let roots : included_in options ≡ map string_bytes options.include.items =
-    ap (λ (folders : List PackageFolder). map string_bytes options.include.items
-    ++ map (λ folder. string_bytes folder.folder) folders) none ∙ append-nil (map string_bytes options.include.items) in
-    let each = map (λ (below : FilesBelow). paths_of below.files) of.others in
-    record {
-      own = paths_of of.own.files;
-      others = each;
-      files = files;
-      below = record {
+  -- the tree of the files below the folders
+  pub from_folders : (files : List TreeFile) (own : List (List ℕ)) (others : List (List (List ℕ)))
+      (unread : List (List ℕ)) → options.sources ≡ None
+      → IsLoadedBelow lists gives (leaves_out options.faulty) (string_bytes options.root) (included_in options) files
+      own others unread
+      → IsLoadedFrom lists gives finds options options.sources files own others unread
+  from_folders files own others unread unlisted below =
+      let From : Option SourceList → Type 0 = λ list. IsLoadedFrom lists gives finds options list files own others
+      unread
+      in
+      subst From (sym unlisted) below
+
+  -- the tree of a list
+  pub from_list : (list : SourceList) (files : List TreeFile) (own : List (List ℕ)) (others : List (List (List ℕ)))
+      (unread : List (List ℕ)) → options.sources ≡ Some list
+      → IsLoadedFrom lists gives finds options (Some list) files own others unread
+      → IsLoadedFrom lists gives finds options options.sources files own others unread
+  from_list list files own others unread listed of =
+      let From : Option SourceList → Type 0 = λ l. IsLoadedFrom lists gives finds options l files own others unread in
+      subst From (sym listed) of
+
+  -- as it is read, with the packages of its files
+  pub folders_loaded : (files tree : List TreeFile) (own : List (List ℕ)) (others : List (List (List ℕ)))
+      (unread shown : List (List ℕ)) (ids : Packages)
+      → IsLoadedFrom lists gives finds options options.sources files own others unread
+      → AreReadIn options.dialect files tree → shown ≡ unread → AreByFolder options own others ids
+      → AreFolders lists gives finds options tree shown ids
+  folders_loaded files tree own others unread shown ids below read same by =
+      subst (λ (left : List (List ℕ)). AreFolders lists gives finds options tree left ids) (sym same) (record {
+        own = own;
+        others = others;
+        files = files;
+        below = below;
+        read = read;
+        by = by;
+      })
+
+  -- where no folder has a package of its own
+  pub folders_of_run : (files tree : List TreeFile) (unread : List (List ℕ)) → options.sources ≡ None
+      → options.include_packages.items ≡ []
+      → IsPackage (package_in options)
+      → IsTreeBelow lists gives (leaves_out options.faulty) (string_bytes options.root)
+      (map string_bytes options.include.items) files unread
+      → AreReadIn options.dialect files tree
+      → AreFolders lists gives finds options tree unread (all_in (package_in options))
+  folders_of_run files tree unread unlisted none good of read =
+      let roots : included_in options ≡ map string_bytes options.include.items =
+      ap (λ (folders : List PackageFolder). map string_bytes options.include.items
+      ++ map (λ folder. string_bytes folder.folder) folders) none ∙ append-nil (map string_bytes options.include.items)
+      in
+      let own = paths_of of.own.files in
+      let each = map (λ (below : FilesBelow). paths_of below.files) of.others in
+      folders_loaded files tree own each unread unread (all_in (package_in options))
+      (from_folders files own each unread unlisted (record {
         own = of.own;
         others = of.others;
         below = of.below;
         below_each = subst (λ (names : List (List ℕ)). AllZip (AreFilesBelow lists gives (leaves_out options.faulty))
             names of.others) (sym roots) of.below_each;
         holds = (of.holds, refl, refl);
-      };
-      read = read;
-      by = by_no_folder options (paths_of of.own.files) each none good;
-    }
+      })) read refl (by_no_folder options own each none good)

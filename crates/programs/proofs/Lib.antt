@@ -7,12 +7,16 @@ mod DumpingEndLemmas
 mod FolderLemmas
 -- What becomes of the places of folders, by what was answered of the pages made in one
 mod FolderPlaceLemmas
+-- What texts import that can't be read, and what trees import
+mod ImportLemmas
 -- What the program `join` makes of the indexes that files hold
 mod JoiningLemmas
 -- Why no join is put
 mod JoiningRules
 -- The headline, of the tree of the files that options name
 mod LawLemmas
+-- The paths of a list that are read, the lines that name them, and options without packages
+mod ListedFolderLemmas
 -- What is said of a line that is there, or isn't
 mod MessageLemmas
 -- What is said of a tree without sources

@@ -28,7 +28,7 @@ use Rattle.programs.specs.Serving.{AnswersNavigable, Served, not_begun, not_star
 use Rattle.programs.specs.StartFaults.{status_of as start_status}
 use Rattle.programs.specs.declared.start_fault.StartFault.{StartFault}
 use Rattle.programs.specs.declared.start_fault.StartFault.TheVariants.{BadPart, BadFolder, Load, IsSource}
-use Rattle.programs.specs.declared.start_fault.StartFault.TheVariants.{ReportIsSource, ReportIsOut}
+use Rattle.programs.specs.declared.start_fault.StartFault.TheVariants.{ReportIsSource, ReportIsOut, Unlisted}
 
 -- ---- no fault has the status of a success
 
@@ -78,6 +78,7 @@ fails (Answer count) = tt
 start_fails : (fault : StartFault) → IsFailure (start_status fault)
 start_fails BadPart = tt
 start_fails (BadFolder path) = tt
+start_fails (Unlisted place path) = tt
 start_fails (Load (Unreadable name)) = tt
 start_fails (Load TooMany) = tt
 start_fails (Load (BadPath path)) = tt
@@ -100,12 +101,13 @@ told_one_no_success Due due messages status failure (inr said) none = no_success
 -- ---- so after a success there is an index
 
 module _ (lists : List ℕ → List ℕ → Option Listing → Type 0) (gives : List ℕ → Option (List ℕ) → Type 0)
-    (asked : IndexRequest) (headline : HeadlineOfFiles lists gives asked.options) where
+    (finds : List ℕ → List ℕ → Bool → Type 0) (asked : IndexRequest)
+    (headline : HeadlineOfFiles lists gives finds asked.options) where
   pub writes : {P W Q V M : Type 0} (blames : List ℕ → Option (List ℕ) → Type 0)
       (none_found : List TreeFile → Option (List ℕ) → Type 0) (suspects : Bool → Type 0)
       (at : Place P W) (report : Place Q V) (messages : Writer M) (status : ℕ)
-      → Indexed lists gives blames none_found suspects asked at report messages status
-      → WritesNavigable lists gives asked.options at status
+      → Indexed lists gives finds blames none_found suspects asked at report messages status
+      → WritesNavigable lists gives finds asked.options at status
   writes blames none_found suspects at report messages status
       (indexing.not_started fault said is_out may left out reported tells) none =
       absurd (told_one_no_success _ (start_status said) messages status (start_fails said) tells none)
@@ -144,13 +146,13 @@ module _ (lists : List ℕ → List ℕ → Option Listing → Type 0) (gives : 
       absurd (told_no_success _ limit_status _ status tt ends.2 none)
 
 module _ (manner : Manner) (lists : List ℕ → List ℕ → Option Listing → Type 0)
-    (gives : List ℕ → Option (List ℕ) → Type 0) (options : IndexOptions)
-    (headline : HeadlineOfFiles lists gives options) where
+    (gives : List ℕ → Option (List ℕ) → Type 0) (finds : List ℕ → List ℕ → Bool → Type 0) (options : IndexOptions)
+    (headline : HeadlineOfFiles lists gives finds options) where
   pub answers : {Q V R W M : Type 0} (blames : List ℕ → Option (List ℕ) → Type 0)
       (none_found : List TreeFile → Option (List ℕ) → Type 0) (suspects : Bool → Type 0)
       (report : Place Q V) (commands : Reader R) (written : Writer W) (messages : Writer M) (status : ℕ)
-      → Served manner lists gives blames none_found suspects options report commands written messages status
-      → AnswersNavigable manner lists gives options commands written status
+      → Served manner lists gives finds blames none_found suspects options report commands written messages status
+      → AnswersNavigable manner lists gives finds options commands written status
   answers blames none_found suspects report commands written messages status
       (not_started fault said may untouched reported tells) none =
       absurd (told_one_no_success _ (start_status said) messages status (start_fails said) tells none)

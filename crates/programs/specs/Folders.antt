@@ -1,16 +1,20 @@
 -- The tree below the folders that options name, and the packages that its files belong to.
--- `lists` and `gives` are what the system of files gives.
-use Rattle.std.specs.Prelude.{◌≡◌, ℕ, List, [], ◌∷◌, ◌++◌, Option, map, string_bytes, All}
+-- `lists`, `gives` and `finds` are what the system of files gives.
+use Rattle.std.specs.Prelude.{◌≡◌, ℕ, Bool, Some, None, List, [], ◌∷◌, ◌++◌, Option, map, string_bytes, All}
 use Rattle.std.specs.List.{AllZip, list_any}
 use Rattle.std.specs.Str.{bytes_eq}
 use Rattle.source_tree.specs.Files.{TreeFile}
 use Rattle.source_files.specs.Listings.{Listing}
+use Rattle.source_files.specs.Exclusions.{PathsStay}
+use Rattle.source_files.specs.ListedTrees.{IsTreeListed}
 use Rattle.source_files.specs.Loads.{IsLoadedBelow}
 use Rattle.scip_symbol.specs.Package.{Package, IsPackage}
 use Rattle.scip_build.specs.AsRead.{AreReadIn}
 use Rattle.scip_model.specs.Packages.{Root, Packages, ArePackages, package_among, package_of_path}
 use Rattle.command_line.specs.declared.options.IndexOptions.{IndexOptions}
 use Rattle.command_line.specs.declared.options.include.PackageFolder.{PackageFolder}
+use Rattle.command_line.specs.declared.options.sources.SourceList.{SourceList}
+use Rattle.programs.specs.Imports.{TellsIn}
 use Rattle.programs.specs.Settings.{leaves_out, package_in}
 
 -- the package that the files below a folder belong to
@@ -26,6 +30,10 @@ abbrev pub included_in : IndexOptions → List (List ℕ)
 included_in options =
     map string_bytes options.include.items
     ++ map (λ folder. string_bytes folder.folder) options.include_packages.items
+
+-- all folders whose files are read: that of the sources first
+abbrev pub all_folders : IndexOptions → List (List ℕ)
+all_folders options = string_bytes options.root ∷ included_in options
 
 -- the packages of the folders with included files
 abbrev pub included_packages : IndexOptions → List Package
@@ -54,8 +62,8 @@ pub record AddsRoots (wanted : List Root) (before after : Packages) : Type 0 whe
   pub run : after.run ≡ before.run
   pub roots : after.roots ≡ before.roots ++ added
 
--- by the paths of the sources, and of the files below each included folder: a file has the package of the first folder
--- that has a file with its path, since that is the file which counts. Each is made of good parts.
+-- by the paths of the files below the root, and of those below each included folder: a file has the package of the
+-- first folder that has a file with its path, since that is the file which counts. Each is made of good parts.
 pub record AreByFolder (options : IndexOptions) (own : List (List ℕ)) (others : List (List (List ℕ))) (ids : Packages)
     : Type 0 where
   pub good : ArePackages ids
@@ -63,16 +71,35 @@ pub record AreByFolder (options : IndexOptions) (own : List (List ℕ)) (others 
   pub each : (path : List ℕ) → package_of_path ids path
       ≡ package_among (package_in options) path (roots_of (packages_in options) (own ∷ others))
 
--- the tree is that of the files below the folders, as they are read in the options' dialect; this couldn't be read
--- there and was left out, and these are the packages of the tree's files
+-- the paths that a list names, but those that options exclude
+abbrev pub AreSourcesListed : IndexOptions → SourceList → (paths : List (List ℕ)) → Type 0
+AreSourcesListed options list paths =
+    PathsStay (map string_bytes options.exclude.items) (map (λ listed. listed.path) list.listed.items) paths
+
+-- the tree of the files below the folders, or of the sources that a list names and the files that these see; the paths
+-- of the files below the root and below each other folder, and of what couldn't be read and was left out
+abbrev pub IsLoadedFrom : (lists : List ℕ → List ℕ → Option Listing → Type 0)
+    → (gives : List ℕ → Option (List ℕ) → Type 0) → (finds : List ℕ → List ℕ → Bool → Type 0) → IndexOptions
+    → Option SourceList → List TreeFile → (own : List (List ℕ)) → (others : List (List (List ℕ)))
+    → (unread : List (List ℕ)) → Type 0
+IsLoadedFrom lists gives finds options None tree own others unread =
+    IsLoadedBelow lists gives (leaves_out options.faulty) (string_bytes options.root) (included_in options) tree own
+    others unread
+IsLoadedFrom lists gives finds options (Some list) tree own others unread =
+    (paths : List (List ℕ)) × AreSourcesListed options list paths
+    × IsTreeListed finds gives (TellsIn options.dialect) (leaves_out options.faulty) (all_folders options) paths
+    tree own others unread
+
+-- the tree is that of the files below the folders, or of a list, as they are read in the options' dialect; this
+-- couldn't be read there and was left out, and these are the packages of the tree's files
 pub record AreFolders (lists : List ℕ → List ℕ → Option Listing → Type 0)
     (gives : List ℕ → Option (List ℕ) → Type 0)
+    (finds : List ℕ → List ℕ → Bool → Type 0)
     (options : IndexOptions) (tree : List TreeFile) (unread : List (List ℕ)) (ids : Packages) : Type 0 where
   pub own : List (List ℕ)
   pub others : List (List (List ℕ))
   pub files : List TreeFile
-  pub below : IsLoadedBelow lists gives (leaves_out options.faulty) (string_bytes options.root) (included_in options)
-      files own others unread
+  pub below : IsLoadedFrom lists gives finds options options.sources files own others unread
   pub read : AreReadIn options.dialect files tree
   pub by : AreByFolder options own others ids
 

@@ -1,7 +1,7 @@
 -- What the program `index` does.
--- `lists` and `gives` are what the system of files gives, and `blames` what may be said of why a path can't be read;
--- `at` is the place of the index, and `report` that of its report. `none_found` says which line, if any, is said of a
--- tree whose index lacks nothing.
+-- `lists`, `gives` and `finds` are what the system of files gives, and `blames` what may be said of why a path can't be
+-- read; `at` is the place of the index, and `report` that of its report. `none_found` says which line, if any, is
+-- said of a tree whose index lacks nothing.
 use Rattle.std.specs.Prelude.{◌≡◌, ℕ, Bool, List, Option, None, Some, Result, string_bytes}
 use Rattle.streams.specs.Writers.{Writer, writing}
 use Rattle.proto_decl.specs.Values.{Seen}
@@ -59,23 +59,25 @@ pub data IndexesInto {P W Q V M : Type 0} (none_found : List TreeFile → Option
 -- tree of the files, and this is indexed, as the options say. `suspects` says whether a source may be at the place of
 -- the report.
 pub data Indexed {P W Q V M : Type 0} (lists : List ℕ → List ℕ → Option Listing → Type 0)
-    (gives blames : List ℕ → Option (List ℕ) → Type 0) (none_found : List TreeFile → Option (List ℕ) → Type 0)
+    (gives : List ℕ → Option (List ℕ) → Type 0) (finds : List ℕ → List ℕ → Bool → Type 0)
+    (blames : List ℕ → Option (List ℕ) → Type 0) (none_found : List TreeFile → Option (List ℕ) → Type 0)
     (suspects : Bool → Type 0) (asked : IndexRequest) (at : Place P W) (report : Place Q V) (messages : Writer M)
     (status : ℕ) : Type 0 where
-  not_started : (fault said : StartFault) (is_out : Bool) → MayNotStart lists gives asked.options fault → IsLeft at
+  not_started : (fault said : StartFault) (is_out : Bool) → MayNotStart lists gives finds asked.options fault
+      → IsLeft at
       → IsOut (at.same at.before) (string_bytes asked.out) asked.options.report is_out
       → EndsUnstarted report suspects is_out asked.options.report fault said
       → TellsOne (IsStartTold blames asked.options.explain said) (start_status said) messages status
-      → Indexed lists gives blames none_found suspects asked at report messages status
+      → Indexed lists gives finds blames none_found suspects asked at report messages status
   over_tree : (tree : List TreeFile) (unread : List (List ℕ)) (ids : Packages) → NamePackages asked.options
-      → AreFolders lists gives asked.options tree unread ids
+      → AreFolders lists gives finds asked.options tree unread ids
       → IndexesInto none_found asked (allowed_by asked.options) (settings_in asked.options ids) asked.options.workers
       tree unread at report messages status
-      → Indexed lists gives blames none_found suspects asked at report messages status
+      → Indexed lists gives finds blames none_found suspects asked at report messages status
 
 -- if the exit status is 0, the bytes of an index that navigates the tree of the files are put at the place
 abbrev pub WritesNavigable : {P W : Type 0} → (lists : List ℕ → List ℕ → Option Listing → Type 0)
-    → (gives : List ℕ → Option (List ℕ) → Type 0)
+    → (gives : List ℕ → Option (List ℕ) → Type 0) (finds : List ℕ → List ℕ → Bool → Type 0)
     → IndexOptions → Place P W → (status : ℕ) → Type 0
-WritesNavigable lists gives options at status =
-    status ≡ 0 → AreNavigable lists gives options (λ bytes _. IsPut at bytes)
+WritesNavigable lists gives finds options at status =
+    status ≡ 0 → AreNavigable lists gives finds options (λ bytes _. IsPut at bytes)

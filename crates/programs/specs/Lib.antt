@@ -21,6 +21,9 @@ pub mod Paging
 -- `index` and `shell`: what their options say, why there is no package or no tree, and what they do
 pub mod Choices
 pub mod Settings
+pub mod Imports
+pub mod SourceLists
+pub mod ListPlaces
 pub mod Folders
 pub mod StartFaults
 pub mod StartExplanations

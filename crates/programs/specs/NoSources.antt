@@ -8,6 +8,7 @@ use Rattle.source_files.specs.declared.look_again.PassedOver.{PassedOver}
 use Rattle.source_tree.specs.Files.{TreeFile}
 use Rattle.source_tree.specs.Trees.{IsSourceCount}
 use Rattle.command_line.specs.declared.options.IndexOptions.{IndexOptions}
+use Rattle.command_line.specs.declared.options.sources.SourceList.{SourceList}
 
 -- ` (N symbolic links, N files with other names)`
 abbrev pub counted_text : (links others : ℕ) → List ℕ
@@ -35,8 +36,25 @@ pub data NoneFound (passes : PassedOver → Type 0) (root : List ℕ) (tree : Li
 abbrev pub is_told : (watched : Bool) → IndexOptions → Bool
 is_told watched options = (watched || options.explain) || is_some options.report.path
 
--- the same of the sources below the root of options
+-- a list names no sources
+abbrev pub no_list_line : (file : List ℕ) → List ℕ
+no_list_line file = codes "protoscip: no sources in " ++ file
+
+-- the same of the sources that a list names
+pub data NoneListed (file : List ℕ) (tree : List TreeFile) : (asked : Bool) → (line : Option (List ℕ)) → Type 0 where
+  list_unasked : NoneListed file tree false None
+  some_listed : {asked : Bool} {count : ℕ} → IsSourceCount tree count → 0 < count → NoneListed file tree asked None
+  none_listed : IsSourceCount tree 0
+      → NoneListed file tree true (Some (no_list_line file))
+
+-- the same of those of options: below the root, or of a list
+abbrev pub NoneFoundIn : (passes : PassedOver → Type 0) → (root : List ℕ) → Option SourceList → List TreeFile
+    → (asked : Bool) → (line : Option (List ℕ)) → Type 0
+NoneFoundIn passes root None tree asked line = NoneFound passes root tree asked line
+NoneFoundIn passes root (Some list) tree asked line = NoneListed (string_bytes list.file) tree asked line
+
 abbrev pub NoneFoundBy : (passes : List ℕ → PassedOver → Type 0) → (watched : Bool) → IndexOptions → List TreeFile
     → (line : Option (List ℕ)) → Type 0
 NoneFoundBy passes watched options tree line =
-    NoneFound (passes (string_bytes options.root)) (string_bytes options.root) tree (is_told watched options) line
+    NoneFoundIn (passes (string_bytes options.root)) (string_bytes options.root) options.sources tree
+    (is_told watched options) line

@@ -3,7 +3,7 @@
 use Rattle.std.specs.Prelude.{Bool, true, ℕ, List, [], ◌++◌, Option, None, Some, codes, string_bytes, if◌then◌else◌}
 use Rattle.source_files.specs.declared.load_fault.LoadFault.TheVariants.{Unreadable, Memory}
 use Rattle.programs.specs.declared.start_fault.StartFault.{StartFault}
-use Rattle.programs.specs.declared.start_fault.StartFault.TheVariants.{BadPart, BadFolder, Load}
+use Rattle.programs.specs.declared.start_fault.StartFault.TheVariants.{BadPart, BadFolder, Load, Unlisted}
 use Rattle.programs.specs.Causes.{IsReasoned}
 use Rattle.programs.specs.StartFaults.{line_of, sentence_of}
 
@@ -20,6 +20,7 @@ told explain fault = line_of fault ++ (if explain then explanation_of fault else
 -- the path of what can't be read, if that is to be explained
 abbrev pub unread_path : (explain : Bool) → StartFault → Option (List ℕ)
 unread_path true (Load (Unreadable name)) = Some (string_bytes name)
+unread_path true (Unlisted place path) = Some (string_bytes path)
 unread_path explain fault = None
 
 -- and so it is told, with why that can't be read; `blames` is what may be said of a path

@@ -5,7 +5,7 @@ use Rattle.source_files.specs.LoadFaults.{name_of as load_name}
 use Rattle.source_files.specs.declared.load_fault.LoadFault.TheVariants.{Unreadable, TooMany, BadPath, SamePath, Memory}
 use Rattle.programs.specs.declared.start_fault.StartFault.{StartFault}
 use Rattle.programs.specs.declared.start_fault.StartFault.TheVariants.{BadPart, BadFolder, Load, IsSource}
-use Rattle.programs.specs.declared.start_fault.StartFault.TheVariants.{ReportIsSource, ReportIsOut}
+use Rattle.programs.specs.declared.start_fault.StartFault.TheVariants.{ReportIsSource, ReportIsOut, Unlisted}
 use Rattle.programs.specs.declared.statuses.TheConstants.{COMMAND_LINE_STATUS}
 use Rattle.protoscip.specs.Lines.{path_line, plain_line}
 use Rattle.protoscip.specs.declared.statuses.TheConstants.{MEMORY_STATUS, SOURCES_STATUS, STREAM_STATUS}
@@ -27,6 +27,9 @@ said_of BadPart =
 said_of (BadFolder path) =
     said (codes "BadPart") (Some (string_bytes path))
     (codes "a part of the package of this folder begins with a space or is `.`") COMMAND_LINE_STATUS
+said_of (Unlisted place path) =
+    said (codes "Unreadable") (Some (string_bytes place))
+    (codes "the source that this line names isn't there, or can't be read") STREAM_STATUS
 said_of (Load (Unreadable path)) =
     said (load_name (Unreadable path)) (Some (string_bytes path))
     (codes "it isn't there, or can't be read, or an entry's name isn't UTF-8") STREAM_STATUS

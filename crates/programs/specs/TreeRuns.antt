@@ -1,6 +1,6 @@
 -- How the programs about a tree end: `index` and `shell`.
--- `lists` and `gives` are what the system of files gives, and `messages` is the stream of messages. `none_found` says
--- which line, if any, is said of a tree whose index lacks nothing: that it has no source.
+-- `lists`, `gives` and `finds` are what the system of files gives, and `messages` is the stream of messages.
+-- `none_found` says which line, if any, is said of a tree whose index lacks nothing: that it has no source.
 use Rattle.std.specs.Prelude.{◌≡◌, ℕ, Bool, List, [], ◌∷◌, Option, Some, None, Result, Ok, Err}
 use Rattle.streams.specs.Writers.{Writer}
 use Rattle.proto_parse.specs.dialect.Dialect.{Dialect}
@@ -76,11 +76,11 @@ Ends says none_found explain real tree unread told_of (Err fault) messages statu
 -- There is a tree of the files that the options name, but for what couldn't be read, and an index of it by what they
 -- allow and say navigates it; `goes` says what becomes of its bytes and of it.
 pub record AreNavigable (lists : List ℕ → List ℕ → Option Listing → Type 0)
-    (gives : List ℕ → Option (List ℕ) → Type 0)
+    (gives : List ℕ → Option (List ℕ) → Type 0) (finds : List ℕ → List ℕ → Bool → Type 0)
     (options : IndexOptions) (goes : (bytes : List ℕ) → Index → Type 0) : Type 0 where
   pub tree : List TreeFile
   pub unread : List (List ℕ)
   pub ids : Packages
   pub recorded : Recorded
-  pub folders : AreFolders lists gives options tree unread ids
+  pub folders : AreFolders lists gives finds options tree unread ids
   pub navigable : IsNavigable goes (allowed_by options) (settings_in options ids) tree recorded

@@ -1,6 +1,7 @@
 //! The folders that options name: their tree, and the packages that its files belong to.
 
-ghost use Rattle.std.specs.Prelude.{◌≡◌, ◌∷◌, ◌++◌, [], IfOk, IfErr, OnOk, map, string_bytes, All};
+ghost use Rattle.std.specs.Prelude.{◌≡◌, ◌∷◌, ◌++◌, [], IfOk, IfErr, None, OnOk, map, string_bytes, All};
+ghost use Rattle.scip_build.specs.AsRead.{AreReadIn};
 ghost use Rattle.scip_symbol.specs.Package.{IsPackage};
 ghost use Rattle.programs.specs.Settings.{leaves_out, package_in};
 ghost use Rattle.programs.specs.Folders.{
@@ -14,8 +15,9 @@ ghost use Rattle.programs.specs.Folders.{
   roots_of,
 };
 ghost use Rattle.programs.specs.Placing.{roots_in};
-ghost use Rattle.programs.specs.Starting.{HasNoPackage, IsBadFolder, MayNotStart, NamesNone};
+ghost use Rattle.programs.specs.Starting.{HasNoPackage, IsBadFolder, MayNotStart, NameNoPackages, NamesNone};
 
+use crate::listed_folders::folders_of_list;
 use crate::package::package_of;
 use crate::start_fault::StartFault;
 use command_line::{IndexOptions, PackageFolder};
@@ -159,8 +161,8 @@ pub(crate) struct Folders {
     pub(crate) packages: FilePackages,
 }
 
-/// The packages of files, by the folders that they were read from: of the paths of the sources, of those of
-/// the files below each included folder, and the packages of those that have one of their own.
+/// The packages of files, by the folders that they were read from: of the paths of the files below the root, of those
+/// below each included folder, and the packages of those that have one of their own.
 #[tactic(auto, using(crate::proofs::StartingRules::of_run))]
 fn packages_by(
     alloc: Global,
@@ -182,22 +184,65 @@ fn packages_by(
     Ok(packages)
 }
 
-/// The tree of the sources below the root and of the files below the included folders, as they are read in the dialect
-/// of the options, and the packages that they belong to: of files with one path the first counts. Whether what can't be
-/// read is left out, the options have to say as the readers do.
-///
-/// `BadPart`, of the run, or `BadFolder`, of the first folder whose package has a bad part; then the faults of
-/// `load_tree`.
+/// A tree that was loaded, as it is read in the dialect of the options, with the packages of its files.
+#[tactic(auto, using(crate::proofs::StartingRules::of_run))]
+pub(crate) fn folders_by(
+    alloc: Global,
+    options: &IndexOptions,
+    ids: Vec<PackageId>,
+    loaded: LoadedTree,
+) -> Result<Folders, StartFault>
+    requires { ids.items ≡ map folder_package options.now.include_packages.items }
+    ensures read { IfOk result (λ made. AreReadIn options.now.dialect loaded.tree made.tree) }
+    ensures unread { IfOk result (λ made. map string_bytes made.unread.items ≡ map string_bytes loaded.unread.items) }
+    ensures by { IfOk result (λ made. AreByFolder options.now (map string_bytes loaded.own.items)
+        (map (λ here. map string_bytes here.items) loaded.others.items) made.packages) }
+    ensures bad { IfErr result (NamesNone options.now) }
+{
+    let LoadedTree {
+        tree,
+        own,
+        others,
+        unread,
+    } = loaded;
+    let packages = packages_by(alloc, options, ids, own, others)?;
+    let read = as_read(alloc, options.dialect, tree)?;
+    Ok(Folders {
+        tree: read,
+        unread,
+        packages,
+    })
+}
+
+/// The packages of the folders that have one of their own, if the run has one.
+#[tactic(auto, using(crate::proofs::StartingRules::of_names))]
+pub(crate) fn packages_named(
+    alloc: Global,
+    options: &IndexOptions,
+) -> Result<Vec<PackageId>, StartFault>
+    ensures ids { IfOk result (λ ids. ids.items ≡ map folder_package options.now.include_packages.items) }
+    ensures named { IfOk result (λ _. NamePackages options.now) }
+    ensures stops { IfErr result (NameNoPackages options.now) }
+{
+    package_of(alloc, options)?;
+    let ids = packages_of_folders(alloc, &options.include_packages)?;
+    Ok(ids)
+}
+
+/// The tree of the sources below the root and of the files below the included folders, where no list names the sources.
 #[tactic(auto, using(crate::proofs::StartingRules::of_start))]
-pub(crate) fn load_folders<R: Threads + Wait, G: Gate, F: ReadFiles + Sync>(
+fn folders_walked<R: Threads + Wait, G: Gate, F: ReadFiles + Sync>(
     readers: &Readers<'_, R, G, F>,
     options: &IndexOptions,
 ) -> Result<Folders, StartFault>
-    requires { readers.now.leaves_out ≡ leaves_out options.now.faulty }
+    requires faulty { readers.now.leaves_out ≡ leaves_out options.now.faulty }
+    requires unlisted { options.now.sources ≡ None }
     ensures named { IfOk result (λ _. NamePackages options.now) }
     ensures folders { IfOk result (λ made. AreFolders (F.lists readers.now.files.now) (F.gives readers.now.files.now)
+        (F.finds readers.now.files.now)
         options.now made.tree (map string_bytes made.unread.items) made.packages) }
     ensures stops { IfErr result (MayNotStart (F.lists readers.now.files.now) (F.gives readers.now.files.now)
+        (F.finds readers.now.files.now)
         options.now) }
 {
     let alloc = readers.alloc;
@@ -216,17 +261,32 @@ pub(crate) fn load_folders<R: Threads + Wait, G: Gate, F: ReadFiles + Sync>(
     }
     let folders = included_folders(alloc, options)?;
     let loaded = load_tree_with_paths(readers, root, &folders)?;
-    let LoadedTree {
-        tree,
-        own,
-        others,
-        unread,
-    } = loaded;
-    let packages = packages_by(alloc, options, ids, own, others)?;
-    let read = as_read(alloc, options.dialect, tree)?;
-    Ok(Folders {
-        tree: read,
-        unread,
-        packages,
-    })
+    let made = folders_by(alloc, options, ids, loaded)?;
+    Ok(made)
+}
+
+/// The tree of the sources below the root and of the files below the included folders, or of the sources that a list
+/// names and of the files that they see there, as they are read in the dialect of the options, and the packages that
+/// they belong to: of files with one path the first counts. Whether what can't be read is left out, the options have to
+/// say as the readers do.
+///
+/// `BadPart`, of the run, or `BadFolder`, of the first folder whose package has a bad part; then the faults of
+/// `load_tree`, or those of `load_listed`: that of a source is `Unlisted`.
+pub(crate) fn load_folders<R: Threads + Wait, G: Gate, F: ReadFiles + Sync>(
+    readers: &Readers<'_, R, G, F>,
+    options: &IndexOptions,
+) -> Result<Folders, StartFault>
+    requires { readers.now.leaves_out ≡ leaves_out options.now.faulty }
+    ensures named { IfOk result (λ _. NamePackages options.now) }
+    ensures folders { IfOk result (λ made. AreFolders (F.lists readers.now.files.now) (F.gives readers.now.files.now)
+        (F.finds readers.now.files.now)
+        options.now made.tree (map string_bytes made.unread.items) made.packages) }
+    ensures stops { IfErr result (MayNotStart (F.lists readers.now.files.now) (F.gives readers.now.files.now)
+        (F.finds readers.now.files.now)
+        options.now) }
+{
+    match &options.sources {
+        Some(list) => folders_of_list(readers, options, list),
+        None => folders_walked(readers, options),
+    }
 }

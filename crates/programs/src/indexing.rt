@@ -10,7 +10,7 @@ ghost use Rattle.programs.specs.Indexing.{Indexed, IndexesInto, WritesNavigable}
 ghost use Rattle.programs.specs.Limits.{Breaks};
 ghost use Rattle.programs.specs.Messages.{Says, SaysIfAny, SaysOfSuccess};
 ghost use Rattle.programs.specs.NoSources.{NoneFoundBy};
-ghost use Rattle.programs.specs.Searches.{blamed_by, searched_by};
+ghost use Rattle.programs.specs.Searches.{blamed_by, found_by, searched_by};
 ghost use Rattle.programs.specs.Placing.{AreApart, Finishes, IsOneFile, MayNotBegin, place};
 ghost use Rattle.programs.specs.StartReports.{IsOut};
 ghost use Rattle.programs.specs.TreeRuns.{Ends, IsWholeTextIfAny};
@@ -276,12 +276,14 @@ fn index<R, F: ReadFiles + LookAgain + Sync, P: OutPlace, Q: OutPlace, M: Sink>(
 where
     R: Threads + Wait + Clock + Eprint + Sync,
     ensures indexed { Indexed (F.lists host.now.files.now) (F.gives host.now.files.now)
+        (F.finds host.now.files.now)
         (blamed_by request.now.options (F.blames host.now.files.now))
         (NoneFoundBy (F.passes host.now.files.now) host.now.is_watched request.now.options)
         (Q.suspects places.old.report) request.now
         (place P.OutPlace P.Part.Sink places.old.file places.new.file)
         (place Q.OutPlace Q.Part.Sink places.old.report places.new.report) (writer M.Sink messages) result }
-    ensures navigable { WritesNavigable (F.lists host.now.files.now) (F.gives host.now.files.now) request.now.options
+    ensures navigable { WritesNavigable (F.lists host.now.files.now) (F.gives host.now.files.now)
+        (F.finds host.now.files.now) request.now.options
         (place P.OutPlace P.Part.Sink places.old.file places.new.file) result }
 {
     let options = &request.options;
@@ -311,13 +313,16 @@ pub(crate) fn index_searched<R, F: ReadFiles + LookAgain + Sync, P: OutPlace, Q:
 where
     R: Threads + Wait + Clock + Eprint + Sync,
     ensures indexed { Indexed (searched_by request.now.options (F.lists host.now.files.now))
-        (F.gives host.now.files.now) (blamed_by request.now.options (F.blames host.now.files.now))
+        (F.gives host.now.files.now)
+        (found_by request.now.options (F.finds host.now.files.now)) (blamed_by request.now.options
+        (F.blames host.now.files.now))
         (NoneFoundBy (F.passes host.now.files.now) host.now.is_watched request.now.options)
         (Q.suspects places.old.report) request.now
         (place P.OutPlace P.Part.Sink places.old.file places.new.file)
         (place Q.OutPlace Q.Part.Sink places.old.report places.new.report) (writer M.Sink messages) result }
     ensures navigable { WritesNavigable (searched_by request.now.options (F.lists host.now.files.now))
-        (F.gives host.now.files.now) request.now.options
+        (F.gives host.now.files.now)
+        (found_by request.now.options (F.finds host.now.files.now)) request.now.options
         (place P.OutPlace P.Part.Sink places.old.file places.new.file)
         result }
 {

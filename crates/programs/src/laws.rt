@@ -12,7 +12,7 @@ use source_files::ReadFiles;
 /// that `index` writes.
 pub fn headline_of_options<F: ReadFiles>(files: &F, options: &IndexOptions)
     ensures choices { Headline (allowed_by options.now) }
-    ensures files { HeadlineOfFiles (F.lists files.now) (F.gives files.now) options.now }
+    ensures files { HeadlineOfFiles (F.lists files.now) (F.gives files.now) (F.finds files.now) options.now }
 {
     laws_of_names();
 }

@@ -38,6 +38,8 @@ mod joining;
 mod choices;
 mod ending;
 mod folders;
+mod imports;
+mod listed_folders;
 mod missing;
 mod no_sources;
 mod package;
@@ -47,7 +49,9 @@ mod start_fault;
 mod start_reports;
 mod starting;
 
-// The well-known files, where they are asked for.
+// The list of sources, and the well-known files, where they are asked for.
+mod list_places;
+mod source_lists;
 mod well_known;
 
 // `index`: the index of a tree goes to a file, and its report, too.
@@ -74,9 +78,11 @@ pub use causes::explain_failure;
 pub use choices::OptionChoices;
 pub use host::Host;
 pub use laws::headline_of_options;
+pub use list_places::see_list;
 pub use manners::{Prompting, manner_of, takes_commands};
 pub use messages::report;
 pub use places::Places;
 pub use progress::{LineWiped, Progress};
 pub use running::{links_followed, out_path, report_path, run};
+pub use source_lists::with_list;
 pub use well_known::{variable, with_well_known};

@@ -2,7 +2,8 @@
 
 ghost use Rattle.std.specs.Prelude.{◌≡◌, ◌||◌, IfOk, string_bytes};
 ghost use Rattle.std.specs.Option.{option_map};
-ghost use Rattle.programs.specs.NoSources.{NoneFound, counted_text, no_sources_line, passed_text};
+ghost use Rattle.programs.specs.NoSources.{NoneFound, NoneListed, counted_text, no_list_line, no_sources_line};
+ghost use Rattle.programs.specs.NoSources.{passed_text};
 
 use source_files::{LookAgain, PassedOver};
 use source_tree::Tree;
@@ -55,4 +56,32 @@ pub(crate) fn none_found<F: LookAgain>(
     }
     let passed = files.passed_over(root)?;
     Ok(Some(no_sources_line(alloc, root, passed)?))
+}
+
+/// The line, without its end, that says that a list names no sources.
+fn no_list_line(alloc: Global, file: &str) -> Result<String, AllocError>
+    ensures { IfOk result (λ line. string_bytes line ≡ no_list_line file.now) }
+{
+    let line = format!(in alloc; "protoscip: no sources in {file}")?;
+    Ok(line)
+}
+
+/// The line, without its end, that says of a tree that it has no source, if that is asked for and it has none: its list
+/// names none.
+pub(crate) fn none_listed(
+    alloc: Global,
+    file: &str,
+    tree: &Tree,
+    asked: bool,
+) -> Result<Option<String>, AllocError>
+    ensures { IfOk result (λ line. NoneListed file.now tree.now asked (option_map string_bytes line)) }
+{
+    if !asked {
+        return Ok(None);
+    }
+    if tree.source_count() >= 1 {
+        return Ok(None);
+    }
+    let line = no_list_line(alloc, file)?;
+    Ok(Some(line))
 }

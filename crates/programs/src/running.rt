@@ -32,7 +32,7 @@ ghost use Rattle.programs.specs.Paging.{RunsPages, folder_places};
 ghost use Rattle.programs.specs.Placing.{place};
 ghost use Rattle.programs.specs.Printing.{Prints, Refuses, is_closed};
 ghost use Rattle.programs.specs.Queries.{Queried};
-ghost use Rattle.programs.specs.Searches.{blamed_by, links_followed, searched_by};
+ghost use Rattle.programs.specs.Searches.{blamed_by, follows, found_by, links_followed, searched_by};
 ghost use Rattle.programs.specs.Serving.{AnswersNavigable, Served};
 ghost use Rattle.programs.specs.Snapshotting.{RunsSnapshot};
 
@@ -49,7 +49,7 @@ use crate::querying::query;
 use crate::serving::shell_searched;
 use crate::snapshotting::snapshot;
 use crate::statuses::COMMAND_LINE_STATUS;
-use command_line::{Links, ReportOptions, Request};
+use command_line::{IndexOptions, Links, ReportOptions, Request};
 use protoscip::{MEMORY_STATUS, plain_line};
 use source_files::{Caused, EmptyFolders, FolderPlace, LookAgain, MakeFiles, OutPlace, ReadFiles};
 use std::alloc::AllocError;
@@ -125,13 +125,20 @@ pub fn report_path(asked: &Result<Request, AllocError>) -> &str
     }
 }
 
+/// Whether links are followed below the folders that options name.
+fn follows(options: &IndexOptions) -> bool
+    ensures { result ≡ follows options.now }
+{
+    options.sources.is_some() || matches!(options.links, Links::Follow)
+}
+
 /// Whether links below the folders whose sources are read are to be followed.
 pub fn links_followed(asked: &Result<Request, AllocError>) -> bool
     ensures { result ≡ links_followed asked.now }
 {
     match asked {
-        Ok(Request::Index(given)) => matches!(given.options.links, Links::Follow),
-        Ok(Request::Shell(given)) => matches!(given.options.links, Links::Follow),
+        Ok(Request::Index(given)) => follows(&given.options),
+        Ok(Request::Shell(given)) => follows(&given.options),
         _ => false,
     }
 }
@@ -177,6 +184,7 @@ where
     // What `index` does.
     ensures indexed { IfOk asked.now (λ request. IfSome (index_request request) (λ given.
         Indexed (searched_by given.options (F.lists host.now.files.now)) (F.gives host.now.files.now)
+        (found_by given.options (F.finds host.now.files.now))
         (blamed_by given.options (F.blames host.now.files.now))
         (NoneFoundBy (F.passes host.now.files.now) host.now.is_watched given.options)
         (Q.suspects places.old.report) given (place O.OutPlace O.Part.Sink places.old.file places.new.file)
@@ -185,6 +193,7 @@ where
     // What `shell` does.
     ensures served { IfOk asked.now (λ request. IfSome (shell_options request) (λ options.
         Served host.now.manner (searched_by options (F.lists host.now.files.now)) (F.gives host.now.files.now)
+        (found_by options (F.finds host.now.files.now))
         (blamed_by options (F.blames host.now.files.now))
         (NoneFoundBy (F.passes host.now.files.now) host.now.is_watched options)
         (Q.suspects places.old.report) options (place Q.OutPlace Q.Part.Sink places.old.report places.new.report)
@@ -193,11 +202,13 @@ where
     // After a success of either, queries over what is written, or answered from, are exact.
     ensures navigable { IfOk asked.now (λ request. IfSome (index_request request) (λ given.
         WritesNavigable (searched_by given.options (F.lists host.now.files.now)) (F.gives host.now.files.now)
+        (found_by given.options (F.finds host.now.files.now))
         given.options
         (place O.OutPlace O.Part.Sink places.old.file places.new.file) result)
         × IfSome (shell_options request) (λ options.
         AnswersNavigable host.now.manner (searched_by options (F.lists host.now.files.now))
-        (F.gives host.now.files.now) options
+        (F.gives host.now.files.now)
+        (found_by options (F.finds host.now.files.now)) options
         (reader I.Feed input) (writer W.Sink out) result)) }
     // What `snapshot` does.
     ensures snapshotted { IfOk asked.now (λ request. IfSome (snapshot_options request) (λ options.

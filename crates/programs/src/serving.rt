@@ -8,7 +8,7 @@ ghost use Rattle.protoscip.specs.FaultLines.{HasFilesOf, HaveFilesOf};
 ghost use Rattle.programs.specs.Messages.{TellsOfSuccess};
 ghost use Rattle.programs.specs.NoSources.{NoneFoundBy};
 ghost use Rattle.programs.specs.Placing.{place};
-ghost use Rattle.programs.specs.Searches.{blamed_by, searched_by};
+ghost use Rattle.programs.specs.Searches.{blamed_by, found_by, searched_by};
 ghost use Rattle.programs.specs.Serving.{AnswersNavigable, Served};
 ghost use Rattle.programs.specs.TreeRuns.{Ends};
 
@@ -86,6 +86,7 @@ fn shell<
     messages: &mut M,
 ) -> u8
     ensures served { Served host.now.manner (F.lists host.now.files.now) (F.gives host.now.files.now)
+        (F.finds host.now.files.now)
         (blamed_by options.now (F.blames host.now.files.now))
         (NoneFoundBy (F.passes host.now.files.now) host.now.is_watched options.now)
         (Q.suspects report.old) options.now
@@ -94,6 +95,7 @@ fn shell<
         (writer W.Sink answers)
         (writer M.Sink messages) result }
     ensures navigable { AnswersNavigable host.now.manner (F.lists host.now.files.now) (F.gives host.now.files.now)
+        (F.finds host.now.files.now)
         options.now
         (reader I.Feed commands) (writer W.Sink answers) result }
 {
@@ -147,6 +149,7 @@ where
     M: Sink,
     ensures served { Served host.now.manner (searched_by options.now (F.lists host.now.files.now))
         (F.gives host.now.files.now)
+        (found_by options.now (F.finds host.now.files.now))
         (blamed_by options.now (F.blames host.now.files.now))
         (NoneFoundBy (F.passes host.now.files.now) host.now.is_watched options.now)
         (Q.suspects report.old) options.now
@@ -155,7 +158,8 @@ where
         (writer W.Sink answers)
         (writer M.Sink messages) result }
     ensures navigable { AnswersNavigable host.now.manner (searched_by options.now (F.lists host.now.files.now))
-        (F.gives host.now.files.now) options.now
+        (F.gives host.now.files.now)
+        (found_by options.now (F.finds host.now.files.now)) options.now
         (reader I.Feed commands) (writer W.Sink answers) result }
 {
     let files = Excluding {

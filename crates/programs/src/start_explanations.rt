@@ -32,6 +32,7 @@ fn push_explanation(out: &mut String, fault: &StartFault) -> Result<(), AllocErr
             | LoadFault::BadPath(_)
             | LoadFault::SamePath(_),
         )
+        | StartFault::Unlisted(_, _)
         | StartFault::IsSource(_)
         | StartFault::ReportIsSource(_)
         | StartFault::ReportIsOut(_) => {
@@ -81,6 +82,7 @@ fn unread_path(fault: &StartFault, explain: bool) -> Option<&str>
             | LoadFault::SamePath(_)
             | LoadFault::Memory => None,
         },
+        StartFault::Unlisted(_, path) => Some(path.as_str()),
         StartFault::BadPart
         | StartFault::BadFolder(_)
         | StartFault::IsSource(_)

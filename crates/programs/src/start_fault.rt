@@ -20,6 +20,9 @@ pub(crate) enum StartFault {
     BadPart,
     /// The same for the package of the included folder with this path.
     BadFolder(String),
+    /// The source that a line of the list names isn't there or can't be read: the file of the list and the number of
+    /// the line, and the path.
+    Unlisted(String, String),
     /// There is no tree of the files, or memory ran out.
     Load(LoadFault),
     /// The file with this path, which the index would go to, is one of those that were read (`index` alone).
@@ -159,6 +162,10 @@ impl StartFault {
             StartFault::BadFolder(path) => {
                 let sentence = "a part of the package of this folder begins with a space or is `.`";
                 at_path(path.as_str(), "BadPart", sentence, COMMAND_LINE_STATUS)
+            }
+            StartFault::Unlisted(place, _) => {
+                let sentence = "the source that this line names isn't there, or can't be read";
+                at_path(place.as_str(), "Unreadable", sentence, STREAM_STATUS)
             }
             StartFault::Load(fault) => said_of_load(fault),
             StartFault::IsSource(path) => {

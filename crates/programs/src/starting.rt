@@ -12,7 +12,7 @@ use crate::asking_ahead::AskingAhead;
 use crate::choices::OptionChoices;
 use crate::folders::{Folders, load_folders};
 use crate::host::Host;
-use crate::no_sources::none_found;
+use crate::no_sources::{none_found, none_listed};
 use crate::settings::{leaves_out, only_of, settings_of};
 use crate::start_fault::StartFault;
 use command_line::IndexOptions;
@@ -20,7 +20,7 @@ use index_pool::Workers;
 use scip_build::{Run, Settings};
 use source_files::{LookAgain, ReadFiles, Readers};
 use source_tree::Tree;
-use std::alloc::Global;
+use std::alloc::{AllocError, Global};
 use std::sync::Wait;
 use std::thread::Threads;
 
@@ -63,6 +63,22 @@ fn is_told<R, F>(host: &Host<'_, R, F>, options: &IndexOptions) -> bool
     host.is_watched || options.explain || options.report.path.is_some()
 }
 
+/// The line that says that there are no sources, if there are none and somebody is told.
+fn none_found_by<R, F: LookAgain>(
+    host: &Host<'_, R, F>,
+    options: &IndexOptions,
+    tree: &Tree,
+) -> Result<Option<String>, AllocError>
+    ensures { IfOk result (λ line. NoneFoundBy (F.passes host.now.files.now) host.now.is_watched options.now
+        tree.now (option_map string_bytes line)) }
+{
+    let is_told = is_told(host, options);
+    match &options.sources {
+        Some(list) => none_listed(host.alloc, list.file.as_str(), tree, is_told),
+        None => none_found(host.alloc, host.files, options.root.as_str(), tree, is_told),
+    }
+}
+
 /// The tree of the sources below the root of the options and of the files below their included roots, and what the
 /// options say about the run over it. It has a line that says that there are no sources, if there are none and somebody
 /// is told.
@@ -73,6 +89,7 @@ pub(crate) fn start<R: Threads + Wait, F: ReadFiles + LookAgain + Sync>(
 ) -> Result<TreeRun, StartFault>
     ensures named { IfOk result (λ _. NamePackages options.now) }
     ensures folders { IfOk result (λ start. AreFolders (F.lists host.now.files.now) (F.gives host.now.files.now)
+        (F.finds host.now.files.now)
         options.now start.tree (map string_bytes start.unread.items) start.settings.package) }
     ensures none_found { IfOk result (λ start. NoneFoundBy (F.passes host.now.files.now) host.now.is_watched options.now
         start.tree (option_map string_bytes start.none_found)) }
@@ -81,7 +98,8 @@ pub(crate) fn start<R: Threads + Wait, F: ReadFiles + LookAgain + Sync>(
     ensures doc { IfOk result (λ start. option_map (λ r. r.promise.0) start.choices.rule ≡ options.now.doc) }
     ensures workers { IfOk result (λ start. start.workers ≡ options.now.workers) }
     ensures settings { IfOk result (λ start. start.settings ≡ settings_in options.now start.settings.package) }
-    ensures stops { IfErr result (MayNotStart (F.lists host.now.files.now) (F.gives host.now.files.now) options.now) }
+    ensures stops { IfErr result (MayNotStart (F.lists host.now.files.now) (F.gives host.now.files.now)
+        (F.finds host.now.files.now) options.now) }
 {
     let workers = options.workers;
     let readers = Readers {
@@ -97,8 +115,7 @@ pub(crate) fn start<R: Threads + Wait, F: ReadFiles + LookAgain + Sync>(
         unread,
         packages,
     } = load_folders(&readers, options)?;
-    let root = options.root.as_str();
-    let none_found = none_found(host.alloc, host.files, root, &tree, is_told(host, options))?;
+    let none_found = none_found_by(host, options, &tree)?;
     let settings = settings_of(host.alloc, options, packages)?;
     let choices = OptionChoices::new(host.alloc, only_of(options), options.doc)?;
     Ok(TreeRun {

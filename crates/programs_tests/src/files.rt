@@ -9,7 +9,7 @@ use streams::Std;
 type Entry = (&'static str, &'static str, Option<&'static str>);
 
 // The first row reads: below `api` is one source, `a.proto`, with a message `A`.
-static ENTRIES: [Entry; 16] = [
+static ENTRIES: [Entry; 17] = [
     (
         "api",
         "a.proto",
@@ -68,6 +68,7 @@ static ENTRIES: [Entry; 16] = [
             "syntax = \"proto3\";\npackage p;\nimport \"a.proto\";\nimport \"t.proto\";\nmessage M { T t = 1; }\n",
         ),
     ),
+    ("lists", "two", Some("a.proto\r\n\nb/c.proto")),
 ];
 
 /// An index of three documents: `a.txt` with a definition that is documented; one whose source can't be read; and

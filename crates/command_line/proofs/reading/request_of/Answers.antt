@@ -2,7 +2,6 @@ use Rattle.std.proofs.Common.{◌∙◌, ap, ap₂, sym, subst, map, string_byte
 use Rattle.std.proofs.lemmas.Result.{IfOk-weaker}
 use Rattle.clap.specs.Words.{Kinds, HasKind, Row, Text, fault_of, is_simple, is_simple_and_free, subcommand_of}
 use Rattle.command_line.specs.Asks.{AsksFor, is_unfit}
-use Rattle.command_line.specs.Values.{rows_in}
 use Rattle.command_line.proofs.RequestAnswerLemmas.{asks_answer, asks_program, command_line_is_simple}
 use Rattle.command_line.proofs.RequestAnswerLemmas.{command_line_is_walked}
 use Rattle.command_line.proofs.reading.request_of.Goals as goal
@@ -21,7 +20,7 @@ returns-in-Ok c =
       lists,
       c.new-lists.ensures,
       asks_program _ _ r (sym same ∙ none)
-          (subst (λ (p : Option (Text × List Row)). AsksFor (is_unfit (rows_in p)) p r) program names),
+          (subst (λ (p : Option (Text × List Row)). AsksFor (is_unfit p) p r) program names),
     ))
     c.asked.ensures
 

@@ -45,7 +45,7 @@ pub returns-in-Err-clause-navigable : goal.returns-in-Err-clause-navigable
 returns-in-Err-clause-navigable g c =
     let asked = c.args.request.now in
     writes (g.F.ReadFiles.lists c.args.host.now.files.now) (g.F.ReadFiles.gives c.args.host.now.files.now)
-    asked c.headline_of_options.ensures.files
+    (g.F.ReadFiles.finds c.args.host.now.files.now) asked c.headline_of_options.ensures.files
     (blamed_by asked.options (g.F.LookAgain.blames c.args.host.now.files.now))
     (NoneFoundBy (g.F.LookAgain.passes c.args.host.now.files.now) c.args.host.now.is_watched asked.options)
     (g.Q.OutPlace.suspects c.args.places.now.report)
@@ -58,7 +58,7 @@ pub returns-clause-navigable : goal.returns-clause-navigable
 returns-clause-navigable g c =
     let asked = c.args.request.now in
     writes (g.F.ReadFiles.lists c.args.host.now.files.now) (g.F.ReadFiles.gives c.args.host.now.files.now)
-    asked c.headline_of_options.ensures.files
+    (g.F.ReadFiles.finds c.args.host.now.files.now) asked c.headline_of_options.ensures.files
     (blamed_by asked.options (g.F.LookAgain.blames c.args.host.now.files.now))
     (NoneFoundBy (g.F.LookAgain.passes c.args.host.now.files.now) c.args.host.now.is_watched asked.options)
     (g.Q.OutPlace.suspects c.args.places.now.report)

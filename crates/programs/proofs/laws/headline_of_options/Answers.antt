@@ -10,5 +10,5 @@ returns g c =
     record {
       choices = headline (allowed_by options) laws;
       files = headline_of_files (g.F.ReadFiles.lists c.args.files.now)
-          (g.F.ReadFiles.gives c.args.files.now) options laws;
+          (g.F.ReadFiles.gives c.args.files.now) (g.F.ReadFiles.finds c.args.files.now) options laws;
     }

@@ -16,7 +16,7 @@ use Rattle.programs.specs.NoSources.{NoneFoundBy}
 use Rattle.programs.specs.Paging.{RunsPages, folder_places}
 use Rattle.programs.specs.Placing.{Place, place}
 use Rattle.programs.specs.Printing.{Prints, Refuses}
-use Rattle.programs.specs.Searches.{blamed_by, searched_by}
+use Rattle.programs.specs.Searches.{blamed_by, found_by, searched_by}
 use Rattle.programs.specs.Serving.{AnswersNavigable, Served}
 use Rattle.programs.specs.Snapshotting.{RunsSnapshot}
 use Rattle.programs.proofs.MessageLemmas.{told}
@@ -48,11 +48,12 @@ pub returns-in-Index-clause-indexed : goal.returns-in-Index-clause-indexed
 returns-in-Index-clause-indexed g c =
     let lists = g.F.ReadFiles.lists c.args.host.now.files.now in
     let gives = g.F.ReadFiles.gives c.args.host.now.files.now in
+    let finds = g.F.ReadFiles.finds c.args.host.now.files.now in
     let at : Place _ _ = place g.O.OutPlace g.O.Part.Sink c.args.places.now.file c.index_searched.new.places.file in
     let report : Place _ _ = place g.Q.OutPlace g.Q.Part.Sink c.args.places.now.report
     c.index_searched.new.places.report in
     let By : IndexRequest → Type 0 = λ given.
-    Indexed (searched_by given.options lists) gives
+    Indexed (searched_by given.options lists) gives (found_by given.options finds)
     (blamed_by given.options (g.F.LookAgain.blames c.args.host.now.files.now))
     (NoneFoundBy (g.F.LookAgain.passes c.args.host.now.files.now) c.args.host.now.is_watched given.options)
     (g.Q.OutPlace.suspects c.args.places.now.report) given at report (writing g.M.Sink c.args.messages.now
@@ -67,6 +68,7 @@ returns-in-Shell-clause-served g c =
     let Here : Request → Type 0 = λ request. IfSome (shell_options request) (λ options.
     Served c.args.host.now.manner (searched_by options (g.F.ReadFiles.lists c.args.host.now.files.now))
     (g.F.ReadFiles.gives c.args.host.now.files.now)
+    (found_by options (g.F.ReadFiles.finds c.args.host.now.files.now))
     (blamed_by options (g.F.LookAgain.blames c.args.host.now.files.now))
     (NoneFoundBy (g.F.LookAgain.passes c.args.host.now.files.now) c.args.host.now.is_watched options)
     (g.Q.OutPlace.suspects c.args.places.now.report) options
@@ -82,12 +84,14 @@ pub returns-in-Index-clause-navigable : goal.returns-in-Index-clause-navigable
 returns-in-Index-clause-navigable g c =
     let lists = g.F.ReadFiles.lists c.args.host.now.files.now in
     let gives = g.F.ReadFiles.gives c.args.host.now.files.now in
+    let finds = g.F.ReadFiles.finds c.args.host.now.files.now in
     let Here : Request → Type 0 = λ request.
-    IfSome (index_request request) (λ given. WritesNavigable (searched_by given.options lists) gives given.options
+    IfSome (index_request request) (λ given. WritesNavigable (searched_by given.options lists) gives
+    (found_by given.options finds) given.options
     (place g.O.OutPlace g.O.Part.Sink c.args.places.now.file c.index_searched.new.places.file)
     c.index_searched.result)
     × IfSome (shell_options request) (λ options. AnswersNavigable c.args.host.now.manner
-    (searched_by options lists) gives options
+    (searched_by options lists) gives (found_by options finds) options
     (reading g.I.Feed c.args.input.now c.args.input.now)
     (writing g.W.Sink c.args.out.now c.args.out.now) c.index_searched.result) in
     subst (λ (asked : Result Request AllocError). IfOk asked Here) (sym c.in-Ok.is)
@@ -97,12 +101,14 @@ pub returns-in-Shell-clause-navigable : goal.returns-in-Shell-clause-navigable
 returns-in-Shell-clause-navigable g c =
     let lists = g.F.ReadFiles.lists c.args.host.now.files.now in
     let gives = g.F.ReadFiles.gives c.args.host.now.files.now in
+    let finds = g.F.ReadFiles.finds c.args.host.now.files.now in
     let Here : Request → Type 0 = λ request.
-    IfSome (index_request request) (λ given. WritesNavigable (searched_by given.options lists) gives given.options
+    IfSome (index_request request) (λ given. WritesNavigable (searched_by given.options lists) gives
+    (found_by given.options finds) given.options
     (place g.O.OutPlace g.O.Part.Sink c.args.places.now.file c.args.places.now.file)
     c.shell_searched.result)
     × IfSome (shell_options request) (λ options. AnswersNavigable c.args.host.now.manner
-    (searched_by options lists) gives options
+    (searched_by options lists) gives (found_by options finds) options
     (reading g.I.Feed c.args.input.now c.shell_searched.new.commands)
     (writing g.W.Sink c.args.out.now c.shell_searched.new.answers) c.shell_searched.result) in
     subst (λ (asked : Result Request AllocError). IfOk asked Here) (sym c.in-Ok.is)

@@ -87,7 +87,7 @@ returns-clause-served g c =
 pub returns-in-Err-clause-navigable : goal.returns-in-Err-clause-navigable
 returns-in-Err-clause-navigable g c =
     answers c.args.host.now.manner (g.F.ReadFiles.lists c.args.host.now.files.now)
-    (g.F.ReadFiles.gives c.args.host.now.files.now)
+    (g.F.ReadFiles.gives c.args.host.now.files.now) (g.F.ReadFiles.finds c.args.host.now.files.now)
     c.args.options.now c.headline_of_options.ensures.files
     (blamed_by c.args.options.now (g.F.LookAgain.blames c.args.host.now.files.now))
     (NoneFoundBy (g.F.LookAgain.passes c.args.host.now.files.now) c.args.host.now.is_watched
@@ -101,7 +101,7 @@ returns-in-Err-clause-navigable g c =
 pub returns-in-Err-see_report-clause-navigable : goal.returns-in-Err-see_report-clause-navigable
 returns-in-Err-see_report-clause-navigable g c =
     answers c.args.host.now.manner (g.F.ReadFiles.lists c.args.host.now.files.now)
-    (g.F.ReadFiles.gives c.args.host.now.files.now)
+    (g.F.ReadFiles.gives c.args.host.now.files.now) (g.F.ReadFiles.finds c.args.host.now.files.now)
     c.args.options.now c.headline_of_options.ensures.files
     (blamed_by c.args.options.now (g.F.LookAgain.blames c.args.host.now.files.now))
     (NoneFoundBy (g.F.LookAgain.passes c.args.host.now.files.now) c.args.host.now.is_watched
@@ -115,7 +115,7 @@ returns-in-Err-see_report-clause-navigable g c =
 pub returns-clause-navigable : goal.returns-clause-navigable
 returns-clause-navigable g c =
     answers c.args.host.now.manner (g.F.ReadFiles.lists c.args.host.now.files.now)
-    (g.F.ReadFiles.gives c.args.host.now.files.now)
+    (g.F.ReadFiles.gives c.args.host.now.files.now) (g.F.ReadFiles.finds c.args.host.now.files.now)
     c.args.options.now c.headline_of_options.ensures.files
     (blamed_by c.args.options.now (g.F.LookAgain.blames c.args.host.now.files.now))
     (NoneFoundBy (g.F.LookAgain.passes c.args.host.now.files.now) c.args.host.now.is_watched

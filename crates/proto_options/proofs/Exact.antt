@@ -1,0 +1,4 @@
+-- messages in values
+pub mod Aggregates
+-- options
+pub mod Settings

@@ -1,0 +1,12 @@
+-- the names in an option
+pub mod Names
+pub mod Grammar
+-- what has options, and from where they are looked up
+pub mod Elements
+pub mod Options
+-- what fields are of
+pub mod Fields
+-- what the second reading does
+pub mod Reading
+-- the laws
+pub mod Laws

@@ -1,0 +1,5 @@
+pub mod Aggregates
+pub mod Settings
+pub mod Options
+pub mod Statements
+pub mod Walk

@@ -69,7 +69,7 @@ is_dot byte = byte == 46
 abbrev ones : ℕ → ℕ
 ones byte = cond (is_dot byte) 1 0
 
-words_fit : (words : List (List ℕ)) → length words ≤ length (components_of (dotted words))
+pub words_fit : (words : List (List ℕ)) → length words ≤ length (components_of (dotted words))
 words_fit [] = omega arith
 words_fit (word ∷ []) = omega (arith, length-slice_split is_dot word)
 words_fit (word ∷ (next ∷ others)) =
@@ -79,7 +79,7 @@ words_fit (word ∷ (next ∷ others)) =
     sum_by-append ones word (46 ∷ behind) ∙ ap (λ n. count_by is_dot word + n) (sum_by-cons ones 46 behind) in
     omega (arith, rest, reachable, length-slice_split is_dot behind, length-slice_split is_dot (word ++ 46 ∷ behind))
 
-qualified_fit : (scope name : List ℕ) → length (components_of name) ≤ length (components_of (qualified scope name))
+pub qualified_fit : (scope name : List ℕ) → length (components_of name) ≤ length (components_of (qualified scope name))
 qualified_fit [] name = omega arith
 qualified_fit (byte ∷ scope) name =
     let reachable : count_by is_dot ((byte ∷ scope) ++ 46 ∷ name)

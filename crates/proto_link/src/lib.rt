@@ -26,7 +26,8 @@ pub use laws::{
 pub use linker::Linker;
 pub use proto_visibility::{
     CheckedFiles, Duplicates, Entity, FileOmission, FilePlace, LinkFault, LinkFile, ListedNames,
-    have_own_paths, kept_files_are_clear, left_out, nothing_is_left_out_of_good_files, one_kept,
+    Role, have_own_paths, kept_files_are_clear, left_out, nothing_is_left_out_of_good_files,
+    one_kept,
 };
 pub use target::Target;
 pub use uncertain_use::UncertainUse;

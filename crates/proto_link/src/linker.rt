@@ -7,6 +7,7 @@ ghost use Rattle.proto_visibility.specs.Files.{HaveOwnPaths, HaveOrigins, HasFac
 ghost use Rattle.proto_visibility.specs.Files.{IsIncludedAt, IsSourceAt};
 ghost use Rattle.std.specs.Prelude.{Contains};
 ghost use Rattle.std.specs.List.Sorted.{IsStrictlyIncreasing};
+ghost use Rattle.proto_visibility.specs.Knows.{KnowsAs, admits};
 ghost use Rattle.proto_visibility.specs.Sees.{IsReachable, Sees};
 ghost use Rattle.proto_visibility.specs.Absences.{AreMissing};
 ghost use Rattle.proto_visibility.specs.Linked.{HaveClearNames, CanBeLinked, MayRefuse};
@@ -22,7 +23,7 @@ use crate::uncertain_use::UncertainUse;
 use crate::use_faults::use_faults_of;
 use proto_decl::{FileFacts, Use};
 use proto_visibility::{
-    CheckedFiles, Duplicates, FilePlace, LinkFault, LinkFile, ListedNames, Namespace,
+    CheckedFiles, Duplicates, FilePlace, LinkFault, LinkFile, ListedNames, Namespace, Role,
 };
 use std::alloc::{AllocError, Global};
 use std::marker::Model;
@@ -137,6 +138,15 @@ impl<'a, 't> Linker<'a, 't> {
         ensures { IsTrue result ↔ Sees self.now file other }
     {
         self.namespace.visible(file, other)
+    }
+
+    /// Whether a file knows a name in a role: of the files that it sees one declares such a thing by this full name, or
+    /// has such a package. The file's number has to be below `count`. Takes no memory.
+    pub fn knows(&self, file: usize, name: &str, role: Role) -> bool
+        requires { file < length self.now }
+        ensures { IsTrue result ↔ KnowsAs self.now file (admits role) name.now }
+    {
+        self.namespace.knows(file, name, role)
     }
 
     /// Whether several files may give one name: as it was said when the files were linked. Takes no memory.

@@ -13,10 +13,10 @@
 ghost use Rattle.std.specs.Prelude.{◌<◌, length};
 ghost use Rattle.proto_visibility.specs.Files.{HaveOwnPaths};
 
-use proto_decl::{FileFacts, Use};
+use proto_decl::{FileFacts, Use, scope_around};
 use proto_link::{
-    CheckedFiles, Duplicates, Entity, FilePlace, LinkFault, LinkFile, Linker, ListedNames, Target,
-    UncertainUse,
+    CheckedFiles, Duplicates, Entity, FilePlace, LinkFault, LinkFile, Linker, ListedNames, Role,
+    Target, UncertainUse,
 };
 use std::alloc::{AllocError, Global};
 use test_kit::{Draft, Made};
@@ -80,6 +80,27 @@ fn add_target(draft: &mut Draft, target: &Target) {
     }
 }
 
+/// Adds a `!` if a file doesn't know a name in a role.
+fn add_if_unknown(draft: &mut Draft, linker: &Linker, file: usize, name: &str, role: Role)
+    requires { file < length linker.now }
+{
+    if !linker.knows(file, name, role) {
+        draft.add("!");
+    }
+}
+
+/// Adds a `!` if a file doesn't know the full name of a type that a use of it names, or what is around it.
+fn add_unknown(draft: &mut Draft, linker: &Linker, file: usize, name: &str)
+    requires { file < length linker.now }
+{
+    add_if_unknown(draft, linker, file, name, Role::AsType);
+    if let Some(scope) = scope_around(name) {
+        if !scope.is_empty() {
+            add_if_unknown(draft, linker, file, scope, Role::AsAggregate);
+        }
+    }
+}
+
 /// Adds what a use names, and gives why it names nothing.
 fn add_use(draft: &mut Draft, linker: &Linker, file: usize, type_use: &Use) -> Option<LinkFault>
     requires { file < length linker.now }
@@ -96,6 +117,7 @@ fn add_use(draft: &mut Draft, linker: &Linker, file: usize, type_use: &Use) -> O
         }
         Ok(target) => {
             add_target(draft, &target);
+            add_unknown(draft, linker, file, target.name.as_str());
             None
         }
     }

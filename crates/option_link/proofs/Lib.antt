@@ -1,0 +1,51 @@
+-- What loops have found
+pub mod LoopLemmas
+pub mod FactLemmas
+-- Lists whose keys rise: spans, uses, and what is at places
+pub mod KeyLemmas
+pub mod SpanLemmas
+pub mod UseLemmas
+pub mod PlaceLemmas
+pub mod DefaultLemmas
+-- What is found by names
+pub mod TableLemmas
+pub mod KnownLemmas
+pub mod OnlyLemmas
+pub mod SoughtLemmas
+pub mod OwnerLemmas
+pub mod ToldLemmas
+pub mod PackageLemmas
+pub mod CountedLemmas
+pub mod LookupLemmas
+pub mod JoinLemmas
+pub mod PathLemmas
+-- What fields give, what names name and what they are looked up in is one thing
+pub mod TypeLemmas
+pub mod TypeAtLemmas
+pub mod TypeListLemmas
+pub mod FieldLemmas
+pub mod BesideLemmas
+pub mod MemberLemmas
+pub mod MessageLemmas
+pub mod MessageKindLemmas
+pub mod NameLemmas
+pub mod OwnFieldLemmas
+pub mod WordLemmas
+pub mod ExtensionLemmas
+pub mod TargetNameLemmas
+pub mod ValueLemmas
+pub mod RootLemmas
+pub mod ContextLemmas
+pub mod TargetLemmas
+-- Options have one gap at most
+pub mod GapLemmas
+-- What names give
+pub mod PlaceGivesLemmas
+pub mod NoneInLemmas
+pub mod GivenFieldLemmas
+pub mod GivingLemmas
+-- What all names of an option name
+pub mod FitLemmas
+pub mod FrontLemmas
+pub mod PartLemmas
+pub mod FoundAllLemmas

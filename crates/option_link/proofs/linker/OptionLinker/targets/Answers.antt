@@ -1,0 +1,30 @@
+use Rattle.std.proofs.Common.{◌↔◌, ℕ, IfOk, MatchOption, sym, subst}
+use Rattle.std.specs.List.{Contains}
+use Rattle.proto_options.specs.declared.names.OptionName.{OptionName}
+use Rattle.proto_visibility.specs.Files.{IsSource}
+use Rattle.option_link.specs.declared.target.OptionTarget.{OptionTarget}
+use Rattle.option_link.specs.Linked.{LinkedOptions}
+use Rattle.option_link.specs.OptionNames.{IsGap, IsOptionTarget}
+use Rattle.option_link.proofs.linker.OptionLinker.targets.Goals as goal
+
+pub invariant_of-files : goal.invariant_of-files
+invariant_of-files c = record { in_order = c.self.invariant.known.in_order }
+
+pub all_targets-requires : goal.all_targets-requires
+all_targets-requires c = subst (λ (o : LinkedOptions). IsSource o.files c.args.file) (sym c.self.view_is) c.requires
+
+pub returns-clause-targets : goal.returns-clause-targets
+returns-clause-targets c =
+    subst (λ (o : LinkedOptions). IfOk c.all_targets.result (λ found. (target : OptionTarget)
+    → Contains found.targets target
+    ↔ IsOptionTarget o.files o.known c.args.file c.args.text.now c.args.option.now target)) c.self.view_is
+    c.all_targets.ensures.targets
+
+pub returns-clause-gap : goal.returns-clause-gap
+returns-clause-gap c =
+    subst (λ (o : LinkedOptions). IfOk c.all_targets.result (λ found. MatchOption found.gap
+    ((number : ℕ) (name : OptionName)
+    → IsGap o.files o.known c.args.file c.args.text.now c.args.option.now number name → ⊥)
+    (λ number. (name : OptionName)
+    × IsGap o.files o.known c.args.file c.args.text.now c.args.option.now number name))) c.self.view_is
+    c.all_targets.ensures.gap

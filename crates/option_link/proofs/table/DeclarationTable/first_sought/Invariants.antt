@@ -1,0 +1,9 @@
+use Rattle.option_link.specs.declared.table.Listed.{Listed}
+use Rattle.option_link.specs.Lookups.{admits}
+use Rattle.option_link.specs.Tables.{IsSought}
+use Rattle.option_link.proofs.LoopLemmas.{UpTo}
+use Rattle.option_link.proofs.table.DeclarationTable.first_sought.Given as goal
+
+abbrev pub invariant-loop-one : goal.invariant-loop-one
+invariant-loop-one l =
+    UpTo (λ (one : Listed). IsSought l.self l.file (admits l.sought) l.name one.place → ⊥) l.listed l.one-index

@@ -1,0 +1,268 @@
+-- What is found step by step of an option's names, for the code.
+use Rattle.std.specs.Prelude.{◌≡◌, ◌≢◌, ◌<◌, ◌≤◌, ◌↔◌, ◌⊎◌, ◌∷◌, [], ℕ, Bool, true, false, nat_le, Option, Some, None}
+use Rattle.std.specs.Prelude.{◌+◌, ◌-◌, ◌++◌, List, length, map, codes, Contains, MatchOption}
+use Rattle.std.specs.List.{slice_get}
+use Rattle.std.specs.List.Sorted.{IsStrictlyIncreasing}
+use Rattle.proto_decl.specs.Names.{qualified, dotted, components_of, prefix_of, IsAround}
+use Rattle.proto_decl.specs.Facts.{Facts}
+use Rattle.proto_lex.specs.declared.span.Span.{Span}
+use Rattle.proto_decl.specs.declared.declaration.Declaration.{Declaration}
+use Rattle.proto_decl.specs.declared.declaration.DeclarationKind.TheVariants.{Value as EnumValue}
+use Rattle.proto_decl.specs.declared.declaration.DeclarationStep.{DeclarationStep}
+use Rattle.proto_options.specs.declared.fields.FieldFact.{FieldFact}
+use Rattle.proto_options.specs.declared.fields.FieldKind.TheVariants as kinds
+use Rattle.proto_options.specs.declared.names.OptionName.{OptionName}
+use Rattle.proto_options.specs.declared.names.OptionRole.TheVariants as role
+use Rattle.proto_options.specs.declared.options.FileOption.{FileOption}
+use Rattle.proto_visibility.specs.Files.{File, HasFacts}
+use Rattle.proto_visibility.specs.Knows.{IsEntityOf, is_message}
+use Rattle.proto_visibility.specs.declared.lookup.Entity.{Entity}
+use Rattle.option_link.specs.declared.contexts.Context.{Context}
+use Rattle.option_link.specs.declared.contexts.Context.TheVariants as inside
+use Rattle.option_link.specs.declared.facts.OptionFacts.{OptionFacts}
+use Rattle.option_link.specs.declared.linker.Found.{Found}
+use Rattle.option_link.specs.declared.place.DeclaredPlace.{DeclaredPlace}
+use Rattle.option_link.specs.declared.target.OptionTarget.{OptionTarget}
+use Rattle.option_link.specs.Places.{Stands}
+use Rattle.option_link.specs.Fields.{IsField, IsFieldOf, IsOwnField, IsOwnGroup, FieldGives, ValueGives, behind}
+use Rattle.option_link.specs.Typed.{IsMessageAt}
+use Rattle.option_link.specs.Lookups.{LooksUp, is_field}
+use Rattle.option_link.specs.Contexts.{HasFieldsOf, HasWords, IsOptionsMessage, IsTaken, MayBeExtended, Leads}
+use Rattle.option_link.specs.Contexts.{StandsIn, options_message}
+use Rattle.option_link.specs.OptionNames.{IsOptionTarget, IsGap, LacksTarget, NamesParts}
+use Rattle.option_link.specs.Tables.{IsClear, IsOnly, IsOwned}
+
+-- ---- plain names
+
+-- the whole name of the option is this plain word
+pub record IsOneWord (text word : List ℕ) (option : FileOption) : Type 0 where
+  pub one_part : option.setting.parts ≡ 1
+  pub name : OptionName
+  pub first : slice_get option.setting.names 0 ≡ Some name
+  pub plain : name.role ≡ role.Field
+  pub is : HasWords text name (word ∷ [])
+
+-- whether a name is in the braces of the option's value
+abbrev pub in_braces : FileOption → (number : ℕ) → Bool
+in_braces option number = nat_le option.setting.parts number
+
+-- the field that is declared here, or whose group's message is
+pub data IsMemberHere (files : List File) (known : List OptionFacts) (place : DeclaredPlace) (braces : Bool)
+    : DeclaredPlace → Type 0 where
+  plain : {fact : FieldFact} → IsField files known place fact → fact.extended ≡ None
+      → (braces ≡ true → fact.kind ≢ kinds.Group) → IsMemberHere files known place braces place
+  group : {field : DeclaredPlace} {fact : FieldFact} → braces ≡ true → behind field ≡ place → IsMessageAt files place
+      → IsField files known field fact → fact.extended ≡ None → fact.kind ≡ kinds.Group
+      → IsMemberHere files known place braces field
+
+-- the same by the full name that nothing else of the file has
+pub record IsMemberNamed (files : List File) (known : List OptionFacts) (file : ℕ) (name : List ℕ) (braces : Bool)
+    (field : DeclaredPlace) : Type 0 where
+  pub place : DeclaredPlace
+  pub only : IsOnly files file name place
+  pub here : IsMemberHere files known place braces field
+
+-- the field of a message by a word, in braces or not
+pub data IsMemberOf (files : List File) (known : List OptionFacts) (message : DeclaredPlace) (word : List ℕ)
+    (braces : Bool) (field : DeclaredPlace) : Type 0 where
+  plain : {fact : FieldFact} → IsOwnField files known message word field fact
+      → (braces ≡ true → fact.kind ≢ kinds.Group)
+      → IsMemberOf files known message word braces field
+  group : braces ≡ true → IsOwnGroup files known message word field
+      → IsMemberOf files known message word braces field
+
+-- the field by a word of what it is looked up in
+pub record IsFieldIn (files : List File) (known : List OptionFacts) (option : FileOption) (number : ℕ)
+    (word : List ℕ) (context : Context) (field : DeclaredPlace) : Type 0 where
+  pub message : DeclaredPlace
+  pub has : HasFieldsOf files option context message
+  pub is : IsMemberOf files known message word (in_braces option number) field
+
+-- ---- names in parentheses or in brackets
+
+-- the scope of a name: that of the option, or in braces the one around the full name of what is extended
+abbrev pub IsScope : FileOption → (number : ℕ) → (extended scope : List ℕ) → Type 0
+IsScope option number extended scope = ((number < option.setting.parts) × (scope ≡ option.scope))
+    ⊎ ((option.setting.parts ≤ number) × IsAround extended scope)
+
+-- the full name of the messages that may be extended
+abbrev pub IsExtendedName : List File → FileOption → Context → (extended : List ℕ) → Type 0
+IsExtendedName files option context extended = (message : DeclaredPlace) (declaration : Declaration)
+    → MayBeExtended files option context message → Stands files message declaration
+    → declaration.full_name ≡ extended
+
+-- the field with a full name that extends one of them
+pub record IsExtensionNamed (files : List File) (known : List OptionFacts) (file : ℕ) (option : FileOption)
+    (context : Context) (full_name : List ℕ) (field : DeclaredPlace) : Type 0 where
+  pub owned : IsOwned files file is_field full_name field
+  pub message : DeclaredPlace
+  pub may : MayBeExtended files option context message
+  pub is : IsFieldOf files known message field
+
+-- the field by the words of the name and the scope from which it is looked up
+pub record IsExtensionFrom (files : List File) (known : List OptionFacts) (file : ℕ) (option : FileOption)
+    (context : Context) (has_dot : Bool) (words : List (List ℕ)) (scope : List ℕ) (field : DeclaredPlace)
+    : Type 0 where
+  pub full_name : List ℕ
+  pub found : LooksUp files file has_dot words scope full_name
+  pub named : IsExtensionNamed files known file option context full_name field
+
+-- ---- other names
+
+-- the message that is packed
+pub record IsPackedIn (files : List File) (file : ℕ) (any : DeclaredPlace) (words : List (List ℕ))
+    (message : DeclaredPlace) : Type 0 where
+  pub outer : Declaration
+  pub stands : Stands files any outer
+  pub called : outer.full_name ≡ codes "google.protobuf.Any"
+  pub owned : IsOwned files file is_message (dotted words) message
+
+-- a value of the enum with this declaration
+pub record IsValueIn (files : List File) (outer : Declaration) (value : DeclaredPlace) : Type 0 where
+  pub inner : Declaration
+  pub stands : Stands files value inner
+  pub is : inner.kind ≡ EnumValue
+  pub step : DeclarationStep
+  pub path : inner.path ≡ outer.path ++ step ∷ []
+
+-- the one with this simple name
+pub record IsValueNamed (files : List File) (file : ℕ) (outer : Declaration) (scope word : List ℕ)
+    (value : DeclaredPlace) : Type 0 where
+  pub only : IsOnly files file (qualified scope word) value
+  pub is : IsValueIn files outer value
+
+pub record IsValueOf (files : List File) (type : DeclaredPlace) (word : List ℕ) (value : DeclaredPlace)
+    : Type 0 where
+  pub outer : Declaration
+  pub of_enum : Stands files type outer
+  pub scope : List ℕ
+  pub around : IsAround outer.full_name scope
+  pub named : IsValueNamed files type.file outer scope word value
+
+-- ---- what names give that name nothing, and which need name nothing
+
+-- where a file declares what is named at a place
+pub record IsDeclaredAt (files : List File) (file : ℕ) (name : Span) (at : DeclaredPlace) : Type 0 where
+  pub in_file : at.file ≡ file
+  pub declaration : Declaration
+  pub stands : Stands files at declaration
+  pub named : declaration.name ≡ name
+
+-- what the field there gives
+pub record IsDefaultGiven (files : List File) (known : List OptionFacts) (file : ℕ) (name : Span)
+    (inner : Context) : Type 0 where
+  pub field : DeclaredPlace
+  pub in_file : field.file ≡ file
+  pub fact : FieldFact
+  pub is : IsField files known field fact
+  pub at : fact.name ≡ name
+  pub gives : FieldGives files known field inner
+
+pub record IsWithoutMessage (files : List File) (option : FileOption) (name : OptionName) : Type 0 where
+  pub plain : name.role ≡ role.Field
+  pub none : (message : DeclaredPlace) → IsOptionsMessage files (options_message option.element) message → ⊥
+
+pub record IsEntryName (text : List ℕ) (name : OptionName) : Type 0 where
+  pub plain : name.role ≡ role.Field
+  pub word : List ℕ
+  pub is : HasWords text name (word ∷ [])
+  pub which : (word ≡ codes "key") ⊎ (word ≡ codes "value")
+
+pub data LeadsUnnamed (files : List File) (known : List OptionFacts) (file : ℕ) (text : List ℕ) (option : FileOption)
+    (name : OptionName) : (outer inner : Context) → Type 0 where
+  key : {holder : DeclaredPlace} → name.role ≡ role.Field → HasWords text name (codes "key" ∷ [])
+      → LeadsUnnamed files known file text option name (inside.Entries holder) inside.Scalar
+  map_value : {holder : DeclaredPlace} {inner : Context}
+      → name.role ≡ role.Field → HasWords text name (codes "value" ∷ []) → ValueGives files known holder inner
+      → LeadsUnnamed files known file text option name (inside.Entries holder) inner
+  default : {place : Span} {inner : Context}
+      → IsTaken text (codes "default") option place → name.role ≢ role.Extension
+      → IsDefaultGiven files known file place inner
+      → LeadsUnnamed files known file text option name inside.Untold inner
+  untold : ((place : Span) → IsTaken text (codes "default") option place → ⊥) → name.role ≢ role.Extension
+      → LeadsUnnamed files known file text option name inside.Untold inside.Untold
+  without_message : IsWithoutMessage files option name
+      → LeadsUnnamed files known file text option name inside.Options inside.Untold
+
+pub data NeedsNoneIn (files : List File) (text : List ℕ) (option : FileOption) (name : OptionName)
+    : Context → Type 0 where
+  word : name.role ≡ role.Value → NeedsNoneIn files text option name inside.Scalar
+  entry : {holder : DeclaredPlace} → IsEntryName text name → NeedsNoneIn files text option name (inside.Entries holder)
+  untold : name.role ≢ role.Extension → NeedsNoneIn files text option name inside.Untold
+  without_message : IsWithoutMessage files option name → NeedsNoneIn files text option name inside.Options
+
+-- ---- all names of an option
+
+-- what is added to the targets where a name names this, or nothing
+abbrev pub AddsTarget : List File → OptionName → (number : ℕ) → Option DeclaredPlace → (old new : List OptionTarget)
+    → Type 0
+AddsTarget files name number None old new = new ≡ old
+AddsTarget files name number (Some place) old new = (parts : List Entity)
+    × (new ≡ old ++ record { name_number = number; parts = parts } ∷ []) × NamesParts files name place parts
+
+-- what each of its components but the last names, where the last one names what is declared here
+pub record NamesOuterParts (files : List File) (name : OptionName) (at : DeclaredPlace) (parts : List Entity)
+    : Type 0 where
+  pub declaration : Declaration
+  pub stands : Stands files at declaration
+  pub skipped : ℕ
+  pub split : skipped + length name.name.components ≡ length (components_of declaration.full_name)
+  pub one_each : length parts + 1 ≡ length name.name.components
+  pub named : (j : ℕ) (part : Entity) → slice_get parts j ≡ Some part
+      → IsEntityOf at.file stands.facts (prefix_of declaration.full_name (skipped + j + 1)) (skipped + j + 1) part
+
+-- what each of the last so many components of a full name names, but for the very last one
+pub record AreOuterEntities (file : ℕ) (facts : Facts) (name : List ℕ) (count : ℕ) (parts : List Entity)
+    : Type 0 where
+  pub one_each : length parts + 1 ≡ count
+  pub named : (j : ℕ) (part : Entity) → slice_get parts j ≡ Some part
+      → IsEntityOf file facts (prefix_of name (length (components_of name) - count + j + 1))
+      (length (components_of name) - count + j + 1) part
+
+-- the same of the facts of a file
+pub record AreOuterEntitiesAt (files : List File) (file : ℕ) (name : List ℕ) (count : ℕ) (parts : List Entity)
+    : Type 0 where
+  pub facts : Facts
+  pub known : HasFacts files file facts
+  pub are : AreOuterEntities file facts name count parts
+
+-- its components are those at the end of the full name of what stands there
+pub record HasParts (files : List File) (name : OptionName) (place : DeclaredPlace) : Type 0 where
+  pub some : 0 < length name.name.components
+  pub declaration : Declaration
+  pub stands : Stands files place declaration
+  pub few : length name.name.components ≤ length (components_of declaration.full_name)
+
+-- the gap so far, or else this name, if it is one
+abbrev pub first_gap : Option ℕ → (number : ℕ) → (is : Bool) → Option ℕ
+first_gap (Some gap) number is = Some gap
+first_gap None number true = Some number
+first_gap None number false = None
+
+-- in what the names are looked up that belong to the name with this number
+pub record LeadsFrom (files : List File) (known : List OptionFacts) (file : ℕ) (text : List ℕ) (option : FileOption)
+    (number : ℕ) (inner : Context) : Type 0 where
+  pub name : OptionName
+  pub numbered : slice_get option.setting.names number ≡ Some name
+  pub outer : Context
+  pub stands : StandsIn files known file text option number outer
+  pub leads : Leads files known file text option number name outer inner
+
+-- for each of the first names
+abbrev pub AreGiven : List File → List OptionFacts → (file : ℕ) → (text : List ℕ) → FileOption → List (Option Context)
+    → Type 0
+AreGiven files known file text option given = (k : ℕ) (its : Option Context) → slice_get given k ≡ Some its
+    → MatchOption its ((inner : Context) → LeadsFrom files known file text option k inner → ⊥)
+    (λ inner. LeadsFrom files known file text option k inner × IsClear files inner)
+
+-- what the first so many names name, and lead to, and the gap among them
+pub record AreFound (files : List File) (known : List OptionFacts) (file : ℕ) (text : List ℕ) (option : FileOption)
+    (count : ℕ) (found : Found) : Type 0 where
+  pub targets : (target : OptionTarget) → Contains found.targets.items target
+      ↔ (IsOptionTarget files known file text option target × (target.name_number < count))
+  pub rising : IsStrictlyIncreasing (map (λ target. target.name_number) found.targets.items)
+  pub each : length found.given.items ≡ count
+  pub given : AreGiven files known file text option found.given.items
+  pub gap : MatchOption found.gap
+      ((number : ℕ) (name : OptionName) → number < count → LacksTarget files known file text option number name → ⊥)
+      (λ number. (name : OptionName) × IsGap files known file text option number name)

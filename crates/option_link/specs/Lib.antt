@@ -1,0 +1,18 @@
+-- declarations by their places, and what fields are of
+pub mod Places
+pub mod Fields
+pub mod Typed
+pub mod Packages
+pub mod Tables
+pub mod Beside
+-- whose declarations are named
+pub mod Counted
+pub mod Linked
+-- what a name in an option is looked up in, and what it names
+pub mod Lookups
+pub mod Contexts
+pub mod Messages
+-- what the options of a file name
+pub mod OptionNames
+pub mod Found
+pub mod Laws

@@ -1,0 +1,26 @@
+//! The laws.
+
+ghost use Rattle.option_link.specs.Laws as laws;
+
+use proto_decl::{facts_are_filled, facts_in_order};
+
+/// A name in an option is looked up in one thing at most.
+pub fn one_context_a_name()
+    ensures { laws.OneContextAName }
+{
+    facts_in_order();
+    facts_are_filled();
+}
+
+/// A name in an option has one target at most.
+pub fn one_target_a_name()
+    ensures { laws.OneTargetAName }
+{
+    facts_in_order();
+    facts_are_filled();
+}
+
+/// An option has one gap at most.
+pub fn one_gap_an_option()
+    ensures { laws.OneGapAnOption }
+{}

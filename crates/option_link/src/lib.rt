@@ -1,0 +1,53 @@
+//! What the names in options name, in files that are linked.
+//!
+//! Options and what fields are of come from `proto_options`; what uses of types name from `proto_link`.
+//!
+//! Names in braces that a message reserves, which protoc reads past, and those of a MessageSet's extensions by their
+//! messages have no target, and are told as gaps.
+#![tactic(auto)]
+
+// What is linked, and what is found.
+mod facts;
+mod place;
+mod target;
+
+// Declarations by their full names and their paths, and names in scopes.
+mod among;
+mod counted;
+mod lookup;
+mod owner;
+mod packages;
+mod paths;
+mod present;
+mod sought;
+mod table;
+
+// What fields are of, and their types.
+mod fields;
+mod often;
+mod searches;
+mod types;
+
+// What names in options are looked up in, and what they name there.
+mod contexts;
+mod extensions;
+mod fronts;
+mod giving;
+mod members;
+mod messages;
+mod naming;
+mod parts;
+mod values;
+mod words;
+
+// The options of a file.
+mod linker;
+
+// The laws.
+mod laws;
+
+pub use facts::{FilesBeside, OptionFacts, fields_are_in_order};
+pub use laws::{one_context_a_name, one_gap_an_option, one_target_a_name};
+pub use linker::OptionLinker;
+pub use place::DeclaredPlace;
+pub use target::{OptionTarget, OptionTargets};

@@ -1,0 +1,337 @@
+//! Files that are linked, with their options.
+
+ghost use Rattle.std.specs.Prelude.{ℕ, ⊤, ◌≡◌, ◌<◌, ◌+◌, ◌↔◌, [], None, Some, Contains, IsTrue, IfOk, OnOk};
+ghost use Rattle.std.specs.Prelude.{MatchOption, length, map};
+ghost use Rattle.std.specs.List.{slice_get};
+ghost use Rattle.std.specs.List.Sorted.{IsStrictlyIncreasing};
+ghost use Rattle.proto_options.specs.declared.names.OptionName.{OptionName};
+ghost use Rattle.option_link.specs.declared.contexts.Context.{Context};
+ghost use Rattle.option_link.specs.declared.place.DeclaredPlace.{DeclaredPlace};
+ghost use Rattle.option_link.specs.declared.target.OptionTarget.{OptionTarget};
+ghost use Rattle.proto_visibility.specs.Files.{IsSource};
+ghost use Rattle.option_link.specs.Counted.{Counts};
+ghost use Rattle.option_link.specs.Fields.{AreInOrder};
+ghost use Rattle.option_link.specs.Linked.{LinkedOptions};
+ghost use Rattle.option_link.specs.OptionNames.{IsOptionTarget, IsGap};
+ghost use Rattle.option_link.specs.Contexts.{Leads, NamesIn, StandsIn};
+ghost use Rattle.option_link.specs.OptionNames.{NeedsNoTarget};
+ghost use Rattle.option_link.specs.Tables.{IsClear};
+ghost use Rattle.option_link.specs.Found.{AddsTarget, AreFound, HasParts, first_gap};
+
+use crate::contexts::Context;
+use crate::facts::FilesBeside;
+use crate::fields::KnownFiles;
+use crate::messages::OptionMessages;
+use crate::naming::Asked;
+use crate::often::types_of;
+use crate::place::DeclaredPlace;
+use crate::table::DeclarationTable;
+use crate::target::{OptionTarget, OptionTargets};
+use basics::Sequence;
+use proto_decl::{facts_are_filled, facts_in_order};
+use proto_link::Linker;
+use proto_options::{FileOption, OptionName};
+use std::alloc::{AllocError, Global};
+use std::marker::Model;
+
+/// Files that are linked, with all their declarations, what is known of each beside its facts, and whether it counts.
+///
+/// Contracts see the list of the files, and that of what is known of each.
+#[derive(Drop)]
+pub struct OptionLinker<'n, 'a, 't> {
+    known: &'n FilesBeside<'n>,
+    table: DeclarationTable<'n, 'a, 't>,
+    counted: Vec<bool>,
+}
+
+impl<'n, 'a, 't> Model for OptionLinker<'n, 'a, 't> {
+    ghost use Rattle.option_link.specs.Linked.{LinkedOptions, AreToldOf};
+
+    ghost Value = { LinkedOptions };
+
+    ghost view = { λ options. record { files = options.table; known = options.known.now } };
+
+    ghost invariant = { λ options. AreToldOf (record { files = options.table; known = options.known.now })
+        options.counted.items };
+}
+
+impl<'n, 'a, 't> OptionLinker<'n, 'a, 't> {
+    /// Links the options of files that are linked: `known` has one for each, in the same order. An error means that
+    /// memory was refused.
+    pub fn new(
+        alloc: Global,
+        linker: &'n Linker<'a, 't>,
+        known: &'n FilesBeside<'n>,
+    ) -> Result<OptionLinker<'n, 'a, 't>, AllocError>
+        requires each { length known.now ≡ length linker.now }
+        requires in_order { AreInOrder known.now }
+        ensures { IfOk result (λ options. options ≡ record { files = linker.now; known = known.now }) }
+    {
+        let mut table = DeclarationTable::of(alloc, linker)?;
+        let types = types_of(alloc, &table, known)?;
+        table.keep_types(types);
+        let messages = OptionMessages::find(alloc, &table)?;
+        table.keep_messages(messages);
+        let counted = table.counted(alloc)?;
+        Ok(OptionLinker {
+            known,
+            table,
+            counted,
+        })
+    }
+
+    /// Whether what a file declares can be named in options: if some source sees the file, or if it isn't left out and
+    /// nothing else, in any file, has a full name of what it declares. For the file that protoc comes with it is enough
+    /// that nothing else in itself, nor in a file that some source sees, has one. Takes no memory.
+    pub fn counts(&self, file: usize) -> bool
+        requires within { file < length self.now.files }
+        ensures { IsTrue result ↔ Counts self.now.files file }
+    {
+        self.counted[file]
+    }
+
+    /// The options of the file with a number, in order of place.
+    pub fn options_of(&self, file: usize) -> &'n [FileOption]
+        ensures { MatchOption (slice_get self.now.known file) (result.now ≡ [])
+            (λ beside. result.now ≡ beside.options) }
+    {
+        self.known.options_of(file)
+    }
+
+    /// What the names in an option of a file name, and the first one that names nothing and should. `text` is the text
+    /// of the file, which has to be a source. An error means that memory was refused.
+    pub fn targets<'k>(
+        &'k self,
+        alloc: Global,
+        file: usize,
+        text: &'k str,
+        option: &'k FileOption,
+    ) -> Result<OptionTargets, AllocError>
+        requires { IsSource self.now.files file }
+        ensures targets { IfOk result (λ found. (target : OptionTarget) → Contains found.targets target
+            ↔ IsOptionTarget self.now.files self.now.known file text.now option.now target) }
+        ensures rising { IfOk result (λ found. IsStrictlyIncreasing
+            (map (λ target. target.name_number) found.targets)) }
+        ensures gap { IfOk result (λ found. MatchOption found.gap
+            ((number : ℕ) (name : OptionName) → IsGap self.now.files self.now.known file text.now option.now
+            number name → ⊥)
+            (λ number. (name : OptionName) × IsGap self.now.files self.now.known file text.now option.now
+            number name)) }
+    {
+        let files = KnownFiles {
+            names: &self.table,
+            known: self.known,
+        };
+        let asked = Asked {
+            files,
+            file,
+            text,
+            option,
+        };
+        all_targets(alloc, asked)
+    }
+}
+
+/// What is found of an option's names: what they name, and what is looked up in each.
+#[derive(Drop)]
+struct Found {
+    targets: Vec<OptionTarget>,
+    given: Vec<Option<Context>>,
+    gap: Option<usize>,
+}
+
+/// What a name names that is looked up in something, or in nothing.
+fn target_in(
+    alloc: Global,
+    asked: Asked<'_, '_, '_, '_>,
+    number: usize,
+    name: &OptionName,
+    context: Option<Context>,
+) -> Result<Option<DeclaredPlace>, AllocError>
+    requires file { asked.file < length asked.files.names.now }
+    requires clear { MatchOption context ⊤ (IsClear asked.files.names.now) }
+    ensures { IfOk result (λ found. MatchOption found
+        ((inner : Context) (at : DeclaredPlace) → context ≡ Some inner → NamesIn asked.entry.files.names.now
+        asked.entry.files.known.now asked.entry.file asked.entry.text.now asked.entry.option.now number name.now
+        inner at → ⊥)
+        (λ at. (inner : Context) × (context ≡ Some inner) × NamesIn asked.entry.files.names.now
+        asked.entry.files.known.now asked.entry.file asked.entry.text.now asked.entry.option.now number name.now
+        inner at)) }
+{
+    match context {
+        Some(inner) => asked.target(alloc, number, name, inner),
+        None => Ok(None),
+    }
+}
+
+/// What names are looked up in that belong to a name.
+fn given_in(
+    alloc: Global,
+    asked: Asked<'_, '_, '_, '_>,
+    name: &OptionName,
+    context: Option<Context>,
+    target: Option<DeclaredPlace>,
+) -> Result<Option<Context>, AllocError>
+    requires { asked.file < length asked.files.names.now }
+    ensures gives { IfOk result (λ found. (number : ℕ) (outer : Context) → context ≡ Some outer → MatchOption target
+        ((at : DeclaredPlace) → NamesIn asked.entry.files.names.now asked.entry.files.known.now asked.entry.file
+        asked.entry.text.now asked.entry.option.now number name.now outer at → ⊥)
+        (NamesIn asked.entry.files.names.now asked.entry.files.known.now asked.entry.file asked.entry.text.now
+        asked.entry.option.now number name.now outer)
+        → MatchOption found ((inner : Context) → Leads asked.entry.files.names.now asked.entry.files.known.now
+        asked.entry.file asked.entry.text.now asked.entry.option.now number name.now outer inner → ⊥)
+        (λ inner. Leads asked.entry.files.names.now asked.entry.files.known.now asked.entry.file
+        asked.entry.text.now asked.entry.option.now number name.now outer inner
+        × IsClear asked.entry.files.names.now inner)) }
+    ensures none { IfOk result (λ found. context ≡ None → found ≡ None) }
+{
+    match context {
+        Some(outer) => asked.gives(alloc, name, outer, target),
+        None => Ok(None),
+    }
+}
+
+/// Adds what a name names, if it names something.
+fn add_target(
+    alloc: Global,
+    asked: Asked<'_, '_, '_, '_>,
+    number: usize,
+    name: &OptionName,
+    target: Option<DeclaredPlace>,
+    targets: &mut Vec<OptionTarget>,
+) -> Result<(), AllocError>
+    requires { MatchOption target ⊤ (HasParts asked.files.names.now name.now) }
+    ensures { OnOk result (AddsTarget asked.entry.files.names.now name.now number target targets.old.items
+        targets.new.items) }
+{
+    match target {
+        Some(place) => {
+            let parts = asked.parts(alloc, name, place)?;
+            targets.push(OptionTarget {
+                name_number: number,
+                parts,
+            })?;
+            Ok(())
+        }
+        None => Ok(()),
+    }
+}
+
+/// Whether a name that names this, or nothing, is a gap.
+fn is_gap(
+    alloc: Global,
+    asked: Asked<'_, '_, '_, '_>,
+    name: &OptionName,
+    context: Option<Context>,
+    target: Option<DeclaredPlace>,
+) -> Result<bool, AllocError>
+    ensures { IfOk result (λ is. (number : ℕ) → MatchOption context
+        ((inner : Context) → StandsIn asked.entry.files.names.now asked.entry.files.known.now asked.entry.file
+        asked.entry.text.now asked.entry.option.now number inner → ⊥)
+        (StandsIn asked.entry.files.names.now asked.entry.files.known.now asked.entry.file asked.entry.text.now
+        asked.entry.option.now number)
+        → IsTrue is ↔ ((target ≡ None) × (NeedsNoTarget asked.entry.files.names.now asked.entry.files.known.now
+        asked.entry.file asked.entry.text.now asked.entry.option.now number name.now → ⊥))) }
+{
+    match target {
+        Some(_place) => Ok(false),
+        None => {
+            let needs_none = asked.needs_none(alloc, name, context)?;
+            Ok(!needs_none)
+        }
+    }
+}
+
+/// The gap so far, or else this name, if it is one.
+fn first_gap(gap: Option<usize>, number: usize, is: bool) -> Option<usize>
+    ensures { result ≡ first_gap gap number is }
+{
+    match gap {
+        Some(gap) => Some(gap),
+        None => {
+            if !is {
+                return None;
+            }
+            Some(number)
+        }
+    }
+}
+
+/// Finds what a name of an option names.
+fn find_named(
+    alloc: Global,
+    asked: Asked<'_, '_, '_, '_>,
+    number: usize,
+    name: &OptionName,
+    found: &mut Found,
+) -> Result<(), AllocError>
+    requires source { IsSource asked.files.names.now asked.file }
+    requires numbered { slice_get asked.option.now.setting.names number ≡ Some name.now }
+    requires found { AreFound asked.files.names.now asked.files.known.now asked.file asked.text.now
+        asked.option.now number found.old }
+    ensures { OnOk result (AreFound asked.entry.files.names.now asked.entry.files.known.now asked.entry.file
+        asked.entry.text.now asked.entry.option.now
+        (number + 1) found.new) }
+{
+    asked.files.names.linked();
+    facts_in_order();
+    facts_are_filled();
+    // From here on it is known that a name names one thing at most.
+    let context = asked.context_of(alloc, name, found.given.as_slice())?;
+    let target = target_in(alloc, asked, number, name, context)?;
+    let given = given_in(alloc, asked, name, context, target)?;
+    let is = is_gap(alloc, asked, name, context, target)?;
+    add_target(alloc, asked, number, name, target, &mut found.targets)?;
+    found.gap = first_gap(found.gap, number, is);
+    found.given.push(given)?;
+    Ok(())
+}
+
+/// Finds what the next name of an option names.
+fn find_next(
+    alloc: Global,
+    asked: Asked<'_, '_, '_, '_>,
+    number: usize,
+    found: &mut Found,
+) -> Result<(), AllocError>
+    requires source { IsSource asked.files.names.now asked.file }
+    requires within { number < length asked.option.now.setting.names }
+    requires found { AreFound asked.files.names.now asked.files.known.now asked.file asked.text.now
+        asked.option.now number found.old }
+    ensures { OnOk result (AreFound asked.entry.files.names.now asked.entry.files.known.now asked.entry.file
+        asked.entry.text.now asked.entry.option.now
+        (number + 1) found.new) }
+{
+    match asked.name_at(number) {
+        Some(name) => find_named(alloc, asked, number, name, found),
+        None => Ok(()),
+    }
+}
+
+/// What all names of an option name.
+fn all_targets(alloc: Global, asked: Asked<'_, '_, '_, '_>) -> Result<OptionTargets, AllocError>
+    requires { IsSource asked.files.names.now asked.file }
+    ensures targets { IfOk result (λ found. (target : OptionTarget) → Contains found.targets target
+        ↔ IsOptionTarget asked.entry.files.names.now asked.entry.files.known.now asked.entry.file
+        asked.entry.text.now asked.entry.option.now target) }
+    ensures rising { IfOk result (λ found. IsStrictlyIncreasing (map (λ target. target.name_number) found.targets)) }
+    ensures gap { IfOk result (λ found. MatchOption found.gap ((number : ℕ) (name : OptionName)
+        → IsGap asked.entry.files.names.now asked.entry.files.known.now asked.entry.file
+        asked.entry.text.now asked.entry.option.now number name → ⊥)
+        (λ number. (name : OptionName) × IsGap asked.entry.files.names.now asked.entry.files.known.now asked.entry.file
+        asked.entry.text.now asked.entry.option.now number
+        name)) }
+{
+    let mut found = Found {
+        targets: Vec::new(alloc),
+        given: Vec::new(alloc),
+        gap: None,
+    };
+    for number in 0..asked.option.setting.names.as_slice().len() {
+        find_next(alloc, asked, number, &mut found)?;
+    }
+    Ok(OptionTargets {
+        targets: Sequence::from_vec(found.targets),
+        gap: found.gap,
+    })
+}

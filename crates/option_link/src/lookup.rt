@@ -1,0 +1,297 @@
+//! Names in scopes.
+
+ghost use Rattle.std.specs.Prelude.{ℕ, List, [], ◌∷◌, ◌≡◌, ◌<◌, ◌↔◌, false, Contains, IsTrue, IfOk, OnOk};
+ghost use Rattle.std.specs.Prelude.{MatchOption, length, map};
+ghost use denote.Ref.{Bor};
+ghost use Rattle.std.specs.String.{string_bytes};
+ghost use Rattle.proto_link.specs.Resolves.{Innermost};
+ghost use Rattle.proto_decl.specs.Names.{qualified, dotted};
+ghost use Rattle.proto_visibility.specs.Knows.{KnowsAs, is_aggregate};
+ghost use Rattle.option_link.specs.declared.place.DeclaredPlace.{DeclaredPlace};
+ghost use Rattle.option_link.specs.Contexts.{IsMessageNamed};
+ghost use Rattle.option_link.specs.Tables.{AreSeveral, IsPresentMessage, IsSought};
+ghost use Rattle.option_link.specs.Lookups.{LooksUp, admits, is_any, is_field};
+
+use crate::place::{DeclaredPlace, is_same, push_if};
+use crate::sought::Sought;
+use crate::table::{DeclarationTable, is_a};
+use proto_decl::{DeclarationKind, FullName, scope_around};
+use proto_link::Role;
+use std::alloc::{AllocError, Global};
+
+impl<'n, 'a, 't> DeclarationTable<'n, 'a, 't> {
+    /// Whether a file knows a name as what is sought.
+    fn knows(&self, file: usize, name: &str, sought: Sought) -> bool
+        requires { file < length self.now }
+        ensures { IsTrue result ↔ KnowsAs self.now file (admits sought) name.now }
+    {
+        match sought {
+            Sought::Anything => self.knows_anything(file, name),
+            Sought::AField => self.is_seen(file, name, sought),
+            Sought::AMessage => self.is_seen(file, name, sought),
+            Sought::AType => self.is_seen(file, name, sought),
+            Sought::AnAggregate => self.knows_aggregate(file, name),
+        }
+    }
+
+    /// The same: a name that nothing has is passed by its number alone.
+    fn is_known(&self, file: usize, name: &str, sought: Sought) -> bool
+        requires { file < length self.now }
+        ensures { IsTrue result ↔ KnowsAs self.now file (admits sought) name.now }
+    {
+        if !self.may_be_known(name) {
+            return false;
+        }
+        self.knows(file, name, sought)
+    }
+
+    /// Whether a file knows a name as that of a package, a message, an enum or a service.
+    fn knows_aggregate(&self, file: usize, name: &str) -> bool
+        requires { file < length self.now }
+        ensures { IsTrue result ↔ KnowsAs self.now file is_aggregate name.now }
+    {
+        self.linker().knows(file, name, Role::AsAggregate)
+    }
+
+    /// Whether a file knows a name as anything.
+    fn knows_anything(&self, file: usize, name: &str) -> bool
+        requires { file < length self.now }
+        ensures { IsTrue result ↔ KnowsAs self.now file is_any name.now }
+    {
+        if self.knows_aggregate(file, name) {
+            return true;
+        }
+        self.is_seen(file, name, Sought::Anything)
+    }
+
+    /// Whether what is sought is declared by a name in a file that the file sees.
+    fn is_seen(&self, file: usize, name: &str, sought: Sought) -> bool
+        requires { file < length self.now }
+        ensures { IsTrue result ↔ ((place : DeclaredPlace)
+            × IsSought self.now file (admits sought) name.now place) }
+    {
+        match self.first_seen(file, name, sought) {
+            Some(_place) => true,
+            None => false,
+        }
+    }
+
+    /// Whether a message with this full name is declared at a place, which no other declaration of its file has, and
+    /// the file isn't left out.
+    pub(crate) fn is_message_named(
+        &self,
+        alloc: Global,
+        place: DeclaredPlace,
+        name: &str,
+    ) -> Result<bool, AllocError>
+        ensures { IfOk result (λ is. IsTrue is ↔ IsMessageNamed self.now name.now place) }
+    {
+        match self.only_in(alloc, place.file, name)? {
+            Some(only) => {
+                if !is_same(only, place) {
+                    return Ok(false);
+                }
+                Ok(self.is_present_message(place))
+            }
+            None => Ok(false),
+        }
+    }
+
+    /// Whether a message is declared at a place, in a file that isn't left out.
+    fn is_present_message(&self, place: DeclaredPlace) -> bool
+        ensures { IsTrue result ↔ IsPresentMessage self.now place }
+    {
+        match self.declaration_at(place) {
+            Some(declaration) => {
+                if !is_a(declaration, DeclarationKind::Message) {
+                    return false;
+                }
+                self.is_present(place.file)
+            }
+            None => false,
+        }
+    }
+
+    /// The messages with this full name that no other declarations of their files have, in files that aren't left out.
+    pub(crate) fn messages_named(
+        &self,
+        alloc: Global,
+        name: &str,
+    ) -> Result<Vec<DeclaredPlace>, AllocError>
+        ensures { IfOk result (λ places. (place : DeclaredPlace) → Contains places.items place
+            ↔ IsMessageNamed self.now name.now place) }
+    {
+        let listed = self.near(&FullName::whole(name));
+        let mut messages = Vec::new(alloc);
+        for one in listed {
+            let is = self.is_message_named(alloc, one.place, name)?;
+            push_if(&mut messages, one.place, is)?;
+        }
+        Ok(messages)
+    }
+
+    /// The first of the scopes from this one on in which a file knows a word as what is sought.
+    fn innermost<'s>(
+        &self,
+        alloc: Global,
+        file: usize,
+        scope: &'s str,
+        word: &str,
+        sought: Sought,
+    ) -> Result<Option<&'s str>, AllocError>
+        requires { file < length self.now }
+        ensures { IfOk result (λ found. MatchOption found ((start : List ℕ) → Innermost self.now file
+            (admits sought) word.now scope.now start → ⊥)
+            (λ start. Innermost self.now file (admits sought) word.now scope.now start.now)) }
+    {
+        let mut name = String::with_capacity(alloc, room_under(scope, word))?;
+        let mut next = Some(scope);
+        while let Some(inner) = next {
+            put_under(&mut name, inner, word)?;
+            let known = self.is_known(file, name.as_str(), sought);
+            if known {
+                return Ok(Some(inner));
+            }
+            next = scope_around(inner);
+        }
+        Ok(None)
+    }
+
+    /// The full name of the field that these words name from a scope on, a dot in front of them or not.
+    pub(crate) fn full_name_of(
+        &self,
+        alloc: Global,
+        file: usize,
+        has_dot: bool,
+        words: &[&str],
+        scope: &str,
+    ) -> Result<Option<String>, AllocError>
+        requires { file < length self.now }
+        ensures { IfOk result (λ found. MatchOption found ((name : List ℕ) → LooksUp self.now file has_dot
+            (map (λ (word : Bor (List ℕ)). word.now) words.now) scope.now name → ⊥)
+            (λ name. LooksUp self.now file has_dot (map (λ (word : Bor (List ℕ)). word.now) words.now)
+            scope.now (string_bytes name))) }
+    {
+        if has_dot {
+            let name = joined(alloc, words)?;
+            return Ok(self.if_field(file, name));
+        }
+        match words {
+            [] => Ok(None),
+            [word] => self.one_word(alloc, file, word, scope),
+            [first, _, ..] => self.several_words(alloc, file, first, words, scope),
+        }
+    }
+
+    /// The same of one word, without a dot in front of it.
+    fn one_word(
+        &self,
+        alloc: Global,
+        file: usize,
+        word: &str,
+        scope: &str,
+    ) -> Result<Option<String>, AllocError>
+        requires { file < length self.now }
+        ensures { IfOk result (λ found. MatchOption found ((name : List ℕ) → LooksUp self.now file false
+            (word.now ∷ []) scope.now name → ⊥)
+            (λ name. LooksUp self.now file false (word.now ∷ []) scope.now (string_bytes name))) }
+    {
+        match self.innermost(alloc, file, scope, word, Sought::Anything)? {
+            Some(start) => {
+                let name = under(alloc, start, word)?;
+                Ok(self.if_field(file, name))
+            }
+            None => Ok(None),
+        }
+    }
+
+    /// The same of more words, of which this is the first.
+    fn several_words(
+        &self,
+        alloc: Global,
+        file: usize,
+        first: &str,
+        words: &[&str],
+        scope: &str,
+    ) -> Result<Option<String>, AllocError>
+        requires file { file < length self.now }
+        requires words { AreSeveral first.now (map (λ (word : Bor (List ℕ)). word.now) words.now) }
+        ensures { IfOk result (λ found. MatchOption found ((name : List ℕ) → LooksUp self.now file false
+            (map (λ (word : Bor (List ℕ)). word.now) words.now) scope.now name → ⊥)
+            (λ name. LooksUp self.now file false (map (λ (word : Bor (List ℕ)). word.now) words.now)
+            scope.now (string_bytes name))) }
+    {
+        match self.innermost(alloc, file, scope, first, Sought::AnAggregate)? {
+            Some(start) => {
+                let name = joined(alloc, words)?;
+                let full_name = under(alloc, start, name.as_str())?;
+                Ok(self.if_field(file, full_name))
+            }
+            None => Ok(None),
+        }
+    }
+
+    /// A full name, if the file knows it as a field.
+    fn if_field(&self, file: usize, name: String) -> Option<String>
+        requires { file < length self.now }
+        ensures { MatchOption result
+            (KnowsAs self.now file is_field (string_bytes name) → ⊥)
+            (λ text. (string_bytes text ≡ string_bytes name)
+            × KnowsAs self.now file is_field (string_bytes name)) }
+    {
+        let known = self.knows(file, name.as_str(), Sought::AField);
+        if !known {
+            return None;
+        }
+        Some(name)
+    }
+}
+
+/// The full name of a name in a scope.
+pub(crate) fn under(alloc: Global, scope: &str, name: &str) -> Result<String, AllocError>
+    ensures { IfOk result (λ text. string_bytes text ≡ qualified scope.now name.now) }
+{
+    let mut text = String::with_capacity(alloc, room_under(scope, name))?;
+    put_under(&mut text, scope, name)?;
+    Ok(text)
+}
+
+/// Writes the full name of a name in a scope over a text.
+fn put_under(text: &mut String, scope: &str, name: &str) -> Result<(), AllocError>
+    ensures { OnOk result (string_bytes text.new ≡ qualified scope.now name.now) }
+{
+    text.clear();
+    if !scope.is_empty() {
+        text.push_str(scope)?;
+        text.push_str(".")?;
+    }
+    text.push_str(name)
+}
+
+/// The bytes of the full name of a name in a scope, and no fewer than those of the same name in a scope around it.
+fn room_under(scope: &str, name: &str) -> usize {
+    scope.len().saturating_add(name.len()).saturating_add(1)
+}
+
+/// Words joined by dots.
+pub(crate) fn joined(alloc: Global, words: &[&str]) -> Result<String, AllocError>
+    ensures { IfOk result (λ text. string_bytes text ≡ dotted (map (λ (word : Bor (List ℕ)). word.now) words.now)) }
+{
+    match words {
+        [] => Ok(String::new(alloc)),
+        [first, others @ ..] => joined_behind(alloc, first, others),
+    }
+}
+
+/// The same for a first word and others.
+fn joined_behind(alloc: Global, first: &str, others: &[&str]) -> Result<String, AllocError>
+    ensures { IfOk result (λ text. string_bytes text
+        ≡ dotted (first.now ∷ map (λ (word : Bor (List ℕ)). word.now) others.now)) }
+{
+    let mut text = String::from_str(alloc, first)?;
+    for word in others {
+        text.push_str(".")?;
+        text.push_str(word)?;
+    }
+    Ok(text)
+}

@@ -1,0 +1,211 @@
+//! Fields of messages by their simple names.
+
+ghost use Rattle.std.specs.Prelude.{◌≡◌, ◌≢◌, ◌↔◌, None, true, IsTrue, IfOk, MatchOption};
+ghost use Rattle.std.specs.String.{string_bytes};
+ghost use Rattle.proto_decl.specs.declared.declaration.Declaration.{Declaration};
+ghost use Rattle.proto_options.specs.declared.fields.FieldKind.TheVariants as kinds;
+ghost use Rattle.option_link.specs.declared.place.DeclaredPlace.{DeclaredPlace};
+ghost use Rattle.option_link.specs.declared.contexts.Context.TheVariants as inside;
+ghost use Rattle.option_link.specs.Tables.{IsClear};
+ghost use Rattle.option_link.specs.Typed.{IsMessageAt};
+ghost use Rattle.option_link.specs.Found.{IsFieldIn, IsMemberHere, IsMemberNamed, IsMemberOf};
+
+use crate::contexts::Context;
+use crate::lookup::under;
+use crate::naming::Asked;
+use crate::place::DeclaredPlace;
+use proto_decl::Declaration;
+use proto_options::{FieldFact, FieldKind};
+use std::alloc::{AllocError, Global};
+
+/// The text of a declaration's full name.
+pub(crate) fn full_name_of(
+    alloc: Global,
+    declaration: &Declaration<'_>,
+) -> Result<String, AllocError>
+    ensures { IfOk result (λ text. string_bytes text ≡ declaration.now.full_name) }
+{
+    let text = declaration.full_name().to_text(alloc)?;
+    Ok(text.into_string())
+}
+
+/// Whether a field is a group.
+fn is_group(kind: FieldKind) -> bool
+    ensures { IsTrue result ↔ (kind ≡ kinds.Group) }
+{
+    match kind {
+        FieldKind::Group => true,
+        FieldKind::Scalar => false,
+        FieldKind::Named(_) => false,
+        FieldKind::Map(_) => false,
+    }
+}
+
+/// Whether a field is none of an extend, and in braces no group.
+fn is_plain(fact: FieldFact, in_braces: bool) -> bool
+    ensures { IsTrue result ↔ ((fact.extended ≡ None) × (in_braces ≡ true → fact.kind ≢ kinds.Group)) }
+{
+    match fact.extended {
+        Some(_) => false,
+        None => {
+            if !in_braces {
+                return true;
+            }
+            !is_group(fact.kind)
+        }
+    }
+}
+
+/// Whether a field is a group, and none of an extend.
+fn is_own_group(fact: FieldFact) -> bool
+    ensures { IsTrue result ↔ ((fact.extended ≡ None) × (fact.kind ≡ kinds.Group)) }
+{
+    match fact.extended {
+        Some(_) => false,
+        None => is_group(fact.kind),
+    }
+}
+
+impl<'k, 'n, 'a, 't> Asked<'k, 'n, 'a, 't> {
+    /// The field with this simple name of what it is looked up in; in braces, that of a group by the name of its
+    /// message.
+    pub(crate) fn own_field(
+        self,
+        alloc: Global,
+        number: usize,
+        word: &str,
+        context: Context,
+    ) -> Result<Option<DeclaredPlace>, AllocError>
+        requires { IsClear self.files.names.now context }
+        ensures { IfOk result (λ found. MatchOption found ((field : DeclaredPlace)
+            → IsFieldIn self.entry.files.names.now self.entry.files.known.now self.entry.option.now number word.now
+            context field → ⊥)
+            (IsFieldIn self.entry.files.names.now self.entry.files.known.now self.entry.option.now number word.now
+            context)) }
+    {
+        match context {
+            Context::Options => self.options_field(alloc, number, word),
+            Context::Message(message) => {
+                let in_braces = self.is_in_braces(number);
+                self.member(alloc, message, word, in_braces)
+            }
+            Context::Entries(_) => Ok(None),
+            Context::Enum(_) => Ok(None),
+            Context::Scalar => Ok(None),
+            Context::Untold => Ok(None),
+        }
+    }
+
+    /// The same of the options of the element.
+    fn options_field(
+        self,
+        alloc: Global,
+        number: usize,
+        word: &str,
+    ) -> Result<Option<DeclaredPlace>, AllocError>
+        ensures { IfOk result (λ found. MatchOption found ((field : DeclaredPlace)
+            → IsFieldIn self.entry.files.names.now self.entry.files.known.now self.entry.option.now number word.now
+            inside.Options field → ⊥)
+            (IsFieldIn self.entry.files.names.now self.entry.files.known.now self.entry.option.now number word.now
+            inside.Options)) }
+    {
+        self.files.names.linked();
+        // From here on it is known that no two files have one path, so there is one message at most.
+        match self.options_message(alloc)? {
+            Some(message) => {
+                let in_braces = self.is_in_braces(number);
+                self.member(alloc, message, word, in_braces)
+            }
+            None => Ok(None),
+        }
+    }
+
+    /// The field of a message with this simple name; in braces, that of a group by the name of its message.
+    fn member(
+        self,
+        alloc: Global,
+        message: DeclaredPlace,
+        word: &str,
+        in_braces: bool,
+    ) -> Result<Option<DeclaredPlace>, AllocError>
+        requires { IsClear self.files.names.now (inside.Message message) }
+        ensures { IfOk result (λ found. MatchOption found ((field : DeclaredPlace)
+            → IsMemberOf self.entry.files.names.now self.entry.files.known.now message word.now in_braces field → ⊥)
+            (IsMemberOf self.entry.files.names.now self.entry.files.known.now message word.now in_braces)) }
+    {
+        match self.files.names.declaration_at(message) {
+            Some(outer) => {
+                let scope = full_name_of(alloc, outer)?;
+                let name = under(alloc, scope.as_str(), word)?;
+                self.member_named(alloc, message.file, name.as_str(), in_braces)
+            }
+            None => Ok(None),
+        }
+    }
+
+    /// The same by its full name, of a file.
+    fn member_named(
+        self,
+        alloc: Global,
+        file: usize,
+        name: &str,
+        in_braces: bool,
+    ) -> Result<Option<DeclaredPlace>, AllocError>
+        ensures { IfOk result (λ found. MatchOption found ((field : DeclaredPlace)
+            → IsMemberNamed self.entry.files.names.now self.entry.files.known.now file name.now in_braces field → ⊥)
+            (IsMemberNamed self.entry.files.names.now self.entry.files.known.now file name.now in_braces)) }
+    {
+        match self.files.names.only_in(alloc, file, name)? {
+            Some(place) => Ok(self.member_at(place, in_braces)),
+            None => Ok(None),
+        }
+    }
+
+    /// The field that is found at a place: that which is declared there, or whose group's message is.
+    fn member_at(self, place: DeclaredPlace, in_braces: bool) -> Option<DeclaredPlace>
+        ensures { MatchOption result ((field : DeclaredPlace)
+            → IsMemberHere self.entry.files.names.now self.entry.files.known.now place in_braces field → ⊥)
+            (IsMemberHere self.entry.files.names.now self.entry.files.known.now place in_braces) }
+    {
+        if self.files.is_message_at(place) {
+            return self.group_before(place, in_braces);
+        }
+        match self.files.fact_at(place) {
+            Some(fact) => {
+                if !is_plain(fact, in_braces) {
+                    return None;
+                }
+                Some(place)
+            }
+            None => None,
+        }
+    }
+
+    /// The field of the group whose message is here.
+    fn group_before(self, place: DeclaredPlace, in_braces: bool) -> Option<DeclaredPlace>
+        requires { IsMessageAt self.files.names.now place }
+        ensures { MatchOption result ((field : DeclaredPlace)
+            → IsMemberHere self.entry.files.names.now self.entry.files.known.now place in_braces field → ⊥)
+            (IsMemberHere self.entry.files.names.now self.entry.files.known.now place in_braces) }
+    {
+        if !in_braces {
+            return None;
+        }
+        if place.index == 0 {
+            return None;
+        }
+        let field = DeclaredPlace {
+            file: place.file,
+            index: place.index - 1,
+        };
+        match self.files.fact_at(field) {
+            Some(fact) => {
+                if !is_own_group(fact) {
+                    return None;
+                }
+                Some(field)
+            }
+            None => None,
+        }
+    }
+}

@@ -1,0 +1,21 @@
+-- The full name of a package by the components of its facts.
+use Rattle.std.proofs.Common.{◌≡◌, ◌∙◌, ℕ, List, [], ◌∷◌, map, ap, refl}
+use Rattle.proto_lex.specs.declared.span.Span.{Span}
+use Rattle.proto_lex.specs.Lexed.{part_of}
+use Rattle.proto_parse.specs.tree.File.{File}
+use Rattle.proto_decl.specs.Declares.{package_scope, package_spans}
+use Rattle.proto_decl.specs.Names.{components_at, dotted}
+use Rattle.proto_decl.specs.declared.uses.Component.{Component}
+
+names_at : (text : List ℕ) (spans : List Span)
+    → map (λ (component : Component). component.name) (components_at text spans) ≡ map (part_of text) spans
+names_at text [] = refl
+names_at text (span ∷ spans) = ap (λ names. part_of text span ∷ names) (names_at text spans)
+
+-- the names of the components of a file's package, joined by dots, are its full name
+pub package_of_names : (text : List ℕ) (tree : File) (components : List Component)
+    → components ≡ components_at text (package_spans tree.package_name)
+    → dotted (map (λ (component : Component). component.name) components) ≡ package_scope text tree
+package_of_names text tree components are =
+    ap (λ (cs : List Component). dotted (map (λ (component : Component). component.name) cs)) are
+    ∙ ap dotted (names_at text (package_spans tree.package_name))

@@ -1,0 +1,19 @@
+//! Tests of `option_link`, by its public calls.
+#![tactic(auto)]
+
+#[cfg(test)]
+mod braces;
+#[cfg(test)]
+mod brackets;
+#[cfg(test)]
+mod counted;
+#[cfg(test)]
+mod files;
+#[cfg(test)]
+mod listed;
+#[cfg(test)]
+mod packages;
+#[cfg(test)]
+mod parts;
+#[cfg(test)]
+mod scopes;
